@@ -1,0 +1,6 @@
+pub mod Names
+pub mod Order
+pub mod Plain
+pub mod Same
+pub mod TupleValue
+pub mod Laws

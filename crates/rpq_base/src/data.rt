@@ -1,0 +1,142 @@
+//! Labels, edges, tuples, entries, pairs and events.
+
+use crate::memory::{Copied, Memory};
+use crate::name::Name;
+use std::marker::Model;
+
+/// The greatest time of a tuple: 2^62 - 1. Times are plain numbers in the stream's own unit.
+pub const MAX_TIME: u64 = (1 << 62) - 1;
+
+/// The label of an edge. A label with `back` stands for the same edge taken backwards.
+#[derive(Debug, PartialEq, Eq, PartialOrd, Ord, Drop)]
+pub struct Label {
+    pub name: Name,
+    pub back: bool,
+}
+
+/// A labelled edge from one vertex to another.
+#[derive(Debug, PartialEq, Eq, PartialOrd, Ord, Drop)]
+pub struct Edge {
+    pub from: Name,
+    pub label: Label,
+    pub to: Name,
+}
+
+/// What a tuple does: it inserts an edge, deletes one, or lets time pass.
+#[derive(Debug, PartialEq, Eq, Drop)]
+pub enum Act {
+    Insert(Edge),
+    Delete(Edge),
+    Tick,
+}
+
+/// A streaming graph tuple: an act and its time, which is at most [`MAX_TIME`].
+///
+/// Source: the streaming graph tuples of Pacaci, Bonifati and Özsu, SIGMOD 2020.
+#[derive(Debug, PartialEq, Eq, Drop)]
+pub struct Tuple {
+    pub time: u64,
+    pub act: Act,
+}
+
+impl Model for Tuple {
+    ghost use Rattle.std.specs.Prelude.{◌≤◌};
+    ghost use Rattle.rpq_base.specs.TupleValue.{TupleValue};
+    ghost use Rattle.rpq_base.specs.declared.data.TheConstants.{MAX_TIME};
+
+    ghost Value = { TupleValue };
+
+    ghost view = { λ tuple. record { time = tuple.time; act = tuple.act } };
+
+    ghost invariant = { λ tuple. tuple.time ≤ MAX_TIME };
+
+    ghost inverse = { λ tuple. record { time = tuple.time; act = tuple.act } };
+}
+
+/// A tuple in a history, with the number of its stream. Streams are numbered from 1.
+#[derive(Debug, PartialEq, Eq, Drop)]
+pub struct Entry {
+    pub stream: u32,
+    pub tuple: Tuple,
+}
+
+/// An answer of a query: a path leads from the one vertex to the other.
+#[derive(Debug, PartialEq, Eq, PartialOrd, Ord, Drop)]
+pub struct Pair {
+    pub from: Name,
+    pub to: Name,
+}
+
+/// A change of a query's answers: the pair is gained where `added`, else lost. Queries are numbered from 0.
+#[derive(Debug, PartialEq, Eq, Drop)]
+pub struct Event {
+    pub query: u32,
+    pub added: bool,
+    pub pair: Pair,
+}
+
+impl Copied for Label {
+    fn copy(&self) -> Result<Label, Memory> {
+        Ok(Label {
+            name: self.name.copy()?,
+            back: self.back,
+        })
+    }
+}
+
+impl Copied for Edge {
+    fn copy(&self) -> Result<Edge, Memory> {
+        Ok(Edge {
+            from: self.from.copy()?,
+            label: self.label.copy()?,
+            to: self.to.copy()?,
+        })
+    }
+}
+
+impl Copied for Act {
+    fn copy(&self) -> Result<Act, Memory> {
+        match self {
+            Act::Insert(edge) => Ok(Act::Insert(edge.copy()?)),
+            Act::Delete(edge) => Ok(Act::Delete(edge.copy()?)),
+            Act::Tick => Ok(Act::Tick),
+        }
+    }
+}
+
+impl Copied for Tuple {
+    fn copy(&self) -> Result<Tuple, Memory> {
+        Ok(Tuple {
+            time: self.time,
+            act: self.act.copy()?,
+        })
+    }
+}
+
+impl Copied for Entry {
+    fn copy(&self) -> Result<Entry, Memory> {
+        Ok(Entry {
+            stream: self.stream,
+            tuple: self.tuple.copy()?,
+        })
+    }
+}
+
+impl Copied for Pair {
+    fn copy(&self) -> Result<Pair, Memory> {
+        Ok(Pair {
+            from: self.from.copy()?,
+            to: self.to.copy()?,
+        })
+    }
+}
+
+impl Copied for Event {
+    fn copy(&self) -> Result<Event, Memory> {
+        Ok(Event {
+            query: self.query,
+            added: self.added,
+            pair: self.pair.copy()?,
+        })
+    }
+}

@@ -1,0 +1,22 @@
+//! The values that every layer of rpq speaks of: names, labels, edges, tuples, entries, pairs and events.
+//!
+//! A tuple is what a stream says at a time; an entry is a tuple in a history; a pair is an answer; an event
+//! is an answer gained or lost. Contracts see a [`Name`] as its bytes, a [`Word`] as its labels, and every
+//! other type as the record of its fields. Names are compared byte by byte, and all else field by field.
+//! Each value is copied by [`Copied::copy`], which gives an equal one or answers that memory ran out.
+#![tactic(auto)]
+
+mod data;
+mod laws;
+mod memory;
+mod name;
+mod word;
+
+pub use data::{Act, Edge, Entry, Event, Label, MAX_TIME, Pair, Tuple};
+pub use laws::{greatest_time, same_is_equal};
+pub use memory::{Copied, Memory, copy_all};
+pub use name::{Name, NameFault};
+pub use word::Word;
+
+#[cfg(test)]
+mod tests;

@@ -1,0 +1,110 @@
+-- Going through the events from the empty set leaves the answers.
+use Rattle.std.proofs.Common.{◌≡◌, ℕ, Bool, true, false, not, ◌==◌, ◌&&◌, ◌||◌, List, [], ◌∷◌, ◌++◌, map, refl, sym, ap, subst, ◌∙◌, arith}
+use Rattle.std.specs.Prelude.{◌↔◌, IsTrue, Contains, All, if◌then◌else◌}
+use Rattle.std.specs.List.{list_any, flat_map}
+use Rattle.std.proofs.lemmas.Bool.{eq-eqb, false≢true}
+use Rattle.std.proofs.lemmas.List.{append_assoc, append-nil}
+use Rattle.std.proofs.lemmas.Map.Views.{any-filter_same}
+use Rattle.rpq_base.specs.Same.{same_pair}
+use Rattle.rpq_base.specs.Laws.{SameIsEqual}
+use Rattle.rpq_base.specs.declared.data.Label.{Label}
+use Rattle.rpq_base.specs.declared.data.Edge.{Edge}
+use Rattle.rpq_base.specs.declared.data.Entry.{Entry}
+use Rattle.rpq_base.specs.declared.data.Pair.{Pair}
+use Rattle.rpq_base.specs.declared.data.Event.{Event}
+use Rattle.rpq_model.specs.declared.mode.Mode.{Mode}
+use Rattle.rpq_model.specs.Window.{live_entries}
+use Rattle.rpq_model.specs.Answers.{IsAnswer}
+use Rattle.rpq_model.specs.Events.{event, without, changes, AreEventsFrom, held_from}
+use Rattle.rpq_model.specs.Laws.{HeldIsAnswers}
+use Rattle.rpq_model.proofs.Pairs.{same_tests, has, has_members, any_same}
+
+-- a pair is kept where it is among the first and not among the second
+any_without : SameIsEqual → (pairs others : List Pair) (pair : Pair) →
+    list_any (λ (each : Pair). same_pair each pair) (without pairs others) ≡ (not (has others pair) && has pairs pair)
+any_without same pairs others pair =
+    any-filter_same (λ (each : Pair). same_pair each pair) (λ (each : Pair). not (has others each)) (not (has others pair))
+    (λ each e. ap (λ (one : Pair). not (has others one)) ((same.pairs each pair).0 e)) pairs
+    ∙ ap (λ (found : Bool). not (has others pair) && found) (any_same same pairs pair)
+
+-- events one after another
+held_after : (events others : List Event) (before : Bool) (query : ℕ) (pair : Pair) →
+    held_from before query pair (events ++ others) ≡ held_from (held_from before query pair events) query pair others
+held_after [] others before query pair = refl
+held_after (first ∷ events) others before query pair =
+    held_after events others (if first.query == query && same_pair first.pair pair then first.added else before) query pair
+
+-- two choices of one value are one choice
+either : (here there added before : Bool) → (if there then added else (if true && here then added else before)) ≡ (if here || there then added else before)
+either true true added before = refl
+either true false added before = refl
+either false true added before = refl
+either false false added before = refl
+
+-- after gains, or after losses, a pair that has one is held, or not, and another pair is as before
+held_alike : (pairs : List Pair) (before added : Bool) (query : ℕ) (pair : Pair) →
+    held_from before query pair (map (event query added) pairs) ≡ (if list_any (λ (each : Pair). same_pair each pair) pairs then added else before)
+held_alike [] before added query pair = refl
+held_alike (first ∷ pairs) before added query pair =
+    held_alike pairs (if query == query && same_pair first pair then added else before) added query pair
+    ∙ (ap (λ (this : Bool). if list_any (λ (each : Pair). same_pair each pair) pairs then added else (if this && same_pair first pair then added else before)) (eq-eqb query query refl)
+    ∙ either (same_pair first pair) (list_any (λ (each : Pair). same_pair each pair) pairs) added before)
+
+-- losses and then gains leave what is new
+lost_then_gained : (old new : Bool) → (if not old && new then true else (if not new && old then false else old)) ≡ new
+lost_then_gained true true = refl
+lost_then_gained true false = refl
+lost_then_gained false true = refl
+lost_then_gained false false = refl
+
+-- after the changes, a pair is held where it is among the new ones, if it was held where it was among the old ones
+pub held_changes : SameIsEqual → (old new : List Pair) (before : Bool) (query : ℕ) (pair : Pair) →
+    before ≡ has old pair → held_from before query pair (changes query old new) ≡ has new pair
+held_changes same old new before query pair is_before =
+    held_after (map (event query false) (without old new)) (map (event query true) (without new old)) before query pair
+    ∙ (held_alike (without new old) (held_from before query pair (map (event query false) (without old new))) true query pair
+    ∙ (ap (λ (held : Bool). if list_any (λ (each : Pair). same_pair each pair) (without new old) then true else held) (held_alike (without old new) before false query pair)
+    ∙ rw (any_without same new old pair, any_without same old new pair, is_before) (lost_then_gained (has old pair) (has new pair))))
+
+-- no pair is an answer over the empty history
+no_answer : (path : List Edge) → All (Contains {X = Edge} []) path → path ≡ []
+no_answer [] members = refl
+no_answer (edge ∷ path) members = absurd (omega (arith, (members 0 edge (omega arith)).1))
+
+pub none_at_first : (language : List Label → Type 0) (mode : Mode) (size slide : ℕ) (pair : Pair) → IsAnswer language mode size slide [] pair → ⊥
+unfolding live_entries
+none_at_first language mode size slide pair answer = answer.1.leads.some (no_answer answer.0 answer.1.leads.members)
+
+-- going through the events of the entries that follow a history leaves the answers, if the answers there were held
+held_following : (entries before : List Entry) (language : List Label → Type 0) (mode : Mode) (size slide query : ℕ) (pair : Pair) (held : Bool) (events : List (List Event)) →
+    SameIsEqual →
+    AreEventsFrom language mode size slide query before entries events →
+    IsTrue held ↔ IsAnswer language mode size slide before pair →
+    IsTrue (held_from held query pair (flat_map (λ block. block) events)) ↔ IsAnswer language mode size slide (before ++ entries) pair
+held_following [] before language mode size slide query pair held [] same events_are holds =
+    subst (λ (history : List Entry). IsTrue held ↔ IsAnswer language mode size slide history pair) (sym (append-nil before)) holds
+held_following [] before language mode size slide query pair held (block ∷ events) same events_are holds = absurd events_are
+held_following (entry ∷ later) before language mode size slide query pair held [] same events_are holds = absurd events_are
+held_following (entry ∷ later) before language mode size slide query pair held (block ∷ events) same events_are holds =
+    let here = events_are.0 in
+    let old = here.0 in
+    let new = here.1 in
+    let was : held ≡ has old pair = same_tests held (has old pair) (
+      (λ e. (has_members same old pair).1 ((here.2.exact pair).1 (holds.0 e))),
+      (λ e. holds.1 ((here.2.exact pair).0 ((has_members same old pair).0 e))),
+    ) in
+    let is : held_from held query pair block ≡ has new pair = ap (held_from held query pair) here.4 ∙ held_changes same old new held query pair was in
+    let holds_now : IsTrue (held_from held query pair block) ↔ IsAnswer language mode size slide (before ++ entry ∷ []) pair = (
+      (λ e. (here.3.exact pair).0 ((has_members same new pair).0 (sym is ∙ e))),
+      (λ e. is ∙ (has_members same new pair).1 ((here.3.exact pair).1 e)),
+    ) in
+    let further = held_following later (before ++ entry ∷ []) language mode size slide query pair (held_from held query pair block) events same events_are.1 holds_now in
+    rw (held_after block (flat_map (λ block. block) events) held query pair, ← append_assoc before (entry ∷ []) later) further
+
+-- going through the events of all entries of a history leaves its answers
+pub held_is_answers : SameIsEqual → (language : List Label → Type 0) → HeldIsAnswers language
+held_is_answers same language mode size slide query history events events_are pair =
+    held_following history [] language mode size slide query pair false events same events_are (
+      (λ e. absurd (false≢true e)),
+      (λ answer. absurd (none_at_first language mode size slide pair answer)),
+    )

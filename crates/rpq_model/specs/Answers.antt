@@ -1,0 +1,37 @@
+-- The answers of a query over the window of a history: the pairs joined by a path whose word is in the query's language.
+-- A query is given by its language, the paths that it takes, and the size and the slide of its window.
+use Rattle.std.specs.Prelude.{ℕ, ◌↔◌, List, Contains}
+use Rattle.std.specs.List.Sorted.{IsStrictlySortedBy}
+use Rattle.rpq_base.specs.Order.{pair_cmp}
+use Rattle.rpq_base.specs.declared.data.Label.{Label}
+use Rattle.rpq_base.specs.declared.data.Edge.{Edge}
+use Rattle.rpq_base.specs.declared.data.Entry.{Entry}
+use Rattle.rpq_base.specs.declared.data.Pair.{Pair}
+use Rattle.rpq_model.specs.declared.mode.Mode.{Mode}
+use Rattle.rpq_model.specs.declared.mode.Mode.TheVariants.{Arbitrary, Simple}
+use Rattle.rpq_model.specs.Window.{window_edges}
+use Rattle.rpq_model.specs.Path.{IsPath, IsSimple, word_of}
+
+-- the paths that a query takes: all, or the simple ones
+abbrev pub Takes : Mode → List ℕ → List Edge → Type 0
+Takes Arbitrary from path = Unit {0}
+Takes Simple from path = IsSimple from path
+
+-- a path of the edges joins the pair; the query takes it, and its word is in the language
+pub record Joins (edges : List Edge) (language : List Label → Type 0) (mode : Mode) (pair : Pair) (path : List Edge) : Type 0 where
+  pub leads : IsPath edges pair.from path pair.to
+  pub word : language (word_of path)
+  pub taken : Takes mode pair.from path
+
+-- the pair is joined by a path of the edges
+abbrev pub IsJoined : List Edge → (List Label → Type 0) → Mode → Pair → Type 0
+IsJoined edges language mode pair = (path : List Edge) × Joins edges language mode pair path
+
+-- the pair is an answer over the history
+abbrev pub IsAnswer : (List Label → Type 0) → Mode → ℕ → ℕ → List Entry → Pair → Type 0
+IsAnswer language mode size slide history pair = IsJoined (window_edges size slide history) language mode pair
+
+-- the pairs are all answers over the history, sorted by source and then target, each once
+pub record AreAnswers (language : List Label → Type 0) (mode : Mode) (size slide : ℕ) (history : List Entry) (pairs : List Pair) : Type 0 where
+  pub sorted : IsStrictlySortedBy pair_cmp pairs
+  pub exact : (pair : Pair) → Contains pairs pair ↔ IsAnswer language mode size slide history pair

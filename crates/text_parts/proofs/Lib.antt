@@ -1,0 +1,5 @@
+mod Cuts
+mod Digits
+mod FieldLaws
+mod FirstPart
+mod LineLaws

@@ -1,0 +1,17 @@
+-- The fields of a line.
+use Rattle.std.specs.Prelude.{◌≡◌, ◌≢◌, ℕ, false, ◌==◌, not, List, [], length, filter, All}
+use Rattle.std.specs.List.{slice_split, join_with_byte}
+use Rattle.text_parts.specs.Lines.{is_blank}
+
+-- the fields of a line: its greatest runs of bytes that aren't blank
+unfoldable pub fields : List ℕ → List (List ℕ)
+fields line = filter (λ run. not (length run == 0)) (slice_split is_blank line)
+
+-- some bytes of which none is blank
+pub record IsField (field : List ℕ) : Type 0 where
+  pub some : field ≢ []
+  pub solid : All (λ byte. is_blank byte ≡ false) field
+
+-- fields with one space between each two are read as these fields
+abbrev pub JoinedFieldsAreRead : Type 0
+JoinedFieldsAreRead = (list : List (List ℕ)) → All IsField list → fields (join_with_byte 32 list) ≡ list

@@ -1,0 +1,60 @@
+-- The lines of a text.
+use Rattle.std.specs.Prelude.{◌≡◌, ◌≢◌, ℕ, Bool, true, ◌==◌, ◌||◌, not, List, [], ◌∷◌, ◌++◌, Option, Some, unwrap_or, map, flat_map, find, All, if◌then◌else◌}
+use Rattle.std.specs.List.{list_all, onto_first}
+use Rattle.std.specs.Str.Lines.{strip_carriage_return}
+
+-- the byte that ends a line
+abbrev pub line_feed : ℕ
+line_feed = 10
+
+-- the text is cut at each line feed, which belongs to no line; what stands after the last one is a line where it isn't empty
+unfoldable pub raw_lines : List ℕ → List (List ℕ)
+raw_lines [] = []
+raw_lines (byte ∷ text) = if byte == line_feed then [] ∷ raw_lines text else onto_first byte (raw_lines text)
+
+-- a line without the one carriage return at its end, if it has one
+unfoldable pub without_return : List ℕ → List ℕ
+without_return line = strip_carriage_return line
+
+-- the lines of a text, each without the one carriage return at its end
+abbrev pub lines : List ℕ → List (List ℕ)
+lines text = map without_return (raw_lines text)
+
+-- a space or a tab
+abbrev pub is_blank : ℕ → Bool
+is_blank byte = byte == 32 || byte == 9
+
+-- a line that gives nothing: it has no byte that isn't blank
+abbrev pub is_blank_line : List ℕ → Bool
+is_blank_line line = list_all is_blank line
+
+-- the first byte that isn't blank
+abbrev pub first_solid : List ℕ → Option ℕ
+first_solid line = find (λ byte. not (is_blank byte)) line
+
+-- a line that gives nothing: its first byte that isn't blank is '#'
+abbrev pub IsComment : List ℕ → Type 0
+IsComment line = first_solid line ≡ Some 35
+
+-- the same as a test
+abbrev pub is_comment : List ℕ → Bool
+is_comment line = unwrap_or (first_solid line) 0 == 35
+
+-- the text of these lines, each followed by a line feed
+abbrev pub text_of : List (List ℕ) → List ℕ
+text_of lines = flat_map (λ line. line ++ line_feed ∷ []) lines
+
+-- the text is empty, or its last byte is a line feed
+abbrev pub has_ended : List ℕ → Bool
+has_ended [] = true
+has_ended (byte ∷ []) = byte == line_feed
+has_ended (byte ∷ next ∷ text) = has_ended (next ∷ text)
+
+-- the lines hold no line feed, and each followed by one they are the text, or the text with the one that its end lacks
+pub record AreLinesOf (text : List ℕ) (lines : List (List ℕ)) : Type 0 where
+  pub whole : All (λ line. All (λ byte. byte ≢ line_feed) line) lines
+  pub joined : text_of lines ≡ (if has_ended text then text else text ++ line_feed ∷ [])
+
+-- the raw lines of every text are the text
+abbrev pub LinesAreTheText : Type 0
+LinesAreTheText = (text : List ℕ) → AreLinesOf text (raw_lines text)

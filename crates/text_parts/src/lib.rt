@@ -1,0 +1,16 @@
+//! What every text format is made of, said once: the lines of a text, blank lines and comments, the fields of a line, and numbers in digits.
+//! Its one contract for the layer above: each function computes exactly the definition of its name in `specs/`, so a format's grammar is written in those words alone.
+//! Each call goes over its bytes once, `read_number` twice; only `fields` and `push_decimal` take memory.
+#![tactic(auto)]
+
+mod field;
+mod laws;
+mod lines;
+mod numbers;
+#[cfg(test)]
+mod tests;
+
+pub use field::fields;
+pub use laws::{decimal_is_read, joined_fields_are_read, lines_are_the_text};
+pub use lines::{is_blank_line, is_comment, split_line, without_return};
+pub use numbers::{NumberFault, push_decimal, read_number};
