@@ -1,9 +1,10 @@
 //! Reading a line of a stream.
 
-ghost use Rattle.std.specs.Prelude.{◌≡◌, ◌≤◌, ◌∷◌, [], false, true, IfOk, IfErr, IsSome};
+ghost use Rattle.std.specs.Prelude.{◌≡◌, ◌≤◌, ◌∷◌, [], false, true, IfOk, IfErr, IfSome, IsSome};
 ghost use Rattle.text_parts.specs.Numbers.{number_within};
 ghost use Rattle.rpq_base.specs.declared.data.TheConstants.{MAX_TIME};
 ghost use Rattle.rpq_base.specs.Names.{is_name};
+ghost use Rattle.rpq_base.specs.Plain.{IsPlainTuple};
 ghost use Rattle.tuple_text.specs.Reading.{insert_of_fields, insert_of};
 
 use rpq_base::{Act, Edge, Label, MAX_TIME, Memory, Name, NameFault, Tuple};
@@ -51,6 +52,7 @@ impl Error for BadLine {}
 pub fn read_tuple(alloc: Global, line: &[u8]) -> Result<Option<Tuple>, BadLine>
     ensures ok { IfOk result (λ tuple. tuple ≡ insert_of line.now) }
     ensures some { IfOk result (λ tuple. IsSome tuple) }
+    ensures plain { IfOk result (λ tuple. IfSome tuple IsPlainTuple) }
     ensures not_yet { result ≡ Err BadLine.NotYet → insert_of line.now ≡ None }
 {
     let fields = fields(alloc, line)?;
@@ -69,6 +71,7 @@ fn read_insert(
     label: &[u8],
     to: &[u8],
 ) -> Result<Tuple, BadLine>
+    ensures plain { IfOk result IsPlainTuple }
     ensures ok { IfOk result (λ tuple. insert_of_fields (time.now ∷ from.now ∷ label.now ∷ to.now ∷ []) ≡ Some tuple) }
     ensures not_yet { result ≡ Err BadLine.NotYet → insert_of_fields (time.now ∷ from.now ∷ label.now ∷ to.now ∷ []) ≡ None }
 {

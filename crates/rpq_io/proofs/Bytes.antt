@@ -1,0 +1,61 @@
+-- Bytes given and written piece by piece.
+use Rattle.std.proofs.Common.{◌≡◌, ◌≢◌, ℕ, ◌+◌, ◌<◌, ◌≤◌, ◌-◌, List, [], ◌++◌, length, take, drop, Option, Some, None, refl, sym, ap, ◌∙◌, append_assoc, take_all, take-append-drop, length-append, length-drop, length-take-le, drop-drop, arith}
+use Rattle.std.proofs.lemmas.List.{take-append-le}
+use Rattle.std.proofs.Math.Seq.{take-add}
+use Rattle.std.specs.Io.KnownBytes.{prepend_known, append_known}
+use Rattle.rpq_io.specs.Takes.{TakesAtMost}
+
+-- bytes written after others are written after both
+pub append_known-append : (known : Option (List ℕ)) (front next : List ℕ) → append_known (append_known known front) next ≡ append_known known (front ++ next)
+append_known-append None front next = refl
+append_known-append (Some bytes) front next = ap (λ all. Some all) (append_assoc bytes front next)
+
+-- bytes given before others are given before both
+pub prepend_known-prepend : (known : Option (List ℕ)) (front next : List ℕ) → prepend_known front (prepend_known next known) ≡ prepend_known (front ++ next) known
+prepend_known-prepend None front next = refl
+prepend_known-prepend (Some bytes) front next = ap (λ all. Some all) (sym (append_assoc front next bytes))
+
+-- the rest of some bytes, from a place to their end
+pub slice_to_end : (done : ℕ) (bytes : List ℕ) → take (length bytes - done) (drop done bytes) ≡ drop done bytes
+slice_to_end done bytes = take_all (length bytes - done) (drop done bytes) (omega (arith, length-drop done bytes))
+
+-- what is written after one more piece of the bytes
+pub append_known_more : (before now after : Option (List ℕ)) (done count : ℕ) (bytes : List ℕ)
+    → now ≡ append_known before (take done bytes) → after ≡ append_known now (take count (take (length bytes - done) (drop done bytes)))
+    → after ≡ append_known before (take (done + count) bytes)
+append_known_more before now after done count bytes so_far piece =
+    piece ∙ ap (λ part. append_known now (take count part)) (slice_to_end done bytes)
+    ∙ ap (λ known. append_known known (take count (drop done bytes))) so_far
+    ∙ append_known-append before (take done bytes) (take count (drop done bytes))
+    ∙ ap (append_known before) (sym (take-add done count bytes))
+
+-- something is left of bytes that are cut before their end
+pub drop-nonempty : (done : ℕ) (bytes : List ℕ) → done < length bytes → drop done bytes ≢ []
+drop-nonempty done bytes within empty = omega (arith, length-drop done bytes, ap length empty)
+
+-- taking one more piece after some bytes takes both
+pub takes_more : (limit : ℕ) (before now after : Option (List ℕ)) (so_far piece : List ℕ)
+    → before ≡ prepend_known so_far now → now ≡ prepend_known piece after → length so_far + length piece ≤ limit
+    → TakesAtMost limit before after
+takes_more limit before now after so_far piece first second few = (
+  length (so_far ++ piece),
+  simp length-append few,
+  record {
+    bytes = so_far ++ piece;
+    counted = refl;
+    taken = first ∙ ap (prepend_known so_far) second ∙ prepend_known-prepend after so_far piece;
+  },
+)
+
+-- the bytes from a place on are those that a read copied to the front of a buffer, and then the bytes after them
+pub taken_piece : (from count : ℕ) (bytes copied others : List ℕ)
+    → copied ≡ take count (take (length bytes - from) (drop from bytes)) → count ≤ length bytes - from
+    → drop from bytes ≡ take count (copied ++ others) ++ drop (from + count) bytes
+taken_piece from count bytes copied others is_copied within =
+    let piece : copied ≡ take count (drop from bytes) = is_copied ∙ ap (take count) (slice_to_end from bytes) in
+    let whole : length copied ≡ count = ap length piece ∙ length-take-le count (drop from bytes) (omega (arith, length-drop from bytes)) in
+    let front : take count (copied ++ others) ≡ copied =
+    take-append-le count copied others (omega arith) ∙ take_all count copied (omega arith) in
+    sym (ap (λ part. part ++ drop (from + count) bytes) (front ∙ piece)
+    ∙ ap (λ rest. take count (drop from bytes) ++ rest) (sym (drop-drop count from bytes))
+    ∙ take-append-drop count (drop from bytes))

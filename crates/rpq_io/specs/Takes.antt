@@ -1,0 +1,13 @@
+-- Taking bytes from a source.
+use Rattle.std.specs.Prelude.{◌≡◌, ℕ, ◌≤◌, List, length, Option}
+use Rattle.std.specs.Io.KnownBytes.{prepend_known}
+
+-- bytes were taken, this many: what was left before is they, and then what is left now
+pub record Takes (count : ℕ) (before after : Option (List ℕ)) : Type 0 where
+  pub bytes : List ℕ
+  pub counted : length bytes ≡ count
+  pub taken : before ≡ prepend_known bytes after
+
+-- at most this many bytes were taken
+abbrev pub TakesAtMost : ℕ → Option (List ℕ) → Option (List ℕ) → Type 0
+TakesAtMost limit before after = (count : ℕ) × (count ≤ limit) × Takes count before after

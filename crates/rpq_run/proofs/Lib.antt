@@ -1,0 +1,8 @@
+mod Labels
+mod Tuples
+mod Changes
+mod Texts
+mod Grows
+mod Feeding
+mod OneText
+mod StreamParts

@@ -1,0 +1,9 @@
+pub mod QueryValue
+pub mod QueriesFile
+pub mod StreamFile
+pub mod Text
+pub mod Files
+pub mod Turns
+pub mod Written
+pub mod Run
+pub mod Laws

@@ -1,0 +1,6 @@
+mod Equality
+mod Existence
+mod Found
+mod Joins
+mod Members
+mod Paths
