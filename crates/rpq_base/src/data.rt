@@ -7,7 +7,8 @@ use std::marker::Model;
 /// The greatest time of a tuple: 2^62 - 1. Times are plain numbers in the stream's own unit.
 pub const MAX_TIME: u64 = (1 << 62) - 1;
 
-/// The label of an edge. A label with `back` stands for the same edge taken backwards.
+/// The label of an edge. Labels with `back` are for edges that are taken backwards, and no edge is yet; a label with it
+/// differs from the one without.
 #[derive(Debug, PartialEq, Eq, PartialOrd, Ord, Drop)]
 pub struct Label {
     pub name: Name,

@@ -6,7 +6,7 @@ use std::alloc::{AllocError, AllocFailed, Global};
 use std::error::Error;
 use std::fmt;
 
-/// Memory ran out. What the call was to change is as it was, unless the call says otherwise.
+/// Memory ran out.
 #[derive(Clone, Copy, Debug, PartialEq, Eq)]
 pub struct Memory;
 
@@ -32,7 +32,7 @@ impl Error for Memory {}
 
 /// A value that can be copied where memory allows.
 pub trait Copied: Drop {
-    /// An equal value, which keeps the allocator of this one.
+    /// An equal value.
     fn copy(&self) -> Result<Self, Memory>
         ensures { IfOk result (λ copy. copy ≡ self.now) };
 }

@@ -82,7 +82,7 @@ impl Error for OpenFault {}
 pub enum AllFault {
     /// A read failed.
     Read,
-    /// The source gave as many bytes as are allowed, and did not tell its end.
+    /// The source gave as many bytes as its cap, and did not tell its end.
     Long,
     /// Memory ran out.
     Memory,

@@ -1,7 +1,8 @@
 //! The edge of rpq to the outside: sources of bytes, sinks of bytes, and files by name.
 //!
 //! The traits [`Source`], [`Sink`] and [`Files`] say what the outside may do, and count its faults. The layer
-//! above rests on one contract: a fault is answered only where its count rose, and nothing is lost by it.
+//! above rests on one contract: a failed read, write or opening is answered only where its count rose, and a failed
+//! read or write moved nothing.
 //! [`read_all`] gives all the bytes of a source, whatever pieces it gives, and [`put_all`] writes all bytes,
 //! or a proper prefix of them and a fault. The objects in memory tell what they hold, so a proof can follow
 //! the bytes; the adapters over std are trusted, and tell nothing of content. Each byte is copied once by

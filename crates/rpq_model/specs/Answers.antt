@@ -31,7 +31,7 @@ IsJoined edges language mode pair = (path : List Edge) × Joins edges language m
 abbrev pub IsAnswer : (List Label → Type 0) → Mode → ℕ → ℕ → List Entry → Pair → Type 0
 IsAnswer language mode size slide history pair = IsJoined (window_edges size slide history) language mode pair
 
--- the pairs are all answers over the history, sorted by source and then target, each once
+-- the pairs are exactly the answers over the history, sorted by source and then target, each once
 pub record AreAnswers (language : List Label → Type 0) (mode : Mode) (size slide : ℕ) (history : List Entry) (pairs : List Pair) : Type 0 where
   pub sorted : IsStrictlySortedBy pair_cmp pairs
   pub exact : (pair : Pair) → Contains pairs pair ↔ IsAnswer language mode size slide history pair

@@ -21,7 +21,7 @@ without pairs others = filter (λ pair. not (list_any (same_pair pair) others)) 
 abbrev pub changes : ℕ → List Pair → List Pair → List Event
 changes query old new = map (event query false) (without old new) ++ map (event query true) (without new old)
 
--- the events of the query with this number, from one history to another: the changes from its answers there to its answers here
+-- the events of the query with this number, from one history to another: the changes from its answers over the first to those over the second
 abbrev pub AreEvents : (List Label → Type 0) → Mode → ℕ → ℕ → ℕ → List Entry → List Entry → List Event → Type 0
 AreEvents language mode size slide query before after events =
     (old new : List Pair) × AreAnswers language mode size slide before old × AreAnswers language mode size slide after new × (events ≡ changes query old new)

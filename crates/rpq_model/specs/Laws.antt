@@ -57,4 +57,4 @@ EventsAreApart language = (mode : Mode) (size slide query : ℕ) (before after :
 abbrev pub HeldIsAnswers : (List Label → Type 0) → Type 0
 HeldIsAnswers language = (mode : Mode) (size slide query : ℕ) (history : List Entry) (events : List (List Event)) →
     AreEventsOf language mode size slide query history events →
-    (pair : Pair) → IsHeld query (flat_map (λ block. block) events) pair ↔ IsAnswer language mode size slide history pair
+    (pair : Pair) → IsHeld query (flat_map (λ list. list) events) pair ↔ IsAnswer language mode size slide history pair

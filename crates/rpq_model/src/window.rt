@@ -70,7 +70,7 @@ fn live_edge<'a>(
 
 /// The edges of the window of a history, in order of position, for a window of this size that moves by this slide.
 ///
-/// Each live entry is compared with those that follow it.
+/// Each insert that is seen is compared with the entries that follow it.
 pub fn live_edges<'a>(
     alloc: Global,
     size: u64,

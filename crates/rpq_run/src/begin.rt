@@ -1,6 +1,6 @@
 //! What a run begins with, or why it doesn't.
 
-ghost use Rattle.std.specs.Prelude.{◌≡◌, ◌≤◌, ℕ, List, [], ◌∷◌, ◌⊎◌, IfOk, IfErr, IfSome, IsSome, IsSomeAnd, All, vec_len, vec_capacity};
+ghost use Rattle.std.specs.Prelude.{◌≡◌, ◌≤◌, ℕ, List, [], ◌∷◌, ◌⊎◌, IfOk, IfErr, IfSome, IsSome, All, vec_capacity};
 ghost use Rattle.rpq_base.specs.Plain.{IsPlainTuple};
 ghost use Rattle.rpq_io.specs.Counts.{Rose};
 ghost use Rattle.rpq_run.specs.declared.report.Which.{Which as File};
@@ -85,6 +85,8 @@ pub fn begin<F: Files>(
     ensures opened { IfErr result (λ refusal. IsOfOpened refusal.fault) }
     ensures order { IfErr result (λ refusal. IsOf (Which.Stream 1) refusal.fault
         → IfSome (F.holds files.old queries.now) (λ bytes. IsSome (query_of bytes))) }
+    ensures holds_stays { (any : List ℕ) → F.holds files.new any ≡ F.holds files.old any }
+    ensures made_stays { F.made files.new ≡ F.made files.old }
     ensures not_yet { IfErr result (λ refusal. refusal.fault ≡ StartFault.NotYet
         → IfSome (F.holds files.old queries.now) (λ bytes. (query_of bytes ≡ None) ⊎ IfSome (F.holds files.old stream.now) (λ text. tuples_of text ≡ None))) }
 {

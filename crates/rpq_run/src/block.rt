@@ -1,6 +1,6 @@
 //! The text of an entry and its events.
 
-ghost use Rattle.std.specs.Prelude.{◌≡◌, ◌++◌, OnOk, IfOk, All, flat_map};
+ghost use Rattle.std.specs.Prelude.{◌≡◌, ◌++◌, OnOk, IfOk, All};
 ghost use Rattle.rpq_base.specs.Plain.{IsPlain};
 ghost use Rattle.rpq_run.specs.Text.{event_line, entry_line, block};
 

@@ -1,10 +1,9 @@
 //! The two files of a run, read and understood.
 
-ghost use Rattle.std.specs.Prelude.{◌≡◌, ◌≤◌, ◌<◌, ℕ, List, [], true, false, length, IfOk, IfErr, IfSome, IsSome, All};
+ghost use Rattle.std.specs.Prelude.{◌≡◌, ◌≤◌, ◌<◌, ℕ, List, [], length, IfOk, IfSome, All};
 ghost use Rattle.rpq_io.specs.Counts.{Rose};
 ghost use Rattle.rpq_base.specs.Plain.{IsPlainTuple};
-ghost use Rattle.rpq_run.specs.declared.files.TheConstants.{FILE_LIMIT};
-ghost use Rattle.rpq_run.specs.Files.{query_of, tuples_of};
+ghost use Rattle.rpq_run.specs.Files.{file_limit, query_of, tuples_of};
 
 use crate::form::FormFault;
 use crate::query::FirstQuery;
@@ -15,7 +14,7 @@ use rpq_io::{AllFault, Files, OpenFault, read_all};
 use std::alloc::Global;
 
 /// A file has fewer bytes than this.
-pub const FILE_LIMIT: u64 = 1 << 24;
+const FILE_LIMIT: u64 = 1 << 24;
 
 /// Why a file wasn't read and understood.
 #[derive(Drop)]
@@ -41,9 +40,10 @@ fn whole_file<F: Files>(
     ensures end { IfOk result (λ file. IfSome (F.Source.left file.1) (λ rest. rest ≡ [])) }
     ensures open { result ≡ Err FileFault.Open → Rose (F.unread files.old name.now) (F.unread files.new name.now) }
     ensures read { (source : F.Source) → result ≡ Err (FileFault.Read source) → Rose 0 (F.Source.faults source) }
-    ensures not_yet { result ≡ Err FileFault.NotYet → IfSome (F.holds files.old name.now) (λ bytes. FILE_LIMIT ≤ length bytes) }
+    ensures not_yet { result ≡ Err FileFault.NotYet → IfSome (F.holds files.old name.now) (λ bytes. file_limit ≤ length bytes) }
     ensures never_falls { (any : List ℕ) → F.unread files.old any ≤ F.unread files.new any }
     ensures holds_stays { (any : List ℕ) → F.holds files.new any ≡ F.holds files.old any }
+    ensures made_stays { F.made files.new ≡ F.made files.old }
 {
     let mut source = match files.source(name) {
         Ok(source) => source,
@@ -71,6 +71,7 @@ pub fn query_of_file<F: Files>(
     ensures not_yet { result ≡ Err FileFault.NotYet → IfSome (F.holds files.old name.now) (λ bytes. query_of bytes ≡ None) }
     ensures never_falls { (any : List ℕ) → F.unread files.old any ≤ F.unread files.new any }
     ensures holds_stays { (any : List ℕ) → F.holds files.new any ≡ F.holds files.old any }
+    ensures made_stays { F.made files.new ≡ F.made files.old }
 {
     let (bytes, _source) = whole_file(alloc, files, name)?;
     match read_first_query(alloc, &bytes) {
@@ -95,6 +96,7 @@ pub fn tuples_of_file<F: Files>(
     ensures not_yet { result ≡ Err FileFault.NotYet → IfSome (F.holds files.old name.now) (λ bytes. tuples_of bytes ≡ None) }
     ensures never_falls { (any : List ℕ) → F.unread files.old any ≤ F.unread files.new any }
     ensures holds_stays { (any : List ℕ) → F.holds files.new any ≡ F.holds files.old any }
+    ensures made_stays { F.made files.new ≡ F.made files.old }
 {
     let (bytes, source) = whole_file(alloc, files, name)?;
     match read_first_stream(alloc, &bytes) {

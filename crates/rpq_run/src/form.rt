@@ -1,6 +1,5 @@
 //! Why a file isn't understood.
 
-use rpq_base::{Memory, NameFault};
 use std::alloc::{AllocError, AllocFailed};
 
 /// Why a file isn't understood.

@@ -1,4 +1,8 @@
-//! The top call.
+//! The top call: from the words and the files to the text of the events.
+//!
+//! The contract for the layer above is that of [`run`]: what it writes is the text of the history that it read, or a
+//! beginning of it with its cause, or nothing with the reason why it didn't begin. Each turn evaluates the query from
+//! scratch over the whole history.
 #![tactic(auto)]
 
 mod begin;

@@ -1,10 +1,10 @@
 //! The top call.
 
-ghost use Rattle.std.specs.Prelude.{◌≡◌, ◌≢◌, ◌≤◌, ℕ, List, [], ◌∷◌, ◌⊎◌, ◌↔◌, true, false, map, IsNone, IsSome, IfSome, IsSomeAnd, IfOk, All, length};
+ghost use Rattle.std.specs.Prelude.{◌≡◌, ℕ, List, [], ◌∷◌, ◌⊎◌, ◌↔◌, false, true, map, IsNone, IsSome, IfSome, All};
 ghost use Rattle.rpq_base.specs.Plain.{IsPlainTuple};
 ghost use Rattle.rpq_io.specs.Counts.{Rose};
 ghost use Rattle.rpq_run.specs.declared.report.Which.{Which as File};
-ghost use Rattle.rpq_run.specs.Files.{query_of, tuples_of};
+ghost use Rattle.rpq_run.specs.Files.{IsQueriesFile, ForQuery, ForTuples, LacksForm, HaveForm};
 ghost use Rattle.rpq_run.specs.Turns.{entry_of, TakesFront};
 ghost use Rattle.rpq_run.specs.Written.{WritesText, WritesBeginning, WritesProperBeginning};
 ghost use Rattle.rpq_run.specs.Run.{word, is_option, are_words, status_of, IsNoRead, IsOf, IsOfOpened};
@@ -28,32 +28,34 @@ pub fn run<R, F: Files>(
     files: &mut F,
     events: &mut F::Sink,
 ) -> Report<F>
-    // A run that begins has read a query and a stream.
-    ensures query { IsNone result.start → IfSome (F.holds files.old (word words.now 1)) (λ bytes. IsSome (query_of bytes)) }
-    ensures history { IsNone result.start → IfSome (F.holds files.old (word words.now 2))
-        (λ bytes. IsSomeAnd (tuples_of bytes) (λ tuples. TakesFront tuples result.history.items)) }
+    // A run that begins has read a query and a stream, and takes the stream's tuples.
+    ensures query { IsNone result.start → IsQueriesFile (F.holds files.old (word words.now 1)) }
+    ensures history { IsNone result.start → ForTuples (F.holds files.old (word words.now 2)) (λ tuples. TakesFront tuples result.history.items) }
     ensures source { IsNone result.start → (source : F.Source) × (result.sources.items ≡ source ∷ []) × IfSome (F.Source.left source) (λ rest. rest ≡ []) }
     ensures begun { IsNone result.start → (result.status ≡ 0) ⊎ (result.status ≡ 6) ⊎ (result.status ≡ 8) }
 
     // Where all is done, the history is the whole stream, and its text is written.
-    ensures done { result.status ≡ 0 → IfSome (F.holds files.old (word words.now 2))
-        (λ bytes. IsSomeAnd (tuples_of bytes) (λ tuples. result.history.items ≡ map entry_of tuples)) }
-    ensures text { result.status ≡ 0 → IfSome (F.holds files.old (word words.now 1))
-        (λ bytes. IsSomeAnd (query_of bytes) (λ query. WritesText query result.history.items (F.Sink.written events.old) (F.Sink.written events.new))) }
+    ensures done { result.status ≡ 0 → ForTuples (F.holds files.old (word words.now 2)) (λ tuples. result.history.items ≡ map entry_of tuples) }
+    ensures text { result.status ≡ 0 → ForQuery (F.holds files.old (word words.now 1))
+        (λ query. WritesText query result.history.items (F.Sink.written events.old) (F.Sink.written events.new)) }
 
-    // Where a write failed, or memory ran out, a beginning of it is.
-    ensures write { result.status ≡ 6 → IfSome (F.holds files.old (word words.now 1))
-        (λ bytes. IsSomeAnd (query_of bytes) (λ query. WritesProperBeginning query result.history.items (F.Sink.written events.old) (F.Sink.written events.new))) }
+    // Where a write failed, or memory ran out, a beginning of the text is written.
+    ensures write { result.status ≡ 6 → ForQuery (F.holds files.old (word words.now 1))
+        (λ query. WritesProperBeginning query result.history.items (F.Sink.written events.old) (F.Sink.written events.new)) }
     ensures write_cause { result.status ≡ 6 → Rose (F.Sink.faults events.old) (F.Sink.faults events.new) }
-    ensures memory { result.status ≡ 8 → IsNone result.start → IfSome (F.holds files.old (word words.now 1))
-        (λ bytes. IsSomeAnd (query_of bytes) (λ query. WritesBeginning query result.history.items (F.Sink.written events.old) (F.Sink.written events.new))) }
+    ensures memory { result.status ≡ 8 → IsNone result.start → ForQuery (F.holds files.old (word words.now 1))
+        (λ query. WritesBeginning query result.history.items (F.Sink.written events.old) (F.Sink.written events.new)) }
+
+    // No file is changed, and none is opened to write.
+    ensures holds { (name : List ℕ) → F.holds files.new name ≡ F.holds files.old name }
+    ensures made { F.made files.new ≡ F.made files.old }
 
     // A run that doesn't begin writes nothing, and says why.
     ensures refused { IsSome result.start → (result.history.items ≡ []) × (F.Sink.written events.new ≡ F.Sink.written events.old) }
     ensures status { IfSome result.start (λ fault. result.status ≡ status_of fault) }
     ensures words { are_words words.now ≡ false → result.start ≡ Some StartFault.NotYet }
-    ensures not_yet { result.start ≡ Some StartFault.NotYet → are_words words.now ≡ true → IfSome (F.holds files.old (word words.now 1))
-        (λ queries. (query_of queries ≡ None) ⊎ IfSome (F.holds files.old (word words.now 2)) (λ stream. tuples_of stream ≡ None)) }
+    ensures not_yet { result.start ≡ Some StartFault.NotYet → are_words words.now ≡ true
+        → LacksForm (F.holds files.old (word words.now 1)) (F.holds files.old (word words.now 2)) }
     ensures open_queries { result.start ≡ Some (StartFault.Open Which.Queries)
         → Rose (F.unread files.old (word words.now 1)) (F.unread files.new (word words.now 1)) }
     ensures open_stream { result.start ≡ Some (StartFault.Open (Which.Stream 1))
@@ -62,13 +64,10 @@ pub fn run<R, F: Files>(
         → (source : F.Source) × (result.sources.items ≡ source ∷ []) × Rose 0 (F.Source.faults source) }
     ensures no_source { IfSome result.start (λ fault. IsNoRead fault → result.sources.items ≡ []) }
     ensures opened { IfSome result.start IsOfOpened }
-    ensures order { IfSome result.start (λ fault. IsOf (Which.Stream 1) fault
-        → IfSome (F.holds files.old (word words.now 1)) (λ bytes. IsSome (query_of bytes))) }
+    ensures order { IfSome result.start (λ fault. IsOf (Which.Stream 1) fault → IsQueriesFile (F.holds files.old (word words.now 1))) }
 
     // With such words, both files told and of their form, and no count risen, all is done, unless memory ran out.
-    ensures complete { are_words words.now ≡ true
-        → IsSomeAnd (F.holds files.old (word words.now 1)) (λ bytes. IsSome (query_of bytes))
-        → IsSomeAnd (F.holds files.old (word words.now 2)) (λ bytes. IsSome (tuples_of bytes))
+    ensures complete { are_words words.now ≡ true → HaveForm (F.holds files.old (word words.now 1)) (F.holds files.old (word words.now 2))
         → ¬ Rose (F.unread files.old (word words.now 1)) (F.unread files.new (word words.now 1))
         → ¬ Rose (F.unread files.old (word words.now 2)) (F.unread files.new (word words.now 2))
         → ((source : F.Source) → result.sources.items ≡ source ∷ [] → ¬ Rose 0 (F.Source.faults source))
@@ -76,12 +75,9 @@ pub fn run<R, F: Files>(
         → (result.status ≡ 0) ⊎ (result.status ≡ 8) }
 {
     let Some((queries, stream)) = file_words(words) else {
-        return Report {
-            status: 9,
-            start: Some(StartFault::NotYet),
-            history: Vec::new(alloc),
-            sources: Vec::new(alloc),
-        };
+        let fault = StartFault::NotYet;
+        let sources = Vec::new(alloc);
+        return refused(alloc, Refusal { fault, sources });
     };
     match begin(alloc, files, queries, stream) {
         Ok(begun) => fed(alloc, begun, events),
@@ -89,7 +85,7 @@ pub fn run<R, F: Files>(
     }
 }
 
-/// The names of the queries file and of the stream, where the words are of this form.
+/// The names of the queries file and of the stream, where the words are the program's name and two that are no options.
 fn file_words(words: &[String]) -> Option<(&str, &str)>
     ensures queries { IfSome result (λ names. names.0.now ≡ word words.now 1) }
     ensures stream { IfSome result (λ names. names.1.now ≡ word words.now 2) }
@@ -131,7 +127,7 @@ fn refused<F: Files>(alloc: Global, refusal: Refusal<F::Source>) -> Report<F>
     }
 }
 
-/// The report of a run that begins so.
+/// The report of a run that has begun: takes the tuples one turn after another.
 fn fed<F: Files>(alloc: Global, begun: Begun<F::Source>, events: &mut F::Sink) -> Report<F>
     requires { All IsPlainTuple begun.tuples.items }
     ensures start { result.start ≡ None }

@@ -1,4 +1,5 @@
-// What the definitions of specs/ say of one another: each function does nothing, and its contract is the law.
+//! Laws of the definitions. The functions do nothing: their contracts are the laws.
+
 ghost use Rattle.text_parts.specs.Lines.{LinesAreTheText};
 ghost use Rattle.text_parts.specs.Fields.{JoinedFieldsAreRead};
 ghost use Rattle.text_parts.specs.Numbers.{DecimalIsRead};

@@ -1,3 +1,5 @@
+//! The lines of a text.
+
 ghost use Rattle.std.specs.Prelude.{◌≡◌, ◌<◌, ◌≤◌, ◌↔◌, [], ◌∷◌, ◌≢◌, ◌==◌, All, length, position, IsTrue, IsNone, IfNone, IfSome};
 ghost use Rattle.text_parts.specs.Lines.{line_feed, raw_lines, without_return, is_blank, is_blank_line, first_solid, IsComment, is_comment};
 

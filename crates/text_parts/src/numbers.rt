@@ -1,3 +1,5 @@
+//! Numbers in digits.
+
 ghost use Rattle.std.specs.Prelude.{◌≡◌, ◌+◌, ◌*◌, ◌<◌, ◌≤◌, ◌↔◌, ◌++◌, SomeIff, IsTrue, IfOk, IfErr, is_ok, decimal, if◌then◌else◌};
 ghost use Rattle.std.specs.Result.{result_ok};
 ghost use Rattle.text_parts.specs.Numbers.{IsDigitText, is_digit_text, number_of, number_within};

@@ -44,7 +44,8 @@ impl fmt::Display for BadLine {
 
 impl Error for BadLine {}
 
-/// The tuple that a line gives. The line has no line feed, and none of the carriage return that may stand at its end.
+/// The tuple that a line gives. A line is handed over without its line feed and without the carriage return that may
+/// stand at its end; such bytes would be part of its fields.
 ///
 /// A line is an insert where it has four fields: a time in digits of at most 2^62 - 1, and the names of the source,
 /// the label and the target. Every other line is refused as [`BadLine::NotYet`].

@@ -1,0 +1,118 @@
+//! A case of a run over files in memory.
+
+ghost use Rattle.std.specs.Prelude.{◌≤◌};
+
+use rpq_io::{MemoryFiles, MemorySink};
+use rpq_run::{StartFault, run};
+use std::alloc::Global;
+use std::test::Fail;
+
+/// The one query of most cases, whose window soon passes.
+pub const SHORT_WINDOW: &str = "query q window 10 slide 5 arbitrary: a\n";
+
+/// A query for two labels in sequence, with a wide window.
+pub const SEQUENCE: &str = "query q window 100 slide 10 arbitrary: a/b\n";
+
+/// A stream that holds the one path of [`SEQUENCE`].
+pub const PATH: &str = "1 x a y\n2 y b z\n";
+
+/// What [`SEQUENCE`] over [`PATH`] writes.
+pub const PATH_EVENTS: &str = "@1 1 1 x a y +\n@2 1 2 y b z +\n+ q x z\n";
+
+/// What a run is given: the words after the program's name, the files `q` and `s`, and the calls that fail,
+/// counted from 1.
+#[derive(Clone, Copy)]
+pub struct Case<'a> {
+    pub words: &'a [&'a str],
+    pub queries: &'a str,
+    pub stream: &'a str,
+    /// The most bytes that a read gives.
+    pub read_piece: usize,
+    /// The most bytes that a write takes.
+    pub write_piece: usize,
+    /// The most bytes that the sink takes in all.
+    pub room: usize,
+    pub failing_openings: &'a [u64],
+    pub failing_query_reads: &'a [u64],
+    pub failing_stream_reads: &'a [u64],
+    pub failing_writes: &'a [u64],
+}
+
+/// What a run answered and wrote.
+#[derive(Drop)]
+pub struct Outcome {
+    pub status: u8,
+    pub start: Option<StartFault>,
+    /// How many entries were taken.
+    pub entries: usize,
+    /// How many sources were left.
+    pub sources: usize,
+    pub written: Vec<u8>,
+}
+
+/// The case of these two files, in which no call fails.
+pub fn without_faults<'a>(queries: &'a str, stream: &'a str) -> Case<'a>
+    ensures reads { 1 ≤ result.read_piece }
+    ensures writes { 1 ≤ result.write_piece }
+{
+    Case {
+        words: &["q", "s"],
+        queries,
+        stream,
+        read_piece: 4096,
+        write_piece: 4096,
+        room: 4096,
+        failing_openings: &[],
+        failing_query_reads: &[],
+        failing_stream_reads: &[],
+        failing_writes: &[],
+    }
+}
+
+/// Runs the case.
+pub fn outcome_of<R>(rt: &R, alloc: Global, case: Case) -> Result<Outcome, Fail>
+    requires reads { 1 ≤ case.read_piece }
+    requires writes { 1 ≤ case.write_piece }
+{
+    let words = words_of(alloc, case.words)?;
+    let mut files = files_of(alloc, case)?;
+    let mut events = MemorySink::new(alloc, case.room, case.write_piece, case.failing_writes)?;
+    let report = run(rt, alloc, &words, &mut files, &mut events);
+    Ok(Outcome {
+        status: report.status,
+        start: report.start,
+        entries: report.history.len(),
+        sources: report.sources.len(),
+        written: Vec::from_slice(alloc, events.bytes())?,
+    })
+}
+
+/// The program's name, and these words after it.
+fn words_of(alloc: Global, rest: &[&str]) -> Result<Vec<String>, Fail> {
+    let mut words = Vec::new(alloc);
+    words.push(String::from_str(alloc, "rpq")?)?;
+    for word in rest {
+        words.push(String::from_str(alloc, word)?)?;
+    }
+    Ok(words)
+}
+
+/// The two files of the case.
+fn files_of(alloc: Global, case: Case) -> Result<MemoryFiles, Fail>
+    requires { 1 ≤ case.read_piece }
+{
+    let mut files = MemoryFiles::new(alloc, 0, 1, &[], case.failing_openings)?;
+    files.add(
+        "q",
+        case.queries.as_bytes(),
+        case.read_piece,
+        case.failing_query_reads,
+    )?;
+    files.add(
+        "s",
+        case.stream.as_bytes(),
+        case.read_piece,
+        case.failing_stream_reads,
+    )?;
+    Ok(files)
+}
