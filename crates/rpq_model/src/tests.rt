@@ -28,6 +28,11 @@ fn delete(alloc: Global, time: u32) -> Result<Entry, Fail> {
     Ok(at(time, act))
 }
 
+fn add(history: &mut Vec<Entry>, entry: Entry) -> Result<(), Fail> {
+    history.push(entry)?;
+    Ok(())
+}
+
 fn at(time: u32, act: Act) -> Entry {
     let tuple = Tuple {
         time: u64::from(time),
@@ -47,10 +52,12 @@ fn pair(alloc: Global, from: &[u8], to: &[u8]) -> Result<Pair, Fail> {
 fn an_edge_is_seen_until_the_window_slides_past_it(rt: HostRuntime) -> Result<(), Fail> {
     let alloc = rt.alloc();
     for (now, seen) in [(1, true), (11, true), (14, true), (15, false)] {
-        let history = vec![in alloc; insert(alloc, 1)?, at(now, Act::Tick)]?;
+        let mut history = Vec::new(alloc);
+        add(&mut history, insert(alloc, 1)?)?;
+        add(&mut history, at(now, Act::Tick))?;
         assert_eq!(rt; clock(&history), u64::from(now));
         let edges = live_edges(alloc, 10, 5, &history)?;
-        assert_eq!(rt; edges.len(), usize::from(seen), "at {now}");
+        assert_eq!(rt; edges.len(), usize::from(seen));
     }
     Ok(())
 }
@@ -59,9 +66,11 @@ fn an_edge_is_seen_until_the_window_slides_past_it(rt: HostRuntime) -> Result<()
 fn a_delete_takes_what_is_before_it_and_nothing_after(rt: HostRuntime) -> Result<(), Fail> {
     let alloc = rt.alloc();
     let edge = follows(alloc, false)?;
-    let mut history = vec![in alloc; insert(alloc, 7)?, insert(alloc, 8)?, delete(alloc, 9)?]?;
+    let mut history = Vec::new(alloc);
+    add(&mut history, insert(alloc, 7)?)?;
+    add(&mut history, delete(alloc, 9)?)?;
     assert!(rt; live_edges(alloc, 10, 5, &history)?.is_empty());
-    history.push(insert(alloc, 6)?)?;
+    add(&mut history, insert(alloc, 6)?)?;
     assert_eq!(rt;
         live_edges(alloc, 10, 5, &history)?.as_slice(),
         [&edge].as_slice()
@@ -75,7 +84,9 @@ fn a_delete_takes_its_own_edge_alone(rt: HostRuntime) -> Result<(), Fail> {
     let alloc = rt.alloc();
     let other = follows(alloc, true)?;
     let act = Act::Insert(follows(alloc, true)?);
-    let history = vec![in alloc; at(7, act), delete(alloc, 9)?]?;
+    let mut history = Vec::new(alloc);
+    add(&mut history, at(7, act))?;
+    add(&mut history, delete(alloc, 9)?)?;
     assert_eq!(rt;
         live_edges(alloc, 10, 5, &history)?.as_slice(),
         [&other].as_slice()
@@ -83,26 +94,31 @@ fn a_delete_takes_its_own_edge_alone(rt: HostRuntime) -> Result<(), Fail> {
     Ok(())
 }
 
+/// The one pair, alone in a list.
+fn alone(alloc: Global, pair: Pair) -> Result<Vec<Pair>, Fail> {
+    let mut pairs = Vec::new(alloc);
+    pairs.push(pair)?;
+    Ok(pairs)
+}
+
+/// Writes the events as text.
+fn text_of(alloc: Global, events: &[Event]) -> Result<Vec<u8>, Fail> {
+    let mut text = Vec::new(alloc);
+    for event in events {
+        text.extend_from_slice(if event.added { b"+" } else { b"-" })?;
+        text.extend_from_slice(event.pair.from.as_bytes())?;
+        text.extend_from_slice(event.pair.to.as_bytes())?;
+    }
+    Ok(text)
+}
+
 #[test]
 fn losses_come_before_gains(rt: HostRuntime) -> Result<(), Fail> {
     let alloc = rt.alloc();
-    let old = vec![in alloc; pair(alloc, b"x", b"y")?]?;
-    let new = vec![in alloc; pair(alloc, b"z", b"w")?]?;
-    let lost = Event {
-        query: 2,
-        added: false,
-        pair: pair(alloc, b"x", b"y")?,
-    };
-    let gained = Event {
-        query: 2,
-        added: true,
-        pair: pair(alloc, b"z", b"w")?,
-    };
-    let events = vec![in alloc; lost, gained]?;
-    assert_eq!(rt;
-        changes(alloc, 2, &old, &new)?.as_slice(),
-        events.as_slice()
-    );
+    let old = alone(alloc, pair(alloc, b"x", b"y")?)?;
+    let new = alone(alloc, pair(alloc, b"z", b"w")?)?;
+    let events = changes(alloc, 2, &old, &new)?;
+    assert_eq!(rt; text_of(alloc, &events)?.as_slice(), b"-xy+zw".as_slice());
     assert!(rt; changes(alloc, 2, &old, &old)?.is_empty());
     Ok(())
 }

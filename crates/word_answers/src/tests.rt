@@ -3,96 +3,66 @@ use rpq_base::{Act, Edge, Entry, Label, Name, Pair, Tuple};
 use std::alloc::Global;
 use std::test::Fail;
 
-fn name(alloc: Global, bytes: &[u8]) -> Result<Name, Fail> {
-    Ok(Name::new(alloc, bytes)?)
-}
-
-fn label(alloc: Global, bytes: &[u8]) -> Result<Label, Fail> {
+fn label(alloc: Global, name: &[u8]) -> Result<Label, Fail> {
     Ok(Label {
-        name: name(alloc, bytes)?,
+        name: Name::new(alloc, name)?,
         back: false,
     })
 }
 
-fn pair(alloc: Global, from: &[u8], to: &[u8]) -> Result<Pair, Fail> {
-    Ok(Pair {
-        from: name(alloc, from)?,
-        to: name(alloc, to)?,
-    })
-}
-
-fn insert(alloc: Global, time: u32, from: &[u8], word: &[u8], to: &[u8]) -> Result<Entry, Fail> {
+/// Puts an insert at the end of the history.
+fn insert(
+    alloc: Global,
+    history: &mut Vec<Entry>,
+    from: &[u8],
+    name: &[u8],
+    to: &[u8],
+) -> Result<(), Fail> {
     let edge = Edge {
-        from: name(alloc, from)?,
-        label: label(alloc, word)?,
-        to: name(alloc, to)?,
+        from: Name::new(alloc, from)?,
+        label: label(alloc, name)?,
+        to: Name::new(alloc, to)?,
     };
     let tuple = Tuple {
-        time: u64::from(time),
+        time: 1,
         act: Act::Insert(edge),
     };
-    Ok(Entry { stream: 1, tuple })
+    history.push(Entry { stream: 1, tuple })?;
+    Ok(())
 }
 
-#[test]
-fn one_label_joins_the_ends_of_its_edges(rt: HostRuntime) -> Result<(), Fail> {
-    let alloc = rt.alloc();
-    let word = vec![in alloc; label(alloc, b"a")?]?;
-    let history = vec![in alloc;
-        insert(alloc, 1, b"y", b"a", b"z")?,
-        insert(alloc, 1, b"x", b"b", b"z")?,
-        insert(alloc, 2, b"x", b"a", b"y")?,
-        insert(alloc, 3, b"x", b"a", b"y")?,
-    ]?;
-    let expected = vec![in alloc; pair(alloc, b"x", b"y")?, pair(alloc, b"y", b"z")?]?;
-    assert_eq!(rt;
-        word_answers(alloc, 10, 5, &word, &history)?.as_slice(),
-        expected.as_slice()
-    );
-    Ok(())
+/// The answers of `a/b`, written as text.
+fn answers_of_two_labels(alloc: Global, history: &[Entry]) -> Result<Vec<u8>, Fail> {
+    let mut word = Vec::new(alloc);
+    word.push(label(alloc, b"a")?)?;
+    word.push(label(alloc, b"b")?)?;
+    let mut text = Vec::new(alloc);
+    for Pair { from, to } in &word_answers(alloc, 10, 5, &word, history)? {
+        text.extend_from_slice(from.as_bytes())?;
+        text.extend_from_slice(b" ")?;
+        text.extend_from_slice(to.as_bytes())?;
+        text.extend_from_slice(b"\n")?;
+    }
+    Ok(text)
 }
 
 #[test]
 fn two_labels_join_through_a_vertex(rt: HostRuntime) -> Result<(), Fail> {
     let alloc = rt.alloc();
-    let word = vec![in alloc; label(alloc, b"a")?, label(alloc, b"b")?]?;
-    let history = vec![in alloc;
-        insert(alloc, 1, b"m", b"b", b"z")?,
-        insert(alloc, 2, b"y", b"a", b"m")?,
-        insert(alloc, 3, b"x", b"a", b"m")?,
-        insert(alloc, 4, b"z", b"a", b"n")?,
-    ]?;
-    let expected = vec![in alloc; pair(alloc, b"x", b"z")?, pair(alloc, b"y", b"z")?]?;
+    let mut history = Vec::new(alloc);
+    insert(alloc, &mut history, b"m", b"b", b"z")?;
+    insert(alloc, &mut history, b"y", b"a", b"m")?;
+    insert(alloc, &mut history, b"x", b"a", b"m")?;
     assert_eq!(rt;
-        word_answers(alloc, 10, 5, &word, &history)?.as_slice(),
-        expected.as_slice()
+        answers_of_two_labels(alloc, &history)?.as_slice(),
+        b"x z\ny z\n".as_slice()
     );
     Ok(())
 }
 
 #[test]
-fn a_loop_serves_both_labels(rt: HostRuntime) -> Result<(), Fail> {
+fn no_history_has_no_answers(rt: HostRuntime) -> Result<(), Fail> {
     let alloc = rt.alloc();
-    let word = vec![in alloc; label(alloc, b"a")?, label(alloc, b"a")?]?;
-    let history = vec![in alloc; insert(alloc, 1, b"x", b"a", b"x")?]?;
-    let expected = vec![in alloc; pair(alloc, b"x", b"x")?]?;
-    assert_eq!(rt;
-        word_answers(alloc, 10, 5, &word, &history)?.as_slice(),
-        expected.as_slice()
-    );
-    Ok(())
-}
-
-#[test]
-fn what_has_no_path_has_no_answer(rt: HostRuntime) -> Result<(), Fail> {
-    let alloc = rt.alloc();
-    let word = vec![in alloc; label(alloc, b"a")?]?;
-    assert!(rt; word_answers(alloc, 10, 5, &word, &[])?.is_empty());
-    let history = vec![in alloc;
-        insert(alloc, 1, b"x", b"a", b"y")?,
-        insert(alloc, 15, b"x", b"b", b"y")?,
-    ]?;
-    assert!(rt; word_answers(alloc, 10, 5, &word, &history)?.is_empty());
-    assert!(rt; word_answers(alloc, 10, 5, &[], &history)?.is_empty());
+    assert!(rt; answers_of_two_labels(alloc, &[])?.is_empty());
     Ok(())
 }
