@@ -1,0 +1,3 @@
+mod OneStep
+mod Rows
+mod Runs

@@ -1,0 +1,4 @@
+pub mod DfaValue
+pub mod Table
+pub mod Runs
+pub mod Laws
