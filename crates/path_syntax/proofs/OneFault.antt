@@ -1,0 +1,277 @@
+-- Bytes have one outcome: an expression within the limits, or one fault.
+use Rattle.std.proofs.Common.{◌≡◌, ℕ, ◌+◌, ◌≤◌, ◌||◌, ◌==◌, ◌⊎◌, Bool, true, false, cond, List, [], ◌∷◌, ◌++◌, length, Some, Result, Ok, Err, refl, sym, ◌∙◌, ap, subst, inl, inr, ⊎_elim, append_assoc, arith}
+use Rattle.std.specs.Option.{option_and_then}
+use Rattle.std.proofs.lemmas.List.{append-nil}
+use Rattle.std.proofs.lemmas.List.Folds.{list_all-append}
+use Rattle.std.proofs.lemmas.Bool.{and_parts}
+use Rattle.rpq_base.specs.Names.{is_name_byte}
+use Rattle.path_syntax.specs.declared.read.BadExpr.{BadExpr}
+use Rattle.path_syntax.specs.declared.read.BadExpr.TheVariants.{Unexpected, Ended, TooLarge, LongName, Memory}
+use Rattle.path_syntax.specs.Expression.{Expression}
+use Rattle.path_syntax.specs.Grammar.{is_bare_byte, IsBare, AreNameBytes, escaped, quoted, IsText, CanGoOn}
+use Rattle.path_syntax.specs.Faults.{signs, BeginsLabel, BeginsBare, BeginsQuoted, HasLongName, IsWithinLimits, IsTaken, Reaches, IsEnded, IsFault}
+use Rattle.path_syntax.specs.Reading.{kind_of, FrameValue, ModeValue, Operand, BareLabel, QuotedLabel, Escape, Primary, Element, state_with, initial, name_length, takes_operand, reading}
+use Rattle.path_syntax.proofs.Steps.{run, run_from}
+use Rattle.path_syntax.proofs.Completeness.{begin_quoted, escaped_run, one_expression}
+use Rattle.path_syntax.proofs.Fronts.{goes_through, goes_through_front, TakesOperand, takes_operand_there}
+use Rattle.path_syntax.proofs.Signs.{signs_grow}
+use Rattle.path_syntax.proofs.Limits.{begins_run, split_push, Outcome, Found, Faulty, outcome}
+
+-- a fault shows at a byte
+data Shows (front : List ℕ) (byte : ℕ) : BadExpr → Type 0 where
+  ShowsUnexpected : (at : ℕ) → at ≡ length front + 1 → (CanGoOn (front ++ byte ∷ []) → ⊥) → Shows front byte (Unexpected at)
+  ShowsLong : (at : ℕ) → CanGoOn (front ++ byte ∷ []) → HasLongName (front ++ byte ∷ []) at → Shows front byte (LongName at)
+  ShowsMany : CanGoOn (front ++ byte ∷ []) → ((at : ℕ) → HasLongName (front ++ byte ∷ []) at → ⊥) → signs (front ++ byte ∷ []) ≡ 513 →
+      Shows front byte TooLarge
+
+data Has (bytes : List ℕ) (fault : BadExpr) : Type 0 where
+  Within : (front : List ℕ) (byte : ℕ) → Reaches bytes front byte → Shows front byte fault → Has bytes fault
+  AtEnd : fault ≡ Ended → IsEnded bytes → Has bytes fault
+
+has_fault : (fault : BadExpr) (bytes : List ℕ) → IsFault fault bytes → Has bytes fault
+has_fault (Unexpected at) bytes f = Within f.front f.byte f.reached (ShowsUnexpected at f.place f.refused)
+has_fault Ended bytes f = AtEnd refl f
+has_fault TooLarge bytes f = Within f.front f.byte f.reached (ShowsMany f.goes_on f.short f.many)
+has_fault (LongName at) bytes f = Within f.front f.byte f.reached (ShowsLong at f.goes_on f.long)
+has_fault Memory bytes f = absurd f
+
+longer_still : (bytes more : List ℕ) (at : ℕ) → HasLongName bytes at → HasLongName (bytes ++ more) at
+longer_still bytes more at h = record {
+  before = h.before;
+  label = h.label;
+  after = h.after ++ more;
+  name = h.name;
+  split = ap (λ t. t ++ more) h.split ∙ append_assoc (h.before ++ h.label) h.after more;
+  place = h.place;
+  stands = h.stands;
+  begins = h.begins;
+  long = h.long;
+}
+
+-- what a fault shows in is not taken, however it goes on
+not_taken : {front : List ℕ} {byte : ℕ} {fault : BadExpr} → Shows front byte fault → (more : List ℕ) → IsTaken (front ++ byte ∷ more) → ⊥
+not_taken {front} {byte} (ShowsUnexpected at place refused) more t =
+    refused (goes_through_front (front ++ byte ∷ []) more (subst CanGoOn (sym (append_assoc front (byte ∷ []) more)) t.goes_on))
+not_taken {front} {byte} (ShowsLong at on long) more t =
+    t.limits.short at (subst (λ b. HasLongName b at) (append_assoc front (byte ∷ []) more) (longer_still (front ++ byte ∷ []) more at long))
+not_taken {front} {byte} (ShowsMany on short many) more t =
+    let g = goes_through (front ++ byte ∷ []) on in
+    let grows : signs (front ++ byte ∷ []) ≤ signs (front ++ byte ∷ [] ++ more) = signs_grow (front ++ byte ∷ []) more g.state g.ran in
+    let same : signs (front ++ byte ∷ [] ++ more) ≡ signs (front ++ byte ∷ more) = ap signs (append_assoc front (byte ∷ []) more) in
+    let few : signs (front ++ byte ∷ more) ≤ 512 = t.limits.few in
+    absurd (omega arith)
+
+-- an expression's text within the limits has no fault
+has_not : (bytes : List ℕ) (fault : BadExpr) → Has bytes fault → (e : Expression) → IsText bytes e → IsWithinLimits bytes → ⊥
+has_not bytes fault (Within front byte reached shows) e text limits =
+    not_taken shows reached.rest (subst IsTaken reached.split (record {
+      goes_on = record { rest = []; whole = e; text = subst (λ t. IsText t e) (sym (append-nil bytes)) text };
+      limits = limits;
+    }))
+has_not bytes fault (AtEnd is ended) e text limits = ended.incomplete e text
+
+pub no_fault : (bytes : List ℕ) (fault : BadExpr) (e : Expression) → IsText bytes e → IsWithinLimits bytes → IsFault fault bytes → ⊥
+no_fault bytes fault e text limits f = has_not bytes fault (has_fault fault bytes f) e text limits
+
+-- two fronts of the same bytes
+data Fronts (first : List ℕ) (x : ℕ) (second : List ℕ) (y : ℕ) : Type 0 where
+  Equal : first ≡ second → x ≡ y → Fronts first x second y
+  Shorter : (more : List ℕ) → second ≡ first ++ x ∷ more → Fronts first x second y
+  Longer : (more : List ℕ) → first ≡ second ++ y ∷ more → Fronts first x second y
+
+fronts : (first : List ℕ) (x : ℕ) (second : List ℕ) (y : ℕ) (rest other : List ℕ) → first ++ x ∷ rest ≡ second ++ y ∷ other → Fronts first x second y
+fronts [] x [] y rest other e = Equal refl cc
+fronts [] x (z ∷ second) y rest other e = let head : x ≡ z = cc in Shorter second (ap (λ h. h ∷ second) (sym head))
+fronts (z ∷ first) x [] y rest other e = let head : z ≡ y = cc in Longer first (ap (λ h. h ∷ first) head)
+fronts (z ∷ first) x (w ∷ second) y rest other e =
+    let head : z ≡ w = cc in
+    let tail : first ++ x ∷ rest ≡ second ++ y ∷ other = cc in
+    under (fronts first x second y rest other tail) head
+  where
+    under : Fronts first x second y → z ≡ w → Fronts (z ∷ first) x (w ∷ second) y
+    under (Equal f b) head = Equal (ap (λ t. z ∷ t) f ∙ ap (λ h. h ∷ second) head) b
+    under (Shorter more f) head = Shorter more (ap (λ t. w ∷ t) f ∙ ap (λ h. h ∷ (first ++ x ∷ more)) (sym head))
+    under (Longer more f) head = Longer more (ap (λ t. z ∷ t) f ∙ ap (λ h. h ∷ (second ++ y ∷ more)) head)
+
+-- within a label no operand is to come
+pub record InLabel (outer : List FrameValue) (frame : FrameValue) (text : List ℕ) (from : ModeValue) : Type 0 where
+  pub mode : ModeValue
+  pub within : takes_operand mode ≡ false
+  pub ran : run text (state_with outer frame from) ≡ Some (state_with outer frame mode)
+
+after_escape : (name : List ℕ) (outer : List FrameValue) (frame : FrameValue) →
+    run (92 ∷ []) (state_with outer frame (QuotedLabel name)) ≡ Some (state_with outer frame (Escape name))
+unfolding kind_of
+after_escape name outer frame = refl
+
+escaped_cases : (byte : ℕ) → (escaped byte ≡ 92 ∷ byte ∷ []) ⊎ (escaped byte ≡ byte ∷ [])
+escaped_cases byte = by (byte == 34 || byte == 92)
+  where
+    by : (test : Bool) → (cond test (92 ∷ byte ∷ []) (byte ∷ []) ≡ 92 ∷ byte ∷ []) ⊎ (cond test (92 ∷ byte ∷ []) (byte ∷ []) ≡ byte ∷ [])
+    by true = inl refl
+    by false = inr refl
+
+quoted_front : (name front rest before : List ℕ) (outer : List FrameValue) (frame : FrameValue) → AreNameBytes name → front ++ rest ≡ quoted name →
+    InLabel outer frame front (QuotedLabel before)
+quoted_front name [] rest before outer frame named e = record { mode = QuotedLabel before; within = refl; ran = refl }
+quoted_front [] (x ∷ front) rest before outer frame named e = absurd cc
+quoted_front (byte ∷ name) (x ∷ front) rest before outer frame named e =
+    let both : (is_name_byte byte ≡ true) × (AreNameBytes name) = and_parts _ _ named in
+    ⊎_elim
+    (λ escape.
+    let there : x ∷ (front ++ rest) ≡ 92 ∷ byte ∷ quoted name = e ∙ ap (λ t. t ++ quoted name) escape in
+    let head : 92 ≡ x = cc in
+    let tail : front ++ rest ≡ byte ∷ quoted name = cc in
+    let ran : run (92 ∷ byte ∷ []) (state_with outer frame (QuotedLabel before)) ≡ Some (state_with outer frame (QuotedLabel (before ++ byte ∷ []))) =
+    ap (λ t. run t (state_with outer frame (QuotedLabel before))) (sym escape) ∙ escaped_run byte before outer frame both.0 in
+    subst (λ z. InLabel outer frame (z ∷ front) (QuotedLabel before)) head
+    (escape_front front tail ran (λ more same. quoted_front name more rest (before ++ byte ∷ []) outer frame both.1 same)))
+    (λ plain.
+    let there : x ∷ (front ++ rest) ≡ byte ∷ quoted name = e ∙ ap (λ t. t ++ quoted name) plain in
+    let head : byte ≡ x = cc in
+    let tail : front ++ rest ≡ quoted name = cc in
+    let next = quoted_front name front rest (before ++ byte ∷ []) outer frame both.1 tail in
+    let ran : run (byte ∷ []) (state_with outer frame (QuotedLabel before)) ≡ Some (state_with outer frame (QuotedLabel (before ++ byte ∷ []))) =
+    ap (λ t. run t (state_with outer frame (QuotedLabel before))) (sym plain) ∙ escaped_run byte before outer frame both.0 in
+    subst (λ z. InLabel outer frame (z ∷ front) (QuotedLabel before)) head
+    (record { mode = next.mode; within = next.within; ran = run_from (byte ∷ []) front (state_with outer frame (QuotedLabel before)) (state_with outer frame (QuotedLabel (before ++ byte ∷ []))) ran ∙ next.ran }))
+    (escaped_cases byte)
+  where
+    escape_front : (front : List ℕ) → front ++ rest ≡ byte ∷ quoted name →
+        run (92 ∷ byte ∷ []) (state_with outer frame (QuotedLabel before)) ≡ Some (state_with outer frame (QuotedLabel (before ++ byte ∷ []))) →
+        ((more : List ℕ) → more ++ rest ≡ quoted name → InLabel outer frame more (QuotedLabel (before ++ byte ∷ []))) →
+        InLabel outer frame (92 ∷ front) (QuotedLabel before)
+    escape_front [] tail ran again = record { mode = Escape before; within = refl; ran = after_escape before outer frame }
+    escape_front (y ∷ more) tail ran again =
+        let second : byte ≡ y = cc in
+        let last : more ++ rest ≡ quoted name = cc in
+        let next = again more last in
+        subst (λ z. InLabel outer frame (92 ∷ z ∷ more) (QuotedLabel before)) second
+        (record { mode = next.mode; within = next.within; ran = run_from (92 ∷ byte ∷ []) more (state_with outer frame (QuotedLabel before)) (state_with outer frame (QuotedLabel (before ++ byte ∷ []))) ran ∙ next.ran })
+
+label_front : {label name : List ℕ} → BeginsLabel label name → (x : ℕ) (front rest : List ℕ) → label ≡ x ∷ front ++ rest →
+    (outer : List FrameValue) (frame : FrameValue) → InLabel outer frame (x ∷ front) Operand
+label_front (BeginsBare name bare) x front rest e outer frame =
+    let all : IsBare (x ∷ front ++ rest) = subst IsBare e bare in
+    let part : IsBare (x ∷ front) = (and_parts _ _ (sym (list_all-append is_bare_byte (x ∷ front) rest) ∙ all)).0 in
+    let r = begins_run (BeginsBare (x ∷ front) part) outer frame in
+    record { mode = r.mode; within = some r.mode r.size; ran = r.ran }
+  where
+    some : (mode : ModeValue) → name_length mode ≡ length (x ∷ front) → takes_operand mode ≡ false
+    some Operand size = absurd cc
+    some (BareLabel name) size = refl
+    some (QuotedLabel name) size = refl
+    some (Escape name) size = refl
+    some (Primary e) size = refl
+    some (Element e) size = refl
+label_front (BeginsQuoted name named) x front rest e outer frame =
+    let head : 34 ≡ x = cc in
+    let tail : front ++ rest ≡ quoted name = cc in
+    let r = quoted_front name front rest [] outer frame named tail in
+    subst (λ z. InLabel outer frame (z ∷ front) Operand) head
+    (record { mode = r.mode; within = r.within; ran = ap (option_and_then (run front)) (begin_quoted outer frame) ∙ r.ran })
+
+-- two splits of the same bytes
+data Splits (first second third fourth : List ℕ) : Type 0 where
+  FirstIsFront : (middle : List ℕ) → third ≡ first ++ middle → second ≡ middle ++ fourth → Splits first second third fourth
+  ThirdIsFront : (middle : List ℕ) → first ≡ third ++ middle → fourth ≡ middle ++ second → Splits first second third fourth
+
+splits : (first second third fourth : List ℕ) → first ++ second ≡ third ++ fourth → Splits first second third fourth
+splits [] second third fourth e = FirstIsFront third refl e
+splits (x ∷ first) second [] fourth e = ThirdIsFront (x ∷ first) refl (sym e)
+splits (x ∷ first) second (y ∷ third) fourth e =
+    let head : x ≡ y = cc in
+    let tail : first ++ second ≡ third ++ fourth = cc in
+    under (splits first second third fourth tail) head
+  where
+    under : Splits first second third fourth → x ≡ y → Splits (x ∷ first) second (y ∷ third) fourth
+    under (FirstIsFront middle a b) head = FirstIsFront middle (ap (λ t. y ∷ t) a ∙ ap (λ h. h ∷ (first ++ middle)) (sym head)) b
+    under (ThirdIsFront middle a b) head = ThirdIsFront middle (ap (λ t. x ∷ t) a ∙ ap (λ h. h ∷ (third ++ middle)) head) b
+
+-- no label begins within another
+nothing_between : (before other label name rest middle : List ℕ) → TakesOperand before → TakesOperand other → BeginsLabel label name →
+    other ≡ before ++ middle → label ≡ middle ++ rest → other ≡ before
+nothing_between before other label name rest [] t o begins split parts = split ∙ append-nil before
+nothing_between before other label name rest (x ∷ middle) t o begins split parts =
+    let r = label_front begins x middle rest parts t.outer t.frame in
+    let there : run other initial ≡ Some (state_with t.outer t.frame r.mode) =
+    ap (λ b. run b initial) split ∙ run_from before (x ∷ middle) initial _ t.ran ∙ r.ran in
+    let both : Some (state_with o.outer o.frame Operand) ≡ Some (state_with t.outer t.frame r.mode) = sym o.ran ∙ there in
+    let same : state_with o.outer o.frame Operand ≡ state_with t.outer t.frame r.mode = cc in
+    let modes : Operand ≡ r.mode = ap (λ s. s.mode) same in
+    let h : true ≡ false = ap takes_operand modes ∙ r.within in
+    absurd cc
+
+-- the label ends the bytes, if no front of them has it
+ends_there : (front : List ℕ) (byte at : ℕ) → IsTaken front → (h : HasLongName (front ++ byte ∷ []) at) → front ++ byte ∷ [] ≡ h.before ++ h.label
+ends_there front byte at taken h =
+    ⊎_elim
+    (λ whole. sym whole.0)
+    (λ (more, part). absurd (taken.limits.short at (record {
+      before = h.before;
+      label = h.label;
+      after = more;
+      name = h.name;
+      split = part;
+      place = h.place;
+      stands = h.stands;
+      begins = h.begins;
+      long = h.long;
+    })))
+    (split_push front byte (h.before ++ h.label) h.after h.split)
+
+long_place : (front : List ℕ) (byte first second : ℕ) → IsTaken front → HasLongName (front ++ byte ∷ []) first → HasLongName (front ++ byte ∷ []) second →
+    first ≡ second
+long_place front byte first second taken h k =
+    let both : h.before ++ h.label ≡ k.before ++ k.label = sym (ends_there front byte first taken h) ∙ ends_there front byte second taken k in
+    let t = takes_operand_there h.before h.stands in
+    let o = takes_operand_there k.before k.stands in
+    h.place ∙ ap (λ b. length b + 1) (same t o (splits h.before h.label k.before k.label both)) ∙ sym k.place
+  where
+    same : TakesOperand h.before → TakesOperand k.before → Splits h.before h.label k.before k.label → h.before ≡ k.before
+    same t o (FirstIsFront middle a b) = sym (nothing_between h.before k.before h.label h.name k.label middle t o h.begins a b)
+    same t o (ThirdIsFront middle a b) = nothing_between k.before h.before k.label k.name h.label middle o t k.begins a b
+
+one_there : {front : List ℕ} {byte : ℕ} {first second : BadExpr} → IsTaken front → Shows front byte first → Shows front byte second → first ≡ second
+one_there taken (ShowsUnexpected at place refused) (ShowsUnexpected other there refused') = ap (λ n. Unexpected n) (place ∙ sym there)
+one_there taken (ShowsUnexpected at place refused) (ShowsLong other on long) = absurd (refused on)
+one_there taken (ShowsUnexpected at place refused) (ShowsMany on short many) = absurd (refused on)
+one_there taken (ShowsLong at on long) (ShowsUnexpected other there refused) = absurd (refused on)
+one_there {front} {byte} taken (ShowsLong at on long) (ShowsLong other on' long') = ap (λ n. LongName n) (long_place front byte at other taken long long')
+one_there taken (ShowsLong at on long) (ShowsMany on' short many) = absurd (short at long)
+one_there taken (ShowsMany on short many) (ShowsUnexpected other there refused) = absurd (refused on)
+one_there taken (ShowsMany on short many) (ShowsLong at on' long) = absurd (short at long)
+one_there taken (ShowsMany on short many) (ShowsMany on' short' many') = refl
+
+one_has : (bytes : List ℕ) (first second : BadExpr) → Has bytes first → Has bytes second → first ≡ second
+one_has bytes first second (AtEnd is a) (AtEnd there b) = is ∙ sym there
+one_has bytes first second (AtEnd is a) (Within front byte reached shows) = absurd (not_taken shows reached.rest (subst IsTaken reached.split a.taken))
+one_has bytes first second (Within front byte reached shows) (AtEnd there b) = absurd (not_taken shows reached.rest (subst IsTaken reached.split b.taken))
+one_has bytes first second (Within front byte reached shows) (Within other last reached' shows') =
+    by (fronts front byte other last reached.rest reached'.rest (sym reached.split ∙ reached'.split))
+  where
+    by : Fronts front byte other last → first ≡ second
+    by (Equal a b) =
+        one_there reached'.taken (subst (λ f. Shows f last first) a (subst (λ c. Shows front c first) b shows)) shows'
+    by (Shorter more a) = absurd (not_taken shows more (subst IsTaken a reached'.taken))
+    by (Longer more a) = absurd (not_taken shows' more (subst IsTaken a reached.taken))
+
+-- bytes have one fault at most
+pub one_fault : (bytes : List ℕ) (first second : BadExpr) → IsFault first bytes → IsFault second bytes → first ≡ second
+one_fault bytes first second f g = one_has bytes first second (has_fault first bytes f) (has_fault second bytes g)
+
+read_by : (bytes : List ℕ) (given : Result Expression BadExpr) → Outcome bytes given → (e : Expression) → IsText bytes e → IsWithinLimits bytes → given ≡ Ok e
+read_by bytes given (Found f text limits) e there within = ap (λ x. Ok x) (one_expression bytes f e text there)
+read_by bytes given (Faulty fault has) e there within = absurd (no_fault bytes fault e there within has)
+
+-- the text of an expression within the limits is read
+pub text_is_read : (bytes : List ℕ) (e : Expression) → IsText bytes e → IsWithinLimits bytes → reading bytes ≡ Ok e
+text_is_read bytes e text limits = read_by bytes (reading bytes) (outcome bytes) e text limits
+
+told_by : (bytes : List ℕ) (given : Result Expression BadExpr) → Outcome bytes given → (fault : BadExpr) → IsFault fault bytes → given ≡ Err fault
+told_by bytes given (Found e text limits) fault has = absurd (no_fault bytes fault e text limits has)
+told_by bytes given (Faulty other there) fault has = ap (λ f. Err f) (one_fault bytes other fault there has)
+
+-- a fault of the bytes is told
+pub fault_is_told : (bytes : List ℕ) (fault : BadExpr) → IsFault fault bytes → reading bytes ≡ Err fault
+fault_is_told bytes fault has = told_by bytes (reading bytes) (outcome bytes) fault has

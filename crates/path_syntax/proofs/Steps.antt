@@ -1,0 +1,213 @@
+-- The steps of the reader, one constructor for each, and going through several bytes.
+use Rattle.std.proofs.Common.{◌≡◌, ℕ, true, false, List, [], ◌∷◌, ◌++◌, Option, Some, None, refl, sym, ◌∙◌, ap, subst}
+use Rattle.std.specs.Option.{option_and_then}
+use Rattle.std.proofs.lemmas.Bool.{eqb-false}
+use Rattle.std.proofs.lemmas.Option.{option_and_then_some}
+use Rattle.rpq_base.specs.Names.{is_name_byte}
+use Rattle.path_syntax.specs.declared.byte_kind.Kind.{Kind}
+use Rattle.path_syntax.specs.declared.byte_kind.Kind.TheVariants.{Blank, Bare, Quote, Backslash, Slash, Bar, Asterisk, PlusSign, QuestionMark, Open, Close, Reserved, Strange}
+use Rattle.path_syntax.specs.Expression.{Expression, Atom, Star, Plus, Opt}
+use Rattle.path_syntax.specs.Grammar.{is_blank, is_bare_byte, label_named}
+use Rattle.path_syntax.specs.Reading.{kind_of, FrameValue, ModeValue, Operand, BareLabel, QuotedLabel, Escape, Primary, Element, StateValue, state_with, empty_frame, in_sequence, whole_with, after_element, after_primary, in_operand, in_quotes, in_escape, in_bare, ended_label, step_by, step, element_of}
+use Rattle.path_syntax.proofs.Meaning.{Means, kind_means, bare_is_named}
+
+-- the primary that ends here
+abbrev pub primary_of : ModeValue → Option Expression
+primary_of (BareLabel name) = Some (Atom (label_named name))
+primary_of (Primary e) = Some e
+primary_of _ = None
+
+-- the frame behind an element and '/', and behind an element and '|'
+abbrev pub behind_slash : FrameValue → Expression → FrameValue
+behind_slash frame e = record frame { sequence = Some (in_sequence frame.sequence e) }
+
+abbrev pub behind_bar : FrameValue → Expression → FrameValue
+behind_bar frame e = record { alternatives = Some (whole_with frame e); sequence = None }
+
+-- a byte leads from a state to another
+pub data Leads : List FrameValue → FrameValue → ModeValue → ℕ → StateValue → Type 0 where
+  OperandBlank : (outer : List FrameValue) (frame : FrameValue) (byte : ℕ) → is_blank byte ≡ true →
+      Leads outer frame Operand byte (state_with outer frame Operand)
+  OperandOpen : (outer : List FrameValue) (frame : FrameValue) → Leads outer frame Operand 40 (state_with (frame ∷ outer) empty_frame Operand)
+  OperandQuote : (outer : List FrameValue) (frame : FrameValue) → Leads outer frame Operand 34 (state_with outer frame (QuotedLabel []))
+  OperandBare : (outer : List FrameValue) (frame : FrameValue) (byte : ℕ) → is_bare_byte byte ≡ true →
+      Leads outer frame Operand byte (state_with outer frame (BareLabel (byte ∷ [])))
+  BareMore : (outer : List FrameValue) (frame : FrameValue) (name : List ℕ) (byte : ℕ) → is_bare_byte byte ≡ true →
+      Leads outer frame (BareLabel name) byte (state_with outer frame (BareLabel (name ++ byte ∷ [])))
+  QuotedMore : (outer : List FrameValue) (frame : FrameValue) (name : List ℕ) (byte : ℕ) →
+      is_name_byte byte ≡ true → (byte ≡ 34 → ⊥) → (byte ≡ 92 → ⊥) →
+      Leads outer frame (QuotedLabel name) byte (state_with outer frame (QuotedLabel (name ++ byte ∷ [])))
+  QuotedBackslash : (outer : List FrameValue) (frame : FrameValue) (name : List ℕ) →
+      Leads outer frame (QuotedLabel name) 92 (state_with outer frame (Escape name))
+  QuotedEnd : (outer : List FrameValue) (frame : FrameValue) (byte : ℕ) (name : List ℕ) →
+      Leads outer frame (QuotedLabel (byte ∷ name)) 34 (state_with outer frame (Primary (Atom (label_named (byte ∷ name)))))
+  EscapeQuote : (outer : List FrameValue) (frame : FrameValue) (name : List ℕ) →
+      Leads outer frame (Escape name) 34 (state_with outer frame (QuotedLabel (name ++ 34 ∷ [])))
+  EscapeBackslash : (outer : List FrameValue) (frame : FrameValue) (name : List ℕ) →
+      Leads outer frame (Escape name) 92 (state_with outer frame (QuotedLabel (name ++ 92 ∷ [])))
+  PrimaryBlank : (outer : List FrameValue) (frame : FrameValue) (mode : ModeValue) (e : Expression) (byte : ℕ) →
+      primary_of mode ≡ Some e → is_blank byte ≡ true → Leads outer frame mode byte (state_with outer frame (Primary e))
+  PrimaryStar : (outer : List FrameValue) (frame : FrameValue) (mode : ModeValue) (e : Expression) →
+      primary_of mode ≡ Some e → Leads outer frame mode 42 (state_with outer frame (Element (Star e)))
+  PrimaryPlus : (outer : List FrameValue) (frame : FrameValue) (mode : ModeValue) (e : Expression) →
+      primary_of mode ≡ Some e → Leads outer frame mode 43 (state_with outer frame (Element (Plus e)))
+  PrimaryOpt : (outer : List FrameValue) (frame : FrameValue) (mode : ModeValue) (e : Expression) →
+      primary_of mode ≡ Some e → Leads outer frame mode 63 (state_with outer frame (Element (Opt e)))
+  ElementBlank : (outer : List FrameValue) (frame : FrameValue) (e : Expression) (byte : ℕ) → is_blank byte ≡ true →
+      Leads outer frame (Element e) byte (state_with outer frame (Element e))
+  ElementSlash : (outer : List FrameValue) (frame : FrameValue) (mode : ModeValue) (e : Expression) →
+      element_of mode ≡ Some e → Leads outer frame mode 47 (state_with outer (behind_slash frame e) Operand)
+  ElementBar : (outer : List FrameValue) (frame : FrameValue) (mode : ModeValue) (e : Expression) →
+      element_of mode ≡ Some e → Leads outer frame mode 124 (state_with outer (behind_bar frame e) Operand)
+  ElementClose : (other : FrameValue) (outer : List FrameValue) (frame : FrameValue) (mode : ModeValue) (e : Expression) →
+      element_of mode ≡ Some e → Leads (other ∷ outer) frame mode 41 (state_with outer other (Primary (whole_with frame e)))
+
+abbrev LeadsTo : List FrameValue → FrameValue → ModeValue → ℕ → Option StateValue → Type 0
+LeadsTo outer frame mode byte None = Unit {0}
+LeadsTo outer frame mode byte (Some after) = Leads outer frame mode byte after
+
+-- at a byte that a kind says what it is
+at_byte : (sign byte : ℕ) (outer : List FrameValue) (frame : FrameValue) (mode : ModeValue) (after : StateValue) → byte ≡ sign →
+    Leads outer frame mode sign after → Leads outer frame mode byte after
+at_byte sign byte outer frame mode after e leads = subst (λ b. Leads outer frame mode b after) (sym e) leads
+
+leads_operand : (outer : List FrameValue) (frame : FrameValue) (kind : Kind) (byte : ℕ) → Means kind byte →
+    LeadsTo outer frame Operand byte (in_operand outer frame kind byte)
+leads_operand outer frame Blank byte m = OperandBlank outer frame byte m
+leads_operand outer frame Open byte m = at_byte 40 byte outer frame Operand _ m (OperandOpen outer frame)
+leads_operand outer frame Quote byte m = at_byte 34 byte outer frame Operand _ m (OperandQuote outer frame)
+leads_operand outer frame Bare byte m = OperandBare outer frame byte m
+leads_operand outer frame _ byte m = tt
+
+leads_end : (outer : List FrameValue) (frame : FrameValue) (name : List ℕ) (byte : ℕ) → byte ≡ 34 →
+    LeadsTo outer frame (QuotedLabel name) byte (ended_label outer frame name)
+leads_end outer frame [] byte m = tt
+leads_end outer frame (first ∷ name) byte m = at_byte 34 byte outer frame (QuotedLabel (first ∷ name)) _ m (QuotedEnd outer frame first name)
+
+more_at : (sign byte : ℕ) (outer : List FrameValue) (frame : FrameValue) (name : List ℕ) →
+    is_name_byte sign ≡ true → (sign ≡ 34 → ⊥) → (sign ≡ 92 → ⊥) → byte ≡ sign →
+    Leads outer frame (QuotedLabel name) byte (state_with outer frame (QuotedLabel (name ++ byte ∷ [])))
+more_at sign byte outer frame name named no_quote no_backslash e =
+    QuotedMore outer frame name byte (ap is_name_byte e ∙ named) (λ h. no_quote (sym e ∙ h)) (λ h. no_backslash (sym e ∙ h))
+
+pub bare_no_quote : (byte sign : ℕ) → is_bare_byte sign ≡ false → is_bare_byte byte ≡ true → byte ≡ sign → ⊥
+bare_no_quote byte sign reserved bare e = let h : true ≡ false = sym bare ∙ ap is_bare_byte e ∙ reserved in cc
+
+leads_quotes : (outer : List FrameValue) (frame : FrameValue) (name : List ℕ) (kind : Kind) (byte : ℕ) → Means kind byte →
+    LeadsTo outer frame (QuotedLabel name) byte (in_quotes outer frame name kind byte)
+leads_quotes outer frame name Blank byte m = tt
+leads_quotes outer frame name Strange byte m = tt
+leads_quotes outer frame name Quote byte m = leads_end outer frame name byte m
+leads_quotes outer frame name Backslash byte m = at_byte 92 byte outer frame (QuotedLabel name) _ m (QuotedBackslash outer frame name)
+leads_quotes outer frame name Bare byte m =
+    QuotedMore outer frame name byte (bare_is_named byte m) (bare_no_quote byte 34 refl m) (bare_no_quote byte 92 refl m)
+leads_quotes outer frame name Reserved byte m = QuotedMore outer frame name byte m.0 m.1 m.2
+leads_quotes outer frame name Slash byte m = more_at 47 byte outer frame name refl (eqb-false 47 34 refl) (eqb-false 47 92 refl) m
+leads_quotes outer frame name Bar byte m = more_at 124 byte outer frame name refl (eqb-false 124 34 refl) (eqb-false 124 92 refl) m
+leads_quotes outer frame name Asterisk byte m = more_at 42 byte outer frame name refl (eqb-false 42 34 refl) (eqb-false 42 92 refl) m
+leads_quotes outer frame name PlusSign byte m = more_at 43 byte outer frame name refl (eqb-false 43 34 refl) (eqb-false 43 92 refl) m
+leads_quotes outer frame name QuestionMark byte m = more_at 63 byte outer frame name refl (eqb-false 63 34 refl) (eqb-false 63 92 refl) m
+leads_quotes outer frame name Open byte m = more_at 40 byte outer frame name refl (eqb-false 40 34 refl) (eqb-false 40 92 refl) m
+leads_quotes outer frame name Close byte m = more_at 41 byte outer frame name refl (eqb-false 41 34 refl) (eqb-false 41 92 refl) m
+
+leads_escape : (outer : List FrameValue) (frame : FrameValue) (name : List ℕ) (kind : Kind) (byte : ℕ) → Means kind byte →
+    LeadsTo outer frame (Escape name) byte (in_escape outer frame name kind byte)
+leads_escape outer frame name Quote byte m =
+    subst (λ b. Leads outer frame (Escape name) b (state_with outer frame (QuotedLabel (name ++ b ∷ [])))) (sym m) (EscapeQuote outer frame name)
+leads_escape outer frame name Backslash byte m =
+    subst (λ b. Leads outer frame (Escape name) b (state_with outer frame (QuotedLabel (name ++ b ∷ [])))) (sym m) (EscapeBackslash outer frame name)
+leads_escape outer frame name _ byte m = tt
+
+leads_close : (outer : List FrameValue) (frame : FrameValue) (mode : ModeValue) (e : Expression) (byte : ℕ) → element_of mode ≡ Some e → byte ≡ 41 →
+    LeadsTo outer frame mode byte (after_element outer frame e Close)
+leads_close [] frame mode e byte ends m = tt
+leads_close (other ∷ outer) frame mode e byte ends m = at_byte 41 byte (other ∷ outer) frame mode _ m (ElementClose other outer frame mode e ends)
+
+-- what an element and a primary go on with alike
+leads_behind : (outer : List FrameValue) (frame : FrameValue) (mode : ModeValue) (e : Expression) (kind : Kind) (byte : ℕ) →
+    element_of mode ≡ Some e → Means kind byte → (kind ≡ Blank → ⊥) → LeadsTo outer frame mode byte (after_element outer frame e kind)
+leads_behind outer frame mode e Blank byte ends m other = absurd (other refl)
+leads_behind outer frame mode e Slash byte ends m other = at_byte 47 byte outer frame mode _ m (ElementSlash outer frame mode e ends)
+leads_behind outer frame mode e Bar byte ends m other = at_byte 124 byte outer frame mode _ m (ElementBar outer frame mode e ends)
+leads_behind outer frame mode e Close byte ends m other = leads_close outer frame mode e byte ends m
+leads_behind outer frame mode e _ byte ends m other = tt
+
+leads_primary : (outer : List FrameValue) (frame : FrameValue) (mode : ModeValue) (e : Expression) (kind : Kind) (byte : ℕ) →
+    primary_of mode ≡ Some e → element_of mode ≡ Some e → Means kind byte → LeadsTo outer frame mode byte (after_primary outer frame e kind)
+leads_primary outer frame mode e Blank byte is ends m = PrimaryBlank outer frame mode e byte is m
+leads_primary outer frame mode e Asterisk byte is ends m = at_byte 42 byte outer frame mode _ m (PrimaryStar outer frame mode e is)
+leads_primary outer frame mode e PlusSign byte is ends m = at_byte 43 byte outer frame mode _ m (PrimaryPlus outer frame mode e is)
+leads_primary outer frame mode e QuestionMark byte is ends m = at_byte 63 byte outer frame mode _ m (PrimaryOpt outer frame mode e is)
+leads_primary outer frame mode e Slash byte is ends m = leads_behind outer frame mode e Slash byte ends m (λ h. cc)
+leads_primary outer frame mode e Bar byte is ends m = leads_behind outer frame mode e Bar byte ends m (λ h. cc)
+leads_primary outer frame mode e Close byte is ends m = leads_behind outer frame mode e Close byte ends m (λ h. cc)
+leads_primary outer frame mode e _ byte is ends m = tt
+
+leads_element : (outer : List FrameValue) (frame : FrameValue) (e : Expression) (kind : Kind) (byte : ℕ) → Means kind byte →
+    LeadsTo outer frame (Element e) byte (after_element outer frame e kind)
+leads_element outer frame e Blank byte m = ElementBlank outer frame e byte m
+leads_element outer frame e Slash byte m = leads_behind outer frame (Element e) e Slash byte refl m (λ h. cc)
+leads_element outer frame e Bar byte m = leads_behind outer frame (Element e) e Bar byte refl m (λ h. cc)
+leads_element outer frame e Close byte m = leads_behind outer frame (Element e) e Close byte refl m (λ h. cc)
+leads_element outer frame e _ byte m = tt
+
+leads_bare : (outer : List FrameValue) (frame : FrameValue) (name : List ℕ) (kind : Kind) (byte : ℕ) → Means kind byte →
+    LeadsTo outer frame (BareLabel name) byte (in_bare outer frame name kind byte)
+leads_bare outer frame name Bare byte m = BareMore outer frame name byte m
+leads_bare outer frame name kind byte m = leads_primary outer frame (BareLabel name) (Atom (label_named name)) kind byte refl refl m
+
+leads_by : (outer : List FrameValue) (frame : FrameValue) (mode : ModeValue) (kind : Kind) (byte : ℕ) → Means kind byte →
+    LeadsTo outer frame mode byte (step_by outer frame mode kind byte)
+leads_by outer frame Operand kind byte m = leads_operand outer frame kind byte m
+leads_by outer frame (BareLabel name) kind byte m = leads_bare outer frame name kind byte m
+leads_by outer frame (QuotedLabel name) kind byte m = leads_quotes outer frame name kind byte m
+leads_by outer frame (Escape name) kind byte m = leads_escape outer frame name kind byte m
+leads_by outer frame (Primary e) kind byte m = leads_primary outer frame (Primary e) e kind byte refl refl m
+leads_by outer frame (Element e) kind byte m = leads_element outer frame e kind byte m
+
+-- every step is one of these
+pub step_leads : (state : StateValue) (byte : ℕ) (after : StateValue) → step state byte ≡ Some after →
+    Leads state.outer state.frame state.mode byte after
+step_leads state byte after e =
+    subst (LeadsTo state.outer state.frame state.mode byte) e
+    (leads_by state.outer state.frame state.mode (kind_of byte) byte (kind_means byte))
+
+-- the state after all the bytes, if they go on
+abbrev pub run : List ℕ → StateValue → Option StateValue
+run [] state = Some state
+run (byte ∷ bytes) state = option_and_then (run bytes) (step state byte)
+
+and_then_assoc : {A B C : Type 0} (f : A → Option B) (g : B → Option C) (o : Option A) →
+    option_and_then g (option_and_then f o) ≡ option_and_then (λ x. option_and_then g (f x)) o
+and_then_assoc f g None = refl
+and_then_assoc f g (Some x) = refl
+
+and_then_same : {A B : Type 0} (f g : A → Option B) (o : Option A) → ((x : A) → f x ≡ g x) → option_and_then f o ≡ option_and_then g o
+and_then_same f g None same = refl
+and_then_same f g (Some x) same = same x
+
+pub run_append : (first second : List ℕ) (state : StateValue) →
+    run (first ++ second) state ≡ option_and_then (run second) (run first state)
+run_append [] second state = refl
+run_append (byte ∷ first) second state =
+    and_then_same (run (first ++ second)) (λ s. option_and_then (run second) (run first s)) (step state byte) (run_append first second) ∙
+    sym (and_then_assoc (run first) (run second) (step state byte))
+
+-- what goes on from a state that is reached
+pub run_from : (first second : List ℕ) (state middle : StateValue) → run first state ≡ Some middle →
+    run (first ++ second) state ≡ run second middle
+run_from first second state middle e = run_append first second state ∙ ap (option_and_then (run second)) e
+
+pub run_one : (byte : ℕ) (state after : StateValue) → step state byte ≡ Some after → run (byte ∷ []) state ≡ Some after
+run_one byte state after e = ap (option_and_then (run [])) e
+
+-- the state between two parts
+pub record RunsBy (first second : List ℕ) (state after : StateValue) : Type 0 where
+  pub middle : StateValue
+  pub front : run first state ≡ Some middle
+  pub rest : run second middle ≡ Some after
+
+pub run_by : (first second : List ℕ) (state after : StateValue) → run (first ++ second) state ≡ Some after → RunsBy first second state after
+run_by first second state after e =
+    option_and_then_some {P = RunsBy first second state after} (run second) (run first state) after (sym (run_append first second state) ∙ e)
+    (λ middle front rest. record { middle = middle; front = front; rest = rest })

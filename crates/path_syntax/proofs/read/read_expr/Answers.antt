@@ -1,0 +1,47 @@
+use Rattle.std.proofs.Common.{◌<◌, ◌≤◌, ◌^◌, length, arith}
+use Rattle.std.proofs.lemmas.Result.{IfOk-weaker}
+use Rattle.path_syntax.specs.declared.read.BadExpr.TheVariants.{Unexpected, Ended, TooLarge, LongName}
+use Rattle.path_syntax.specs.Expression.{expression}
+use Rattle.path_syntax.specs.Grammar.{IsText}
+use Rattle.path_syntax.specs.Faults.{IsWithinLimits}
+use Rattle.path_syntax.specs.Plain.{IsPlainExpression}
+use Rattle.path_syntax.specs.Size.{nodes}
+use Rattle.path_syntax.proofs.Answering.{IsFound, plain_text, small_text, found, whole, tells}
+use Rattle.path_syntax.proofs.read.read_expr.Goals as goal
+
+pub returns-clause-found : goal.returns-clause-found
+returns-clause-found c =
+    IfOk-weaker c.read.result (λ x. IsFound c.args.bytes.now (expression x)) (λ x. IsText c.args.bytes.now (expression x)) (λ x f. f.text)
+    (found expression c.args.bytes.now c.read.result c.read.ensures)
+
+pub returns-clause-within : goal.returns-clause-within
+returns-clause-within c =
+    IfOk-weaker c.read.result (λ x. IsFound c.args.bytes.now (expression x)) (λ x. IsWithinLimits c.args.bytes.now) (λ x f. f.limits)
+    (found expression c.args.bytes.now c.read.result c.read.ensures)
+
+pub returns-clause-plain : goal.returns-clause-plain
+returns-clause-plain c =
+    IfOk-weaker c.read.result (λ x. IsFound c.args.bytes.now (expression x)) (λ x. IsPlainExpression (expression x))
+    (λ x f. plain_text c.args.bytes.now (expression x) f.text)
+    (found expression c.args.bytes.now c.read.result c.read.ensures)
+
+pub returns-clause-small : goal.returns-clause-small
+returns-clause-small c =
+    IfOk-weaker c.read.result (λ x. IsFound c.args.bytes.now (expression x)) (λ x. nodes (expression x) < 2 ^ 32)
+    (λ x f. let size : nodes (expression x) ≤ length c.args.bytes.now = small_text c.args.bytes.now (expression x) f.text in omega arith)
+    (found expression c.args.bytes.now c.read.result c.read.ensures)
+
+pub returns-clause-whole : goal.returns-clause-whole
+returns-clause-whole c = whole expression c.args.bytes.now c.read.result c.read.ensures
+
+pub returns-clause-unexpected : goal.returns-clause-unexpected
+returns-clause-unexpected c = λ at. tells expression c.args.bytes.now c.read.result c.read.ensures (Unexpected at) (λ h. cc)
+
+pub returns-clause-long_name : goal.returns-clause-long_name
+returns-clause-long_name c = λ at. tells expression c.args.bytes.now c.read.result c.read.ensures (LongName at) (λ h. cc)
+
+pub returns-clause-too_large : goal.returns-clause-too_large
+returns-clause-too_large c = tells expression c.args.bytes.now c.read.result c.read.ensures TooLarge (λ h. cc)
+
+pub returns-clause-ended : goal.returns-clause-ended
+returns-clause-ended c = tells expression c.args.bytes.now c.read.result c.read.ensures Ended (λ h. cc)

@@ -1,0 +1,48 @@
+-- What the grammar of expressions and its faults are meant to be, as laws.
+use Rattle.std.specs.Prelude.{◌≡◌, ℕ, ◌≤◌, ◌⊎◌, List, length, codes}
+use Rattle.path_syntax.specs.declared.read.BadExpr.{BadExpr}
+use Rattle.path_syntax.specs.Expression.{Expression, Atom, Seq, Alt, Star, Plus, Opt}
+use Rattle.path_syntax.specs.Grammar.{label_named, IsText}
+use Rattle.path_syntax.specs.Faults.{HasLongName, IsWithinLimits, IsUnexpected, IsEnded, IsFault}
+
+-- bytes are the text of at most one expression
+abbrev pub OneExpression : Type 0
+OneExpression = (bytes : List ℕ) (first second : Expression) → IsText bytes first → IsText bytes second → first ≡ second
+
+-- bytes are the text of an expression and within the limits, or they have a fault; never both, and never two faults
+pub record OneOutcome (bytes : List ℕ) : Type 0 where
+  pub some : ((e : Expression) × IsText bytes e × IsWithinLimits bytes) ⊎ ((fault : BadExpr) × IsFault fault bytes)
+  pub apart : (e : Expression) (fault : BadExpr) → IsText bytes e → IsWithinLimits bytes → IsFault fault bytes → ⊥
+  pub one : (first second : BadExpr) → IsFault first bytes → IsFault second bytes → first ≡ second
+
+-- each label of the expression has a name of at most 255 bytes
+abbrev pub HasShortNames : Expression → Type 0
+HasShortNames (Atom label) = length label.name ≤ 255
+HasShortNames (Seq left right) = HasShortNames left × HasShortNames right
+HasShortNames (Alt left right) = HasShortNames left × HasShortNames right
+HasShortNames (Star body) = HasShortNames body
+HasShortNames (Plus body) = HasShortNames body
+HasShortNames (Opt body) = HasShortNames body
+
+-- no text of such an expression has a long name
+abbrev pub ShortNamesAreShort : Type 0
+ShortNamesAreShort = (bytes : List ℕ) (e : Expression) → IsText bytes e → HasShortNames e → (at : ℕ) → HasLongName bytes at → ⊥
+
+-- the expression of one label
+abbrev pub named : List ℕ → Expression
+named name = Atom (label_named name)
+
+-- some texts with their expressions, and one that is no text
+pub record GrammarExamples : Type 0 where
+  pub grouped : IsText (codes "a/b/c|d|e") (Alt (Alt (Seq (Seq (named (codes "a")) (named (codes "b"))) (named (codes "c"))) (named (codes "d"))) (named (codes "e")))
+  pub spaced : IsText (codes " ( a | b ) */c") (Seq (Star (Alt (named (codes "a")) (named (codes "b")))) (named (codes "c")))
+  pub quoted : IsText (codes "\"x/y\" ?") (Opt (named (codes "x/y")))
+  pub escaped : IsText (codes "\"\\\"\"+") (Plus (named (codes "\"")))
+  pub twice : (e : Expression) → IsText (codes "a**") e → ⊥
+
+-- some bytes with their faults
+pub record FaultExamples : Type 0 where
+  pub two_stars : IsUnexpected (codes "a**") 3
+  pub empty_quotes : IsUnexpected (codes "\"\"") 2
+  pub wrong_escape : IsUnexpected (codes "\"a\\b\"") 4
+  pub no_operand : IsEnded (codes "a/")

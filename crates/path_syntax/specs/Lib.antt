@@ -1,0 +1,12 @@
+pub mod Expression
+pub mod Faults
+pub mod Grammar
+pub mod GrammarLaws
+pub mod Language
+pub mod Laws
+pub mod Plain
+pub mod Reading
+pub mod Size
+pub mod Views
+pub mod Written
+pub mod WrittenLaws

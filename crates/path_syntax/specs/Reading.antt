@@ -1,0 +1,238 @@
+-- How the reader goes through the bytes, one by one: a step for each. No public contract cites this.
+use Rattle.std.specs.Prelude.{◌≡◌, ◌≢◌, ℕ, ◌+◌, Bool, true, false, ◌&&◌, ◌==◌, nat_lt, List, [], ◌∷◌, ◌++◌, length, Option, Some, None, option_map, Result, Ok, Err, if◌then◌else◌}
+use Rattle.rpq_base.specs.Names.{is_name_byte, IsName}
+use Rattle.path_syntax.specs.declared.read.BadExpr.{BadExpr}
+use Rattle.path_syntax.specs.declared.read.BadExpr.TheVariants.{Unexpected, Ended, TooLarge, LongName, Memory}
+use Rattle.path_syntax.specs.declared.byte_kind.Kind.{Kind}
+use Rattle.path_syntax.specs.declared.byte_kind.Kind.TheVariants.{Blank, Bare, Quote, Backslash, Slash, Bar, Asterisk, PlusSign, QuestionMark, Open, Close, Reserved, Strange}
+use Rattle.path_syntax.specs.Expression.{Expression, Atom, Seq, Alt, Star, Plus, Opt}
+use Rattle.path_syntax.specs.Grammar.{is_blank, is_bare_byte, label_named}
+use Rattle.path_syntax.specs.Faults.{is_sign}
+
+-- the kind of a byte with a meaning of its own
+abbrev pub kind_of_sign : ℕ → Kind
+kind_of_sign byte =
+    if byte == 34 then Quote else if byte == 92 then Backslash else if byte == 47 then Slash else if byte == 124 then Bar else
+    if byte == 42 then Asterisk else if byte == 43 then PlusSign else if byte == 63 then QuestionMark else
+    if byte == 40 then Open else if byte == 41 then Close else Reserved
+
+-- the kind of a byte
+unfoldable pub kind_of : ℕ → Kind
+kind_of byte =
+    if is_bare_byte byte then Bare else if is_blank byte then Blank else if is_name_byte byte then kind_of_sign byte else Strange
+
+-- what stands before an element in its parentheses: the alternatives before its sequence, and the elements before it in that
+pub record FrameValue : Type 0 where
+  pub alternatives : Option Expression
+  pub sequence : Option Expression
+
+-- what stands directly before the next byte
+pub data ModeValue : Type 0 where
+  Operand : ModeValue
+  BareLabel : List ℕ → ModeValue
+  QuotedLabel : List ℕ → ModeValue
+  Escape : List ℕ → ModeValue
+  Primary : Expression → ModeValue
+  Element : Expression → ModeValue
+
+-- where the reader stands: what stands before each parenthesis that is open, the innermost first
+pub record StateValue : Type 0 where
+  pub outer : List FrameValue
+  pub frame : FrameValue
+  pub mode : ModeValue
+
+abbrev pub state_with : List FrameValue → FrameValue → ModeValue → StateValue
+state_with outer frame mode = record { outer = outer; frame = frame; mode = mode }
+
+-- nothing stands before
+abbrev pub empty_frame : FrameValue
+empty_frame = record { alternatives = None; sequence = None }
+
+abbrev pub initial : StateValue
+initial = state_with [] empty_frame Operand
+
+-- the sequence of what stands before and an element
+abbrev pub in_sequence : Option Expression → Expression → Expression
+in_sequence None e = e
+in_sequence (Some before) e = Seq before e
+
+-- the alternative of what stands before and a sequence
+abbrev pub in_alternatives : Option Expression → Expression → Expression
+in_alternatives None e = e
+in_alternatives (Some before) e = Alt before e
+
+-- the expression that ends with this element
+abbrev pub whole_with : FrameValue → Expression → Expression
+whole_with frame e = in_alternatives frame.alternatives (in_sequence frame.sequence e)
+
+-- a parenthesis is closed
+abbrev pub closed : List FrameValue → Expression → Option StateValue
+closed [] e = None
+closed (frame ∷ outer) e = Some (state_with outer frame (Primary e))
+
+-- what may stand behind an element
+abbrev pub after_element : List FrameValue → FrameValue → Expression → Kind → Option StateValue
+after_element outer frame e Blank = Some (state_with outer frame (Element e))
+after_element outer frame e Slash = Some (state_with outer (record frame { sequence = Some (in_sequence frame.sequence e) }) Operand)
+after_element outer frame e Bar = Some (state_with outer (record { alternatives = Some (whole_with frame e); sequence = None }) Operand)
+after_element outer frame e Close = closed outer (whole_with frame e)
+after_element outer frame e _ = None
+
+-- what may stand behind a primary
+abbrev pub after_primary : List FrameValue → FrameValue → Expression → Kind → Option StateValue
+after_primary outer frame e Blank = Some (state_with outer frame (Primary e))
+after_primary outer frame e Asterisk = Some (state_with outer frame (Element (Star e)))
+after_primary outer frame e PlusSign = Some (state_with outer frame (Element (Plus e)))
+after_primary outer frame e QuestionMark = Some (state_with outer frame (Element (Opt e)))
+after_primary outer frame e kind = after_element outer frame e kind
+
+-- what may stand where an operand is to come
+abbrev pub in_operand : List FrameValue → FrameValue → Kind → ℕ → Option StateValue
+in_operand outer frame Blank byte = Some (state_with outer frame Operand)
+in_operand outer frame Open byte = Some (state_with (frame ∷ outer) empty_frame Operand)
+in_operand outer frame Quote byte = Some (state_with outer frame (QuotedLabel []))
+in_operand outer frame Bare byte = Some (state_with outer frame (BareLabel (byte ∷ [])))
+in_operand outer frame _ byte = None
+
+-- what may stand within quotes: any byte of a name; a quote ends the label, if it has a name
+abbrev pub ended_label : List FrameValue → FrameValue → List ℕ → Option StateValue
+ended_label outer frame [] = None
+ended_label outer frame (byte ∷ name) = Some (state_with outer frame (Primary (Atom (label_named (byte ∷ name)))))
+
+abbrev pub in_quotes : List FrameValue → FrameValue → List ℕ → Kind → ℕ → Option StateValue
+in_quotes outer frame name Blank byte = None
+in_quotes outer frame name Strange byte = None
+in_quotes outer frame name Quote byte = ended_label outer frame name
+in_quotes outer frame name Backslash byte = Some (state_with outer frame (Escape name))
+in_quotes outer frame name _ byte = Some (state_with outer frame (QuotedLabel (name ++ byte ∷ [])))
+
+-- what may stand behind a backslash
+abbrev pub in_escape : List FrameValue → FrameValue → List ℕ → Kind → ℕ → Option StateValue
+in_escape outer frame name Quote byte = Some (state_with outer frame (QuotedLabel (name ++ byte ∷ [])))
+in_escape outer frame name Backslash byte = Some (state_with outer frame (QuotedLabel (name ++ byte ∷ [])))
+in_escape outer frame name _ byte = None
+
+-- what may stand behind the byte of a bare label
+abbrev pub in_bare : List FrameValue → FrameValue → List ℕ → Kind → ℕ → Option StateValue
+in_bare outer frame name Bare byte = Some (state_with outer frame (BareLabel (name ++ byte ∷ [])))
+in_bare outer frame name kind byte = after_primary outer frame (Atom (label_named name)) kind
+
+abbrev pub step_by : List FrameValue → FrameValue → ModeValue → Kind → ℕ → Option StateValue
+step_by outer frame Operand kind byte = in_operand outer frame kind byte
+step_by outer frame (BareLabel name) kind byte = in_bare outer frame name kind byte
+step_by outer frame (QuotedLabel name) kind byte = in_quotes outer frame name kind byte
+step_by outer frame (Escape name) kind byte = in_escape outer frame name kind byte
+step_by outer frame (Primary e) kind byte = after_primary outer frame e kind
+step_by outer frame (Element e) kind byte = after_element outer frame e kind
+
+-- the state after a byte, if it can go on
+abbrev pub step : StateValue → ℕ → Option StateValue
+step state byte = step_by state.outer state.frame state.mode (kind_of byte) byte
+
+-- the expression that ends here, if one does
+abbrev pub element_of : ModeValue → Option Expression
+element_of Operand = None
+element_of (BareLabel name) = Some (Atom (label_named name))
+element_of (QuotedLabel name) = None
+element_of (Escape name) = None
+element_of (Primary e) = Some e
+element_of (Element e) = Some e
+
+abbrev pub whole_in : List FrameValue → FrameValue → ModeValue → Option Expression
+whole_in [] frame mode = option_map (whole_with frame) (element_of mode)
+whole_in (other ∷ outer) frame mode = None
+
+abbrev pub whole_of : StateValue → Option Expression
+whole_of state = whole_in state.outer state.frame state.mode
+
+-- how long the name is that stands directly before
+abbrev pub name_length : ModeValue → ℕ
+name_length Operand = 0
+name_length (BareLabel name) = length name
+name_length (QuotedLabel name) = length name
+name_length (Escape name) = length name
+name_length (Primary e) = 0
+name_length (Element e) = 0
+
+-- the name that stands directly before is one as far as it goes
+abbrev pub IsReady : ModeValue → Type 0
+IsReady Operand = Unit {0}
+IsReady (BareLabel name) = IsName name
+IsReady (QuotedLabel name) = name ≢ [] → IsName name
+IsReady (Escape name) = name ≢ [] → IsName name
+IsReady (Primary e) = Unit {0}
+IsReady (Element e) = Unit {0}
+
+-- an operand is to come
+abbrev pub takes_operand : ModeValue → Bool
+takes_operand Operand = true
+takes_operand _ = false
+
+-- not within quotes
+abbrev pub is_outside : ModeValue → Bool
+is_outside (QuotedLabel name) = false
+is_outside (Escape name) = false
+is_outside _ = true
+
+-- the reader with its counts: the bytes and the signs so far, and the place of the last byte at which an operand was to come
+pub record ReaderValue : Type 0 where
+  pub state : StateValue
+  pub operand : ℕ
+  pub signs : ℕ
+  pub place : ℕ
+
+abbrev pub start : ReaderValue
+start = record { state = initial; operand = 0; signs = 0; place = 0 }
+
+-- the place of the label that may begin with the next byte
+abbrev pub operand_after : ReaderValue → ℕ
+operand_after reader = if takes_operand reader.state.mode then reader.place + 1 else reader.operand
+
+-- the signs with the next byte
+abbrev pub signs_after : ReaderValue → ℕ → ℕ
+signs_after reader byte = if is_outside reader.state.mode && is_sign byte then reader.signs + 1 else reader.signs
+
+-- the limits, in their order
+abbrev pub within_limits : StateValue → ℕ → ℕ → ℕ → Result ReaderValue BadExpr
+within_limits state operand signs place =
+    if nat_lt 255 (name_length state.mode) then Err (LongName operand) else
+    if nat_lt 512 signs then Err TooLarge else Ok (record { state = state; operand = operand; signs = signs; place = place })
+
+-- the reader after the step, or the fault
+abbrev pub after_step : ReaderValue → ℕ → Option StateValue → Result ReaderValue BadExpr
+after_step reader byte None = Err (Unexpected (reader.place + 1))
+after_step reader byte (Some state) = within_limits state (operand_after reader) (signs_after reader byte) (reader.place + 1)
+
+-- the reader after a byte, or the fault that shows at it
+unfoldable pub read_byte : ReaderValue → ℕ → Result ReaderValue BadExpr
+read_byte reader byte = after_step reader byte (step reader.state byte)
+
+infixl 10 ◌>>=◌
+abbrev pub ◌>>=◌ : {A B : Type 0} → Result A BadExpr → (A → Result B BadExpr) → Result B BadExpr
+(Ok x) >>= f = f x
+(Err fault) >>= f = Err fault
+
+-- the reader after all the bytes, or the first fault
+abbrev pub read_all : List ℕ → ReaderValue → Result ReaderValue BadExpr
+read_all [] reader = Ok reader
+read_all (byte ∷ bytes) reader = read_byte reader byte >>= read_all bytes
+
+-- the whole expression at the end of the bytes
+abbrev pub ended_by : Option Expression → Result Expression BadExpr
+ended_by None = Err Ended
+ended_by (Some e) = Ok e
+
+unfoldable pub reading : List ℕ → Result Expression BadExpr
+reading bytes = read_all bytes start >>= λ reader. ended_by (whole_of reader.state)
+
+-- what a function of the code returned, seen by view, is what reading gives, unless memory ran out
+abbrev pub Fails : {Y : Type 0} → BadExpr → Result Y BadExpr → Type 0
+Fails Memory read = Unit {0}
+Fails (Unexpected at) read = read ≡ Err (Unexpected at)
+Fails Ended read = read ≡ Err Ended
+Fails TooLarge read = read ≡ Err TooLarge
+Fails (LongName at) read = read ≡ Err (LongName at)
+
+abbrev pub Gives : {X Y : Type 0} → (X → Y) → Result X BadExpr → Result Y BadExpr → Type 0
+Gives view (Ok x) read = read ≡ Ok (view x)
+Gives view (Err fault) read = Fails fault read

@@ -1,0 +1,57 @@
+//! The kinds of bytes in the text of an expression.
+
+ghost use Rattle.std.specs.Prelude.{◌≡◌};
+ghost use Rattle.path_syntax.specs.Grammar.{is_bare_byte};
+ghost use Rattle.path_syntax.specs.Reading.{kind_of};
+
+/// What a byte may do in the text of an expression.
+#[derive(Clone, Copy, Debug, PartialEq, Eq)]
+pub(crate) enum Kind {
+    /// A space or a tab.
+    Blank,
+    /// A byte of a bare label.
+    Bare,
+    Quote,
+    Backslash,
+    Slash,
+    Bar,
+    Asterisk,
+    PlusSign,
+    QuestionMark,
+    Open,
+    Close,
+    /// A byte of names that has no meaning yet, and stands only within quotes.
+    Reserved,
+    /// A byte that stands nowhere.
+    Strange,
+}
+
+/// Whether the byte may stand in a label without quotes.
+pub(crate) fn is_bare_byte(byte: u8) -> bool
+    ensures { result ≡ is_bare_byte byte }
+{
+    matches!(byte, 0x21..=0x7E | 0x80..) && !b"/|*+?()^!\"\\".contains(&byte)
+}
+
+#[tactic(auto, unfolding(crate::specs::Reading::kind_of))]
+pub(crate) fn kind_of(byte: u8) -> Kind
+    ensures { result ≡ kind_of byte }
+{
+    if is_bare_byte(byte) {
+        return Kind::Bare;
+    }
+    match byte {
+        b' ' | b'\t' => Kind::Blank,
+        b'"' => Kind::Quote,
+        b'\\' => Kind::Backslash,
+        b'/' => Kind::Slash,
+        b'|' => Kind::Bar,
+        b'*' => Kind::Asterisk,
+        b'+' => Kind::PlusSign,
+        b'?' => Kind::QuestionMark,
+        b'(' => Kind::Open,
+        b')' => Kind::Close,
+        b'^' | b'!' => Kind::Reserved,
+        _ => Kind::Strange,
+    }
+}

@@ -1,0 +1,39 @@
+//! Laws of the definitions. The functions do nothing: their contracts are the laws.
+
+ghost use Rattle.std.specs.Prelude.{List};
+ghost use Rattle.rpq_base.specs.declared.data.Label.{Label};
+ghost use Rattle.path_syntax.specs.Expression.{Expression};
+ghost use Rattle.path_syntax.specs.Laws.{RepetitionsByCases, NullableHasEmptyWord};
+ghost use Rattle.path_syntax.specs.WrittenLaws.{WrittenExamples, WrittenIsSpelled, WrittenHasSigns, WrittenIsReadable};
+
+/// The words of a star, a plus and an optional are those that the textbook gives them by cases.
+pub fn repetitions_by_cases()
+    ensures { (body : Expression) (word : List Label) → RepetitionsByCases body word }
+{}
+
+/// The expressions that have the empty word are those that a test by cases finds.
+pub fn nullable_has_empty_word()
+    ensures { NullableHasEmptyWord }
+{}
+
+/// Some written forms.
+pub fn written_examples()
+    ensures { WrittenExamples }
+{}
+
+/// The written form of an expression is a text of it in the grammar.
+pub fn written_is_spelled()
+    ensures { WrittenIsSpelled }
+{}
+
+/// The written form of an expression has as many signs as the definition by cases says.
+pub fn written_has_signs()
+    ensures { WrittenHasSigns }
+{}
+
+/// The written form of an expression is within the limits of what is read, where it has at most 512 signs.
+///
+/// With [`written_is_spelled`], and with what `write_expr` and `read_expr` say, an expression that is written is read again.
+pub fn written_is_readable()
+    ensures { WrittenIsReadable }
+{}

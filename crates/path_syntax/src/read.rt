@@ -1,0 +1,215 @@
+//! Reading expressions.
+
+ghost use Rattle.std.specs.Prelude.{◌≡◌, ◌+◌, ◌^◌, ◌<◌, ◌≤◌, IfOk, OnOk, MatchResult, ℕ, length};
+ghost use Rattle.path_syntax.specs.Reading.{IsReady, operand_after, signs_after, within_limits, read_byte, read_all, ended_by, whole_of, name_length, reading, start, Gives};
+ghost use Rattle.path_syntax.specs.Views.{state_of, mode_of, reader_of};
+ghost use Rattle.path_syntax.specs.Expression.{Expression, expression};
+ghost use Rattle.path_syntax.specs.Faults.{is_sign, IsWithinLimits, IsUnexpected, IsLongName, IsTooLarge, IsEnded, Tells};
+ghost use Rattle.path_syntax.specs.Grammar.{IsText};
+ghost use Rattle.path_syntax.specs.Plain.{IsPlainExpression};
+ghost use Rattle.path_syntax.specs.Size.{nodes};
+
+use crate::expr::Expr;
+use crate::state::State;
+use rpq_base::Memory;
+use std::alloc::Global;
+use std::error::Error;
+use std::fmt;
+
+/// The most bytes that the name of a label has.
+const MAX_NAME: usize = 255;
+
+/// The most signs that a text has.
+const MAX_SIGNS: u32 = 512;
+
+/// Why bytes are the text of no expression. Places count from 1.
+#[derive(Clone, Copy, Debug, PartialEq, Eq)]
+pub enum BadExpr {
+    /// The byte at this place is the first that can't go on any expression.
+    Unexpected(u32),
+    /// The bytes end where no expression is complete.
+    Ended,
+    /// There are more than 512 of the signs `/`, `|`, `*`, `+`, `?` and `(` outside quoted labels.
+    TooLarge,
+    /// The label that begins at this place has more than 255 bytes.
+    LongName(u32),
+    /// Memory ran out.
+    Memory,
+}
+
+impl From<Memory> for BadExpr {
+    ghost use Rattle.std.specs.Prelude.{◌≡◌};
+    ghost use Rattle.path_syntax.specs.declared.read.BadExpr.TheVariants.{Memory};
+
+    ghost from_gives = { λ _ fault. fault ≡ Memory };
+
+    fn from(_error: Memory) -> BadExpr {
+        BadExpr::Memory
+    }
+}
+
+impl fmt::Display for BadExpr {
+    fn fmt<W: fmt::Write>(&self, f: &mut fmt::Formatter<W>) -> fmt::Result {
+        match self {
+            BadExpr::Unexpected(at) => write!(f, "unexpected byte {at}"),
+            BadExpr::Ended => f.write_str("expression ended"),
+            BadExpr::TooLarge => f.write_str("expression too large"),
+            BadExpr::LongName(at) => write!(f, "long label {at}"),
+            BadExpr::Memory => f.write_str("out of memory"),
+        }
+    }
+}
+
+impl Error for BadExpr {}
+
+/// Where the reader stands, with its counts.
+#[derive(Debug, Drop)]
+struct Reader {
+    state: State,
+    /// The place of the last byte at which an operand was to come. Where a label stands directly before, it began there.
+    operand: u32,
+    /// The signs so far.
+    signs: u32,
+    /// The bytes so far.
+    place: u32,
+}
+
+/// The reader in this state, if it is within the limits.
+fn within_limits(state: State, operand: u32, signs: u32, place: u32) -> Result<Reader, BadExpr>
+    ensures exact { Gives reader_of result (within_limits (state_of state) operand signs place) }
+    ensures signs { IfOk result (λ reader. reader.signs ≤ 512) }
+    ensures place { IfOk result (λ reader. reader.place ≡ place) }
+    ensures ready { (name_length (mode_of state.mode) ≤ 255 → IsReady (mode_of state.mode)) → IfOk result (λ reader. IsReady (mode_of reader.state.mode)) }
+{
+    if state.name_length() > MAX_NAME {
+        return Err(BadExpr::LongName(operand));
+    }
+    if signs > MAX_SIGNS {
+        return Err(BadExpr::TooLarge);
+    }
+    Ok(Reader {
+        state,
+        operand,
+        signs,
+        place,
+    })
+}
+
+/// Whether the byte is a sign that counts.
+fn is_sign(byte: u8) -> bool
+    ensures { result ≡ is_sign byte }
+{
+    b"/|*+?(".contains(&byte)
+}
+
+impl Reader {
+    fn new(alloc: Global) -> Reader
+        ensures exact { reader_of result ≡ start }
+    {
+        Reader {
+            state: State::new(alloc),
+            operand: 0,
+            signs: 0,
+            place: 0,
+        }
+    }
+
+    /// The place of the label that may begin with the next byte, or else that began last.
+    fn operand_after(&self) -> u32
+        requires { self.now.place < 2 ^ 24 }
+        ensures { result ≡ operand_after (reader_of self.now) }
+    {
+        if self.state.takes_operand() {
+            self.place + 1
+        } else {
+            self.operand
+        }
+    }
+
+    /// The signs with this byte.
+    fn signs_after(&self, byte: u8) -> u32
+        requires { self.now.signs ≤ 512 }
+        ensures { result ≡ signs_after (reader_of self.now) byte }
+    {
+        if self.state.is_outside() && is_sign(byte) {
+            self.signs + 1
+        } else {
+            self.signs
+        }
+    }
+
+    /// The reader after one more byte.
+    #[tactic(auto, unfolding(crate::specs::Reading::read_byte))]
+    fn next(self, alloc: Global, byte: u8) -> Result<Reader, BadExpr>
+        requires ready { IsReady (mode_of self.state.mode) }
+        requires place { self.place < 2 ^ 24 }
+        requires signs { self.signs ≤ 512 }
+        ensures exact { Gives reader_of result (read_byte (reader_of self) byte) }
+        ensures ready { IfOk result (λ reader. IsReady (mode_of reader.state.mode)) }
+        ensures place { IfOk result (λ reader. reader.place ≡ self.place + 1) }
+        ensures signs { IfOk result (λ reader. reader.signs ≤ 512) }
+    {
+        let operand = self.operand_after();
+        let signs = self.signs_after(byte);
+        let place = self.place + 1;
+        match self.state.step(alloc, byte)? {
+            Some(state) => within_limits(state, operand, signs, place),
+            None => Err(BadExpr::Unexpected(place)),
+        }
+    }
+
+    /// The expression, if the bytes end here.
+    fn end(self, alloc: Global) -> Result<Expr, BadExpr>
+        requires ready { IsReady (mode_of self.state.mode) }
+        ensures exact { Gives expression result (ended_by (whole_of (state_of self.state))) }
+    {
+        match self.state.whole(alloc)? {
+            Some(whole) => Ok(whole),
+            None => Err(BadExpr::Ended),
+        }
+    }
+}
+
+/// The reader after all the bytes.
+fn read_all(alloc: Global, bytes: &[u8]) -> Result<Reader, BadExpr>
+    requires { length bytes.now < 2 ^ 24 + 1 }
+    ensures exact { Gives reader_of result (read_all bytes.now start) }
+    ensures ready { IfOk result (λ reader. IsReady (mode_of reader.state.mode)) }
+{
+    let mut reader = Reader::new(alloc);
+    for byte in bytes {
+        reader = reader.next(alloc, *byte)?;
+    }
+    Ok(reader)
+}
+
+/// The expression of these bytes, or the first fault.
+#[tactic(auto, unfolding(crate::specs::Reading::reading))]
+fn read(alloc: Global, bytes: &[u8]) -> Result<Expr, BadExpr>
+    requires { length bytes.now < 2 ^ 24 + 1 }
+    ensures { Gives expression result (reading bytes.now) }
+{
+    read_all(alloc, bytes)?.end(alloc)
+}
+
+/// The expression that these bytes are the text of, or the fault that shows first as they are read from left to right.
+///
+/// It goes through the bytes once and keeps what stands before each open parenthesis, without recursion.
+pub fn read_expr(alloc: Global, bytes: &[u8]) -> Result<Expr, BadExpr>
+    requires { length bytes.now < 2 ^ 24 + 1 }
+    // What is read has this text, and no fault shows in it.
+    ensures found { IfOk result (λ found. IsText bytes.now (expression found)) }
+    ensures within { OnOk result (IsWithinLimits bytes.now) }
+    ensures plain { IfOk result (λ found. IsPlainExpression (expression found)) }
+    ensures small { IfOk result (λ found. nodes (expression found) < 2 ^ 32) }
+    // Each text of an expression that is within the limits is read, unless memory runs out.
+    ensures whole { (e : Expression) → IsText bytes.now e → IsWithinLimits bytes.now →
+        MatchResult result (λ found. expression found ≡ e) (λ fault. fault ≡ BadExpr.Memory) }
+    // Each fault comes exactly where it shows first, unless memory runs out.
+    ensures unexpected { (at : ℕ) → Tells result (BadExpr.Unexpected at) (IsUnexpected bytes.now at) }
+    ensures long_name { (at : ℕ) → Tells result (BadExpr.LongName at) (IsLongName bytes.now at) }
+    ensures too_large { Tells result BadExpr.TooLarge (IsTooLarge bytes.now) }
+    ensures ended { Tells result BadExpr.Ended (IsEnded bytes.now) }
+{
+    read(alloc, bytes)
+}

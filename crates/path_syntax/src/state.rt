@@ -1,0 +1,353 @@
+//! Where the reader of an expression stands, and the step that a byte makes.
+
+ghost use Rattle.std.specs.Prelude.{◌≡◌, ◌≢◌, List, [], ◌∷◌, ◌++◌, None, Some, IfOk, option_map};
+ghost use Rattle.rpq_base.specs.Names.{IsName};
+ghost use Rattle.path_syntax.specs.Expression.{expression, Atom};
+ghost use Rattle.path_syntax.specs.Grammar.{label_named};
+ghost use Rattle.path_syntax.specs.Reading.{in_sequence, in_alternatives, whole_with, after_element, after_primary, in_operand, in_bare, in_quotes, in_escape, ended_label, step, name_length, takes_operand, is_outside, closed, whole_of, initial, IsReady};
+ghost use Rattle.path_syntax.specs.Views.{frame_of, frames_of, state_of, mode_of, before_of};
+
+use crate::byte_kind::{Kind, kind_of};
+use crate::expr::Expr;
+use rpq_base::{Label, Memory, Name};
+use std::alloc::Global;
+
+/// What stands before an element in its parentheses.
+#[derive(Debug, Drop)]
+pub(crate) struct Frame {
+    /// The alternatives before its sequence.
+    pub alternatives: Option<Expr>,
+    /// The elements before it in its sequence.
+    pub sequence: Option<Expr>,
+}
+
+/// What stands directly before the byte that is read next.
+#[derive(Debug, Drop)]
+pub(crate) enum Mode {
+    /// A sign behind which an operand is to come, or nothing.
+    Operand,
+    /// A bare label, which may go on.
+    BareLabel(Vec<u8>),
+    /// A quote and the name so far.
+    QuotedLabel(Vec<u8>),
+    /// The same, and a backslash.
+    Escape(Vec<u8>),
+    /// A primary, which may be repeated.
+    Primary(Expr),
+    /// An element that may not be repeated any more.
+    Element(Expr),
+}
+
+/// Where the reader stands.
+#[derive(Debug, Drop)]
+pub(crate) struct State {
+    /// What stands before each parenthesis that is open, the innermost last.
+    pub outer: Vec<Frame>,
+    pub frame: Frame,
+    pub mode: Mode,
+}
+
+/// The sequence of what stands before and an element.
+fn in_sequence(alloc: Global, before: Option<Expr>, element: Expr) -> Result<Expr, Memory>
+    ensures { IfOk result (λ whole. expression whole ≡ in_sequence (before_of before) (expression element)) }
+{
+    match before {
+        None => Ok(element),
+        Some(before) => Ok(Expr::Seq(Box::new(alloc, before)?, Box::new(alloc, element)?)),
+    }
+}
+
+/// The alternative of what stands before and a sequence.
+fn in_alternatives(alloc: Global, before: Option<Expr>, sequence: Expr) -> Result<Expr, Memory>
+    ensures { IfOk result (λ whole. expression whole ≡ in_alternatives (before_of before) (expression sequence)) }
+{
+    match before {
+        None => Ok(sequence),
+        Some(before) => Ok(Expr::Alt(Box::new(alloc, before)?, Box::new(alloc, sequence)?)),
+    }
+}
+
+/// The expression in the frame that ends with this element.
+fn whole_with(alloc: Global, frame: Frame, element: Expr) -> Result<Expr, Memory>
+    ensures { IfOk result (λ whole. expression whole ≡ whole_with (frame_of frame) (expression element)) }
+{
+    let sequence = in_sequence(alloc, frame.sequence, element)?;
+    in_alternatives(alloc, frame.alternatives, sequence)
+}
+
+/// The state at the end of a parenthesis that holds this expression, if one is open.
+fn closed(mut outer: Vec<Frame>, whole: Expr) -> Option<State>
+    ensures { option_map state_of result ≡ closed (frames_of outer.items) (expression whole) }
+{
+    let frame = outer.pop()?;
+    Some(State {
+        outer,
+        frame,
+        mode: Mode::Primary(whole),
+    })
+}
+
+/// What may stand behind an element: a blank, `/`, `|` or `)`.
+fn after_element(
+    alloc: Global,
+    outer: Vec<Frame>,
+    frame: Frame,
+    element: Expr,
+    kind: Kind,
+) -> Result<Option<State>, Memory>
+    ensures { IfOk result (λ next. option_map state_of next ≡ after_element (frames_of outer.items) (frame_of frame) (expression element) kind) }
+{
+    let (frame, mode) = match kind {
+        Kind::Blank => (frame, Mode::Element(element)),
+        Kind::Slash => (with_element(alloc, frame, element)?, Mode::Operand),
+        Kind::Bar => (with_sequence(alloc, frame, element)?, Mode::Operand),
+        Kind::Close => return Ok(closed(outer, whole_with(alloc, frame, element)?)),
+        _ => return Ok(None),
+    };
+    Ok(Some(State { outer, frame, mode }))
+}
+
+/// The frame with one more element in its sequence.
+fn with_element(alloc: Global, frame: Frame, element: Expr) -> Result<Frame, Memory>
+    ensures { IfOk result (λ after. frame_of after ≡ record (frame_of frame) { sequence = Some (in_sequence (before_of frame.sequence) (expression element)) }) }
+{
+    Ok(Frame {
+        alternatives: frame.alternatives,
+        sequence: Some(in_sequence(alloc, frame.sequence, element)?),
+    })
+}
+
+/// The frame with one more alternative, which ends with this element.
+fn with_sequence(alloc: Global, frame: Frame, element: Expr) -> Result<Frame, Memory>
+    ensures { IfOk result (λ after. frame_of after ≡ record { alternatives = Some (whole_with (frame_of frame) (expression element)); sequence = None }) }
+{
+    Ok(Frame {
+        alternatives: Some(whole_with(alloc, frame, element)?),
+        sequence: None,
+    })
+}
+
+/// What may stand behind a primary: a sign of repetition, or what may stand behind an element.
+fn after_primary(
+    alloc: Global,
+    outer: Vec<Frame>,
+    frame: Frame,
+    primary: Expr,
+    kind: Kind,
+) -> Result<Option<State>, Memory>
+    ensures { IfOk result (λ next. option_map state_of next ≡ after_primary (frames_of outer.items) (frame_of frame) (expression primary) kind) }
+{
+    let mode = match kind {
+        Kind::Blank => Mode::Primary(primary),
+        Kind::Asterisk => Mode::Element(Expr::Star(Box::new(alloc, primary)?)),
+        Kind::PlusSign => Mode::Element(Expr::Plus(Box::new(alloc, primary)?)),
+        Kind::QuestionMark => Mode::Element(Expr::Opt(Box::new(alloc, primary)?)),
+        _ => return after_element(alloc, outer, frame, primary, kind),
+    };
+    Ok(Some(State { outer, frame, mode }))
+}
+
+/// What may stand where an operand is to come: a blank, `(` or the beginning of a label.
+fn in_operand(
+    alloc: Global,
+    mut outer: Vec<Frame>,
+    frame: Frame,
+    kind: Kind,
+    byte: u8,
+) -> Result<Option<State>, Memory>
+    ensures { IfOk result (λ next. option_map state_of next ≡ in_operand (frames_of outer.items) (frame_of frame) kind byte) }
+{
+    let mode = match kind {
+        Kind::Blank => Mode::Operand,
+        Kind::Quote => Mode::QuotedLabel(Vec::new(alloc)),
+        Kind::Bare => Mode::BareLabel(with_byte(Vec::new(alloc), byte)?),
+        Kind::Open => {
+            outer.push(frame)?;
+            return Ok(Some(State {
+                outer,
+                frame: Frame {
+                    alternatives: None,
+                    sequence: None,
+                },
+                mode: Mode::Operand,
+            }));
+        }
+        _ => return Ok(None),
+    };
+    Ok(Some(State { outer, frame, mode }))
+}
+
+/// The name with one more byte.
+fn with_byte(mut name: Vec<u8>, byte: u8) -> Result<Vec<u8>, Memory>
+    ensures { IfOk result (λ after. after.items ≡ name.items ++ byte ∷ []) }
+{
+    name.push(byte)?;
+    Ok(name)
+}
+
+/// The label with this name that points forwards. Only memory can be wanting.
+fn atom(alloc: Global, name: &Vec<u8>) -> Result<Expr, Memory>
+    requires { IsName name.now.items }
+    ensures { IfOk result (λ atom. expression atom ≡ Atom (label_named name.now.items)) }
+{
+    match Name::new(alloc, name) {
+        Ok(name) => Ok(Expr::Atom(Label { name, back: false })),
+        Err(_) => Err(Memory),
+    }
+}
+
+/// What may stand behind a byte of a bare label: another one, or what may stand behind a primary.
+fn in_bare(
+    alloc: Global,
+    outer: Vec<Frame>,
+    frame: Frame,
+    name: Vec<u8>,
+    kind: Kind,
+    byte: u8,
+) -> Result<Option<State>, Memory>
+    requires { IsName name.items }
+    ensures { IfOk result (λ next. option_map state_of next ≡ in_bare (frames_of outer.items) (frame_of frame) name.items kind byte) }
+{
+    match kind {
+        Kind::Bare => Ok(Some(State {
+            outer,
+            frame,
+            mode: Mode::BareLabel(with_byte(name, byte)?),
+        })),
+        _ => after_primary(alloc, outer, frame, atom(alloc, &name)?, kind),
+    }
+}
+
+/// The state at the quote that ends a label with this name, if it has a byte.
+fn ended_label(
+    alloc: Global,
+    outer: Vec<Frame>,
+    frame: Frame,
+    name: Vec<u8>,
+) -> Result<Option<State>, Memory>
+    requires { name.items ≢ [] → IsName name.items }
+    ensures { IfOk result (λ next. option_map state_of next ≡ ended_label (frames_of outer.items) (frame_of frame) name.items) }
+{
+    if name.is_empty() {
+        return Ok(None);
+    }
+    Ok(Some(State {
+        outer,
+        frame,
+        mode: Mode::Primary(atom(alloc, &name)?),
+    }))
+}
+
+/// What may stand within quotes: any byte of a name. A quote ends the label, and a backslash stands before a quote or a backslash.
+fn in_quotes(
+    alloc: Global,
+    outer: Vec<Frame>,
+    frame: Frame,
+    name: Vec<u8>,
+    kind: Kind,
+    byte: u8,
+) -> Result<Option<State>, Memory>
+    requires { name.items ≢ [] → IsName name.items }
+    ensures { IfOk result (λ next. option_map state_of next ≡ in_quotes (frames_of outer.items) (frame_of frame) name.items kind byte) }
+{
+    let mode = match kind {
+        Kind::Blank | Kind::Strange => return Ok(None),
+        Kind::Quote => return ended_label(alloc, outer, frame, name),
+        Kind::Backslash => Mode::Escape(name),
+        _ => Mode::QuotedLabel(with_byte(name, byte)?),
+    };
+    Ok(Some(State { outer, frame, mode }))
+}
+
+/// What may stand behind a backslash: a quote or a backslash.
+fn in_escape(
+    outer: Vec<Frame>,
+    frame: Frame,
+    name: Vec<u8>,
+    kind: Kind,
+    byte: u8,
+) -> Result<Option<State>, Memory>
+    ensures { IfOk result (λ next. option_map state_of next ≡ in_escape (frames_of outer.items) (frame_of frame) name.items kind byte) }
+{
+    match kind {
+        Kind::Quote | Kind::Backslash => Ok(Some(State {
+            outer,
+            frame,
+            mode: Mode::QuotedLabel(with_byte(name, byte)?),
+        })),
+        _ => Ok(None),
+    }
+}
+
+impl State {
+    /// Nothing is read yet.
+    pub(crate) fn new(alloc: Global) -> State
+        ensures { state_of result ≡ initial }
+    {
+        State {
+            outer: Vec::new(alloc),
+            frame: Frame {
+                alternatives: None,
+                sequence: None,
+            },
+            mode: Mode::Operand,
+        }
+    }
+
+    /// The state after one more byte, if it can go on.
+    pub(crate) fn step(self, alloc: Global, byte: u8) -> Result<Option<State>, Memory>
+        requires { IsReady (mode_of self.mode) }
+        ensures { IfOk result (λ next. option_map state_of next ≡ step (state_of self) byte) }
+    {
+        let State { outer, frame, mode } = self;
+        let kind = kind_of(byte);
+        match mode {
+            Mode::Operand => in_operand(alloc, outer, frame, kind, byte),
+            Mode::BareLabel(name) => in_bare(alloc, outer, frame, name, kind, byte),
+            Mode::QuotedLabel(name) => in_quotes(alloc, outer, frame, name, kind, byte),
+            Mode::Escape(name) => in_escape(outer, frame, name, kind, byte),
+            Mode::Primary(primary) => after_primary(alloc, outer, frame, primary, kind),
+            Mode::Element(element) => after_element(alloc, outer, frame, element, kind),
+        }
+    }
+
+    /// How long the name is that stands directly before the next byte.
+    pub(crate) fn name_length(&self) -> usize
+        ensures { result ≡ name_length (mode_of self.now.mode) }
+    {
+        match &self.mode {
+            Mode::BareLabel(name) | Mode::QuotedLabel(name) | Mode::Escape(name) => name.len(),
+            _ => 0,
+        }
+    }
+
+    pub(crate) fn takes_operand(&self) -> bool
+        ensures { result ≡ takes_operand (mode_of self.now.mode) }
+    {
+        matches!(self.mode, Mode::Operand)
+    }
+
+    /// Whether the next byte stands outside quotes.
+    pub(crate) fn is_outside(&self) -> bool
+        ensures { result ≡ is_outside (mode_of self.now.mode) }
+    {
+        !matches!(self.mode, Mode::QuotedLabel(_) | Mode::Escape(_))
+    }
+
+    /// The whole expression, if one ends here.
+    pub(crate) fn whole(self, alloc: Global) -> Result<Option<Expr>, Memory>
+        requires { IsReady (mode_of self.mode) }
+        ensures { IfOk result (λ whole. option_map expression whole ≡ whole_of (state_of self)) }
+    {
+        let State { outer, frame, mode } = self;
+        if !outer.is_empty() {
+            return Ok(None);
+        }
+        let element = match mode {
+            Mode::BareLabel(name) => atom(alloc, &name)?,
+            Mode::Primary(element) | Mode::Element(element) => element,
+            _ => return Ok(None),
+        };
+        Ok(Some(whole_with(alloc, frame, element)?))
+    }
+}
