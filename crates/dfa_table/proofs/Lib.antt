@@ -1,3 +1,4 @@
 mod OneStep
+pub mod Places
 mod Rows
-mod Runs
+pub mod Runs

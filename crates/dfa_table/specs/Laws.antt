@@ -1,8 +1,9 @@
 -- What the definitions are meant to say, as laws.
-use Rattle.std.specs.Prelude.{◌≡◌, ℕ, ◌<◌, List, [], ◌∷◌, ◌++◌, length, Some}
+use Rattle.std.specs.Prelude.{◌≡◌, ℕ, ◌<◌, ◌↔◌, List, [], ◌∷◌, ◌++◌, length, Some}
+use Rattle.std.specs.List.{slice_get}
 use Rattle.std.specs.Option.{option_and_then}
 use Rattle.rpq_base.specs.declared.data.Label.{Label}
-use Rattle.dfa_table.specs.DfaValue.{DfaValue, IsDfa}
+use Rattle.dfa_table.specs.DfaValue.{DfaValue, IsDfa, place_of}
 use Rattle.dfa_table.specs.Runs.{run_from, Accepts}
 
 -- a nonempty word never leads to the start, and the empty word isn't accepted
@@ -18,3 +19,7 @@ RunsJoin = (dfa : DfaValue) (state : ℕ) (front rest : List Label) →
 -- a word leads from a state to a state
 abbrev pub RunsStayWithin : Type 0
 RunsStayWithin = (dfa : DfaValue) (state target : ℕ) (word : List Label) → IsDfa dfa → state < length dfa.rows → run_from dfa state word ≡ Some target → target < length dfa.rows
+
+-- the place of a label is that where it stands
+abbrev pub LabelsHavePlaces : Type 0
+LabelsHavePlaces = (dfa : DfaValue) (label : Label) (place : ℕ) → IsDfa dfa → (place_of dfa label ≡ Some place) ↔ (slice_get dfa.labels place ≡ Some label)

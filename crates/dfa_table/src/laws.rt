@@ -1,6 +1,8 @@
 //! Laws of runs. The functions do nothing: their contracts are the laws.
 
-ghost use Rattle.dfa_table.specs.Laws.{NoWordLeadsBack, RunsJoin, RunsStayWithin};
+ghost use Rattle.dfa_table.specs.Laws.{LabelsHavePlaces, NoWordLeadsBack, RunsJoin, RunsStayWithin};
+
+use rpq_base::same_is_equal;
 
 /// A nonempty word never leads to the start, and the empty word isn't accepted.
 pub fn no_word_leads_back()
@@ -16,3 +18,10 @@ pub fn runs_join()
 pub fn runs_stay_within()
     ensures { RunsStayWithin }
 {}
+
+/// The place of a label is that where it stands among the labels.
+pub fn labels_have_places()
+    ensures { LabelsHavePlaces }
+{
+    same_is_equal();
+}

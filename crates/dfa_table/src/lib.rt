@@ -10,7 +10,7 @@ mod dfa;
 mod laws;
 
 pub use dfa::Dfa;
-pub use laws::{no_word_leads_back, runs_join, runs_stay_within};
+pub use laws::{labels_have_places, no_word_leads_back, runs_join, runs_stay_within};
 
 #[cfg(test)]
 mod tests;
