@@ -28,7 +28,7 @@ any_without same pairs others pair =
     ∙ ap (λ (found : Bool). not (has others pair) && found) (any_same same pairs pair)
 
 -- events one after another
-held_after : (events others : List Event) (before : Bool) (query : ℕ) (pair : Pair) →
+pub held_after : (events others : List Event) (before : Bool) (query : ℕ) (pair : Pair) →
     held_from before query pair (events ++ others) ≡ held_from (held_from before query pair events) query pair others
 held_after [] others before query pair = refl
 held_after (first ∷ events) others before query pair =

@@ -6,11 +6,7 @@ use Rattle.std.specs.Option.{option_to_list}
 use Rattle.std.proofs.lemmas.List.{drop_more, drop_all, take_rest, append_assoc}
 use Rattle.rpq_base.specs.declared.data.Edge.{Edge}
 use Rattle.rpq_base.specs.declared.data.Entry.{Entry}
-use Rattle.rpq_model.specs.Window.{inserted, is_live, live_entries}
-
--- the edges of the entries that are live at a clock
-abbrev pub live_edges : ℕ → ℕ → ℕ → List Entry → List Edge
-live_edges size slide now entries = filter_map (λ entry. inserted entry.tuple.act) (live_entries size slide now entries)
+use Rattle.rpq_model.specs.Window.{inserted, is_live, live_entries, edges_at}
 
 -- what one more entry adds, live or not
 choice : (live : Bool) (entry : Entry) (entries : List Entry) →
@@ -21,8 +17,8 @@ choice false entry entries = refl
 
 -- the edges of an entry and those that follow it
 pub first_live : (size slide now : ℕ) (entry : Entry) (later : List Entry) →
-    live_edges size slide now (entry ∷ later)
-    ≡ cons_option (if is_live size slide now entry later then inserted entry.tuple.act else None) (live_edges size slide now later)
+    edges_at size slide now (entry ∷ later)
+    ≡ cons_option (if is_live size slide now entry later then inserted entry.tuple.act else None) (edges_at size slide now later)
 unfolding live_entries
 first_live size slide now entry later = choice (is_live size slide now entry later) entry (live_entries size slide now later)
 
@@ -36,16 +32,16 @@ pub live_edges_more : (history : List Entry) (size slide now index : ℕ) (entry
     index < length history →
     entry ≡ get_or history index entry →
     found ≡ (if is_live size slide now entry (take (length history - (index + 1)) (drop (index + 1) history)) then inserted entry.tuple.act else None) →
-    edges ++ live_edges size slide now (drop index history) ≡ (edges ++ option_to_list found) ++ live_edges size slide now (drop (index + 1) history)
+    edges ++ edges_at size slide now (drop index history) ≡ (edges ++ option_to_list found) ++ edges_at size slide now (drop (index + 1) history)
 live_edges_more history size slide now index entry edges found below is_entry is_found =
     let at_index : drop index history ≡ entry ∷ drop (index + 1) history = drop_more history index entry below ∙ ap (λ (e : Entry). e ∷ drop (index + 1) history) (sym is_entry) in
     let found_here = rw (take_rest history (index + 1)) at is_found in
-    ap (λ (entries : List Entry). edges ++ live_edges size slide now entries) at_index
+    ap (λ (entries : List Entry). edges ++ edges_at size slide now entries) at_index
     ∙ (ap (λ (all : List Edge). edges ++ all) (first_live size slide now entry (drop (index + 1) history))
-    ∙ (ap (λ (one : Option Edge). edges ++ cons_option one (live_edges size slide now (drop (index + 1) history))) (sym found_here)
-    ∙ moved edges found (live_edges size slide now (drop (index + 1) history))))
+    ∙ (ap (λ (one : Option Edge). edges ++ cons_option one (edges_at size slide now (drop (index + 1) history))) (sym found_here)
+    ∙ moved edges found (edges_at size slide now (drop (index + 1) history))))
 
 -- the end of the loop: no entry is left
-pub live_edges_all : (history : List Entry) (size slide now index : ℕ) → length history ≤ index → live_edges size slide now (drop index history) ≡ []
+pub live_edges_all : (history : List Entry) (size slide now index : ℕ) → length history ≤ index → edges_at size slide now (drop index history) ≡ []
 unfolding live_entries
 live_edges_all history size slide now index past = rw (drop_all index history past)

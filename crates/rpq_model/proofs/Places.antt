@@ -9,9 +9,9 @@ use Rattle.rpq_base.specs.declared.data.Edge.{Edge}
 use Rattle.rpq_base.specs.declared.data.Act.{Act}
 use Rattle.rpq_base.specs.declared.data.Act.TheVariants.{Insert, Delete, Tick}
 use Rattle.rpq_base.specs.declared.data.Entry.{Entry}
-use Rattle.rpq_model.specs.Window.{clock, is_in_window, inserted, deletes, is_deleted, is_live_act, is_live, live_entries}
+use Rattle.rpq_model.specs.Window.{clock, is_in_window, inserted, deletes, is_deleted, is_live_act, is_live, live_entries, edges_at}
 use Rattle.rpq_model.specs.Laws.{WindowByPlaces}
-use Rattle.rpq_model.proofs.Live.{live_edges, first_live}
+use Rattle.rpq_model.proofs.Live.{first_live}
 
 -- an entry that is live by its place, at any clock
 record IsLiveBy (size slide now : ℕ) (history : List Entry) (edge : Edge) (place : ℕ) : Type 0 where
@@ -54,7 +54,7 @@ chosen true other edge e = (refl, cc)
 chosen false other edge e = cc
 
 -- an act that is live inserts an edge that is in the window and stays
-live_act : (act : Act) (size slide now time : ℕ) (later : List Entry) (edge : Edge) →
+pub live_act : (act : Act) (size slide now time : ℕ) (later : List Entry) (edge : Edge) →
     (if is_live_act size slide now time act later then inserted act else None) ≡ Some edge →
     (act ≡ Insert edge) × (is_in_window size slide now time ≡ true) × (is_deleted later edge ≡ false)
 live_act (Insert other) size slide now time later edge e =
@@ -66,7 +66,7 @@ live_act (Delete other) size slide now time later edge e = cc
 live_act Tick size slide now time later edge e = cc
 
 -- an act that inserts an edge that is in the window and stays is live
-act_is_live : (act : Act) (size slide now time : ℕ) (later : List Entry) (edge : Edge) →
+pub act_is_live : (act : Act) (size slide now time : ℕ) (later : List Entry) (edge : Edge) →
     act ≡ Insert edge → is_in_window size slide now time ≡ true → is_deleted later edge ≡ false →
     (if is_live_act size slide now time act later then inserted act else None) ≡ Some edge
 act_is_live act size slide now time later edge inserts seen stays = rw inserts (rw (seen, stays))
@@ -79,16 +79,16 @@ first_or_later zero first edges edge below is = inl is
 first_or_later (suc place) first edges edge below is = inr (place, omega arith, is)
 
 -- a member of a list that may have one more element is that element or a member without it
-found_or_later : (found : Option Edge) (edges : List Edge) (edge : Edge) → Contains (cons_option found edges) edge → (found ≡ Some edge) ⊎ Contains edges edge
+pub found_or_later : (found : Option Edge) (edges : List Edge) (edge : Edge) → Contains (cons_option found edges) edge → (found ≡ Some edge) ⊎ Contains edges edge
 found_or_later None edges edge member = inr member
 found_or_later (Some first) edges edge member =
     ⊎_elim (λ here. inl (ap (λ (one : Edge). Some one) here)) (λ later. inr later) (first_or_later member.0 first edges edge member.1 member.2)
 
 -- and the other way round
-from_found : (found : Option Edge) (edges : List Edge) (edge : Edge) → found ≡ Some edge → Contains (cons_option found edges) edge
+pub from_found : (found : Option Edge) (edges : List Edge) (edge : Edge) → found ≡ Some edge → Contains (cons_option found edges) edge
 from_found found edges edge here = rw here (0, omega arith, refl)
 
-from_later : (found : Option Edge) (edges : List Edge) (edge : Edge) → Contains edges edge → Contains (cons_option found edges) edge
+pub from_later : (found : Option Edge) (edges : List Edge) (edge : Edge) → Contains edges edge → Contains (cons_option found edges) edge
 from_later None edges edge member = member
 from_later (Some first) edges edge member = (suc member.0, omega (arith, member.1), member.2)
 
@@ -120,11 +120,11 @@ one_before place entry later size slide now edge live = record {
 
 -- an edge of a live entry is live at some place
 to_place : (history : List Entry) (size slide now : ℕ) (edge : Edge) → SameIsEqual →
-    Contains (live_edges size slide now history) edge → (place : ℕ) × IsLiveBy size slide now history edge place
+    Contains (edges_at size slide now history) edge → (place : ℕ) × IsLiveBy size slide now history edge place
 unfolding live_entries
 to_place [] size slide now edge same member = absurd (omega (arith, member.1))
 to_place (entry ∷ later) size slide now edge same member =
-    let rest = live_edges size slide now later in
+    let rest = edges_at size slide now later in
     let found = if is_live size slide now entry later then inserted entry.tuple.act else None in
     ⊎_elim
     (λ here.
@@ -145,7 +145,7 @@ to_place (entry ∷ later) size slide now edge same member =
 
 -- an edge that is live at a place is one of a live entry
 from_place : (history : List Entry) (place size slide now : ℕ) (edge : Edge) → SameIsEqual →
-    IsLiveBy size slide now history edge place → Contains (live_edges size slide now history) edge
+    IsLiveBy size slide now history edge place → Contains (edges_at size slide now history) edge
 from_place [] place size slide now edge same live = let there = live.there in cc
 from_place (entry ∷ later) zero size slide now edge same live =
     let is : entry ≡ live.entry = let there = live.there in cc in
@@ -157,7 +157,7 @@ from_place (entry ∷ later) zero size slide now edge same live =
     let here = act_is_live entry.tuple.act size slide now entry.tuple.time later edge inserts seen kept in
     let found = if is_live size slide now entry later then inserted entry.tuple.act else None in
     subst (λ (edges : List Edge). Contains edges edge) (sym (first_live size slide now entry later))
-    (from_found found (live_edges size slide now later) edge here)
+    (from_found found (edges_at size slide now later) edge here)
 from_place (entry ∷ later) (suc place) size slide now edge same live =
     let live_later : IsLiveBy size slide now later edge place = record {
       entry = live.entry;
@@ -168,7 +168,7 @@ from_place (entry ∷ later) (suc place) size slide now edge same live =
     } in
     let found = if is_live size slide now entry later then inserted entry.tuple.act else None in
     subst (λ (edges : List Edge). Contains edges edge) (sym (first_live size slide now entry later))
-    (from_later found (live_edges size slide now later) edge (from_place later place size slide now edge same live_later))
+    (from_later found (edges_at size slide now later) edge (from_place later place size slide now edge same live_later))
 
 -- the edges of the window are those with an entry that is live at its place
 pub window_by_places : SameIsEqual → WindowByPlaces

@@ -9,7 +9,7 @@ use Rattle.rpq_base.specs.declared.data.Entry.{Entry}
 use Rattle.rpq_base.specs.declared.data.Pair.{Pair}
 use Rattle.rpq_model.specs.declared.mode.Mode.{Mode}
 use Rattle.rpq_model.specs.declared.mode.Mode.TheVariants.{Arbitrary, Simple}
-use Rattle.rpq_model.specs.Window.{window_edges}
+use Rattle.rpq_model.specs.Window.{clock, edges_at}
 use Rattle.rpq_model.specs.Path.{IsPath, IsSimple, word_of}
 
 -- the paths that a query takes: all, or the simple ones
@@ -27,9 +27,13 @@ pub record Joins (edges : List Edge) (language : List Label → Type 0) (mode : 
 abbrev pub IsJoined : List Edge → (List Label → Type 0) → Mode → Pair → Type 0
 IsJoined edges language mode pair = (path : List Edge) × Joins edges language mode pair path
 
--- the pair is an answer over the history
+-- the pair is an answer over the entries that are live at a clock, which may be any number
+abbrev pub IsAnswerAt : (List Label → Type 0) → Mode → ℕ → ℕ → ℕ → List Entry → Pair → Type 0
+IsAnswerAt language mode size slide now entries pair = IsJoined (edges_at size slide now entries) language mode pair
+
+-- the pair is an answer over the history: at its clock
 abbrev pub IsAnswer : (List Label → Type 0) → Mode → ℕ → ℕ → List Entry → Pair → Type 0
-IsAnswer language mode size slide history pair = IsJoined (window_edges size slide history) language mode pair
+IsAnswer language mode size slide history pair = IsAnswerAt language mode size slide (clock history) history pair
 
 -- the pairs are exactly the answers over the history, sorted by source and then target, each once
 pub record AreAnswers (language : List Label → Type 0) (mode : Mode) (size slide : ℕ) (history : List Entry) (pairs : List Pair) : Type 0 where

@@ -3,3 +3,9 @@ pub mod Path
 pub mod Answers
 pub mod Events
 pub mod Laws
+pub mod Query
+pub mod QueryCode
+pub mod Relations
+pub mod Onwards
+pub mod QueryLaws
+pub mod QueryEvents

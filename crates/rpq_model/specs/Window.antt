@@ -54,6 +54,10 @@ live_entries size slide now (entry ∷ later) =
 abbrev pub window : ℕ → ℕ → List Entry → List Entry
 window size slide history = live_entries size slide (clock history) history
 
+-- the edges of the entries that are live at a clock, in order of position
+abbrev pub edges_at : ℕ → ℕ → ℕ → List Entry → List Edge
+edges_at size slide now entries = filter_map (λ entry. inserted entry.tuple.act) (live_entries size slide now entries)
+
 -- the edges of the window, in order of position
 abbrev pub window_edges : ℕ → ℕ → List Entry → List Edge
-window_edges size slide history = filter_map (λ entry. inserted entry.tuple.act) (window size slide history)
+window_edges size slide history = edges_at size slide (clock history) history

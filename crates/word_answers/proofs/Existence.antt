@@ -18,7 +18,7 @@ use Rattle.rpq_model.specs.Window.{window_edges}
 use Rattle.rpq_model.proofs.Pairs.{pair_cmp_total}
 use Rattle.word_answers.specs.Joined.{AreJoined}
 use Rattle.word_answers.specs.Answers.{EveryHistoryHasAnswers}
-use Rattle.word_answers.proofs.Members.{cons_members}
+use Rattle.rpq_model.proofs.Members.{cons_members}
 use Rattle.word_answers.proofs.Paths.{ends}
 use Rattle.word_answers.proofs.Found.{with_edge, with_longer, AreLonger}
 use Rattle.word_answers.proofs.Joins.{sorted_nil, no_label_joined, answers_from_joined, edges_join, pairs_after_edge, HasOneMore, longer_with_edge, longer_without_edge, longer_joins}

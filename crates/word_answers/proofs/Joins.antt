@@ -14,8 +14,8 @@ use Rattle.rpq_base.specs.declared.data.Entry.{Entry}
 use Rattle.rpq_model.specs.Window.{window_edges}
 use Rattle.word_answers.specs.Joined.{values, AreJoined, IsJoinedFrom}
 use Rattle.word_answers.specs.Answers.{AreWordAnswers}
-use Rattle.word_answers.proofs.Equality.{names, labels}
-use Rattle.word_answers.proofs.Members.{IsGiven, fold_members}
+use Rattle.rpq_model.proofs.Equality.{names, labels}
+use Rattle.rpq_model.proofs.Members.{IsGiven, fold_members}
 use Rattle.word_answers.proofs.Paths.{ends, no_label_joins_nothing, one_label_joins, joined_by_edge, more_labels_join, joined_from_start}
 use Rattle.word_answers.proofs.Found.{with_edge, with_longer, IsLonger, AreLonger}
 

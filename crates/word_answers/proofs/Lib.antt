@@ -1,6 +1,4 @@
-mod Equality
 mod Existence
 mod Found
 mod Joins
-mod Members
 mod Paths

@@ -1,7 +1,8 @@
 use Rattle.std.proofs.Common.{◌≡◌, ℕ, ◌+◌, ◌++◌, List, [], ◌∷◌, Some, None, map, drop, Bor, Vec, Global, sym, ap, ◌∙◌}
 use Rattle.std.proofs.lemmas.List.{map_push, append-nil}
 use Rattle.rpq_base.specs.declared.data.Edge.{Edge}
-use Rattle.rpq_model.proofs.Live.{live_edges, live_edges_more, live_edges_all}
+use Rattle.rpq_model.specs.Window.{edges_at}
+use Rattle.rpq_model.proofs.Live.{live_edges_more, live_edges_all}
 use Rattle.rpq_model.proofs.window.live_edges.Goals as goal
 use Rattle.rpq_model.proofs.window.live_edges.Goals.{in-Some+in_ok-push, in_default}
 
@@ -17,7 +18,7 @@ loop-index-preserved c =
     let history = c.args.history.now in
     let index = c.loop-index.index in
     let before = values c.loop-index.edges.items in
-    let left = live_edges size slide now (drop (index + 1) history) in
+    let left = edges_at size slide now (drop (index + 1) history) in
     elim c.match-live_edge.branch [
       | in-Some+in_ok-push w ↦
           let edge = w.in-Some.edge in
@@ -38,8 +39,8 @@ returns c =
     let now = c.clock-now.result in
     let history = c.args.history.now in
     let edges = map (λ (edge : Bor Edge). edge.now) c.loop-index.edges.items in
-    let none_left : live_edges size slide now (drop c.loop-index.index history) ≡ [] = live_edges_all history size slide now c.loop-index.index c.loop-index-test.false in
+    let none_left : edges_at size slide now (drop c.loop-index.index history) ≡ [] = live_edges_all history size slide now c.loop-index.index c.loop-index-test.false in
     sym (append-nil edges)
     ∙ (ap (λ (left : List Edge). edges ++ left) (sym none_left)
     ∙ (c.loop-index.invariant
-    ∙ ap (λ (clock : ℕ). live_edges size slide clock history) c.clock-now.ensures))
+    ∙ ap (λ (clock : ℕ). edges_at size slide clock history) c.clock-now.ensures))

@@ -7,7 +7,7 @@ use Rattle.rpq_base.specs.declared.data.Label.{Label}
 use Rattle.rpq_base.specs.declared.data.Edge.{Edge}
 use Rattle.rpq_base.specs.declared.data.Pair.{Pair}
 use Rattle.word_answers.specs.Joined.{values, AreJoined, IsJoinedFrom}
-use Rattle.word_answers.proofs.Equality.{derived_labels}
+use Rattle.rpq_model.proofs.Equality.{derived_labels}
 use Rattle.word_answers.proofs.Found.{AreLonger}
 use Rattle.word_answers.proofs.Joins.{ok_from_both, next_edge, longer_joins, longer_with_edge, longer_without_edge}
 use Rattle.word_answers.proofs.answers.joined_by_longer.Goals as goal

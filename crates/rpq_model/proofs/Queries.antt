@@ -1,0 +1,64 @@
+-- The laws over queries.
+use Rattle.std.proofs.Common.{◌≡◌, ◌≢◌, ℕ, List, [], ◌∷◌, refl, sym, subst, ◌∙◌, ⊎_elim}
+use Rattle.std.specs.Prelude.{All}
+use Rattle.std.proofs.lemmas.Bool.{cases_order}
+use Rattle.std.proofs.lemmas.List.Elements.{All-head, All-tail}
+use Rattle.rpq_base.specs.Laws.{SameIsEqual}
+use Rattle.rpq_base.specs.declared.data.Label.{Label}
+use Rattle.rpq_base.specs.declared.data.Edge.{Edge}
+use Rattle.rpq_base.specs.declared.data.Pair.{Pair}
+use Rattle.rpq_model.specs.declared.mode.Mode.{Mode}
+use Rattle.rpq_model.specs.declared.mode.Mode.TheVariants.{Simple}
+use Rattle.rpq_model.specs.Path.{Leads}
+use Rattle.rpq_model.specs.Answers.{Joins}
+use Rattle.rpq_model.specs.Window.{edges_at}
+use Rattle.rpq_model.specs.Query.{language_of}
+use Rattle.rpq_model.specs.QueryLaws.{QueryAnswersAreOne, QueryEventsAreOne, QueryHeldIsAnswers, UntilIsOne, EmptyWordBringsNoPair, SimpleAnswersAreApart, with_expression}
+use Rattle.rpq_model.proofs.Held.{held_is_answers}
+use Rattle.rpq_model.proofs.OneAnswer.{answers_are_one, all_events_are_one}
+use Rattle.rpq_model.specs.Onwards.{targets_of}
+use Rattle.rpq_model.proofs.Onwards.{apart_first}
+use Rattle.rpq_model.proofs.Paths.{joined_same}
+
+pub query_answers_are_one : QueryAnswersAreOne
+query_answers_are_one query history pairs others = answers_are_one (language_of query) query.mode query.window query.slide history pairs others
+
+pub query_events_are_one : QueryEventsAreOne
+query_events_are_one query number history events others = all_events_are_one (language_of query) query.mode query.window query.slide number history events others
+
+pub query_held_is_answers : SameIsEqual → QueryHeldIsAnswers
+query_held_is_answers same query number history events = held_is_answers same (language_of query) query.mode query.window query.slide number history events
+
+pub until_is_one : UntilIsOne
+until_is_one query history pair until other first second = ⊎_elim
+    (λ same. same)
+    (λ differ. absurd (⊎_elim
+    (λ below. first.ended (second.lasts until below))
+    (λ above. second.ended (first.lasts other above))
+    differ))
+    (cases_order until other)
+
+pub empty_word_brings_no_pair : EmptyWordBringsNoPair
+empty_word_brings_no_pair query expr now entries pair same =
+    let edges = edges_at query.window query.slide now entries in
+    let other = language_of (with_expression query expr) in (
+      joined_same edges query.mode (language_of query) other (λ word some. (same word some).0) pair,
+      joined_same edges query.mode other (language_of query) (λ word some. (same word some).1) pair,
+    )
+
+-- what differs from all targets of a path differs from its end
+end_differs : (path : List Edge) (vertex from to : List ℕ) → path ≢ [] → Leads from path to → All (λ later. vertex ≢ later) (targets_of path) → vertex ≢ to
+end_differs [] vertex from to some leads differ = absurd (some refl)
+end_differs (edge ∷ []) vertex from to some leads differ = λ is. All-head (λ later. vertex ≢ later) edge.to [] differ (is ∙ sym leads.1)
+end_differs (edge ∷ next ∷ path) vertex from to some leads differ =
+    end_differs (next ∷ path) vertex edge.to to (λ e. cc) leads.1 (All-tail (λ later. vertex ≢ later) edge.to (targets_of (next ∷ path)) differ)
+
+-- a simple path has two ends
+ends_differ : (path : List Edge) (edges : List Edge) (language : List Label → Type 0) (mode : Mode) (pair : Pair) → mode ≡ Simple → Joins edges language mode pair path → pair.from ≢ pair.to
+ends_differ path edges language mode pair is joins =
+    let simple = subst (λ (each : Mode). Joins edges language each pair path) is joins in
+    end_differs path pair.from pair.from pair.to simple.leads.some simple.leads.leads (apart_first pair.from (targets_of path) simple.taken)
+
+pub simple_answers_are_apart : SimpleAnswersAreApart
+simple_answers_are_apart query now entries pair is answer =
+    ends_differ answer.0 (edges_at query.window query.slide now entries) (language_of query) query.mode pair is answer.1
