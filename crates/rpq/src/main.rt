@@ -28,6 +28,7 @@ fn main(rt: HostRuntime) -> ExitCode {
     };
     let mut files = HostFiles::new(alloc, &rt);
     let mut events = HostSink::output(rt.stdout());
-    let report = run(&rt, alloc, &words, &mut files, &mut events);
+    let mut errors = HostSink::errors(rt.stderr());
+    let report = run(&rt, alloc, &words, &mut files, &mut events, &mut errors);
     ExitCode::from(report.status)
 }

@@ -1,3 +1,9 @@
 mod Bytes
+mod CutLines
 mod Finding
+mod FirstLines
+mod HeldParts
+mod LineLengths
 mod Names
+mod ReaderSteps
+mod TextAhead

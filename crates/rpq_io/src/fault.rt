@@ -121,3 +121,51 @@ impl fmt::Display for AllFault {
 }
 
 impl Error for AllFault {}
+
+/// Why no line was given.
+#[derive(Clone, Copy, Debug, PartialEq, Eq)]
+pub enum LineFault {
+    /// A read failed.
+    Read,
+    /// The next line is longer than a line may be.
+    LongLine,
+    /// As many bytes were taken as may be, and neither a line nor the end came.
+    LongStream,
+    /// Memory ran out.
+    Memory,
+}
+
+impl From<Failed> for LineFault {
+    ghost use Rattle.std.specs.Prelude.{◌≡◌};
+    ghost use Rattle.rpq_io.specs.declared.fault.LineFault.TheVariants.{Read};
+
+    ghost from_gives = { λ _ fault. fault ≡ Read };
+
+    fn from(_fault: Failed) -> LineFault {
+        LineFault::Read
+    }
+}
+
+impl From<AllocError> for LineFault {
+    ghost use Rattle.std.specs.Prelude.{◌≡◌};
+    ghost use Rattle.rpq_io.specs.declared.fault.LineFault.TheVariants.{Memory};
+
+    ghost from_gives = { λ _ fault. fault ≡ Memory };
+
+    fn from(_error: AllocError) -> LineFault {
+        LineFault::Memory
+    }
+}
+
+impl fmt::Display for LineFault {
+    fn fmt<W: fmt::Write>(&self, f: &mut fmt::Formatter<W>) -> fmt::Result {
+        match self {
+            LineFault::Read => f.write_str("a read failed"),
+            LineFault::LongLine => f.write_str("a line is too long"),
+            LineFault::LongStream => f.write_str("there are too many bytes"),
+            LineFault::Memory => f.write_str("out of memory"),
+        }
+    }
+}
+
+impl Error for LineFault {}

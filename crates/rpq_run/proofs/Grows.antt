@@ -13,11 +13,11 @@ use Rattle.rpq_run.specs.Turns.{AreQueryAnswers, next_block}
 use Rattle.rpq_run.specs.Written.{WritesText, WritesBeginning, WritesProperBeginning}
 use Rattle.rpq_run.proofs.Texts.{text_push}
 
-append_known-nil : (before : Option (List ℕ)) → before ≡ append_known before []
+pub append_known-nil : (before : Option (List ℕ)) → before ≡ append_known before []
 append_known-nil None = refl
 append_known-nil (Some bytes) = ap (λ (b : List ℕ). Some b) (sym (append-nil bytes))
 
-append_known-append : (before : Option (List ℕ)) (first second : List ℕ) → append_known (append_known before first) second ≡ append_known before (first ++ second)
+pub append_known-append : (before : Option (List ℕ)) (first second : List ℕ) → append_known (append_known before first) second ≡ append_known before (first ++ second)
 append_known-append None first second = refl
 append_known-append (Some bytes) first second = ap (λ (b : List ℕ). Some b) (append_assoc bytes first second)
 

@@ -1,8 +1,13 @@
 mod Labels
-mod Tuples
+mod Pieces
+mod StreamTexts
+mod Reading
 mod Changes
 mod Texts
 mod Grows
 mod Feeding
 mod OneText
-mod StreamParts
+mod ErrorTexts
+mod Statuses
+mod ByParts
+mod Fronts

@@ -1,9 +1,13 @@
 pub mod QueryValue
 pub mod QueriesFile
-pub mod StreamFile
+pub mod StreamText
 pub mod Text
 pub mod Files
+pub mod History
+pub mod Ends
+pub mod Progress
 pub mod Turns
 pub mod Written
+pub mod ErrorLines
 pub mod Run
 pub mod Laws

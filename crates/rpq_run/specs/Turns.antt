@@ -1,6 +1,5 @@
 -- One turn after another: an entry follows a history, is evaluated and written.
-use Rattle.std.specs.Prelude.{◌≡◌, ℕ, ◌+◌, List, ◌++◌, length, map}
-use Rattle.rpq_base.specs.declared.data.Tuple.{Tuple}
+use Rattle.std.specs.Prelude.{ℕ, ◌+◌, List, length}
 use Rattle.rpq_base.specs.declared.data.Entry.{Entry}
 use Rattle.rpq_base.specs.declared.data.Pair.{Pair}
 use Rattle.rpq_model.specs.declared.mode.Mode.TheVariants.{Arbitrary}
@@ -9,10 +8,6 @@ use Rattle.rpq_model.specs.Events.{changes}
 use Rattle.rpq_run.specs.QueryValue.{QueryValue, language_of}
 use Rattle.rpq_run.specs.Text.{block}
 
--- the entry of a tuple of the one stream
-abbrev pub entry_of : Tuple → Entry
-entry_of tuple = record { stream = 1; tuple = tuple }
-
 -- the pairs are the answers of the query over the history
 abbrev pub AreQueryAnswers : QueryValue → List Entry → List Pair → Type 0
 AreQueryAnswers query history pairs = AreAnswers (language_of query) Arbitrary query.window query.slide history pairs
@@ -20,10 +15,3 @@ AreQueryAnswers query history pairs = AreAnswers (language_of query) Arbitrary q
 -- the block of the entry that follows a history, where the answers change from the old to the new ones
 abbrev pub next_block : QueryValue → List Entry → Entry → List Pair → List Pair → List ℕ
 next_block query history entry old new = block query.name (length history + 1) entry (changes 0 old new)
-
--- the history has the entries of a front of the tuples, perhaps all of them
-pub record TakesFront (tuples : List Tuple) (history : List Entry) : Type 0 where
-  pub taken : List Tuple
-  pub rest : List Tuple
-  pub cut : tuples ≡ taken ++ rest
-  pub entries : history ≡ map entry_of taken

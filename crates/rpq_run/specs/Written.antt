@@ -25,3 +25,10 @@ pub record WritesProperBeginning (query : QueryValue) (history : List Entry) (be
   pub of_history : IsText query history (front ++ rest)
   pub proper : rest ≢ []
   pub written : after ≡ append_known before front
+
+-- a part at the front of the text was written, perhaps all of it
+pub record WritesFront (text : List ℕ) (before after : Option (List ℕ)) : Type 0 where
+  pub front : List ℕ
+  pub rest : List ℕ
+  pub cut : text ≡ front ++ rest
+  pub written : after ≡ append_known before front

@@ -1,20 +1,27 @@
-//! The two files of a run, read and understood.
+//! The two files of a run: the queries file is read and understood, and the stream opened.
 
-ghost use Rattle.std.specs.Prelude.{◌≡◌, ◌≤◌, ◌<◌, ℕ, List, [], length, IfOk, IfSome, All};
+ghost use Rattle.std.specs.Prelude.{◌≡◌, ◌≢◌, ◌≤◌, ◌<◌, ℕ, List, [], length, IfOk, IfSome};
 ghost use Rattle.rpq_io.specs.Counts.{Rose};
-ghost use Rattle.rpq_base.specs.Plain.{IsPlainTuple};
-ghost use Rattle.rpq_run.specs.Files.{file_limit, query_of, tuples_of};
+ghost use Rattle.rpq_io.specs.Reader.{source_of, byte_cap_of};
+ghost use Rattle.rpq_run.specs.Files.{query_of, IsTooLong, LacksForm};
+ghost use Rattle.rpq_run.specs.StreamText.{byte_limit};
+ghost use Rattle.rpq_run.specs.Progress.{IsStreamReader, IsNew};
 
 use crate::form::FormFault;
 use crate::query::FirstQuery;
 use crate::read_query::read_first_query;
-use crate::read_stream::read_first_stream;
-use rpq_base::Tuple;
-use rpq_io::{AllFault, Files, OpenFault, read_all};
+use rpq_base::Memory;
+use rpq_io::{AllFault, Files, LineReader, OpenFault, read_all};
 use std::alloc::Global;
 
-/// A file has fewer bytes than this.
+/// A file that is read whole has fewer bytes than this.
 const FILE_LIMIT: u64 = 1 << 24;
+
+/// The most bytes of a line of a stream before its line feed.
+const MAX_LINE: usize = 1024;
+
+/// A stream has fewer bytes than this.
+const BYTE_LIMIT: u64 = 1 << 40;
 
 /// Why a file wasn't read and understood.
 #[derive(Drop)]
@@ -23,6 +30,8 @@ pub enum FileFault<S> {
     Open,
     /// A read of this source failed.
     Read(S),
+    /// It has too many bytes.
+    Long,
     /// It isn't of the form that is taken so far.
     NotYet,
     /// Memory ran out.
@@ -40,7 +49,8 @@ fn whole_file<F: Files>(
     ensures end { IfOk result (λ file. IfSome (F.Source.left file.1) (λ rest. rest ≡ [])) }
     ensures open { result ≡ Err FileFault.Open → Rose (F.unread files.old name.now) (F.unread files.new name.now) }
     ensures read { (source : F.Source) → result ≡ Err (FileFault.Read source) → Rose 0 (F.Source.faults source) }
-    ensures not_yet { result ≡ Err FileFault.NotYet → IfSome (F.holds files.old name.now) (λ bytes. file_limit ≤ length bytes) }
+    ensures long { result ≡ Err FileFault.Long → IsTooLong (F.holds files.old name.now) }
+    ensures no_form { result ≢ Err FileFault.NotYet }
     ensures never_falls { (any : List ℕ) → F.unread files.old any ≤ F.unread files.new any }
     ensures holds_stays { (any : List ℕ) → F.holds files.new any ≡ F.holds files.old any }
     ensures made_stays { F.made files.new ≡ F.made files.old }
@@ -53,7 +63,7 @@ fn whole_file<F: Files>(
     match read_all(alloc, &mut source, FILE_LIMIT) {
         Ok(bytes) => Ok((bytes, source)),
         Err(AllFault::Read) => Err(FileFault::Read(source)),
-        Err(AllFault::Long) => Err(FileFault::NotYet),
+        Err(AllFault::Long) => Err(FileFault::Long),
         Err(AllFault::Memory) => Err(FileFault::Memory),
     }
 }
@@ -68,7 +78,8 @@ pub fn query_of_file<F: Files>(
     ensures ok { IfOk result (λ query. IfSome (F.holds files.old name.now) (λ bytes. query_of bytes ≡ Some query)) }
     ensures open { result ≡ Err FileFault.Open → Rose (F.unread files.old name.now) (F.unread files.new name.now) }
     ensures read { (source : F.Source) → result ≡ Err (FileFault.Read source) → Rose 0 (F.Source.faults source) }
-    ensures not_yet { result ≡ Err FileFault.NotYet → IfSome (F.holds files.old name.now) (λ bytes. query_of bytes ≡ None) }
+    ensures long { result ≡ Err FileFault.Long → IsTooLong (F.holds files.old name.now) }
+    ensures not_yet { result ≡ Err FileFault.NotYet → LacksForm (F.holds files.old name.now) }
     ensures never_falls { (any : List ℕ) → F.unread files.old any ≤ F.unread files.new any }
     ensures holds_stays { (any : List ℕ) → F.holds files.new any ≡ F.holds files.old any }
     ensures made_stays { F.made files.new ≡ F.made files.old }
@@ -81,27 +92,28 @@ pub fn query_of_file<F: Files>(
     }
 }
 
-/// The tuples of the stream of this name, and its source at the end of them.
-#[tactic(auto, unfolding(crate::specs::Files::tuples_of))]
-pub fn tuples_of_file<F: Files>(
+/// A reader of the lines of the stream of this name, which has read nothing yet.
+pub fn open_stream<F: Files>(
     alloc: Global,
     files: &mut F,
     name: &str,
-) -> Result<(Vec<Tuple>, F::Source), FileFault<F::Source>>
-    ensures ok { IfOk result (λ stream. IfSome (F.holds files.old name.now) (λ bytes. tuples_of bytes ≡ Some stream.0.items)) }
-    ensures plain { IfOk result (λ stream. All IsPlainTuple stream.0.items) }
-    ensures end { IfOk result (λ stream. IfSome (F.Source.left stream.1) (λ rest. rest ≡ [])) }
-    ensures open { result ≡ Err FileFault.Open → Rose (F.unread files.old name.now) (F.unread files.new name.now) }
-    ensures read { (source : F.Source) → result ≡ Err (FileFault.Read source) → Rose 0 (F.Source.faults source) }
-    ensures not_yet { result ≡ Err FileFault.NotYet → IfSome (F.holds files.old name.now) (λ bytes. tuples_of bytes ≡ None) }
+) -> Result<LineReader<F::Source>, OpenFault>
+    ensures content { IfOk result (λ reader. F.Source.left (source_of reader) ≡ F.holds files.old name.now) }
+    ensures counted { IfOk result (λ reader. F.Source.faults (source_of reader) ≡ 0) }
+    ensures sound { IfOk result (λ reader. IsStreamReader F.Source.left reader) }
+    ensures fresh { IfOk result (λ reader. IsNew reader) }
+    ensures cap { IfOk result (λ reader. byte_cap_of reader ≡ byte_limit) }
+    ensures open { result ≡ Err OpenFault.Failed → Rose (F.unread files.old name.now) (F.unread files.new name.now) }
     ensures never_falls { (any : List ℕ) → F.unread files.old any ≤ F.unread files.new any }
     ensures holds_stays { (any : List ℕ) → F.holds files.new any ≡ F.holds files.old any }
     ensures made_stays { F.made files.new ≡ F.made files.old }
 {
-    let (bytes, source) = whole_file(alloc, files, name)?;
-    match read_first_stream(alloc, &bytes) {
-        Ok(tuples) => Ok((tuples, source)),
-        Err(FormFault::NotYet) => Err(FileFault::NotYet),
-        Err(FormFault::Memory) => Err(FileFault::Memory),
+    let source = match files.source(name) {
+        Ok(source) => source,
+        Err(fault) => return Err(fault),
+    };
+    match LineReader::new(alloc, source, MAX_LINE, BYTE_LIMIT) {
+        Ok(reader) => Ok(reader),
+        Err((_source, Memory)) => Err(OpenFault::Memory),
     }
 }

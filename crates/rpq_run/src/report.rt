@@ -2,6 +2,7 @@
 
 use rpq_base::Entry;
 use rpq_io::Files;
+use tuple_text::BadLine;
 
 /// One of the files that a run opens. Streams are numbered from 1.
 #[derive(Clone, Copy, Debug, PartialEq, Eq)]
@@ -17,16 +18,57 @@ pub enum StartFault {
     Open(Which),
     /// A read of this file failed.
     Read(Which),
-    /// The words, or a file, aren't of the form that is taken so far.
+    /// This file, which is read whole, has too many bytes.
+    Long(Which),
+    /// The words, or the queries file, aren't of the form that is taken so far.
     NotYet,
+    /// Memory ran out.
+    Memory,
+}
+
+/// Why a run takes no more tuples of any stream.
+#[derive(Clone, Copy, Debug, PartialEq, Eq)]
+pub enum Why {
+    /// A write of the events failed.
+    Write,
+    /// Memory ran out.
+    Memory,
+}
+
+/// How a stream ended. Lines are numbered from 1, and blank lines and comments count.
+#[derive(Clone, Copy, Debug, PartialEq, Eq)]
+pub enum StreamEnd {
+    /// It was read to its end.
+    Whole,
+    /// This line has this fault.
+    Line { line: u64, fault: BadLine },
+    /// This line is too long.
+    LongLine { line: u64 },
+    /// It has too many bytes.
+    LongStream,
+    /// A read of it failed.
+    Read,
+    /// The history was full when a further tuple was read.
+    Full,
+    /// No tuple was taken any more when a further one was read.
+    Closed(Why),
     /// Memory ran out.
     Memory,
 }
 
 /// What a run answers.
 ///
-/// The status is 0 where all is done, 5 where a file couldn't be opened or read, 6 where a write of the events failed,
-/// 8 where memory ran out, and 9 where the words or a file aren't of the form that is taken so far.
+/// | Status | Where |
+/// |---|---|
+/// | 0 | the stream was read to its end |
+/// | 4 | a line of the stream is faulty or too long |
+/// | 5 | a file couldn't be opened or read |
+/// | 6 | a write of the events failed |
+/// | 7 | the history is full, or the stream or the queries file has too many bytes |
+/// | 8 | memory ran out |
+/// | 9 | the words or the queries file aren't of the form that is taken so far |
+///
+/// After the start it is the first of 8, 6, 7, 5 and 4 that arose, else 0.
 #[derive(Drop)]
 pub struct Report<F: Files> {
     pub status: u8,
@@ -34,6 +76,8 @@ pub struct Report<F: Files> {
     pub start: Option<StartFault>,
     /// The entries that were taken, in order.
     pub history: Vec<Entry>,
-    /// The source of the stream, as the run leaves it; where a read of a file failed at the start, that file's source.
+    /// How the stream ended. Where the run didn't begin, there is none.
+    pub streams: Vec<StreamEnd>,
+    /// The source of the stream, as the run leaves it; where a read of the queries file failed, that file's source.
     pub sources: Vec<F::Source>,
 }

@@ -3,7 +3,7 @@
 ghost use Rattle.std.specs.Prelude.{◌≤◌};
 
 use rpq_io::{MemoryFiles, MemorySink};
-use rpq_run::{StartFault, run};
+use rpq_run::{StartFault, StreamEnd, run};
 use std::alloc::Global;
 use std::test::Fail;
 
@@ -25,7 +25,7 @@ pub const PATH_EVENTS: &str = "@1 1 1 x a y +\n@2 1 2 y b z +\n+ q x z\n";
 pub struct Case<'a> {
     pub words: &'a [&'a str],
     pub queries: &'a str,
-    pub stream: &'a str,
+    pub stream: &'a [u8],
     /// The most bytes that a read gives.
     pub read_piece: usize,
     /// The most bytes that a write takes.
@@ -36,18 +36,23 @@ pub struct Case<'a> {
     pub failing_query_reads: &'a [u64],
     pub failing_stream_reads: &'a [u64],
     pub failing_writes: &'a [u64],
+    pub failing_error_writes: &'a [u64],
 }
 
 /// What a run answered and wrote.
 #[derive(Drop)]
-pub struct Outcome {
-    pub status: u8,
-    pub start: Option<StartFault>,
+struct Outcome {
+    status: u8,
+    start: Option<StartFault>,
+    /// How the stream ended, where the run began.
+    end: Option<StreamEnd>,
     /// How many entries were taken.
-    pub entries: usize,
+    entries: usize,
     /// How many sources were left.
-    pub sources: usize,
-    pub written: Vec<u8>,
+    sources: usize,
+    written: Vec<u8>,
+    /// What was told on errors.
+    told: Vec<u8>,
 }
 
 /// The case of these two files, in which no call fails.
@@ -58,7 +63,7 @@ pub fn without_faults<'a>(queries: &'a str, stream: &'a str) -> Case<'a>
     Case {
         words: &["q", "s"],
         queries,
-        stream,
+        stream: stream.as_bytes(),
         read_piece: 4096,
         write_piece: 4096,
         room: 4096,
@@ -66,25 +71,87 @@ pub fn without_faults<'a>(queries: &'a str, stream: &'a str) -> Case<'a>
         failing_query_reads: &[],
         failing_stream_reads: &[],
         failing_writes: &[],
+        failing_error_writes: &[],
     }
 }
 
 /// Runs the case.
-pub fn outcome_of<R>(rt: &R, alloc: Global, case: Case) -> Result<Outcome, Fail>
+fn outcome_of<R>(rt: &R, alloc: Global, case: Case) -> Result<Outcome, Fail>
     requires reads { 1 ≤ case.read_piece }
     requires writes { 1 ≤ case.write_piece }
 {
     let words = words_of(alloc, case.words)?;
     let mut files = files_of(alloc, case)?;
     let mut events = MemorySink::new(alloc, case.room, case.write_piece, case.failing_writes)?;
-    let report = run(rt, alloc, &words, &mut files, &mut events);
+    let mut errors = MemorySink::new(alloc, 4096, 4096, case.failing_error_writes)?;
+    let report = run(rt, alloc, &words, &mut files, &mut events, &mut errors);
     Ok(Outcome {
         status: report.status,
         start: report.start,
+        end: report.streams.first().copied(),
         entries: report.history.len(),
         sources: report.sources.len(),
         written: Vec::from_slice(alloc, events.bytes())?,
+        told: Vec::from_slice(alloc, errors.bytes())?,
     })
+}
+
+/// Whether the run of the case answers this status, writes these events, and tells these errors.
+pub fn tells<R>(
+    rt: &R,
+    alloc: Global,
+    case: Case,
+    status: u8,
+    events: &str,
+    errors: &str,
+) -> Result<bool, Fail>
+    requires reads { 1 ≤ case.read_piece }
+    requires writes { 1 ≤ case.write_piece }
+{
+    let outcome = outcome_of(rt, alloc, case)?;
+    let written = outcome.written.as_slice() == events.as_bytes();
+    let told = outcome.told.as_slice() == errors.as_bytes();
+    Ok(outcome.status == status && written && told)
+}
+
+/// Whether the run of the case answers this status and writes these events.
+pub fn ends_with<R>(
+    rt: &R,
+    alloc: Global,
+    case: Case,
+    status: u8,
+    events: &str,
+) -> Result<bool, Fail>
+    requires reads { 1 ≤ case.read_piece }
+    requires writes { 1 ≤ case.write_piece }
+{
+    let outcome = outcome_of(rt, alloc, case)?;
+    Ok(outcome.status == status && outcome.written.as_slice() == events.as_bytes())
+}
+
+/// Whether the run of the case doesn't begin, for this cause, takes no entry, and leaves so many sources.
+pub fn refuses<R>(
+    rt: &R,
+    alloc: Global,
+    case: Case,
+    cause: StartFault,
+    sources: usize,
+) -> Result<bool, Fail>
+    requires reads { 1 ≤ case.read_piece }
+    requires writes { 1 ≤ case.write_piece }
+{
+    let outcome = outcome_of(rt, alloc, case)?;
+    let refused = outcome.start == Some(cause) && outcome.end.is_none();
+    Ok(refused && outcome.sources == sources && outcome.entries == 0)
+}
+
+/// Whether the run of the case begins, leaves its source, and its stream ends so.
+pub fn stops<R>(rt: &R, alloc: Global, case: Case, end: StreamEnd) -> Result<bool, Fail>
+    requires reads { 1 ≤ case.read_piece }
+    requires writes { 1 ≤ case.write_piece }
+{
+    let outcome = outcome_of(rt, alloc, case)?;
+    Ok(outcome.start.is_none() && outcome.sources == 1 && outcome.end == Some(end))
 }
 
 /// The program's name, and these words after it.
@@ -108,11 +175,6 @@ fn files_of(alloc: Global, case: Case) -> Result<MemoryFiles, Fail>
         case.read_piece,
         case.failing_query_reads,
     )?;
-    files.add(
-        "s",
-        case.stream.as_bytes(),
-        case.read_piece,
-        case.failing_stream_reads,
-    )?;
+    files.add("s", case.stream, case.read_piece, case.failing_stream_reads)?;
     Ok(files)
 }

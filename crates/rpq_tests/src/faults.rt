@@ -1,9 +1,11 @@
-//! Runs in which a call fails, or that take other words than two names.
+//! Faults of the files and the sinks, and words that aren't taken: the status of each, what is written, and what is told.
 
 ghost use Rattle.std.specs.Prelude.{◌≤◌};
 
-use crate::case::{Case, PATH, PATH_EVENTS, SEQUENCE, outcome_of, without_faults};
-use rpq_run::{StartFault, Which};
+use crate::case::{
+    Case, PATH, PATH_EVENTS, SEQUENCE, ends_with, refuses, stops, tells, without_faults,
+};
+use rpq_run::{StartFault, StreamEnd, Which, Why};
 use std::test::Fail;
 
 #[test]
@@ -12,10 +14,18 @@ fn opening_of_the_queries_file_fails(rt: HostRuntime) -> Result<(), Fail> {
         failing_openings: &[1],
         ..without_faults(SEQUENCE, PATH)
     };
-    let outcome = outcome_of(&rt, rt.alloc(), failing)?;
-    assert_eq!(rt; outcome.status, 5);
-    assert_eq!(rt; outcome.start, Some(StartFault::Open(Which::Queries)));
-    assert_eq!(rt; outcome.sources, 0);
+    let cause = StartFault::Open(Which::Queries);
+    assert!(rt; refuses(&rt, rt.alloc(), failing, cause, 0)?);
+    assert!(rt;
+        tells(
+            &rt,
+            rt.alloc(),
+            failing,
+            5,
+            "",
+            "rpq: read failed: queries\n"
+        )?
+    );
     Ok(())
 }
 
@@ -25,10 +35,18 @@ fn opening_of_the_stream_fails(rt: HostRuntime) -> Result<(), Fail> {
         failing_openings: &[2],
         ..without_faults(SEQUENCE, PATH)
     };
-    let outcome = outcome_of(&rt, rt.alloc(), failing)?;
-    assert_eq!(rt; outcome.status, 5);
-    assert_eq!(rt; outcome.start, Some(StartFault::Open(Which::Stream(1))));
-    assert_eq!(rt; outcome.sources, 0);
+    let cause = StartFault::Open(Which::Stream(1));
+    assert!(rt; refuses(&rt, rt.alloc(), failing, cause, 0)?);
+    assert!(rt;
+        tells(
+            &rt,
+            rt.alloc(),
+            failing,
+            5,
+            "",
+            "rpq: read failed: stream 1\n"
+        )?
+    );
     Ok(())
 }
 
@@ -38,9 +56,8 @@ fn stream_is_not_there(rt: HostRuntime) -> Result<(), Fail> {
         words: &["q", "t"],
         ..without_faults(SEQUENCE, PATH)
     };
-    let outcome = outcome_of(&rt, rt.alloc(), failing)?;
-    assert_eq!(rt; outcome.status, 5);
-    assert_eq!(rt; outcome.start, Some(StartFault::Open(Which::Stream(1))));
+    let cause = StartFault::Open(Which::Stream(1));
+    assert!(rt; refuses(&rt, rt.alloc(), failing, cause, 0)?);
     Ok(())
 }
 
@@ -50,10 +67,18 @@ fn first_read_of_the_queries_file_fails(rt: HostRuntime) -> Result<(), Fail> {
         failing_query_reads: &[1],
         ..without_faults(SEQUENCE, PATH)
     };
-    let outcome = outcome_of(&rt, rt.alloc(), failing)?;
-    assert_eq!(rt; outcome.status, 5);
-    assert_eq!(rt; outcome.start, Some(StartFault::Read(Which::Queries)));
-    assert_eq!(rt; outcome.sources, 1);
+    let cause = StartFault::Read(Which::Queries);
+    assert!(rt; refuses(&rt, rt.alloc(), failing, cause, 1)?);
+    assert!(rt;
+        tells(
+            &rt,
+            rt.alloc(),
+            failing,
+            5,
+            "",
+            "rpq: read failed: queries\n"
+        )?
+    );
     Ok(())
 }
 
@@ -63,10 +88,17 @@ fn first_read_of_the_stream_fails(rt: HostRuntime) -> Result<(), Fail> {
         failing_stream_reads: &[1],
         ..without_faults(SEQUENCE, PATH)
     };
-    let outcome = outcome_of(&rt, rt.alloc(), failing)?;
-    assert_eq!(rt; outcome.status, 5);
-    assert_eq!(rt; outcome.start, Some(StartFault::Read(Which::Stream(1))));
-    assert_eq!(rt; outcome.sources, 1);
+    assert!(rt; stops(&rt, rt.alloc(), failing, StreamEnd::Read)?);
+    assert!(rt;
+        tells(
+            &rt,
+            rt.alloc(),
+            failing,
+            5,
+            "",
+            "rpq: read failed: stream 1\n"
+        )?
+    );
     Ok(())
 }
 
@@ -77,10 +109,18 @@ fn second_read_of_the_stream_fails(rt: HostRuntime) -> Result<(), Fail> {
         failing_stream_reads: &[2],
         ..without_faults(SEQUENCE, PATH)
     };
-    let outcome = outcome_of(&rt, rt.alloc(), failing)?;
-    assert_eq!(rt; outcome.status, 5);
-    assert_eq!(rt; outcome.start, Some(StartFault::Read(Which::Stream(1))));
-    assert_eq!(rt; outcome.sources, 1);
+    let events = "@1 1 1 x a y +\n";
+    assert!(rt; stops(&rt, rt.alloc(), failing, StreamEnd::Read)?);
+    assert!(rt;
+        tells(
+            &rt,
+            rt.alloc(),
+            failing,
+            5,
+            events,
+            "rpq: read failed: stream 1\n"
+        )?
+    );
     Ok(())
 }
 
@@ -90,27 +130,12 @@ fn queries_file_is_looked_at_first(rt: HostRuntime) -> Result<(), Fail> {
         failing_openings: &[2],
         ..without_faults("x\n", PATH)
     };
-    let outcome = outcome_of(&rt, rt.alloc(), failing)?;
-    assert_eq!(rt; outcome.status, 9);
-    assert_eq!(rt; outcome.start, Some(StartFault::NotYet));
+    assert!(rt; refuses(&rt, rt.alloc(), failing, StartFault::NotYet, 0)?);
+    assert!(rt; tells(&rt, rt.alloc(), failing, 9, "", "rpq: not yet\n")?);
     Ok(())
 }
 
-#[test]
-fn refusal_takes_and_writes_nothing(rt: HostRuntime) -> Result<(), Fail> {
-    let failing = Case {
-        read_piece: 8,
-        failing_stream_reads: &[3],
-        ..without_faults(SEQUENCE, PATH)
-    };
-    let outcome = outcome_of(&rt, rt.alloc(), failing)?;
-    assert_eq!(rt; outcome.status, 5);
-    assert_eq!(rt; outcome.entries, 0);
-    assert_eq!(rt; outcome.written.len(), 0);
-    Ok(())
-}
-
-/// The case in which a write takes at most ten bytes of the events, and these writes fail.
+/// The path, written at most ten bytes at a time, where these writes fail.
 fn short_writes(failing_writes: &[u64]) -> Case<'_>
     ensures reads { 1 ≤ result.read_piece }
     ensures writes { 1 ≤ result.write_piece }
@@ -124,34 +149,58 @@ fn short_writes(failing_writes: &[u64]) -> Case<'_>
 
 #[test]
 fn first_write_fails(rt: HostRuntime) -> Result<(), Fail> {
-    let outcome = outcome_of(&rt, rt.alloc(), short_writes(&[1]))?;
-    assert_eq!(rt; outcome.status, 6);
-    assert_eq!(rt; outcome.written.len(), 0);
+    assert!(rt; ends_with(&rt, rt.alloc(), short_writes(&[1]), 6, "")?);
+    assert!(rt; ends_with(&rt, rt.alloc(), short_writes(&[2]), 6, "@1 1 1 x a")?);
     Ok(())
 }
 
 #[test]
-fn second_write_fails(rt: HostRuntime) -> Result<(), Fail> {
-    let outcome = outcome_of(&rt, rt.alloc(), short_writes(&[2]))?;
-    assert_eq!(rt; outcome.status, 6);
-    assert_eq!(rt; outcome.written.as_slice(), "@1 1 1 x a".as_bytes());
+fn stream_is_closed_after_a_failed_write(rt: HostRuntime) -> Result<(), Fail> {
+    let failing = Case {
+        stream: b"1 x a y\n2 y b z\n3 x a w\n4 w b z\n",
+        ..short_writes(&[3])
+    };
+    let events = "@1 1 1 x a y +\n";
+    assert!(rt; stops(&rt, rt.alloc(), failing, StreamEnd::Closed(Why::Write))?);
+    assert!(rt;
+        tells(
+            &rt,
+            rt.alloc(),
+            failing,
+            6,
+            events,
+            "rpq: write failed: events\n"
+        )?
+    );
     Ok(())
 }
 
 #[test]
-fn third_write_fails(rt: HostRuntime) -> Result<(), Fail> {
-    let outcome = outcome_of(&rt, rt.alloc(), short_writes(&[3]))?;
-    assert_eq!(rt; outcome.status, 6);
-    assert_eq!(rt; outcome.written.as_slice(), "@1 1 1 x a y +\n".as_bytes());
-    assert_eq!(rt; outcome.entries, 2);
+fn write_of_the_last_block_fails(rt: HostRuntime) -> Result<(), Fail> {
+    let failing = short_writes(&[3]);
+    let events = "@1 1 1 x a y +\n";
+    assert!(rt; stops(&rt, rt.alloc(), failing, StreamEnd::Whole)?);
+    assert!(rt;
+        tells(
+            &rt,
+            rt.alloc(),
+            failing,
+            6,
+            events,
+            "rpq: write failed: events\n"
+        )?
+    );
     Ok(())
 }
 
 #[test]
 fn write_after_the_last_is_not_made(rt: HostRuntime) -> Result<(), Fail> {
-    let outcome = outcome_of(&rt, rt.alloc(), short_writes(&[6]))?;
-    assert_eq!(rt; outcome.status, 0);
-    assert_eq!(rt; outcome.written.as_slice(), PATH_EVENTS.as_bytes());
+    assert!(rt; ends_with(&rt, rt.alloc(), short_writes(&[6]), 0, PATH_EVENTS)?);
+    let slow = Case {
+        write_piece: 1,
+        ..without_faults(SEQUENCE, PATH)
+    };
+    assert!(rt; ends_with(&rt, rt.alloc(), slow, 0, PATH_EVENTS)?);
     Ok(())
 }
 
@@ -161,44 +210,36 @@ fn no_room_for_the_second_block(rt: HostRuntime) -> Result<(), Fail> {
         room: 15,
         ..without_faults(SEQUENCE, PATH)
     };
-    let outcome = outcome_of(&rt, rt.alloc(), failing)?;
-    assert_eq!(rt; outcome.status, 6);
-    assert_eq!(rt; outcome.written.as_slice(), "@1 1 1 x a y +\n".as_bytes());
+    assert!(rt; ends_with(&rt, rt.alloc(), failing, 6, "@1 1 1 x a y +\n")?);
     Ok(())
 }
 
 #[test]
-fn one_name_is_too_few(rt: HostRuntime) -> Result<(), Fail> {
+fn fault_of_the_errors_changes_no_status(rt: HostRuntime) -> Result<(), Fail> {
     let failing = Case {
-        words: &["q"],
-        ..without_faults(SEQUENCE, PATH)
+        failing_error_writes: &[1],
+        ..without_faults(SEQUENCE, "1 x\n")
     };
-    let outcome = outcome_of(&rt, rt.alloc(), failing)?;
-    assert_eq!(rt; outcome.status, 9);
-    assert_eq!(rt; outcome.written.len(), 0);
+    assert!(rt; tells(&rt, rt.alloc(), failing, 4, "", "")?);
     Ok(())
 }
 
-#[test]
-fn three_names_are_too_many(rt: HostRuntime) -> Result<(), Fail> {
-    let failing = Case {
-        words: &["q", "s", "s"],
+/// The path with other words.
+fn with_words<'a>(words: &'a [&'a str]) -> Case<'a>
+    ensures reads { 1 ≤ result.read_piece }
+    ensures writes { 1 ≤ result.write_piece }
+{
+    Case {
+        words,
         ..without_faults(SEQUENCE, PATH)
-    };
-    let outcome = outcome_of(&rt, rt.alloc(), failing)?;
-    assert_eq!(rt; outcome.status, 9);
-    assert_eq!(rt; outcome.written.len(), 0);
-    Ok(())
+    }
 }
 
 #[test]
-fn an_option_is_not_taken(rt: HostRuntime) -> Result<(), Fail> {
-    let failing = Case {
-        words: &["-q", "s"],
-        ..without_faults(SEQUENCE, PATH)
-    };
-    let outcome = outcome_of(&rt, rt.alloc(), failing)?;
-    assert_eq!(rt; outcome.status, 9);
-    assert_eq!(rt; outcome.written.len(), 0);
+fn other_words_are_not_taken(rt: HostRuntime) -> Result<(), Fail> {
+    let told = "rpq: not yet\n";
+    assert!(rt; tells(&rt, rt.alloc(), with_words(&["q"]), 9, "", told)?);
+    assert!(rt; tells(&rt, rt.alloc(), with_words(&["q", "s", "s"]), 9, "", told)?);
+    assert!(rt; tells(&rt, rt.alloc(), with_words(&["-q", "s"]), 9, "", told)?);
     Ok(())
 }

@@ -1,27 +1,75 @@
--- The lines of a stream that are read, and the tuples that they give: four fields, TIME SOURCE LABEL TARGET, which insert an edge.
-use Rattle.std.specs.Prelude.{ℕ, ◌&&◌, false, List, [], ◌∷◌, Option, None, option_map, if◌then◌else◌}
+-- What a line of a stream gives: a tuple, nothing, or its first fault. The line stands without its line feed and its carriage return.
+use Rattle.std.specs.Prelude.{ℕ, ◌-◌, ◌^◌, ◌==◌, ◌||◌, not, nat_le, false, List, [], ◌∷◌, length, codes, Option, Some, None, Result, Ok, Err, if◌then◌else◌}
+use Rattle.text_parts.specs.Lines.{is_blank_line, is_comment}
 use Rattle.text_parts.specs.Fields.{fields}
-use Rattle.text_parts.specs.Numbers.{number_within}
+use Rattle.text_parts.specs.Numbers.{is_digit_text, number_of}
 use Rattle.rpq_base.specs.Names.{is_name}
-use Rattle.rpq_base.specs.declared.data.TheConstants.{MAX_TIME}
 use Rattle.rpq_base.specs.declared.data.Edge.{Edge}
-use Rattle.rpq_base.specs.declared.data.Act.TheVariants.{Insert}
+use Rattle.rpq_base.specs.declared.data.Act.{Act}
+use Rattle.rpq_base.specs.declared.data.Act.TheVariants.{Insert, Delete, Tick}
 use Rattle.rpq_base.specs.declared.data.Tuple.{Tuple}
+use Rattle.tuple_text.specs.declared.read.BadLine.{BadLine}
+use Rattle.tuple_text.specs.declared.read.BadLine.TheVariants.{Fields, Time, TimeRange, BadName, Op}
+
+-- the greatest time of a tuple
+abbrev pub greatest_time : ℕ
+greatest_time = 2 ^ 62 - 1
+
+-- a step and the next one, which takes what the first gave; the first fault ends the reading
+infixl 10 ◌>>=◌
+abbrev pub ◌>>=◌ : {A B : Type 0} → Result A BadLine → (A → Result B BadLine) → Result B BadLine
+(Ok x) >>= next = next x
+(Err fault) >>= next = Err fault
+
+-- the time that a field writes: a digit text of at most the greatest time
+unfoldable pub time_of : List ℕ → Result ℕ BadLine
+time_of field =
+    if not (is_digit_text field) then Err Time else if nat_le (number_of field) greatest_time then Ok (number_of field) else Err TimeRange
+
+-- the name that the field at this place is
+unfoldable pub name_of : ℕ → List ℕ → Result (List ℕ) BadLine
+name_of place field = if is_name field then Ok field else Err (BadName place)
 
 -- the edge from one vertex to another with a label that points forwards
 abbrev pub edge_named : List ℕ → List ℕ → List ℕ → Edge
 edge_named from label to = record { from = from; label = record { name = label; back = false }; to = to }
 
--- the tuple that inserts the edge at this time
-abbrev pub insert_at : Edge → ℕ → Tuple
-insert_at edge time = record { time = time; act = Insert edge }
+-- the edge that the second to the fourth field name
+unfoldable pub edge_of : List ℕ → List ℕ → List ℕ → Result Edge BadLine
+edge_of source label target = do
+  from ← name_of 2 source
+  name ← name_of 3 label
+  to ← name_of 4 target
+  Ok (edge_named from name to)
 
--- what the fields of a line insert: the second to the fourth are names, and the first is a digit text of a time
-unfoldable pub insert_of_fields : List (List ℕ) → Option Tuple
-insert_of_fields (time ∷ from ∷ label ∷ to ∷ []) =
-    if is_name from && is_name label && is_name to then option_map (insert_at (edge_named from label to)) (number_within MAX_TIME time) else None
-insert_of_fields fields = None
+-- what a sign does with an edge: '+', which is 43, inserts it, and '-', which is 45, deletes it
+unfoldable pub act_of : Edge → List ℕ → Result Act BadLine
+act_of edge (byte ∷ []) = if byte == 43 then Ok (Insert edge) else if byte == 45 then Ok (Delete edge) else Err Op
+act_of edge sign = Err Op
 
--- the tuple that a line gives, where it is such an insert
-abbrev pub insert_of : List ℕ → Option Tuple
-insert_of line = insert_of_fields (fields line)
+-- the tuple of a time and an act
+abbrev pub tuple_at : ℕ → Act → Tuple
+tuple_at time act = record { time = time; act = act }
+
+-- the tick at a time
+unfoldable pub tick_of : List ℕ → Result Tuple BadLine
+tick_of field = time_of field >>= λ time. Ok (tuple_at time Tick)
+
+-- the insert or the delete of an edge at a time
+unfoldable pub change_of : List ℕ → List ℕ → List ℕ → List ℕ → List ℕ → Result Tuple BadLine
+change_of field source label target sign = do
+  time ← time_of field
+  edge ← edge_of source label target
+  act ← act_of edge sign
+  Ok (tuple_at time act)
+
+-- the tuple that the fields of a line give: TIME, or TIME SOURCE LABEL TARGET with or without a sign; without one it is an insert
+unfoldable pub tuple_of_fields : List (List ℕ) → Result Tuple BadLine
+tuple_of_fields (time ∷ []) = tick_of time
+tuple_of_fields (time ∷ source ∷ label ∷ target ∷ []) = change_of time source label target (codes "+")
+tuple_of_fields (time ∷ source ∷ label ∷ target ∷ sign ∷ []) = change_of time source label target sign
+tuple_of_fields others = Err (Fields (length others))
+
+-- what a line gives: nothing where it is a blank line or a comment, else the tuple of its fields
+unfoldable pub line_tuple : List ℕ → Result (Option Tuple) BadLine
+line_tuple line = if is_blank_line line || is_comment line then Ok None else (tuple_of_fields (fields line) >>= λ tuple. Ok (Some tuple))

@@ -1,23 +1,30 @@
 //! Reading a line of a stream.
 
-ghost use Rattle.std.specs.Prelude.{◌≡◌, ◌≤◌, ◌∷◌, [], false, true, IfOk, IfErr, IfSome, IsSome};
-ghost use Rattle.text_parts.specs.Numbers.{number_within};
-ghost use Rattle.rpq_base.specs.declared.data.TheConstants.{MAX_TIME};
-ghost use Rattle.rpq_base.specs.Names.{is_name};
-ghost use Rattle.rpq_base.specs.Plain.{IsPlainTuple};
-ghost use Rattle.tuple_text.specs.Reading.{insert_of_fields, insert_of};
+ghost use Rattle.std.specs.Prelude.{◌≡◌, ◌≢◌, ◌+◌, ◌^◌, ◌<◌, ◌≤◌, ◌↔◌, map, length, codes, IfOk, IfErr, IfSome};
+ghost use Rattle.rpq_base.specs.Plain.{IsPlainLabel, IsPlainAct, IsPlainTuple};
+ghost use Rattle.tuple_text.specs.Parts.{GivesNothing};
+ghost use Rattle.tuple_text.specs.Reading.{time_of, name_of, edge_of, act_of, tick_of, change_of, tuple_of_fields, line_tuple};
 
 use rpq_base::{Act, Edge, Label, MAX_TIME, Memory, Name, NameFault, Tuple};
 use std::alloc::{AllocError, Global};
 use std::error::Error;
 use std::fmt;
-use text_parts::{NumberFault, fields, read_number};
+use text_parts::{NumberFault, fields, is_blank_line, is_comment, read_number};
 
-/// Why a line gives no tuple.
+/// Why a line gives no tuple. A line is answered with the first fault in this order that it has; of several fields that
+/// are no names the first counts.
 #[derive(Clone, Copy, Debug, PartialEq, Eq)]
 pub enum BadLine {
-    /// The line isn't an insert of four fields, which is all that is read so far.
-    NotYet,
+    /// The line has this many fields, and not 1, 4 or 5.
+    Fields(u32),
+    /// The first field isn't made of digits.
+    Time,
+    /// The first field is a number above [`MAX_TIME`].
+    TimeRange,
+    /// The field at this place, from 1, should be a name and isn't.
+    BadName(u32),
+    /// The fifth field is neither `+` nor `-`.
+    Op,
     /// Memory ran out.
     Memory,
 }
@@ -35,83 +42,140 @@ impl From<AllocError> for BadLine {
 
 impl fmt::Display for BadLine {
     fn fmt<W: fmt::Write>(&self, f: &mut fmt::Formatter<W>) -> fmt::Result {
-        f.write_str(match self {
-            BadLine::NotYet => "the line is no insert of four fields",
-            BadLine::Memory => "out of memory",
-        })
+        match self {
+            BadLine::Fields(count) => write!(f, "a line has 1, 4 or 5 fields, and not {count}"),
+            BadLine::Time => f.write_str("the time isn't made of digits"),
+            BadLine::TimeRange => write!(f, "the time is above {MAX_TIME}"),
+            BadLine::BadName(place) => write!(f, "field {place} is no name"),
+            BadLine::Op => f.write_str("the fifth field is neither + nor -"),
+            BadLine::Memory => f.write_str("out of memory"),
+        }
     }
 }
 
 impl Error for BadLine {}
 
-/// The tuple that a line gives. A line is handed over without its line feed and without the carriage return that may
-/// stand at its end; such bytes would be part of its fields.
+/// The tuple that a line gives, or `None` where the line is blank or a comment. A line is handed over without its line
+/// feed and without the carriage return that may stand at its end; such bytes would be part of its fields.
 ///
-/// A line is an insert where it has four fields: a time in digits of at most 2^62 - 1, and the names of the source,
-/// the label and the target. Every other line is refused as [`BadLine::NotYet`].
-#[tactic(auto, unfolding(crate::specs::Reading::insert_of_fields))]
+/// A tick is written `TIME`, an insert `TIME SOURCE LABEL TARGET` or the same with `+` as a fifth field, a delete with `-`. The
+/// time is written in digits and is at most [`MAX_TIME`], and the other three are names.
+#[tactic(auto, unfolding(crate::specs::Reading::line_tuple))]
 pub fn read_tuple(alloc: Global, line: &[u8]) -> Result<Option<Tuple>, BadLine>
-    ensures ok { IfOk result (λ tuple. tuple ≡ insert_of line.now) }
-    ensures some { IfOk result (λ tuple. IsSome tuple) }
+    requires { length line.now < 2 ^ 24 + 1 }
+    ensures ok { IfOk result (λ tuple. line_tuple line.now ≡ Ok tuple) }
+    ensures err { IfErr result (λ bad. bad ≢ BadLine.Memory → line_tuple line.now ≡ Err bad) }
+    ensures none { (result ≡ Ok None) ↔ GivesNothing line.now }
     ensures plain { IfOk result (λ tuple. IfSome tuple IsPlainTuple) }
-    ensures not_yet { result ≡ Err BadLine.NotYet → insert_of line.now ≡ None }
 {
+    if is_blank_line(line) || is_comment(line) {
+        return Ok(None);
+    }
     let fields = fields(alloc, line)?;
-    let [time, from, label, to] = fields.as_slice() else {
-        return Err(BadLine::NotYet);
-    };
-    Ok(Some(read_insert(alloc, time, from, label, to)?))
+    Ok(Some(read_fields(alloc, &fields)?))
 }
 
-/// The insert that four fields give.
-#[tactic(auto, unfolding(crate::specs::Reading::insert_of_fields))]
-fn read_insert(
-    alloc: Global,
-    time: &[u8],
-    from: &[u8],
-    label: &[u8],
-    to: &[u8],
-) -> Result<Tuple, BadLine>
+/// The tuple that the fields of a line give.
+#[tactic(auto, unfolding(crate::specs::Reading::tuple_of_fields))]
+fn read_fields(alloc: Global, fields: &[&[u8]]) -> Result<Tuple, BadLine>
+    requires { length fields.now < 2 ^ 32 }
+    ensures ok { IfOk result (λ tuple. tuple_of_fields (map (λ field. field.now) fields.now) ≡ Ok tuple) }
+    ensures err { IfErr result (λ bad. bad ≢ BadLine.Memory → tuple_of_fields (map (λ field. field.now) fields.now) ≡ Err bad) }
     ensures plain { IfOk result IsPlainTuple }
-    ensures ok { IfOk result (λ tuple. insert_of_fields (time.now ∷ from.now ∷ label.now ∷ to.now ∷ []) ≡ Some tuple) }
-    ensures not_yet { result ≡ Err BadLine.NotYet → insert_of_fields (time.now ∷ from.now ∷ label.now ∷ to.now ∷ []) ≡ None }
 {
-    let time = read_time(time)?;
-    let label = Label {
-        name: read_name(alloc, label)?,
-        back: false,
-    };
-    let edge = Edge {
-        from: read_name(alloc, from)?,
-        label,
-        to: read_name(alloc, to)?,
-    };
-    Ok(Tuple {
-        time,
-        act: Act::Insert(edge),
-    })
-}
-
-/// The time that a field writes.
-fn read_time(field: &[u8]) -> Result<u64, BadLine>
-    ensures ok { IfOk result (λ time. number_within MAX_TIME field.now ≡ Some time) }
-    ensures within { IfOk result (λ time. time ≤ MAX_TIME) }
-    ensures err { IfErr result (λ bad. (bad ≡ BadLine.NotYet) × (number_within MAX_TIME field.now ≡ None)) }
-{
-    match read_number(field, MAX_TIME) {
-        Ok(time) => Ok(time),
-        Err(NumberFault::NotDigits | NumberFault::TooLarge) => Err(BadLine::NotYet),
+    match fields {
+        [time] => read_tick(time),
+        [time, source, label, target] => read_change(alloc, time, source, label, target, b"+"),
+        [time, source, label, target, sign] => {
+            read_change(alloc, time, source, label, target, sign)
+        }
+        _ => Err(BadLine::Fields(fields.len() as u32)),
     }
 }
 
-/// The name that a field is.
-fn read_name(alloc: Global, field: &[u8]) -> Result<Name, BadLine>
-    ensures ok { IfOk result (λ name. (name ≡ field.now) × (is_name field.now ≡ true)) }
-    ensures not_yet { result ≡ Err BadLine.NotYet → is_name field.now ≡ false }
+/// The tick at the time that a field writes.
+#[tactic(auto, unfolding(crate::specs::Reading::tick_of))]
+fn read_tick(time: &[u8]) -> Result<Tuple, BadLine>
+    ensures ok { IfOk result (λ tuple. tick_of time.now ≡ Ok tuple) }
+    ensures err { IfErr result (λ bad. tick_of time.now ≡ Err bad) }
+    ensures plain { IfOk result IsPlainTuple }
+{
+    Ok(Tuple {
+        time: read_time(time)?,
+        act: Act::Tick,
+    })
+}
+
+/// The insert or delete that five fields give.
+#[tactic(auto, unfolding(crate::specs::Reading::change_of))]
+fn read_change(
+    alloc: Global,
+    time: &[u8],
+    source: &[u8],
+    label: &[u8],
+    target: &[u8],
+    sign: &[u8],
+) -> Result<Tuple, BadLine>
+    ensures ok { IfOk result (λ tuple. change_of time.now source.now label.now target.now sign.now ≡ Ok tuple) }
+    ensures err { IfErr result (λ bad. bad ≢ BadLine.Memory → change_of time.now source.now label.now target.now sign.now ≡ Err bad) }
+    ensures plain { IfOk result IsPlainTuple }
+{
+    let time = read_time(time)?;
+    let edge = read_edge(alloc, source, label, target)?;
+    let act = read_act(edge, sign)?;
+    Ok(Tuple { time, act })
+}
+
+/// The time that a field writes.
+#[tactic(auto, unfolding(crate::specs::Reading::time_of))]
+fn read_time(field: &[u8]) -> Result<u64, BadLine>
+    ensures exact { result ≡ time_of field.now }
+    ensures within { IfOk result (λ time. time ≤ MAX_TIME) }
+{
+    match read_number(field, MAX_TIME) {
+        Ok(time) => Ok(time),
+        Err(NumberFault::NotDigits) => Err(BadLine::Time),
+        Err(NumberFault::TooLarge) => Err(BadLine::TimeRange),
+    }
+}
+
+/// The edge with the names that three fields are, which stand from the second place on. Its label points forwards.
+#[tactic(auto, unfolding(crate::specs::Reading::edge_of))]
+fn read_edge(alloc: Global, source: &[u8], label: &[u8], target: &[u8]) -> Result<Edge, BadLine>
+    ensures ok { IfOk result (λ edge. edge_of source.now label.now target.now ≡ Ok edge) }
+    ensures err { IfErr result (λ bad. bad ≢ BadLine.Memory → edge_of source.now label.now target.now ≡ Err bad) }
+    ensures plain { IfOk result (λ edge. IsPlainLabel edge.label) }
+{
+    let from = read_name(alloc, 2, source)?;
+    let name = read_name(alloc, 3, label)?;
+    let to = read_name(alloc, 4, target)?;
+    let label = Label { name, back: false };
+    Ok(Edge { from, label, to })
+}
+
+/// The name that the field at a place is.
+#[tactic(auto, unfolding(crate::specs::Reading::name_of))]
+fn read_name(alloc: Global, place: u32, field: &[u8]) -> Result<Name, BadLine>
+    ensures ok { IfOk result (λ name. name_of place field.now ≡ Ok name) }
+    ensures err { IfErr result (λ bad. bad ≢ BadLine.Memory → name_of place field.now ≡ Err bad) }
 {
     match Name::new(alloc, field) {
         Ok(name) => Ok(name),
-        Err(NameFault::Length(_) | NameFault::Byte(_)) => Err(BadLine::NotYet),
+        Err(NameFault::Length(_) | NameFault::Byte(_)) => Err(BadLine::BadName(place)),
         Err(NameFault::Memory) => Err(BadLine::Memory),
+    }
+}
+
+/// What the sign in the fifth field does with an edge.
+#[tactic(auto, unfolding(crate::specs::Reading::act_of))]
+fn read_act(edge: Edge, sign: &[u8]) -> Result<Act, BadLine>
+    requires { IsPlainLabel edge.label }
+    ensures exact { result ≡ act_of edge sign.now }
+    ensures plain { IfOk result IsPlainAct }
+{
+    match sign {
+        [b'+'] => Ok(Act::Insert(edge)),
+        [b'-'] => Ok(Act::Delete(edge)),
+        _ => Err(BadLine::Op),
     }
 }

@@ -1,4 +1,4 @@
-use Rattle.rpq_run.proofs.StreamParts.{by_parts}
+use Rattle.rpq_run.proofs.ByParts.{by_parts}
 use Rattle.rpq_run.proofs.laws.stream_by_parts.Goals as goal
 
 pub returns : goal.returns

@@ -1,0 +1,87 @@
+//! The tuples of a stream, one after another.
+
+ghost use Rattle.std.specs.Prelude.{◌≡◌, ◌<◌, ◌≤◌, ◌∷◌, ◌++◌, [], ◌⊎◌, ℕ, List, Option, option_to_list, length, IfOk, IfErr, OnOk, IfSome};
+ghost use Rattle.rpq_base.specs.Plain.{IsPlainTuple};
+ghost use Rattle.rpq_base.specs.declared.data.Tuple.{Tuple as TupleRead};
+ghost use Rattle.rpq_io.specs.Counts.{Rose};
+ghost use Rattle.rpq_io.specs.Reader.{source_of, byte_cap_of};
+ghost use Rattle.tuple_text.specs.Reading.{line_tuple};
+ghost use Rattle.rpq_run.specs.StreamText.{line_limit};
+ghost use Rattle.rpq_run.specs.History.{AreTuplesAt};
+ghost use Rattle.rpq_run.specs.Ends.{IsReadEnd, IsFaultOf};
+ghost use Rattle.rpq_run.specs.Progress.{IsStreamReader, HasRead, passed};
+
+use crate::report::StreamEnd;
+use rpq_base::Tuple;
+use rpq_io::{LineFault, LineReader, Source};
+use std::alloc::Global;
+use tuple_text::{BadLine, read_tuple};
+
+/// The next tuple of the stream, or how the stream ended: blank lines and comments are passed over.
+pub fn next_tuple<S: Source>(alloc: Global, reader: &mut LineReader<S>) -> Result<Tuple, StreamEnd>
+    requires { IsStreamReader S.left reader.old }
+    ensures plain { IfOk result IsPlainTuple }
+    ensures sound { OnOk result (IsStreamReader S.left reader.new) }
+    ensures forward { OnOk result (passed reader.old < passed reader.new) }
+    ensures ok { IfOk result (λ tuple. (file : Option (List ℕ)) (tuples : List TupleRead) → HasRead S.left file tuples reader.old
+        → HasRead S.left file (tuples ++ tuple ∷ []) reader.new) }
+    ensures err { IfErr result (λ end. (file : Option (List ℕ)) (tuples : List TupleRead) → HasRead S.left file tuples reader.old
+        → IfSome file (λ text. AreTuplesAt (byte_cap_of reader.new) text (S.left (source_of reader.new)) tuples end)) }
+    ensures ends { IfErr result IsReadEnd }
+    ensures read { result ≡ Err StreamEnd.Read → Rose (S.faults (source_of reader.old)) (S.faults (source_of reader.new)) }
+    ensures never_falls { S.faults (source_of reader.old) ≤ S.faults (source_of reader.new) }
+    ensures cap_stays { byte_cap_of reader.new ≡ byte_cap_of reader.old }
+{
+    loop {
+        if let Some(tuple) = read_line(alloc, reader)? {
+            return Ok(tuple);
+        }
+    }
+}
+
+/// What the next line of the stream gives, a tuple or nothing, or how the stream ended.
+fn read_line<S: Source>(
+    alloc: Global,
+    reader: &mut LineReader<S>,
+) -> Result<Option<Tuple>, StreamEnd>
+    requires { IsStreamReader S.left reader.old }
+    ensures plain { IfOk result (λ found. IfSome found IsPlainTuple) }
+    ensures sound { OnOk result (IsStreamReader S.left reader.new) }
+    ensures forward { OnOk result (passed reader.old < passed reader.new) }
+    ensures ok { IfOk result (λ found. (file : Option (List ℕ)) (tuples : List TupleRead) → HasRead S.left file tuples reader.old
+        → HasRead S.left file (tuples ++ option_to_list found) reader.new) }
+    ensures err { IfErr result (λ end. (file : Option (List ℕ)) (tuples : List TupleRead) → HasRead S.left file tuples reader.old
+        → IfSome file (λ text. AreTuplesAt (byte_cap_of reader.new) text (S.left (source_of reader.new)) tuples end)) }
+    ensures ends { IfErr result IsReadEnd }
+    ensures read { result ≡ Err StreamEnd.Read → Rose (S.faults (source_of reader.old)) (S.faults (source_of reader.new)) }
+    ensures never_falls { S.faults (source_of reader.old) ≤ S.faults (source_of reader.new) }
+    ensures cap_stays { byte_cap_of reader.new ≡ byte_cap_of reader.old }
+{
+    match reader.next_line() {
+        Ok(Some(line)) => tuple_of_line(alloc, &line, reader.lines()),
+        Ok(None) => Err(StreamEnd::Whole),
+        Err(LineFault::Read) => Err(StreamEnd::Read),
+        Err(LineFault::LongLine) => Err(StreamEnd::LongLine {
+            line: reader.lines() + 1,
+        }),
+        Err(LineFault::LongStream) => Err(StreamEnd::LongStream),
+        Err(LineFault::Memory) => Err(StreamEnd::Memory),
+    }
+}
+
+/// The tuple of the line with this number, if it gives one.
+fn tuple_of_line(alloc: Global, line: &[u8], number: u64) -> Result<Option<Tuple>, StreamEnd>
+    requires { length line.now ≤ line_limit }
+    ensures plain { IfOk result (λ found. IfSome found IsPlainTuple) }
+    ensures ok { IfOk result (λ found. line_tuple line.now ≡ Ok found) }
+    ensures err { IfErr result (λ end. (end ≡ StreamEnd.Memory) ⊎ IsFaultOf number (line_tuple line.now) end) }
+{
+    match read_tuple(alloc, line) {
+        Ok(found) => Ok(found),
+        Err(BadLine::Memory) => Err(StreamEnd::Memory),
+        Err(fault) => Err(StreamEnd::Line {
+            line: number,
+            fault,
+        }),
+    }
+}

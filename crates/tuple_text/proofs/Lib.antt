@@ -1,0 +1,5 @@
+mod Cases
+mod Lines
+mod Order
+mod Steps
+mod Written
