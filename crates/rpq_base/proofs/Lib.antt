@@ -1,2 +1,7 @@
+pub mod Equality
+pub mod Members
 mod Naming
-mod Equality
+pub mod Orders
+pub mod Outcomes
+pub mod Places
+pub mod Sorted

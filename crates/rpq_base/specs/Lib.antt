@@ -1,6 +1,7 @@
+pub mod FaultTexts
+pub mod Laws
 pub mod Names
 pub mod Order
 pub mod Plain
 pub mod Same
 pub mod TupleValue
-pub mod Laws

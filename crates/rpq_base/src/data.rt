@@ -7,16 +7,16 @@ use std::marker::Model;
 /// The greatest time of a tuple: 2^62 - 1. Times are plain numbers in the stream's own unit.
 pub const MAX_TIME: u64 = (1 << 62) - 1;
 
-/// The label of an edge. Labels with `back` are for edges that are taken backwards, and no edge is yet; a label with it
-/// differs from the one without.
+/// The label of an edge. Labels with `back` are for edges that are taken backwards, and no edge is
+/// yet; a label with it differs from the one without, and comes after it.
 #[derive(Debug, PartialEq, Eq, PartialOrd, Ord, Drop)]
 pub struct Label {
     pub name: Name,
     pub back: bool,
 }
 
-/// A labelled edge from one vertex to another.
-#[derive(Debug, PartialEq, Eq, PartialOrd, Ord, Drop)]
+/// A labelled edge from one vertex to another. Edges have no order.
+#[derive(Debug, PartialEq, Eq, Drop)]
 pub struct Edge {
     pub from: Name,
     pub label: Label,
@@ -68,7 +68,8 @@ pub struct Pair {
     pub to: Name,
 }
 
-/// A change of a query's answers: the pair is gained where `added`, else lost. Queries are numbered from 0.
+/// A change of a query's answers: the pair is gained where `added`, else lost. Queries are numbered
+/// from 0.
 #[derive(Debug, PartialEq, Eq, Drop)]
 pub struct Event {
     pub query: u32,

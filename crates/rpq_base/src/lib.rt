@@ -1,8 +1,10 @@
-//! The values that every layer of rpq speaks of: names, labels, edges, tuples, entries, pairs and events.
+//! The values that every layer of rpq speaks of: names, labels, edges, tuples, entries, pairs and
+//! events.
 //!
-//! A tuple is what a stream says at a time; an entry is a tuple in a history; a pair is an answer; an event
-//! is an answer gained or lost. Contracts see a [`Name`] as its bytes, a [`Word`] as its labels, and every
-//! other type as the record of its fields. Names are compared byte by byte, and all else field by field.
+//! A tuple is what a stream says at a time; an entry is a tuple in a history; a pair is an answer; an
+//! event is an answer gained or lost. Contracts see a [`Name`] as its bytes, a [`Word`] as its labels,
+//! and every other type as the record of its fields. Names are compared byte by byte, and all else
+//! field by field; names, labels and pairs have an order.
 //! Each value is copied by [`Copied::copy`], which gives an equal one or answers that memory ran out.
 #![tactic(auto)]
 
@@ -13,9 +15,9 @@ mod name;
 mod word;
 
 pub use data::{Act, Edge, Entry, Event, Label, MAX_TIME, Pair, Tuple};
-pub use laws::{greatest_time, same_is_equal};
+pub use laws::{greatest_time, orders_are_named, same_is_equal};
 pub use memory::{Copied, Memory, copy_all};
-pub use name::{Name, NameFault};
+pub use name::{MAX_NAME, Name, NameFault};
 pub use word::Word;
 
 #[cfg(test)]

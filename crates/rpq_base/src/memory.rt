@@ -1,6 +1,7 @@
 //! Want of memory, and copies that may meet it.
 
-ghost use Rattle.std.specs.Prelude.{◌≡◌, IfOk};
+ghost use Rattle.std.specs.Prelude.{◌≡◌, IfOk, Some};
+ghost use Rattle.rpq_base.specs.FaultTexts.{memory_text};
 
 use std::alloc::{AllocError, AllocFailed, Global};
 use std::error::Error;
@@ -11,18 +12,20 @@ use std::fmt;
 pub struct Memory;
 
 impl From<AllocError> for Memory {
-    fn from(_error: AllocError) -> Memory {
-        Memory
+    fn from(_: AllocError) -> Self {
+        Self
     }
 }
 
 impl<T: Drop> From<AllocFailed<T>> for Memory {
-    fn from(_error: AllocFailed<T>) -> Memory {
-        Memory
+    fn from(_: AllocFailed<T>) -> Self {
+        Self
     }
 }
 
 impl fmt::Display for Memory {
+    ghost output = { λ _. Some memory_text };
+
     fn fmt<W: fmt::Write>(&self, f: &mut fmt::Formatter<W>) -> fmt::Result {
         f.write_str("out of memory")
     }

@@ -1,7 +1,10 @@
 //! Names of vertices, labels and queries.
 
-ghost use Rattle.std.specs.Prelude.{◌≡◌, ◌<◌, ◌⊎◌, false, OnOk, IfOk, IfErr, IfNone, IfSome, not, length, position, slice_index};
+ghost use Rattle.std.specs.Prelude.{◌≡◌, ◌<◌, ◌⊎◌, false, OnOk, IfOk, IfErr, IfNone, IfSome, Some};
+ghost use Rattle.std.specs.Prelude.{not, length, position, slice_index};
 ghost use Rattle.std.specs.List.{AllPass};
+ghost use Rattle.rpq_base.specs.declared.name.NameFault.{NameFault};
+ghost use Rattle.rpq_base.specs.FaultTexts.{name_fault_text};
 ghost use Rattle.rpq_base.specs.Names.{is_name_byte, has_name_length, is_name, IsName, IsNameFault};
 
 use crate::memory::{Copied, Memory};
@@ -26,22 +29,21 @@ pub enum NameFault {
 }
 
 impl From<AllocError> for NameFault {
-    ghost use Rattle.std.specs.Prelude.{◌≡◌};
-    ghost use Rattle.rpq_base.specs.declared.name.NameFault.TheVariants.{Memory};
+    ghost from_gives = { λ _ fault. fault ≡ NameFault.Memory };
 
-    ghost from_gives = { λ _ fault. fault ≡ Memory };
-
-    fn from(_error: AllocError) -> NameFault {
-        NameFault::Memory
+    fn from(_: AllocError) -> Self {
+        Self::Memory
     }
 }
 
 impl fmt::Display for NameFault {
+    ghost output = { λ fault. Some (name_fault_text fault) };
+
     fn fmt<W: fmt::Write>(&self, f: &mut fmt::Formatter<W>) -> fmt::Result {
         match self {
-            NameFault::Length(length) => write!(f, "a name has 1 to 255 bytes, and not {length}"),
-            NameFault::Byte(at) => write!(f, "byte {at} may not stand in a name"),
-            NameFault::Memory => f.write_str("out of memory"),
+            Self::Length(length) => write!(f, "a name has 1 to 255 bytes, and not {length}"),
+            Self::Byte(at) => write!(f, "byte {at} may not stand in a name"),
+            Self::Memory => f.write_str("out of memory"),
         }
     }
 }
@@ -76,15 +78,21 @@ fn has_name_length(bytes: &[u8]) -> bool
 /// The index of the first byte that may not stand in a name.
 fn first_bad_byte(bytes: &[u8]) -> Option<usize>
     ensures found { result ≡ position (λ byte. not (is_name_byte byte)) bytes.now }
-    ensures bad { IfSome result (λ index. (index < length bytes.now) × (is_name_byte (slice_index bytes.now index) ≡ false)) }
+    ensures within { IfSome result (λ index. index < length bytes.now) }
+    ensures bad { IfSome result (λ index. is_name_byte (slice_index bytes.now index) ≡ false) }
     ensures none { IfNone result (AllPass is_name_byte bytes.now) }
 {
-    bytes
-        .iter()
-        .position(|byte| !matches!(byte, 0x21..=0x7E | 0x80..))
+    bytes.iter().position(|byte| !Name::is_name_byte(*byte))
 }
 
 impl Name {
+    /// Whether the byte may stand in a name: 0x21 to 0x7E, or at least 0x80.
+    pub fn is_name_byte(byte: u8) -> bool
+        ensures { result ≡ is_name_byte byte }
+    {
+        matches!(byte, 0x21..=0x7E | 0x80..)
+    }
+
     /// The name with these bytes, which are copied. The faults come in the order of [`NameFault`].
     #[tactic(auto, using(crate::proofs::Naming::parts_of_names))]
     pub fn new(alloc: Global, bytes: &[u8]) -> Result<Name, NameFault>
