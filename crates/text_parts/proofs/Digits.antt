@@ -1,12 +1,12 @@
 -- What a text of digits says as its digits are read.
-use Rattle.std.proofs.Common.{◌≡◌, ℕ, zero, suc, ◌+◌, ◌-◌, ◌*◌, ◌/◌, ◌%◌, ◌^◌, ◌<◌, ◌≤◌, true, false, cond, not, ◌&&◌, leb, Some, None, ap₂, ne_eqb, length-append, List, [], ◌∷◌, ◌++◌, length, get_or, take, drop, refl, sym, ap, ◌∙◌, arith, take-append-drop}
+use Rattle.std.proofs.Common.{◌≡◌, ℕ, zero, suc, ◌+◌, ◌-◌, ◌*◌, ◌/◌, ◌%◌, ◌^◌, ◌<◌, ◌≤◌, true, false, cond, not, ◌&&◌, leb, Some, None, ap₂, ne_eqb, length-append, List, [], ◌∷◌, ◌++◌, length, get_or, take, drop, refl, sym, ap, ◌∙◌, arith, inl, inr, take-append-drop}
 use Rattle.std.specs.Char.{IsAsciiDigit, is_ascii_digit}
 use Rattle.std.specs.Fmt.{decimal}
 use Rattle.std.specs.List.{fold}
 use Rattle.std.proofs.lemmas.Fmt.{decimal_by_steps, decimal_digit, first_decimal}
 use Rattle.std.proofs.lemmas.List.Elements.{All-nil, All-cons, All-push}
-use Rattle.std.proofs.lemmas.List.Sums.{fold-append, fold_more, fold_push, list_all-from_AllPass}
-use Rattle.std.proofs.lemmas.Bool.{and_from, le-leb, lt-leb}
+use Rattle.std.proofs.lemmas.List.Sums.{fold-append, fold_more, fold_push, list_all-from_AllPass, AllPass-from_list_all}
+use Rattle.std.proofs.lemmas.Bool.{and_from, and_parts, cases_Bool, le-leb, lt-leb}
 use Rattle.std.proofs.lemmas.Bool.Decides.{nat_tests}
 use Rattle.text_parts.specs.Numbers.{number_of, number_within, IsDigitText, is_digit_text, DecimalIsRead}
 
@@ -18,6 +18,22 @@ digit_text_passes (digit ∷ text) h =
   where
     passes : (byte : ℕ) → IsAsciiDigit byte → is_ascii_digit byte ≡ true
     passes byte h = grind (arith, nat_tests)
+
+-- what passes the test is a digit text
+pub digit_text_found : (text : List ℕ) → is_digit_text text ≡ true → IsDigitText text
+digit_text_found [] e = absurd cc
+digit_text_found (digit ∷ text) e =
+    record {
+      some = λ none. absurd cc;
+      digits = λ k d l. found (get_or (digit ∷ text) k d) (AllPass-from_list_all is_ascii_digit (digit ∷ text) (and_parts _ _ e).1 k d l);
+    }
+  where
+    found : (byte : ℕ) → is_ascii_digit byte ≡ true → IsAsciiDigit byte
+    found byte e = grind (arith, nat_tests)
+
+-- what is no digit text doesn't pass
+pub no_digit_text : (text : List ℕ) → ¬ (IsDigitText text) → is_digit_text text ≡ false
+no_digit_text text h = elim (cases_Bool (is_digit_text text)) [ inl e ↦ absurd (h (digit_text_found text e)) | inr e ↦ e ]
 
 -- a number that is written and fits
 pub within_fits : (text : List ℕ) (most : ℕ) → IsDigitText text → number_of text ≤ most → number_within most text ≡ Some (number_of text)

@@ -1,12 +1,14 @@
 -- The fields of a line, and lines that are made of fields.
-use Rattle.std.proofs.Common.{◌≡◌, ℕ, zero, suc, Bool, true, false, cond, not, eqb, List, [], ◌∷◌, length, filter, map, refl, sym, ap, ◌∙◌, arith, ne_eqb}
+use Rattle.std.proofs.Common.{◌≡◌, ℕ, zero, suc, ◌+◌, ◌≤◌, Bool, true, false, cond, not, eqb, List, [], ◌∷◌, ◌++◌, length, filter, map, refl, sym, ap, ◌∙◌, arith, ne_eqb}
 use Rattle.std.specs.List.{All, slice_split, join_with_byte}
+use Rattle.std.proofs.lemmas.List.{append-nil}
 use Rattle.std.proofs.lemmas.List.Elements.{All-nil, All-cons, All-head, All-tail, All-same, All-filter, filter_passes}
-use Rattle.std.proofs.lemmas.List.Splits.{slice_split-cons_yes, slice_split-cons_no, slice_split_none, slice_split_at}
+use Rattle.std.proofs.lemmas.List.Splits.{slice_split-cons_yes, slice_split-cons_no, slice_split_none, slice_split_at, length-slice_split}
+use Rattle.std.proofs.lemmas.List.Sums.{length-filter, count_by-le-length}
 use Rattle.std.proofs.lemmas.Bool.{false≢true}
 use Rattle.text_parts.proofs.FirstPart.{all_onto_first}
 use Rattle.text_parts.specs.Lines.{is_blank}
-use Rattle.text_parts.specs.Fields.{fields, IsField, JoinedFieldsAreRead}
+use Rattle.text_parts.specs.Fields.{fields, IsField, AreBlanks, JoinedFieldsAreRead, FieldsByRuns}
 
 -- the runs that aren't empty
 abbrev solid_runs : List (List ℕ) → List (List ℕ)
@@ -59,3 +61,48 @@ joined_fields_are_read (field ∷ next ∷ more) h =
     ap solid_runs (slice_split_at is_blank field 32 (join_with_byte 32 (next ∷ more)) first.solid refl)
     ∙ solid_runs_cons field (slice_split is_blank (join_with_byte 32 (next ∷ more))) first
     ∙ ap (λ read. field ∷ read) (joined_fields_are_read (next ∷ more) (All-tail IsField field (next ∷ more) h))
+
+-- a line has at most one field more than bytes
+pub fields_few : (line : List ℕ) → length (fields line) ≤ length line + 1
+unfolding fields
+fields_few line =
+    let parts = slice_split is_blank line in
+    omega (arith, length-filter (λ run. not (eqb (length run) 0)) parts, count_by-le-length (λ run. not (eqb (length run) 0)) parts, length-slice_split is_blank line, count_by-le-length is_blank line)
+
+-- ---- fields by runs
+
+-- a blank in front is no part of a field
+blank_dropped : (blank : ℕ) (line : List ℕ) → is_blank blank ≡ true → fields (blank ∷ line) ≡ fields line
+unfolding fields
+blank_dropped blank line is = ap solid_runs (slice_split-cons_yes is_blank blank line is)
+
+-- nor are several
+blanks_dropped : (blanks line : List ℕ) → AreBlanks blanks → fields (blanks ++ line) ≡ fields line
+blanks_dropped [] line are = refl
+blanks_dropped (blank ∷ blanks) line are =
+    blank_dropped blank (blanks ++ line) (All-head (λ byte. is_blank byte ≡ true) blank blanks are)
+    ∙ blanks_dropped blanks line (All-tail (λ byte. is_blank byte ≡ true) blank blanks are)
+
+-- no byte has no field
+no_fields : fields [] ≡ []
+unfolding fields
+no_fields = refl
+
+-- a field alone
+one_field : (field : List ℕ) → IsField field → fields field ≡ field ∷ []
+unfolding fields
+one_field field is = ap solid_runs (slice_split_none is_blank field is.solid) ∙ solid_runs_cons field [] is
+
+-- a field and a blank in front of others
+field_first : (field : List ℕ) (blank : ℕ) (rest : List ℕ) → IsField field → is_blank blank ≡ true → fields (field ++ blank ∷ rest) ≡ field ∷ fields rest
+unfolding fields
+field_first field blank rest is ends =
+    ap solid_runs (slice_split_at is_blank field blank rest is.solid ends) ∙ solid_runs_cons field (slice_split is_blank rest) is
+
+-- the fields of a line by its runs
+pub fields_by_runs : FieldsByRuns
+fields_by_runs = record {
+  none = λ blanks are. ap fields (sym (append-nil blanks)) ∙ blanks_dropped blanks [] are ∙ no_fields;
+  last = λ blanks field are is. blanks_dropped blanks field are ∙ one_field field is;
+  more = λ blanks field blank rest are is ends. blanks_dropped blanks (field ++ blank ∷ rest) are ∙ field_first field blank rest is ends;
+}

@@ -1,5 +1,8 @@
-mod Cuts
-mod Digits
-mod FieldLaws
+pub mod Cuts
+pub mod Digits
+pub mod FieldLaws
 mod FirstPart
+pub mod LineEnds
 mod LineLaws
+pub mod LineLengths
+pub mod Pieces

@@ -3,22 +3,18 @@ use Rattle.std.proofs.Common.{◌≡◌, ◌≢◌, ℕ, ◌<◌, Bool, true, fa
 use Rattle.std.proofs.lemmas.Bool.{eqb-false, eqb-true}
 use Rattle.std.specs.List.{onto_first, All}
 use Rattle.std.proofs.lemmas.List.Elements.{All-nil, All-cons, All-same}
-use Rattle.text_parts.specs.Lines.{raw_lines, text_of, has_ended, LinesAreTheText}
+use Rattle.text_parts.specs.Lines.{raw_lines, text_of, has_ended, IsLine, LinesAreTheText}
 use Rattle.text_parts.proofs.FirstPart.{all_onto_first}
 use Rattle.text_parts.proofs.Cuts.{raw_lines_cons_feed, raw_lines_cons_other, raw_lines_nil}
 
--- no byte of it is a line feed
-abbrev IsWhole : List ℕ → Type 0
-IsWhole line = All (λ byte. byte ≢ 10) line
-
 -- no raw line holds a line feed
-raw_lines_whole : (text : List ℕ) → All IsWhole (raw_lines text)
-raw_lines_whole [] = All-same IsWhole _ _ raw_lines_nil (All-nil IsWhole)
+raw_lines_whole : (text : List ℕ) → All IsLine (raw_lines text)
+raw_lines_whole [] = All-same IsLine _ _ raw_lines_nil (All-nil IsLine)
 raw_lines_whole (byte ∷ text) = by (eqb byte 10) refl (raw_lines_whole text)
   where
-    by : (feeds : Bool) → eqb byte 10 ≡ feeds → All IsWhole (raw_lines text) → All IsWhole (raw_lines (byte ∷ text))
-    by true e rest = All-same IsWhole _ _ (raw_lines_cons_feed byte text e) (All-cons IsWhole [] (raw_lines text) (All-nil (λ b. b ≢ 10)) rest)
-    by false e rest = All-same IsWhole _ _ (raw_lines_cons_other byte text e) (all_onto_first (λ b. b ≢ 10) byte (raw_lines text) (eqb-false byte 10 e) rest)
+    by : (feeds : Bool) → eqb byte 10 ≡ feeds → All IsLine (raw_lines text) → All IsLine (raw_lines (byte ∷ text))
+    by true e rest = All-same IsLine _ _ (raw_lines_cons_feed byte text e) (All-cons IsLine [] (raw_lines text) (All-nil (λ b. b ≢ 10)) rest)
+    by false e rest = All-same IsLine _ _ (raw_lines_cons_other byte text e) (all_onto_first (λ b. b ≢ 10) byte (raw_lines text) (eqb-false byte 10 e) rest)
 
 -- a text of some bytes has some lines
 raw_lines_some : (text : List ℕ) → 0 < length text → 0 < length (raw_lines text)

@@ -1,3 +1,5 @@
-pub mod Lines
+pub mod EndedLines
+pub mod FaultTexts
 pub mod Fields
+pub mod Lines
 pub mod Numbers

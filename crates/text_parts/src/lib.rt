@@ -1,7 +1,9 @@
-//! What every text format is made of, said once: the lines of a text, blank lines and comments, the fields of a line, and numbers in digits.
-//! Its one contract for the layer above: each function computes exactly what a definition in `specs/` says, so a format's
-//! grammar is written in those words alone.
-//! Each call goes over its bytes once, `read_number` twice; only `fields` and `push_decimal` take memory.
+//! What every text format is made of, said once: the lines of a text, blank lines and comments, the
+//! fields of a line, and numbers in digits.
+//! Its one contract for the layer above: each function computes exactly what a definition in `specs/`
+//! says, so a format's grammar is written in those words alone.
+//! Each call goes over its bytes once, `read_number` twice; only `fields` and `push_decimal` take
+//! memory.
 #![tactic(auto)]
 
 mod field;
@@ -12,6 +14,9 @@ mod numbers;
 mod tests;
 
 pub use field::fields;
-pub use laws::{decimal_is_read, joined_fields_are_read, lines_are_the_text};
-pub use lines::{is_blank_line, is_comment, split_line, without_return};
+pub use laws::{
+    decimal_is_read, ended_lines_are_the_text, fields_by_runs, joined_fields_are_read,
+    lines_are_the_text, return_is_dropped,
+};
+pub use lines::{is_blank_line, is_comment, line_length, split_line, without_return};
 pub use numbers::{NumberFault, push_decimal, read_number};

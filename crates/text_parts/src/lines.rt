@@ -1,13 +1,16 @@
 //! The lines of a text.
 
-ghost use Rattle.std.specs.Prelude.{◌≡◌, ◌<◌, ◌≤◌, ◌↔◌, [], ◌∷◌, ◌≢◌, ◌==◌, All, length, position, IsTrue, IsNone, IfNone, IfSome};
-ghost use Rattle.text_parts.specs.Lines.{line_feed, raw_lines, without_return, is_blank, is_blank_line, first_solid, IsComment, is_comment};
+ghost use Rattle.std.specs.Prelude.{◌≡◌, ◌<◌, ◌≤◌, ◌↔◌, [], ◌∷◌, ◌≢◌, ◌==◌, All, length, position, IsTrue};
+ghost use Rattle.std.specs.Prelude.{IsNone, IfNone, IfSome};
+ghost use Rattle.text_parts.specs.Lines.{line_feed, raw_lines, IsCut, line_length, without_return};
+ghost use Rattle.text_parts.specs.Lines.{is_blank, is_blank_line, first_solid, IsComment, is_comment};
 
-/// The first line of a text, with the carriage return that may stand at its end, and the text after its line feed.
-/// `None` where the text is empty: it has no line.
+/// The first line of a text, with the carriage return that may stand at its end, and the text after
+/// its line feed. `None` where the text is empty: it has no line.
 pub fn split_line(text: &[u8]) -> Option<(&[u8], &[u8])>
     ensures none { IsNone result ↔ (text.now ≡ []) }
     ensures end { IfNone result (raw_lines text.now ≡ []) }
+    ensures cut { IfSome result (λ r. IsCut text.now r.0.now r.1.now) }
     ensures first { IfSome result (λ r. raw_lines text.now ≡ r.0.now ∷ raw_lines r.1.now) }
     ensures shorter { IfSome result (λ r. length r.1.now < length text.now) }
     ensures within { IfSome result (λ r. length r.0.now ≤ length text.now) }
@@ -15,14 +18,21 @@ pub fn split_line(text: &[u8]) -> Option<(&[u8], &[u8])>
     if text.is_empty() {
         return None;
     }
-    match line_end(text) {
+    match first_feed(text) {
         Some(end) => Some((&text[..end], &text[end + 1..])),
         None => Some((text, &text[text.len()..])),
     }
 }
 
+/// How many bytes stand before the first line feed, or in all where there is none.
+pub fn line_length(text: &[u8]) -> usize
+    ensures { result ≡ line_length text.now }
+{
+    first_feed(text).unwrap_or(text.len())
+}
+
 /// Where the first line feed stands.
-fn line_end(text: &[u8]) -> Option<usize>
+fn first_feed(text: &[u8]) -> Option<usize>
     ensures first { result ≡ position (λ byte. byte == line_feed) text.now }
     ensures none { IfNone result (All (λ byte. byte ≢ line_feed) text.now) }
 {

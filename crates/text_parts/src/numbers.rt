@@ -1,11 +1,15 @@
 //! Numbers in digits.
 
-ghost use Rattle.std.specs.Prelude.{◌≡◌, ◌+◌, ◌*◌, ◌<◌, ◌≤◌, ◌↔◌, ◌++◌, SomeIff, IsTrue, IfOk, IfErr, is_ok, decimal, if◌then◌else◌};
+ghost use Rattle.std.specs.Prelude.{◌≡◌, ◌+◌, ◌*◌, ◌<◌, ◌≤◌, ◌↔◌, ◌++◌, Some, SomeIff, IsTrue};
+ghost use Rattle.std.specs.Prelude.{IfOk, IfErr, is_ok, decimal, if◌then◌else◌};
 ghost use Rattle.std.specs.Result.{result_ok};
+ghost use Rattle.text_parts.specs.FaultTexts.{number_fault_text};
 ghost use Rattle.text_parts.specs.Numbers.{IsDigitText, is_digit_text, number_of, number_within};
 
 use itoa::Buffer;
 use std::alloc::AllocError;
+use std::error::Error;
+use std::fmt;
 
 /// Why a text is no number that was asked for.
 #[derive(Clone, Copy, Debug, PartialEq, Eq)]
@@ -16,13 +20,28 @@ pub enum NumberFault {
     TooLarge,
 }
 
-/// The number that a text of digits writes, where it is at most `most`. Any number of digits is read, zeros in front among them.
+impl fmt::Display for NumberFault {
+    ghost output = { λ fault. Some (number_fault_text fault) };
+
+    fn fmt<W: fmt::Write>(&self, f: &mut fmt::Formatter<W>) -> fmt::Result {
+        match self {
+            Self::NotDigits => f.write_str("not digits"),
+            Self::TooLarge => f.write_str("number too large"),
+        }
+    }
+}
+
+impl Error for NumberFault {}
+
+/// The number that a text of digits writes, where it is at most `most`. Any number of digits is
+/// read, zeros in front among them.
 pub fn read_number(text: &[u8], most: u64) -> Result<u64, NumberFault>
     ensures digits { IfOk result (λ number. IsDigitText text.now) }
     ensures value { IfOk result (λ number. number ≡ number_of text.now) }
     ensures within { IfOk result (λ number. number ≤ most) }
     ensures not_digits { (result ≡ Err NumberFault.NotDigits) ↔ ¬ (IsDigitText text.now) }
-    ensures too_large { (result ≡ Err NumberFault.TooLarge) ↔ (IsDigitText text.now × (most < number_of text.now)) }
+    ensures too_large { (result ≡ Err NumberFault.TooLarge)
+        ↔ (IsDigitText text.now × (most < number_of text.now)) }
     ensures refused { IfErr result (λ fault. IsDigitText text.now → most < number_of text.now) }
     ensures answer { result_ok result ≡ number_within most text.now }
 {
