@@ -1,32 +1,33 @@
 -- What is known of a call that gives what reading gives.
-use Rattle.std.proofs.Common.{◌≡◌, ℕ, ◌≤◌, ◌⊎◌, List, [], ◌∷◌, length, Result, Ok, Err, refl, sym, ◌∙◌, subst, inl, inr, arith, length-append}
+use Rattle.std.proofs.Common.{◌≡◌, ◌≢◌, ℕ, ◌≤◌, ◌⊎◌, List, [], ◌∷◌, length, Result, Ok, Err, refl, sym, ◌∙◌, subst, inl, inr, arith, length-append}
 use Rattle.std.specs.Result.{IfOk, MatchResult}
 use Rattle.path_syntax.specs.declared.read.BadExpr.{BadExpr}
 use Rattle.path_syntax.specs.declared.read.BadExpr.TheVariants.{Unexpected, Ended, TooLarge, LongName, Memory}
 use Rattle.path_syntax.specs.Expression.{Expression}
 use Rattle.path_syntax.specs.Grammar.{IsLabel, Bare, Quoted, IsAlternative, OneSequence, Either, IsSequence, OneElement, Then, IsElement, Once, Starred, Plussed, Optional, IsPrimary, Named, InParentheses, IsText}
-use Rattle.path_syntax.specs.Faults.{IsWithinLimits, IsFault, Tells}
+use Rattle.path_syntax.specs.Faults.{IsWithinLimits, IsFault, IsOutcome, Whole, Faulty, Tells}
 use Rattle.path_syntax.specs.Plain.{IsPlainExpression}
 use Rattle.path_syntax.specs.Size.{nodes}
 use Rattle.path_syntax.specs.Reading.{reading, Gives}
-use Rattle.path_syntax.proofs.Limits.{Outcome, Found, Faulty, outcome}
+use Rattle.path_syntax.proofs.Limits.{outcome}
 use Rattle.path_syntax.specs.GrammarLaws.{OneOutcome}
-use Rattle.path_syntax.proofs.OneFault.{no_fault, one_fault, text_is_read, fault_is_told}
+use Rattle.path_syntax.proofs.OneFault.{outcome_is_read}
+use Rattle.path_syntax.proofs.OneFault as fault
 
 -- the expression that is read, with its text
 pub record IsFound (bytes : List ℕ) (e : Expression) : Type 0 where
   pub text : IsText bytes e
   pub limits : IsWithinLimits bytes
 
-by_ok : (bytes : List ℕ) (read : Result Expression BadExpr) → Outcome bytes read → (e : Expression) → read ≡ Ok e → IsFound bytes e
-by_ok bytes read (Found f text limits) e is = let same : f ≡ e = cc in record { text = subst (IsText bytes) same text; limits = limits }
+by_ok : (bytes : List ℕ) (read : Result Expression BadExpr) → IsOutcome bytes read → (e : Expression) → read ≡ Ok e → IsFound bytes e
+by_ok bytes read (Whole f text limits) e is = let same : f ≡ e = cc in record { text = subst (IsText bytes) same text; limits = limits }
 by_ok bytes read (Faulty fault has) e is = absurd cc
 
 is_found : (bytes : List ℕ) (e : Expression) → reading bytes ≡ Ok e → IsFound bytes e
 is_found bytes e is = by_ok bytes (reading bytes) (outcome bytes) e is
 
-by_err : (bytes : List ℕ) (read : Result Expression BadExpr) → Outcome bytes read → (fault : BadExpr) → read ≡ Err fault → IsFault fault bytes
-by_err bytes read (Found f text limits) fault is = absurd cc
+by_err : (bytes : List ℕ) (read : Result Expression BadExpr) → IsOutcome bytes read → (fault : BadExpr) → read ≡ Err fault → IsFault fault bytes
+by_err bytes read (Whole f text limits) fault is = absurd cc
 by_err bytes read (Faulty other has) fault is = let same : other ≡ fault = cc in subst (λ f. IsFault f bytes) same has
 
 pub has_fault : (bytes : List ℕ) (fault : BadExpr) → reading bytes ≡ Err fault → IsFault fault bytes
@@ -94,7 +95,7 @@ module _ {X : Type 0} (view : X → Expression) (bytes : List ℕ) where
 
   pub whole : (given : Result X BadExpr) → Gives view given (reading bytes) → (e : Expression) → IsText bytes e → IsWithinLimits bytes →
       MatchResult given (λ x. view x ≡ e) (λ fault. fault ≡ Memory)
-  whole given gives e text limits = by given gives (text_is_read bytes e text limits)
+  whole given gives e text limits = by given gives (outcome_is_read bytes (Ok e) (Whole e text limits))
     where
       by : (given : Result X BadExpr) → Gives view given (reading bytes) → reading bytes ≡ Ok e → MatchResult given (λ x. view x ≡ e) (λ fault. fault ≡ Memory)
       by (Ok x) gives is = let both : Ok (view x) ≡ Ok e = sym gives ∙ is in cc
@@ -104,8 +105,18 @@ module _ {X : Type 0} (view : X → Expression) (bytes : List ℕ) where
       by (Err (LongName at)) gives is = let both : Err (LongName at) ≡ Ok e = sym gives ∙ is in absurd cc
       by (Err Memory) gives is = refl
 
+  -- the answer is the outcome, unless memory ran out
+  pub answered : (given : Result X BadExpr) → Gives view given (reading bytes) →
+      MatchResult given (λ x. IsOutcome bytes (Ok (view x))) (λ fault. fault ≢ Memory → IsOutcome bytes (Err fault))
+  answered (Ok x) gives = subst (IsOutcome bytes) gives (outcome bytes)
+  answered (Err (Unexpected at)) gives = λ other. subst (IsOutcome bytes) gives (outcome bytes)
+  answered (Err Ended) gives = λ other. subst (IsOutcome bytes) gives (outcome bytes)
+  answered (Err TooLarge) gives = λ other. subst (IsOutcome bytes) gives (outcome bytes)
+  answered (Err (LongName at)) gives = λ other. subst (IsOutcome bytes) gives (outcome bytes)
+  answered (Err Memory) gives = λ other. absurd (other refl)
+
   -- a fault that is no want of memory is the bytes' own
-  sure : (given : Result X BadExpr) → Gives view given (reading bytes) → (fault : BadExpr) → (fault ≡ Memory → ⊥) → given ≡ Err fault → IsFault fault bytes
+  sure : (given : Result X BadExpr) → Gives view given (reading bytes) → (fault : BadExpr) → fault ≢ Memory → given ≡ Err fault → IsFault fault bytes
   sure (Ok x) gives fault other is = absurd cc
   sure (Err Memory) gives fault other is = let same : Memory ≡ fault = cc in absurd (other (sym same))
   sure (Err (Unexpected at)) gives fault other is = let same : Unexpected at ≡ fault = cc in subst (λ f. IsFault f bytes) same (has_fault bytes (Unexpected at) gives)
@@ -121,20 +132,11 @@ module _ {X : Type 0} (view : X → Expression) (bytes : List ℕ) where
   told (Err TooLarge) gives fault is = inl (let both : Err TooLarge ≡ Err fault = sym gives ∙ is in cc)
   told (Err (LongName at)) gives fault is = inl (let both : Err (LongName at) ≡ Err fault = sym gives ∙ is in cc)
 
-  pub tells : (given : Result X BadExpr) → Gives view given (reading bytes) → (fault : BadExpr) → (fault ≡ Memory → ⊥) → Tells given fault (IsFault fault bytes)
+  pub tells : (given : Result X BadExpr) → Gives view given (reading bytes) → (fault : BadExpr) → fault ≢ Memory → Tells given fault (IsFault fault bytes)
   tells given gives fault other = record {
     sure = sure given gives fault other;
-    told = λ has. told given gives fault (fault_is_told bytes fault has);
+    told = λ has. told given gives fault (outcome_is_read bytes (Err fault) (Faulty fault has));
   }
 
-some_outcome : (bytes : List ℕ) (read : Result Expression BadExpr) → Outcome bytes read →
-    ((e : Expression) × IsText bytes e × IsWithinLimits bytes) ⊎ ((fault : BadExpr) × IsFault fault bytes)
-some_outcome bytes read (Found e text limits) = inl (e, text, limits)
-some_outcome bytes read (Faulty fault has) = inr (fault, has)
-
 pub one_outcome : (bytes : List ℕ) → OneOutcome bytes
-one_outcome bytes = record {
-  some = some_outcome bytes (reading bytes) (outcome bytes);
-  apart = λ e fault text limits has. no_fault bytes fault e text limits has;
-  one = one_fault bytes;
-}
+one_outcome bytes = record { some = (reading bytes, outcome bytes); one = fault.one_outcome bytes }

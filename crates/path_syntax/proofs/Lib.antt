@@ -3,6 +3,7 @@ pub mod Completeness
 pub mod Examples
 pub mod Fronts
 pub mod Limits
+pub mod MarkedWords
 pub mod Meaning
 pub mod Nullable
 pub mod OneFault
@@ -13,7 +14,6 @@ pub mod Signs
 pub mod Sizes
 pub mod Soundness
 pub mod Spelled
-pub mod Splits
 pub mod Stars
 pub mod Steps
 pub mod Words

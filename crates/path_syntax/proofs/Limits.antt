@@ -8,7 +8,7 @@ use Rattle.path_syntax.specs.declared.read.BadExpr.{BadExpr}
 use Rattle.path_syntax.specs.declared.read.BadExpr.TheVariants.{Unexpected, Ended, TooLarge, LongName}
 use Rattle.path_syntax.specs.Expression.{Expression}
 use Rattle.path_syntax.specs.Grammar.{is_bare_byte, IsBare, AreNameBytes, quoted, IsText, CanGoOn}
-use Rattle.path_syntax.specs.Faults.{is_sign, signs, BeginsLabel, BeginsBare, BeginsQuoted, HasLongName, IsWithinLimits, IsTaken, Reaches, IsFault}
+use Rattle.path_syntax.specs.Faults.{is_sign, signs, BeginsLabel, BeginsBare, BeginsQuoted, HasLongName, IsWithinLimits, IsTaken, Reaches, IsFault, IsOutcome, Whole, Faulty}
 use Rattle.path_syntax.specs.Reading.{FrameValue, ModeValue, Operand, BareLabel, QuotedLabel, Escape, Primary, Element, StateValue, state_with, initial, step, whole_of, name_length, takes_operand, is_outside, ReaderValue, start, operand_after, signs_after, after_step, read_byte, ◌>>=◌, read_all, ended_by, reading}
 use Rattle.path_syntax.proofs.Steps.{Leads, OperandBlank, OperandOpen, OperandQuote, OperandBare, BareMore, QuotedMore, QuotedBackslash, QuotedEnd, EscapeQuote, EscapeBackslash, PrimaryBlank, PrimaryStar, PrimaryPlus, PrimaryOpt, ElementBlank, ElementSlash, ElementBar, ElementClose, step_leads, run, run_from, run_one}
 use Rattle.path_syntax.proofs.Soundness.{quoted_push, escaped_plain, all_push, sound}
@@ -337,15 +337,10 @@ all_outcome [] front reader at = subst (λ t. ReadOutcome t (Ok reader)) (sym (a
 all_outcome (byte ∷ bytes) front reader at =
     after_byte byte bytes front reader at (all_outcome bytes (front ++ byte ∷ [])) (read_byte reader byte) (byte_outcome front byte reader at)
 
--- what reading gives: the expression of the bytes, or their fault
-pub data Outcome (bytes : List ℕ) : Result Expression BadExpr → Type 0 where
-  Found : (e : Expression) → IsText bytes e → IsWithinLimits bytes → Outcome bytes (Ok e)
-  Faulty : (fault : BadExpr) → IsFault fault bytes → Outcome bytes (Err fault)
-
 at_end : (bytes : List ℕ) (reader : ReaderValue) → IsAt bytes reader → (whole : Option Expression) → whole_of reader.state ≡ whole →
-    Outcome bytes (ended_by whole)
+    IsOutcome bytes (ended_by whole)
 at_end bytes reader at (Some e) is =
-    let taken = at_taken bytes reader at in Found e (sound bytes reader.state e at.ran is) taken.limits
+    let taken = at_taken bytes reader at in Whole e (sound bytes reader.state e at.ran is) taken.limits
 at_end bytes reader at None is =
     Faulty Ended (record {
       taken = at_taken bytes reader at;
@@ -358,10 +353,10 @@ at_end bytes reader at None is =
     })
 
 outcome_of : (bytes : List ℕ) (given : Result ReaderValue BadExpr) → ReadOutcome bytes given →
-    Outcome bytes (given >>= λ reader. ended_by (whole_of reader.state))
+    IsOutcome bytes (given >>= λ reader. ended_by (whole_of reader.state))
 outcome_of bytes given (Through reader at) = at_end bytes reader at (whole_of reader.state) refl
 outcome_of bytes given (Failed fault has) = Faulty fault has
 
-pub outcome : (bytes : List ℕ) → Outcome bytes (reading bytes)
+pub outcome : (bytes : List ℕ) → IsOutcome bytes (reading bytes)
 unfolding reading
 outcome bytes = outcome_of bytes (read_all bytes start) (all_outcome bytes [] start at_start)

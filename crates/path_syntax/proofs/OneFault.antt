@@ -9,13 +9,13 @@ use Rattle.path_syntax.specs.declared.read.BadExpr.{BadExpr}
 use Rattle.path_syntax.specs.declared.read.BadExpr.TheVariants.{Unexpected, Ended, TooLarge, LongName, Memory}
 use Rattle.path_syntax.specs.Expression.{Expression}
 use Rattle.path_syntax.specs.Grammar.{is_bare_byte, IsBare, AreNameBytes, escaped, quoted, IsText, CanGoOn}
-use Rattle.path_syntax.specs.Faults.{signs, BeginsLabel, BeginsBare, BeginsQuoted, HasLongName, IsWithinLimits, IsTaken, Reaches, IsEnded, IsFault}
+use Rattle.path_syntax.specs.Faults.{signs, BeginsLabel, BeginsBare, BeginsQuoted, HasLongName, IsWithinLimits, IsTaken, Reaches, IsEnded, IsFault, IsOutcome, Whole, Faulty}
 use Rattle.path_syntax.specs.Reading.{kind_of, FrameValue, ModeValue, Operand, BareLabel, QuotedLabel, Escape, Primary, Element, state_with, initial, name_length, takes_operand, reading}
 use Rattle.path_syntax.proofs.Steps.{run, run_from}
 use Rattle.path_syntax.proofs.Completeness.{begin_quoted, escaped_run, one_expression}
 use Rattle.path_syntax.proofs.Fronts.{goes_through, goes_through_front, TakesOperand, takes_operand_there}
 use Rattle.path_syntax.proofs.Signs.{signs_grow}
-use Rattle.path_syntax.proofs.Limits.{begins_run, split_push, Outcome, Found, Faulty, outcome}
+use Rattle.path_syntax.proofs.Limits.{begins_run, split_push, outcome}
 
 -- a fault shows at a byte
 data Shows (front : List ℕ) (byte : ℕ) : BadExpr → Type 0 where
@@ -260,18 +260,13 @@ one_has bytes first second (Within front byte reached shows) (Within other last 
 pub one_fault : (bytes : List ℕ) (first second : BadExpr) → IsFault first bytes → IsFault second bytes → first ≡ second
 one_fault bytes first second f g = one_has bytes first second (has_fault first bytes f) (has_fault second bytes g)
 
-read_by : (bytes : List ℕ) (given : Result Expression BadExpr) → Outcome bytes given → (e : Expression) → IsText bytes e → IsWithinLimits bytes → given ≡ Ok e
-read_by bytes given (Found f text limits) e there within = ap (λ x. Ok x) (one_expression bytes f e text there)
-read_by bytes given (Faulty fault has) e there within = absurd (no_fault bytes fault e there within has)
+-- and one outcome
+pub one_outcome : (bytes : List ℕ) (first second : Result Expression BadExpr) → IsOutcome bytes first → IsOutcome bytes second → first ≡ second
+one_outcome bytes first second (Whole e text limits) (Whole f there within) = ap (λ x. Ok x) (one_expression bytes e f text there)
+one_outcome bytes first second (Whole e text limits) (Faulty fault has) = absurd (no_fault bytes fault e text limits has)
+one_outcome bytes first second (Faulty fault has) (Whole e text limits) = absurd (no_fault bytes fault e text limits has)
+one_outcome bytes first second (Faulty fault has) (Faulty other there) = ap (λ f. Err f) (one_fault bytes fault other has there)
 
--- the text of an expression within the limits is read
-pub text_is_read : (bytes : List ℕ) (e : Expression) → IsText bytes e → IsWithinLimits bytes → reading bytes ≡ Ok e
-text_is_read bytes e text limits = read_by bytes (reading bytes) (outcome bytes) e text limits
-
-told_by : (bytes : List ℕ) (given : Result Expression BadExpr) → Outcome bytes given → (fault : BadExpr) → IsFault fault bytes → given ≡ Err fault
-told_by bytes given (Found e text limits) fault has = absurd (no_fault bytes fault e text limits has)
-told_by bytes given (Faulty other there) fault has = ap (λ f. Err f) (one_fault bytes other fault there has)
-
--- a fault of the bytes is told
-pub fault_is_told : (bytes : List ℕ) (fault : BadExpr) → IsFault fault bytes → reading bytes ≡ Err fault
-fault_is_told bytes fault has = told_by bytes (reading bytes) (outcome bytes) fault has
+-- what reading gives is the outcome
+pub outcome_is_read : (bytes : List ℕ) (is : Result Expression BadExpr) → IsOutcome bytes is → reading bytes ≡ is
+outcome_is_read bytes is there = one_outcome bytes (reading bytes) is (outcome bytes) there

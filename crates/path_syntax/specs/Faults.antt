@@ -1,5 +1,5 @@
 -- The faults of a text that is read as an expression.
-use Rattle.std.specs.Prelude.{◌≡◌, ℕ, ◌+◌, ◌≤◌, Bool, ◌==◌, List, [], ◌∷◌, ◌++◌, length, codes, Result, Err, ◌⊎◌, if◌then◌else◌}
+use Rattle.std.specs.Prelude.{◌≡◌, ℕ, ◌+◌, ◌≤◌, Bool, ◌==◌, List, [], ◌∷◌, ◌++◌, length, codes, Result, Ok, Err, ◌⊎◌, if◌then◌else◌}
 use Rattle.std.specs.List.{count_by, list_any}
 use Rattle.path_syntax.specs.declared.read.BadExpr.{BadExpr}
 use Rattle.path_syntax.specs.declared.read.BadExpr.TheVariants.{Unexpected, Ended, TooLarge, LongName, Memory}
@@ -103,6 +103,11 @@ IsFault Ended bytes = IsEnded bytes
 IsFault TooLarge bytes = IsTooLarge bytes
 IsFault (LongName at) bytes = IsLongName bytes at
 IsFault Memory bytes = ⊥
+
+-- the outcome of reading the bytes: the expression that they are the text of, within the limits, or the fault that shows first
+pub data IsOutcome (bytes : List ℕ) : Result Expression BadExpr → Type 0 where
+  Whole : (e : Expression) → IsText bytes e → IsWithinLimits bytes → IsOutcome bytes (Ok e)
+  Faulty : (fault : BadExpr) → IsFault fault bytes → IsOutcome bytes (Err fault)
 
 -- the fault is answered exactly where the bytes have it, unless memory runs out
 pub record Tells {T : Type 0} (result : Result T BadExpr) (fault : BadExpr) (has : Type 0) : Type 0 where

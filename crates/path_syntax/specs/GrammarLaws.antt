@@ -1,19 +1,18 @@
 -- What the grammar of expressions and its faults are meant to be, as laws.
-use Rattle.std.specs.Prelude.{◌≡◌, ℕ, ◌≤◌, ◌⊎◌, List, length, codes}
+use Rattle.std.specs.Prelude.{◌≡◌, ℕ, ◌≤◌, List, length, codes, Result}
 use Rattle.path_syntax.specs.declared.read.BadExpr.{BadExpr}
 use Rattle.path_syntax.specs.Expression.{Expression, Atom, Seq, Alt, Star, Plus, Opt}
 use Rattle.path_syntax.specs.Grammar.{label_named, IsText}
-use Rattle.path_syntax.specs.Faults.{HasLongName, IsWithinLimits, IsUnexpected, IsEnded, IsFault}
+use Rattle.path_syntax.specs.Faults.{HasLongName, IsUnexpected, IsLongName, IsTooLarge, IsEnded, IsOutcome}
 
 -- bytes are the text of at most one expression
 abbrev pub OneExpression : Type 0
 OneExpression = (bytes : List ℕ) (first second : Expression) → IsText bytes first → IsText bytes second → first ≡ second
 
--- bytes are the text of an expression and within the limits, or they have a fault; never both, and never two faults
+-- bytes have exactly one outcome: one expression within the limits, or one fault
 pub record OneOutcome (bytes : List ℕ) : Type 0 where
-  pub some : ((e : Expression) × IsText bytes e × IsWithinLimits bytes) ⊎ ((fault : BadExpr) × IsFault fault bytes)
-  pub apart : (e : Expression) (fault : BadExpr) → IsText bytes e → IsWithinLimits bytes → IsFault fault bytes → ⊥
-  pub one : (first second : BadExpr) → IsFault first bytes → IsFault second bytes → first ≡ second
+  pub some : (outcome : Result Expression BadExpr) × IsOutcome bytes outcome
+  pub one : (first second : Result Expression BadExpr) → IsOutcome bytes first → IsOutcome bytes second → first ≡ second
 
 -- each label of the expression has a name of at most 255 bytes
 abbrev pub HasShortNames : Expression → Type 0

@@ -1,9 +1,11 @@
 pub mod Expression
 pub mod Faults
+pub mod FaultTexts
 pub mod Grammar
 pub mod GrammarLaws
 pub mod Language
 pub mod Laws
+pub mod Marks
 pub mod Plain
 pub mod Reading
 pub mod Size

@@ -8,8 +8,12 @@ use std::alloc::Global;
 
 /// A regular expression over labels.
 ///
-/// Contracts see it as an `Expression` of `specs/`: the same tree without where its parts lie in memory. The operators are
-/// those of the property paths of SPARQL 1.1.
+/// Contracts see it as an `Expression` of `specs/`: the same tree without where its parts lie in
+/// memory. The operators are those of the property paths of SPARQL 1.1.
+///
+/// The calls of this crate over an expression, and its drop, recurse once a level of it. What
+/// `read_expr` gives has at most 513 levels, and 512 take less than 128 KiB of stack. An expression
+/// built by hand may be deeper: past some 40,000 levels it may run out of a stack of 8 MiB.
 #[derive(Debug, Drop)]
 pub enum Expr {
     /// One edge with this label.
@@ -27,8 +31,9 @@ pub enum Expr {
 }
 
 impl Expr {
+    /// An equal expression. Its parts lie where the allocator that is given puts them; a label is
+    /// copied with the allocator that it has.
     #[cycle(copy)]
-    /// An equal expression, whose parts are copied with the allocator that is given.
     pub fn copy(&self, alloc: Global) -> Result<Expr, Memory>
         ensures { IfOk result (λ copy. expression copy ≡ expression self.now) }
     {

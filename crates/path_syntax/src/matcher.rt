@@ -1,89 +1,128 @@
 //! The plain matcher.
 
-ghost use Rattle.std.specs.Prelude.{◌≡◌, ◌∷◌, [], ◌↔◌, IsTrue, IsOk, IfOk};
+ghost use Rattle.std.specs.Prelude.{◌≡◌, ◌++◌, ◌↔◌, IsTrue, IfOk, OnOk};
 ghost use Rattle.path_syntax.specs.Expression.{expression};
-ghost use Rattle.path_syntax.specs.Language.{IsJoined, IsRepeated, In};
+ghost use Rattle.path_syntax.specs.Language.{In};
+ghost use Rattle.path_syntax.specs.Marks.{first_mark, other_marks, marks_behind, may_end, marks_after};
 
+use crate::empty_word::has_empty_word;
 use crate::expr::Expr;
-use rpq_base::{Label, Memory, same_is_equal};
+use rpq_base::{Label, Memory};
 use std::alloc::Global;
 
 /// Whether the word is in the language of the expression.
 ///
-/// This is the definition of the language, tried case by case and split by split: it takes no memory, but time that may
-/// grow exponentially with the word. It is there to be compared with.
-pub fn accepts(_alloc: Global, expr: &Expr, word: &[Label]) -> Result<bool, Memory>
+/// It keeps a mark at each label of the expression that the word so far may end with, and moves
+/// the marks on at each label of the word. A label of the word costs at most the expression's size
+/// times its depth, and the marks take memory for one `bool` a label of the expression. It recurses
+/// once a level of the expression, however long the word is: see [`Expr`] for the depths that are
+/// safe.
+///
+/// Source: Fischer, Huch and Wilke, A Play on Regular Expressions, ICFP 2010.
+pub fn accepts(alloc: Global, expr: &Expr, word: &[Label]) -> Result<bool, Memory>
     ensures answer { IfOk result (λ yes. IsTrue yes ↔ In (expression expr.now) word.now) }
-    ensures no_memory_wanted { IsOk result }
 {
-    Ok(is_word(expr, word))
+    let [first, rest @ ..] = word else {
+        return Ok(has_empty_word(expr));
+    };
+    let mut marks = marks_after(alloc, expr, &[], true, first)?;
+    for label in rest {
+        marks = marks_after(alloc, expr, &marks, false, label)?;
+    }
+    Ok(may_end(expr, &marks))
 }
 
-#[cycle(words)]
-fn is_word(expr: &Expr, word: &[Label]) -> bool
-    ensures { IsTrue result ↔ In (expression expr.now) word.now }
+/// The marks after one more label, with which a word of the expression may begin or not.
+fn marks_after(
+    alloc: Global,
+    expr: &Expr,
+    marks: &[bool],
+    begins: bool,
+    label: &Label,
+) -> Result<Vec<bool>, Memory>
+    ensures { IfOk result (λ after. after.items ≡
+        marks_after (expression expr.now) marks.now begins label.now) }
+{
+    let mut after = Vec::new(alloc);
+    push_marks(&mut after, expr, marks, begins, label)?;
+    Ok(after)
+}
+
+/// Puts the marks after one more label behind those that are there.
+fn push_marks(
+    after: &mut Vec<bool>,
+    expr: &Expr,
+    marks: &[bool],
+    begins: bool,
+    label: &Label,
+) -> Result<(), Memory>
+    ensures { OnOk result (after.new.items ≡ after.old.items ++
+        marks_after (expression expr.now) marks.now begins label.now) }
 {
     match expr {
-        Expr::Atom(label) => is_label(label, word),
-        Expr::Seq(left, right) => is_joined(left, right, word),
-        Expr::Alt(left, right) => is_word(left, word) || is_word(right, word),
-        Expr::Star(body) => is_repeated(body, word),
-        Expr::Plus(body) => is_repeated_once(body, word),
-        Expr::Opt(body) => word.is_empty() || is_word(body, word),
-    }
-}
-
-fn is_label(label: &Label, word: &[Label]) -> bool
-    ensures { IsTrue result ↔ (word.now ≡ label.now ∷ []) }
-{
-    same_is_equal();
-    match word {
-        [only] => only == label,
-        _ => false,
-    }
-}
-
-/// Whether the word is a word of the left side, followed by one of the right side.
-#[cycle(words)]
-fn is_joined(left: &Expr, right: &Expr, word: &[Label]) -> bool
-    ensures { IsTrue result ↔ IsJoined (In (expression left.now)) (In (expression right.now)) word.now }
-{
-    for at in 0..=word.len() {
-        let (before, after) = word.split_at(at);
-        if is_word(left, before) && is_word(right, after) {
-            return true;
+        Expr::Atom(own) => Ok(after.push(begins && own == label)?),
+        Expr::Seq(left, right) => {
+            let next = may_end(left, marks) || begins && has_empty_word(left);
+            push_marks(after, left, marks, begins, label)?;
+            push_marks(after, right, marks_behind(left, marks), next, label)
         }
+        Expr::Alt(left, right) => {
+            push_marks(after, left, marks, begins, label)?;
+            push_marks(after, right, marks_behind(left, marks), begins, label)
+        }
+        Expr::Star(body) => {
+            push_marks(after, body, marks, begins || may_end(body, marks), label)
+        }
+        Expr::Plus(body) => {
+            push_marks(after, body, marks, begins || may_end(body, marks), label)
+        }
+        Expr::Opt(body) => push_marks(after, body, marks, begins, label),
     }
-    false
 }
 
-/// Whether the word is any number of words of the body, one after another.
-#[cycle(words)]
-fn is_repeated(body: &Expr, word: &[Label]) -> bool
-    ensures { IsTrue result ↔ IsRepeated (In (expression body.now)) word.now }
+/// Whether a word of the expression may end here.
+fn may_end(expr: &Expr, marks: &[bool]) -> bool
+    ensures { result ≡ may_end (expression expr.now) marks.now }
 {
-    if word.is_empty() {
-        return true;
-    }
-    for at in 1..=word.len() {
-        let (front, rest) = word.split_at(at);
-        if is_word(body, front) && is_repeated(body, rest) {
-            return true;
+    match expr {
+        Expr::Atom(_) => first_mark(marks),
+        Expr::Seq(left, right) => {
+            may_end(right, marks_behind(left, marks)) || has_empty_word(right) && may_end(left, marks)
         }
+        Expr::Alt(left, right) => may_end(left, marks) || may_end(right, marks_behind(left, marks)),
+        Expr::Star(body) | Expr::Plus(body) | Expr::Opt(body) => may_end(body, marks),
     }
-    false
 }
 
-/// Whether the word is a word of the body, followed by any number of others.
-#[cycle(words)]
-fn is_repeated_once(body: &Expr, word: &[Label]) -> bool
-    ensures { IsTrue result ↔ IsJoined (In (expression body.now)) (IsRepeated (In (expression body.now))) word.now }
+/// The marks behind those of the expression.
+fn marks_behind<'a>(expr: &Expr, marks: &'a [bool]) -> &'a [bool]
+    ensures { result.now ≡ marks_behind (expression expr.now) marks.now }
 {
-    for at in 0..=word.len() {
-        let (front, rest) = word.split_at(at);
-        if is_word(body, front) && is_repeated(body, rest) {
-            return true;
+    match expr {
+        Expr::Atom(_) => other_marks(marks),
+        Expr::Seq(left, right) | Expr::Alt(left, right) => {
+            marks_behind(right, marks_behind(left, marks))
         }
+        Expr::Star(body) | Expr::Plus(body) | Expr::Opt(body) => marks_behind(body, marks),
     }
-    false
+}
+
+/// The first mark, and false where there is none.
+fn first_mark(marks: &[bool]) -> bool
+    ensures { result ≡ first_mark marks.now }
+{
+    match marks {
+        [mark, ..] => *mark,
+        [] => false,
+    }
+}
+
+/// The marks but the first.
+fn other_marks(marks: &[bool]) -> &[bool]
+    ensures { result.now ≡ other_marks marks.now }
+{
+    match marks {
+        [_, others @ ..] => others,
+        [] => marks,
+    }
 }

@@ -1,10 +1,12 @@
 //! Reading expressions.
 
-ghost use Rattle.std.specs.Prelude.{◌≡◌, ◌+◌, ◌^◌, ◌<◌, ◌≤◌, IfOk, OnOk, MatchResult, ℕ, length};
+ghost use Rattle.std.specs.Prelude.{◌≡◌, ◌≢◌, ◌+◌, ◌^◌, ◌<◌, ◌≤◌, Ok, Err, Some, IfOk, OnOk, MatchResult, length};
 ghost use Rattle.path_syntax.specs.Reading.{IsReady, operand_after, signs_after, within_limits, read_byte, read_all, ended_by, whole_of, name_length, reading, start, Gives};
+ghost use Rattle.path_syntax.specs.declared.read.BadExpr.{BadExpr};
 ghost use Rattle.path_syntax.specs.Views.{state_of, mode_of, reader_of};
 ghost use Rattle.path_syntax.specs.Expression.{Expression, expression};
-ghost use Rattle.path_syntax.specs.Faults.{is_sign, IsWithinLimits, IsUnexpected, IsLongName, IsTooLarge, IsEnded, Tells};
+ghost use Rattle.path_syntax.specs.Faults.{is_sign, IsWithinLimits, IsFault, IsOutcome, Tells};
+ghost use Rattle.path_syntax.specs.FaultTexts.{bad_expr_text};
 ghost use Rattle.path_syntax.specs.Grammar.{IsText};
 ghost use Rattle.path_syntax.specs.Plain.{IsPlainExpression};
 ghost use Rattle.path_syntax.specs.Size.{nodes};
@@ -38,17 +40,16 @@ pub enum BadExpr {
 }
 
 impl From<Memory> for BadExpr {
-    ghost use Rattle.std.specs.Prelude.{◌≡◌};
-    ghost use Rattle.path_syntax.specs.declared.read.BadExpr.TheVariants.{Memory};
+    ghost from_gives = { λ _ fault. fault ≡ BadExpr.Memory };
 
-    ghost from_gives = { λ _ fault. fault ≡ Memory };
-
-    fn from(_error: Memory) -> BadExpr {
-        BadExpr::Memory
+    fn from(_: Memory) -> Self {
+        Self::Memory
     }
 }
 
 impl fmt::Display for BadExpr {
+    ghost output = { λ fault. Some (bad_expr_text fault) };
+
     fn fmt<W: fmt::Write>(&self, f: &mut fmt::Formatter<W>) -> fmt::Result {
         match self {
             BadExpr::Unexpected(at) => write!(f, "unexpected byte {at}"),
@@ -197,19 +198,21 @@ fn read(alloc: Global, bytes: &[u8]) -> Result<Expr, BadExpr>
 /// It goes through the bytes once and keeps what stands before each open parenthesis, without recursion.
 pub fn read_expr(alloc: Global, bytes: &[u8]) -> Result<Expr, BadExpr>
     requires { length bytes.now < 2 ^ 24 + 1 }
-    // What is read has this text, and no fault shows in it.
+    // The answer is the outcome of these bytes, unless memory runs out.
+    ensures outcome { MatchResult result
+        (λ found. IsOutcome bytes.now (Ok (expression found)))
+        (λ fault. fault ≢ BadExpr.Memory → IsOutcome bytes.now (Err fault)) }
+    // So what is read has this text, and no fault shows in it.
     ensures found { IfOk result (λ found. IsText bytes.now (expression found)) }
     ensures within { OnOk result (IsWithinLimits bytes.now) }
     ensures plain { IfOk result (λ found. IsPlainExpression (expression found)) }
     ensures small { IfOk result (λ found. nodes (expression found) < 2 ^ 32) }
     // Each text of an expression that is within the limits is read, unless memory runs out.
-    ensures whole { (e : Expression) → IsText bytes.now e → IsWithinLimits bytes.now →
-        MatchResult result (λ found. expression found ≡ e) (λ fault. fault ≡ BadExpr.Memory) }
+    ensures whole { (e : Expression) → IsText bytes.now e → IsWithinLimits bytes.now → MatchResult
+        result (λ found. expression found ≡ e) (λ fault. fault ≡ BadExpr.Memory) }
     // Each fault comes exactly where it shows first, unless memory runs out.
-    ensures unexpected { (at : ℕ) → Tells result (BadExpr.Unexpected at) (IsUnexpected bytes.now at) }
-    ensures long_name { (at : ℕ) → Tells result (BadExpr.LongName at) (IsLongName bytes.now at) }
-    ensures too_large { Tells result BadExpr.TooLarge (IsTooLarge bytes.now) }
-    ensures ended { Tells result BadExpr.Ended (IsEnded bytes.now) }
+    ensures fault { (fault : BadExpr) → fault ≢ BadExpr.Memory →
+        Tells result fault (IsFault fault bytes.now) }
 {
     read(alloc, bytes)
 }

@@ -1,12 +1,11 @@
 use Rattle.std.proofs.Common.{◌<◌, ◌≤◌, ◌^◌, length, arith}
 use Rattle.std.proofs.lemmas.Result.{IfOk-weaker}
-use Rattle.path_syntax.specs.declared.read.BadExpr.TheVariants.{Unexpected, Ended, TooLarge, LongName}
 use Rattle.path_syntax.specs.Expression.{expression}
 use Rattle.path_syntax.specs.Grammar.{IsText}
 use Rattle.path_syntax.specs.Faults.{IsWithinLimits}
 use Rattle.path_syntax.specs.Plain.{IsPlainExpression}
 use Rattle.path_syntax.specs.Size.{nodes}
-use Rattle.path_syntax.proofs.Answering.{IsFound, plain_text, small_text, found, whole, tells}
+use Rattle.path_syntax.proofs.Answering.{IsFound, plain_text, small_text, found, answered, whole, tells}
 use Rattle.path_syntax.proofs.read.read_expr.Goals as goal
 
 pub returns-clause-found : goal.returns-clause-found
@@ -34,14 +33,8 @@ returns-clause-small c =
 pub returns-clause-whole : goal.returns-clause-whole
 returns-clause-whole c = whole expression c.args.bytes.now c.read.result c.read.ensures
 
-pub returns-clause-unexpected : goal.returns-clause-unexpected
-returns-clause-unexpected c = λ at. tells expression c.args.bytes.now c.read.result c.read.ensures (Unexpected at) (λ h. cc)
+pub returns-clause-fault : goal.returns-clause-fault
+returns-clause-fault c = tells expression c.args.bytes.now c.read.result c.read.ensures
 
-pub returns-clause-long_name : goal.returns-clause-long_name
-returns-clause-long_name c = λ at. tells expression c.args.bytes.now c.read.result c.read.ensures (LongName at) (λ h. cc)
-
-pub returns-clause-too_large : goal.returns-clause-too_large
-returns-clause-too_large c = tells expression c.args.bytes.now c.read.result c.read.ensures TooLarge (λ h. cc)
-
-pub returns-clause-ended : goal.returns-clause-ended
-returns-clause-ended c = tells expression c.args.bytes.now c.read.result c.read.ensures Ended (λ h. cc)
+pub returns-clause-outcome : goal.returns-clause-outcome
+returns-clause-outcome c = answered expression c.args.bytes.now c.read.result c.read.ensures
