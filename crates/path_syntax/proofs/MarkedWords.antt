@@ -1,5 +1,5 @@
 -- What the marks of the matcher say of words.
-use Rattle.std.proofs.Common.{◌≡◌, ◌≢◌, Bool, true, false, ◌&&◌, ◌||◌, IsTrue, ◌↔◌, List, [], ◌∷◌, ◌++◌, ◌⊎◌, inl, inr, ℕ, ◌+◌, ◌-◌, ◌<◌, ◌≤◌, length, get_or, take, drop, refl, sym, ◌∙◌, ap, subst, append_assoc, add-one, arith}
+use Rattle.std.proofs.Common.{◌≡◌, ◌≢◌, Bool, true, false, ◌&&◌, ◌||◌, IsTrue, ◌↔◌, List, [], ◌∷◌, ◌++◌, ◌⊎◌, inl, inr, ℕ, ◌+◌, ◌-◌, ◌<◌, ◌≤◌, length, get_or, take, drop, refl, sym, ◌∙◌, ap, subst, append_assoc, add-one, suc, arith}
 use Rattle.std.proofs.lemmas.Bool.{false≢true, or_cases, and_parts, and_from, or_left, or_right}
 use Rattle.std.proofs.lemmas.List.{append-nil, take_all, drop_all}
 use Rattle.std.proofs.Math.Seq.{drop-cons}
@@ -347,14 +347,17 @@ begun e (label ∷ word) first marks some is after =
     (subst (λ (l : Label). Stands e (marks_after e [] true first) word (l ∷ word)) is (first_label e first word)))
 
 -- one more label
-pub moved : (e : Expression) (marks after : List Bool) (rest word : List Label) (i : ℕ) (label : Label) → i < length rest →
-    label ≡ get_or rest i label → after ≡ marks_after e marks false label → Stands e marks (drop i rest) word → Stands e after (drop (i + 1) rest) word
-moved e marks after rest word i label below is then stands =
+pub moved : (e : Expression) (marks slice after : List Bool) (rest word : List Label) (i : ℕ) (label : Label) → i < length rest →
+    label ≡ get_or rest i label → slice ≡ marks → after ≡ marks_after e slice false label → Stands e marks (drop i rest) word →
+    Stands e after (drop (i + 1) rest) word
+moved e marks slice after rest word i label below is same then stands =
     let split : drop i rest ≡ label ∷ drop (i + 1) rest = rw (add-one, drop-cons rest i label) (ap (λ (l : Label). l ∷ drop (suc i) rest) (sym is)) in
-    subst (λ (ms : List Bool). Stands e ms (drop (i + 1) rest) word) (sym then)
+    subst (λ (ms : List Bool). Stands e ms (drop (i + 1) rest) word) (sym (then ∙ ap (λ (ms : List Bool). marks_after e ms false label) same))
     (next_label e marks label (drop (i + 1) rest) word (subst (λ (left : List Label). Stands e marks left word) split stands))
 
 -- no more label
-pub ended : (e : Expression) (marks : List Bool) (rest word : List Label) (i : ℕ) → length rest ≤ i → Stands e marks (drop i rest) word →
-    IsTrue (may_end e marks) ↔ In e word
-ended e marks rest word i over stands = at_end e marks word (subst (λ (left : List Label). Stands e marks left word) (drop_all i rest over) stands)
+pub ended : (e : Expression) (marks slice : List Bool) (rest word : List Label) (i : ℕ) (test : Bool) → length rest ≤ i → slice ≡ marks →
+    test ≡ may_end e slice → Stands e marks (drop i rest) word → IsTrue test ↔ In e word
+ended e marks slice rest word i test over same is stands =
+    subst (λ (t : Bool). IsTrue t ↔ In e word) (sym (is ∙ ap (may_end e) same))
+    (at_end e marks word (subst (λ (left : List Label). Stands e marks left word) (drop_all i rest over) stands))
