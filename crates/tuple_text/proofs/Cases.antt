@@ -10,7 +10,7 @@ use Rattle.rpq_base.specs.declared.data.Tuple.{Tuple}
 use Rattle.tuple_text.specs.declared.read.BadLine.{BadLine}
 use Rattle.tuple_text.specs.declared.read.BadLine.TheVariants.{Fields, Time, TimeRange, BadName, Op, Memory}
 use Rattle.tuple_text.specs.Reading.{◌>>=◌, time_of, edge_of, edge_named, act_of, change_of, tuple_at, tuple_of_fields}
-use Rattle.tuple_text.specs.Parts.{IsStreamEdge, IsActOf, IsTimeText, IsTupleOf, HasFault, IsFirstFault, turn}
+use Rattle.tuple_text.specs.Parts.{IsStreamEdge, IsActOf, IsTimeText, IsTupleOf, HasFault, IsFirstFault, rank}
 use Rattle.tuple_text.proofs.Order.{Passes, counted, timed, ranged, named, signed}
 use Rattle.tuple_text.proofs.Steps.{not_digits, too_large, written, time_cases, time_not_digits, time_too_large, time_text_read, edge_bad_source, edge_bad_label, edge_bad_target, edge_read, SignCase, plus, minus, neither, sign_cases, change_bad_time, change_bad_edge, change_read, tick_bad_time, tick_read}
 
@@ -75,7 +75,7 @@ front time source label target more p =
 miscounted : (list : List (List ℕ)) → (length list ≢ 1) → (length list ≢ 4) → (length list ≢ 5) → tuple_of_fields list ≡ Err (Fields (length list)) → Ends list
 miscounted list one four five e = badly (Fields (length list)) (record { has = (refl, one, four, five); first = first }) e
   where
-    first : (other : BadLine) → HasFault other list → 1 ≤ turn other
+    first : (other : BadLine) → HasFault other list → 1 ≤ rank other
     first (Fields n) f = omega arith
     first Time f = omega arith
     first TimeRange f = omega arith

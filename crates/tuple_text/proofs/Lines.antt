@@ -1,6 +1,6 @@
 -- What a line gives is known by its parts.
 use Rattle.std.proofs.Common.{◌≡◌, ℕ, Bool, true, false, eqb, ◌||◌, ◌↔◌, Option, Some, None, Result, Ok, Err, List, refl, sym, ap, ◌∙◌, subst, inl, inr, unwrap_or}
-use Rattle.std.proofs.lemmas.Bool.{or_cases, eqb-true, false≢true}
+use Rattle.std.proofs.lemmas.Bool.{or_cases, or_right, eqb-true, false≢true}
 use Rattle.text_parts.specs.Lines.{is_blank_line, is_comment, first_solid}
 use Rattle.text_parts.specs.Fields.{fields}
 use Rattle.rpq_base.specs.declared.data.Tuple.{Tuple}
@@ -24,14 +24,10 @@ nothing_found : (line : List ℕ) → gives_nothing line ≡ true → GivesNothi
 nothing_found line e =
     elim (or_cases (is_blank_line line) (is_comment line) e) [ inl blank ↦ inl blank | inr comment ↦ inr (comment_byte (first_solid line) comment) ]
 
-second_passes : (first second : Bool) → second ≡ true → (first || second) ≡ true
-second_passes true second e = refl
-second_passes false second e = e
-
 -- what gives nothing passes it
 nothing_passes : (line : List ℕ) → GivesNothing line → gives_nothing line ≡ true
 nothing_passes line (inl blank) = ap (λ b. b || is_comment line) blank
-nothing_passes line (inr comment) = second_passes (is_blank_line line) (is_comment line) (ap (λ byte. eqb (unwrap_or byte 0) 35) comment)
+nothing_passes line (inr comment) = or_right (is_blank_line line) (is_comment line) (ap (λ byte. eqb (unwrap_or byte 0) 35) comment)
 
 -- such a line, and another
 nothing_read : (line : List ℕ) → gives_nothing line ≡ true → line_tuple line ≡ Ok None

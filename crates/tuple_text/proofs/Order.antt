@@ -2,20 +2,20 @@
 use Rattle.std.proofs.Common.{◌≡◌, ℕ, ◌+◌, ◌-◌, ◌≤◌, cond, eqb, ne_eqb, List, length, refl, sym, ap, ◌∙◌, subst, arith, inl, inr, ◌⊎◌}
 use Rattle.std.proofs.lemmas.Bool.{cases_lt}
 use Rattle.text_parts.specs.Numbers.{IsDigitText, number_of}
+use Rattle.rpq_base.specs.declared.data.TheConstants.{MAX_TIME}
 use Rattle.rpq_base.specs.Names.{IsName}
 use Rattle.tuple_text.specs.declared.read.BadLine.{BadLine}
 use Rattle.tuple_text.specs.declared.read.BadLine.TheVariants.{Fields, Time, TimeRange, BadName, Op, Memory}
-use Rattle.tuple_text.specs.Reading.{greatest_time}
-use Rattle.tuple_text.specs.Parts.{field_at, HasFault, IsFirstFault, turn}
+use Rattle.tuple_text.specs.Parts.{field_at, HasFault, IsFirstFault, rank}
 
--- no fault that the fields have is tested before this turn
+-- no fault that the fields have is tested before this rank
 abbrev pub Passes : ℕ → List (List ℕ) → Type 0
-Passes k list = (other : BadLine) → HasFault other list → k ≤ turn other
+Passes k list = (other : BadLine) → HasFault other list → k ≤ rank other
 
--- none at this turn either
-step : (k : ℕ) (list : List (List ℕ)) → Passes k list → ((other : BadLine) → turn other ≡ k → HasFault other list → ⊥) → Passes (k + 1) list
+-- none at this rank either
+step : (k : ℕ) (list : List (List ℕ)) → Passes k list → ((other : BadLine) → rank other ≡ k → HasFault other list → ⊥) → Passes (k + 1) list
 step k list p none other f =
-    elim (cases_lt k (turn other)) [
+    elim (cases_lt k (rank other)) [
       | inl l ↦ omega arith
       | inr g ↦ absurd (none other (omega (arith, p other f)) f)
     ]
@@ -37,7 +37,7 @@ counted list right Memory f = absurd f
 pub timed : (list : List (List ℕ)) → Passes 2 list → IsDigitText (field_at list 1) → Passes 3 list
 timed list p digits = step 2 list p none
   where
-    none : (other : BadLine) → turn other ≡ 2 → HasFault other list → ⊥
+    none : (other : BadLine) → rank other ≡ 2 → HasFault other list → ⊥
     none (Fields n) e f = omega (arith, e)
     none Time e f = f digits
     none TimeRange e f = omega (arith, e)
@@ -46,10 +46,10 @@ timed list p digits = step 2 list p none
     none Memory e f = f
 
 -- the time is in its range
-pub ranged : (list : List (List ℕ)) → Passes 3 list → number_of (field_at list 1) ≤ greatest_time → Passes 4 list
+pub ranged : (list : List (List ℕ)) → Passes 3 list → number_of (field_at list 1) ≤ MAX_TIME → Passes 4 list
 ranged list p small = step 3 list p none
   where
-    none : (other : BadLine) → turn other ≡ 3 → HasFault other list → ⊥
+    none : (other : BadLine) → rank other ≡ 3 → HasFault other list → ⊥
     none (Fields n) e f = omega (arith, e)
     none Time e f = omega (arith, e)
     none TimeRange e f = omega (arith, small, f.1)
@@ -61,7 +61,7 @@ ranged list p small = step 3 list p none
 pub named : (k : ℕ) (list : List (List ℕ)) → 2 ≤ k → k ≤ 4 → Passes (2 + k) list → IsName (field_at list k) → Passes (2 + k + 1) list
 named k list low high p name = step (2 + k) list p none
   where
-    none : (other : BadLine) → turn other ≡ 2 + k → HasFault other list → ⊥
+    none : (other : BadLine) → rank other ≡ 2 + k → HasFault other list → ⊥
     none (Fields n) e f = omega (arith, e, low)
     none Time e f = omega (arith, e, low)
     none TimeRange e f = omega (arith, e, low)
@@ -75,7 +75,7 @@ named k list low high p name = step (2 + k) list p none
 pub signed : (list : List (List ℕ)) → Passes 7 list → (HasFault Op list → ⊥) → Passes 8 list
 signed list p right = step 7 list p none
   where
-    none : (other : BadLine) → turn other ≡ 7 → HasFault other list → ⊥
+    none : (other : BadLine) → rank other ≡ 7 → HasFault other list → ⊥
     none (Fields n) e f = omega (arith, e)
     none Time e f = omega (arith, e)
     none TimeRange e f = omega (arith, e)
@@ -92,28 +92,28 @@ faultless list p (BadName place) f = omega (arith, p (BadName place) f, f.1)
 faultless list p Op f = omega (arith, p Op f)
 faultless list p Memory f = f
 
--- the fault that is tested at this turn
+-- the fault that is tested at this rank
 tested_at : ℕ → ℕ → BadLine
 tested_at k n = cond (eqb k 1) (Fields n) (cond (eqb k 2) Time (cond (eqb k 3) TimeRange (cond (eqb k 7) Op (BadName (k - 2)))))
 
--- what fault the fields have at a turn is known by the turn
-found_by_turn : (list : List (List ℕ)) (fault : BadLine) → HasFault fault list → fault ≡ tested_at (turn fault) (length list)
+-- what fault the fields have at a rank is known by the rank
+found_by_rank : (list : List (List ℕ)) (fault : BadLine) → HasFault fault list → fault ≡ tested_at (rank fault) (length list)
 unfolding tested_at
-found_by_turn list (Fields n) f = ap (λ count. Fields count) f.0
-found_by_turn list Time f = refl
-found_by_turn list TimeRange f = refl
-found_by_turn list (BadName place) f =
+found_by_rank list (Fields n) f = ap (λ count. Fields count) f.0
+found_by_rank list Time f = refl
+found_by_rank list TimeRange f = refl
+found_by_rank list (BadName place) f =
     let one = ne_eqb (2 + place) 1 (λ e. omega (arith, e)) in
     let two = ne_eqb (2 + place) 2 (λ e. omega (arith, e, f.0)) in
     let three = ne_eqb (2 + place) 3 (λ e. omega (arith, e, f.0)) in
     let seven = ne_eqb (2 + place) 7 (λ e. omega (arith, e, f.1)) in
     let back : place ≡ 2 + place - 2 = omega arith in
     ap (λ at. BadName at) back ∙ sym (rw (one, two, three, seven) refl)
-found_by_turn list Op f = refl
-found_by_turn list Memory f = absurd f
+found_by_rank list Op f = refl
+found_by_rank list Memory f = absurd f
 
 -- there is one first fault
 pub same_fault : (list : List (List ℕ)) (fault other : BadLine) → IsFirstFault fault list → IsFirstFault other list → fault ≡ other
 same_fault list fault other one two =
-    let turns : turn fault ≡ turn other = omega (arith, one.first other two.has, two.first fault one.has) in
-    found_by_turn list fault one.has ∙ ap (λ k. tested_at k (length list)) turns ∙ sym (found_by_turn list other two.has)
+    let ranks : rank fault ≡ rank other = omega (arith, one.first other two.has, two.first fault one.has) in
+    found_by_rank list fault one.has ∙ ap (λ k. tested_at k (length list)) ranks ∙ sym (found_by_rank list other two.has)

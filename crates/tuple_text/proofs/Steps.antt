@@ -1,6 +1,8 @@
 -- What each step of the reading gives, by what its fields are.
 use Rattle.std.proofs.Common.{◌≡◌, ◌≢◌, ℕ, ◌+◌, ◌<◌, ◌≤◌, Bool, true, false, not, eqb, Ok, Err, ne_eqb, List, [], ◌∷◌, length, get_or, codes, refl, sym, ap, ◌∙◌, arith, inl, inr}
 use Rattle.std.specs.Char.{IsAsciiDigit, is_ascii_digit}
+use Rattle.std.specs.Str.{bytes_eq}
+use Rattle.std.specs.Cmp.Lexicographic.{same_text, other_text}
 use Rattle.std.specs.List.{slice_split}
 use Rattle.std.proofs.lemmas.Bool.{and_from, and_parts, le-leb, lt-leb, cases_Bool, cases_lt, eqb-true, eqb-false, false≢true}
 use Rattle.std.proofs.lemmas.Bool.Decides.{nat_tests}
@@ -9,12 +11,13 @@ use Rattle.std.proofs.lemmas.List.Splits.{length-slice_split}
 use Rattle.text_parts.specs.Lines.{is_blank}
 use Rattle.text_parts.specs.Fields.{fields}
 use Rattle.text_parts.specs.Numbers.{number_of, IsDigitText, is_digit_text}
+use Rattle.rpq_base.specs.declared.data.TheConstants.{MAX_TIME}
 use Rattle.rpq_base.specs.Names.{is_name, IsName}
 use Rattle.rpq_base.specs.declared.data.Edge.{Edge}
 use Rattle.rpq_base.specs.declared.data.Act.TheVariants.{Insert, Delete, Tick}
 use Rattle.tuple_text.specs.declared.read.BadLine.{BadLine}
 use Rattle.tuple_text.specs.declared.read.BadLine.TheVariants.{Time, TimeRange, BadName, Op}
-use Rattle.tuple_text.specs.Reading.{greatest_time, ◌>>=◌, time_of, name_of, edge_of, edge_named, act_of, tick_of, change_of, tuple_at}
+use Rattle.tuple_text.specs.Reading.{◌>>=◌, time_of, name_of, edge_of, edge_named, act_of, tick_of, change_of, tuple_at}
 use Rattle.tuple_text.specs.Parts.{IsTimeText}
 
 -- a line has at most one field more than bytes
@@ -55,14 +58,14 @@ unfolding time_of
 time_not_digits text h = rw (no_digit_text text h) refl
 
 -- a time out of range
-pub time_too_large : (text : List ℕ) → IsDigitText text → greatest_time < number_of text → time_of text ≡ Err TimeRange
+pub time_too_large : (text : List ℕ) → IsDigitText text → MAX_TIME < number_of text → time_of text ≡ Err TimeRange
 unfolding time_of
-time_too_large text h l = rw (digit_text_passes text h, lt-leb (number_of text) greatest_time l) refl
+time_too_large text h l = rw (digit_text_passes text h, lt-leb (number_of text) MAX_TIME l) refl
 
 -- a time
-pub time_read : (text : List ℕ) → IsDigitText text → number_of text ≤ greatest_time → time_of text ≡ Ok (number_of text)
+pub time_read : (text : List ℕ) → IsDigitText text → number_of text ≤ MAX_TIME → time_of text ≡ Ok (number_of text)
 unfolding time_of
-time_read text h l = rw (digit_text_passes text h, le-leb (number_of text) greatest_time l) refl
+time_read text h l = rw (digit_text_passes text h, le-leb (number_of text) MAX_TIME l) refl
 
 -- a field that writes a time is read as it
 pub time_text_read : (time : ℕ) (text : List ℕ) → IsTimeText time text → time_of text ≡ Ok time
@@ -71,7 +74,7 @@ time_text_read time text h = time_read text h.digits (omega (arith, h.value, h.r
 -- how a field ends as a time
 pub data TimeCase (text : List ℕ) : Type 0 where
   not_digits : ¬ (IsDigitText text) → TimeCase text
-  too_large : IsDigitText text → greatest_time < number_of text → TimeCase text
+  too_large : IsDigitText text → MAX_TIME < number_of text → TimeCase text
   written : IsTimeText (number_of text) text → TimeCase text
 
 pub time_cases : (text : List ℕ) → TimeCase text
@@ -81,7 +84,7 @@ time_cases text = by (is_digit_text text) refl
     by false e = not_digits (λ h. false≢true (sym e ∙ digit_text_passes text h))
     by true e =
         let digits = digit_text_found text e in
-        elim (cases_lt greatest_time (number_of text)) [
+        elim (cases_lt MAX_TIME (number_of text)) [
           | inl l ↦ too_large digits l
           | inr g ↦ written (record { digits = digits; value = refl; range = g })
         ]
@@ -121,17 +124,16 @@ pub data SignCase (edge : Edge) (sign : List ℕ) : Type 0 where
 
 pub sign_cases : (edge : Edge) (sign : List ℕ) → SignCase edge sign
 unfolding act_of
-sign_cases edge [] = neither (λ e. cc) (λ e. cc) refl
-sign_cases edge (byte ∷ []) = by (eqb byte 43) refl
+sign_cases edge sign = by (bytes_eq sign (codes "+")) (bytes_eq sign (codes "-")) refl refl
   where
-    other : (is_minus : Bool) → eqb byte 43 ≡ false → eqb byte 45 ≡ is_minus → SignCase edge (byte ∷ [])
-    other true n e = minus (ap (λ b. b ∷ []) (eqb-true byte 45 e)) (rw (n, e) refl)
-    other false n e = neither (λ p. eqb-false byte 43 n cc) (λ m. eqb-false byte 45 e cc) (rw (n, e) refl)
-
-    by : (is_plus : Bool) → eqb byte 43 ≡ is_plus → SignCase edge (byte ∷ [])
-    by true e = plus (ap (λ b. b ∷ []) (eqb-true byte 43 e)) (rw e refl)
-    by false e = other (eqb byte 45) e refl
-sign_cases edge (first ∷ second ∷ more) = neither (λ e. cc) (λ e. cc) refl
+    by : (is_plus is_minus : Bool)
+        → bytes_eq sign (codes "+") ≡ is_plus → bytes_eq sign (codes "-") ≡ is_minus
+        → SignCase edge sign
+    by true is_minus p m = plus (same_text sign (codes "+") (sym p)) (rw p refl)
+    by false true p m = minus (same_text sign (codes "-") (sym m)) (rw (p, m) refl)
+    by false false p m =
+        neither (other_text sign (codes "+") (sym p)) (other_text sign (codes "-") (sym m))
+        (rw (p, m) refl)
 
 -- a change with a bad time, with a bad edge, and with neither
 pub change_bad_time : (field source label target sign : List ℕ) (fault : BadLine) → time_of field ≡ Err fault → change_of field source label target sign ≡ Err fault

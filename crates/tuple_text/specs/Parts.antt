@@ -1,17 +1,20 @@
 -- The same by its parts: which fields give a tuple, and which faults they have.
-use Rattle.std.specs.Prelude.{◌≡◌, ◌≢◌, ℕ, ◌+◌, ◌-◌, ◌<◌, ◌≤◌, ◌⊎◌, ◌↔◌, IsTrue, List, [], ◌∷◌, ◌++◌, length, slice_index_or, codes, Some, None, Ok, Err}
+use Rattle.std.specs.Prelude.{◌≡◌, ◌≢◌, ℕ, ◌+◌, ◌-◌, ◌<◌, ◌≤◌, ◌⊎◌, ◌↔◌, IsTrue, codes}
+use Rattle.std.specs.Prelude.{List, [], ◌∷◌, ◌++◌, length, slice_index_or, Some, None, Ok, Err}
 use Rattle.text_parts.specs.Lines.{is_blank_line, IsComment}
 use Rattle.text_parts.specs.Fields.{fields}
 use Rattle.text_parts.specs.Numbers.{IsDigitText, number_of}
 use Rattle.rpq_base.specs.Names.{IsName}
 use Rattle.rpq_base.specs.Plain.{IsPlainLabel}
+use Rattle.rpq_base.specs.declared.data.TheConstants.{MAX_TIME}
 use Rattle.rpq_base.specs.declared.data.Edge.{Edge}
 use Rattle.rpq_base.specs.declared.data.Act.{Act}
 use Rattle.rpq_base.specs.declared.data.Act.TheVariants.{Insert, Delete, Tick}
 use Rattle.rpq_base.specs.declared.data.Tuple.{Tuple}
-use Rattle.tuple_text.specs.Reading.{greatest_time, line_tuple}
+use Rattle.tuple_text.specs.Reading.{line_tuple}
 use Rattle.tuple_text.specs.declared.read.BadLine.{BadLine}
-use Rattle.tuple_text.specs.declared.read.BadLine.TheVariants.{Fields, Time, TimeRange, BadName, Op, Memory}
+use Rattle.tuple_text.specs.declared.read.BadLine.TheVariants.{Fields, Time, TimeRange}
+use Rattle.tuple_text.specs.declared.read.BadLine.TheVariants.{BadName, Op, Memory}
 
 -- the field at a place, counted from 1
 abbrev pub field_at : List (List ℕ) → ℕ → List ℕ
@@ -31,41 +34,47 @@ edge_fields edge = edge.from ∷ edge.label.name ∷ edge.to ∷ []
 -- an act, and what fields follow the time for it
 abbrev pub IsActOf : Act → List (List ℕ) → Type 0
 IsActOf Tick list = list ≡ []
-IsActOf (Insert edge) list = IsStreamEdge edge × ((list ≡ edge_fields edge) ⊎ (list ≡ edge_fields edge ++ codes "+" ∷ []))
+IsActOf (Insert edge) list =
+    IsStreamEdge edge × ((list ≡ edge_fields edge) ⊎ (list ≡ edge_fields edge ++ codes "+" ∷ []))
 IsActOf (Delete edge) list = IsStreamEdge edge × (list ≡ edge_fields edge ++ codes "-" ∷ [])
 
 -- a field that writes a time
 pub record IsTimeText (time : ℕ) (text : List ℕ) : Type 0 where
   pub digits : IsDigitText text
   pub value : number_of text ≡ time
-  pub range : time ≤ greatest_time
+  pub range : time ≤ MAX_TIME
 
 -- the fields write this tuple: first its time, and then its act
 abbrev pub IsTupleOf : Tuple → List (List ℕ) → Type 0
-IsTupleOf tuple list = (time : List ℕ) × (rest : List (List ℕ)) × (list ≡ time ∷ rest) × IsTimeText tuple.time time × IsActOf tuple.act rest
+IsTupleOf tuple list =
+    (time : List ℕ) × (rest : List (List ℕ))
+    × (list ≡ time ∷ rest) × IsTimeText tuple.time time × IsActOf tuple.act rest
 
 -- the fields have this fault, whichever others they have
 abbrev pub HasFault : BadLine → List (List ℕ) → Type 0
 HasFault (Fields n) list = (n ≡ length list) × (n ≢ 1) × (n ≢ 4) × (n ≢ 5)
 HasFault Time list = ¬ (IsDigitText (field_at list 1))
-HasFault TimeRange list = IsDigitText (field_at list 1) × (greatest_time < number_of (field_at list 1))
-HasFault (BadName place) list = (2 ≤ place) × (place ≤ 4) × (place ≤ length list) × ¬ (IsName (field_at list place))
-HasFault Op list = (length list ≡ 5) × (field_at list 5 ≢ codes "+") × (field_at list 5 ≢ codes "-")
+HasFault TimeRange list =
+    IsDigitText (field_at list 1) × (MAX_TIME < number_of (field_at list 1))
+HasFault (BadName place) list =
+    (2 ≤ place) × (place ≤ 4) × (place ≤ length list) × ¬ (IsName (field_at list place))
+HasFault Op list =
+    (length list ≡ 5) × (field_at list 5 ≢ codes "+") × (field_at list 5 ≢ codes "-")
 HasFault Memory list = ⊥
 
--- the order in which faults are tested, names from the second field to the fourth
-abbrev pub turn : BadLine → ℕ
-turn (Fields n) = 1
-turn Time = 2
-turn TimeRange = 3
-turn (BadName place) = 2 + place
-turn Op = 7
-turn Memory = 8
+-- the place of a fault in the order in which they are tested, names from the second field to the fourth
+abbrev pub rank : BadLine → ℕ
+rank (Fields n) = 1
+rank Time = 2
+rank TimeRange = 3
+rank (BadName place) = 2 + place
+rank Op = 7
+rank Memory = 8
 
 -- the fields have this fault, and none that is tested before it
 pub record IsFirstFault (fault : BadLine) (list : List (List ℕ)) : Type 0 where
   pub has : HasFault fault list
-  pub first : (other : BadLine) → HasFault other list → turn fault ≤ turn other
+  pub first : (other : BadLine) → HasFault other list → rank fault ≤ rank other
 
 -- a line that gives nothing: a blank line or a comment
 abbrev pub GivesNothing : List ℕ → Type 0
@@ -74,8 +83,12 @@ GivesNothing line = IsTrue (is_blank_line line) ⊎ IsComment line
 -- exactly when a line gives nothing, which tuple, and which fault
 pub record IsReadByParts (line : List ℕ) : Type 0 where
   pub nothing : (line_tuple line ≡ Ok None) ↔ GivesNothing line
-  pub tuple : (tuple : Tuple) → (line_tuple line ≡ Ok (Some tuple)) ↔ (¬ (GivesNothing line) × IsTupleOf tuple (fields line))
-  pub fault : (fault : BadLine) → (line_tuple line ≡ Err fault) ↔ (¬ (GivesNothing line) × IsFirstFault fault (fields line))
+  pub tuple : (tuple : Tuple)
+      → (line_tuple line ≡ Ok (Some tuple))
+          ↔ (¬ (GivesNothing line) × IsTupleOf tuple (fields line))
+  pub fault : (fault : BadLine)
+      → (line_tuple line ≡ Err fault)
+          ↔ (¬ (GivesNothing line) × IsFirstFault fault (fields line))
 
 abbrev pub LineByParts : Type 0
 LineByParts = (line : List ℕ) → IsReadByParts line

@@ -1,19 +1,19 @@
--- What a line of a stream gives: a tuple, nothing, or its first fault. The line stands without its line feed and its carriage return.
-use Rattle.std.specs.Prelude.{ℕ, ◌-◌, ◌^◌, ◌==◌, ◌||◌, not, nat_le, false, List, [], ◌∷◌, length, codes, Option, Some, None, Result, Ok, Err, if◌then◌else◌}
+-- What a line of a stream gives: a tuple, nothing, or its first fault. The line stands without its
+-- line feed and its carriage return.
+use Rattle.std.specs.Prelude.{ℕ, ◌||◌, not, nat_le, false, bytes_eq, codes, if◌then◌else◌}
+use Rattle.std.specs.Prelude.{List, [], ◌∷◌, length, Option, Some, None, Result, Ok, Err}
 use Rattle.text_parts.specs.Lines.{is_blank_line, is_comment}
 use Rattle.text_parts.specs.Fields.{fields}
 use Rattle.text_parts.specs.Numbers.{is_digit_text, number_of}
 use Rattle.rpq_base.specs.Names.{is_name}
+use Rattle.rpq_base.specs.declared.data.TheConstants.{MAX_TIME}
 use Rattle.rpq_base.specs.declared.data.Edge.{Edge}
 use Rattle.rpq_base.specs.declared.data.Act.{Act}
 use Rattle.rpq_base.specs.declared.data.Act.TheVariants.{Insert, Delete, Tick}
 use Rattle.rpq_base.specs.declared.data.Tuple.{Tuple}
 use Rattle.tuple_text.specs.declared.read.BadLine.{BadLine}
-use Rattle.tuple_text.specs.declared.read.BadLine.TheVariants.{Fields, Time, TimeRange, BadName, Op}
-
--- the greatest time of a tuple
-abbrev pub greatest_time : ℕ
-greatest_time = 2 ^ 62 - 1
+use Rattle.tuple_text.specs.declared.read.BadLine.TheVariants.{Fields, Time, TimeRange}
+use Rattle.tuple_text.specs.declared.read.BadLine.TheVariants.{BadName, Op}
 
 -- a step and the next one, which takes what the first gave; the first fault ends the reading
 infixl 10 ◌>>=◌
@@ -24,7 +24,9 @@ abbrev pub ◌>>=◌ : {A B : Type 0} → Result A BadLine → (A → Result B B
 -- the time that a field writes: a digit text of at most the greatest time
 unfoldable pub time_of : List ℕ → Result ℕ BadLine
 time_of field =
-    if not (is_digit_text field) then Err Time else if nat_le (number_of field) greatest_time then Ok (number_of field) else Err TimeRange
+    if not (is_digit_text field) then Err Time
+    else if nat_le (number_of field) MAX_TIME then Ok (number_of field)
+    else Err TimeRange
 
 -- the name that the field at this place is
 unfoldable pub name_of : ℕ → List ℕ → Result (List ℕ) BadLine
@@ -32,7 +34,8 @@ name_of place field = if is_name field then Ok field else Err (BadName place)
 
 -- the edge from one vertex to another with a label that points forwards
 abbrev pub edge_named : List ℕ → List ℕ → List ℕ → Edge
-edge_named from label to = record { from = from; label = record { name = label; back = false }; to = to }
+edge_named from label to =
+    record { from = from; label = record { name = label; back = false }; to = to }
 
 -- the edge that the second to the fourth field name
 unfoldable pub edge_of : List ℕ → List ℕ → List ℕ → Result Edge BadLine
@@ -42,10 +45,12 @@ edge_of source label target = do
   to ← name_of 4 target
   Ok (edge_named from name to)
 
--- what a sign does with an edge: '+', which is 43, inserts it, and '-', which is 45, deletes it
+-- what a sign does with an edge: '+' inserts it, and '-' deletes it
 unfoldable pub act_of : Edge → List ℕ → Result Act BadLine
-act_of edge (byte ∷ []) = if byte == 43 then Ok (Insert edge) else if byte == 45 then Ok (Delete edge) else Err Op
-act_of edge sign = Err Op
+act_of edge sign =
+    if bytes_eq sign (codes "+") then Ok (Insert edge)
+    else if bytes_eq sign (codes "-") then Ok (Delete edge)
+    else Err Op
 
 -- the tuple of a time and an act
 abbrev pub tuple_at : ℕ → Act → Tuple
@@ -63,13 +68,18 @@ change_of field source label target sign = do
   act ← act_of edge sign
   Ok (tuple_at time act)
 
--- the tuple that the fields of a line give: TIME, or TIME SOURCE LABEL TARGET with or without a sign; without one it is an insert
+-- the tuple that the fields of a line give: TIME, or TIME SOURCE LABEL TARGET with or without a sign;
+-- without one it is an insert
 unfoldable pub tuple_of_fields : List (List ℕ) → Result Tuple BadLine
 tuple_of_fields (time ∷ []) = tick_of time
-tuple_of_fields (time ∷ source ∷ label ∷ target ∷ []) = change_of time source label target (codes "+")
-tuple_of_fields (time ∷ source ∷ label ∷ target ∷ sign ∷ []) = change_of time source label target sign
+tuple_of_fields (time ∷ source ∷ label ∷ target ∷ []) =
+    change_of time source label target (codes "+")
+tuple_of_fields (time ∷ source ∷ label ∷ target ∷ sign ∷ []) =
+    change_of time source label target sign
 tuple_of_fields others = Err (Fields (length others))
 
 -- what a line gives: nothing where it is a blank line or a comment, else the tuple of its fields
 unfoldable pub line_tuple : List ℕ → Result (Option Tuple) BadLine
-line_tuple line = if is_blank_line line || is_comment line then Ok None else (tuple_of_fields (fields line) >>= λ tuple. Ok (Some tuple))
+line_tuple line =
+    if is_blank_line line || is_comment line then Ok None
+    else (tuple_of_fields (fields line) >>= λ tuple. Ok (Some tuple))

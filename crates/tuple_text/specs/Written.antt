@@ -1,11 +1,13 @@
--- Tuples as they are written: one space between fields, and always the sign of an insert or a delete.
-use Rattle.std.specs.Prelude.{◌≡◌, ℕ, ◌+◌, ◌*◌, ◌≤◌, List, [], ◌++◌, length, map, All, Some, Ok, codes, decimal}
+-- Tuples as they are written: one space between fields, and always an insert's or a delete's sign.
+use Rattle.std.specs.Prelude.{◌≡◌, ℕ, ◌+◌, ◌*◌, ◌≤◌, codes, decimal}
+use Rattle.std.specs.Prelude.{List, [], ◌++◌, length, map, All, Some, Ok}
 use Rattle.text_parts.specs.Lines.{lines, text_of}
+use Rattle.rpq_base.specs.declared.data.TheConstants.{MAX_TIME}
 use Rattle.rpq_base.specs.declared.data.Edge.{Edge}
 use Rattle.rpq_base.specs.declared.data.Act.{Act}
 use Rattle.rpq_base.specs.declared.data.Act.TheVariants.{Insert, Delete, Tick}
 use Rattle.rpq_base.specs.declared.data.Tuple.{Tuple}
-use Rattle.tuple_text.specs.Reading.{greatest_time, line_tuple}
+use Rattle.tuple_text.specs.Reading.{line_tuple}
 use Rattle.tuple_text.specs.Parts.{IsStreamEdge}
 
 -- an edge: its source, its label and its target, each after a space
@@ -30,17 +32,22 @@ IsStreamAct Tick = Unit {0}
 
 -- a tuple of such an act, at a time in range: a tuple that some line gives
 pub record IsStreamTuple (tuple : Tuple) : Type 0 where
-  pub time : tuple.time ≤ greatest_time
+  pub time : tuple.time ≤ MAX_TIME
   pub act : IsStreamAct tuple.act
 
 -- what is written is read as the tuple that it was
 abbrev pub WrittenIsRead : Type 0
-WrittenIsRead = (tuple : Tuple) → IsStreamTuple tuple → line_tuple (written tuple) ≡ Ok (Some tuple)
+WrittenIsRead =
+    (tuple : Tuple) → IsStreamTuple tuple → line_tuple (written tuple) ≡ Ok (Some tuple)
 
--- what is written has at most the 19 digits of a time, three names of 255 bytes, each after a space, and a sign after one
+-- what is written has at most the 19 digits of a time, three names of 255 bytes, each after a space,
+-- and a sign after one
 abbrev pub WrittenIsShort : Type 0
-WrittenIsShort = (tuple : Tuple) → IsStreamTuple tuple → length (written tuple) ≤ 19 + 3 * (1 + 255) + 2
+WrittenIsShort =
+    (tuple : Tuple) → IsStreamTuple tuple → length (written tuple) ≤ 19 + 3 * (1 + 255) + 2
 
 -- the lines of a text of written tuples, each followed by a line feed, are read as these tuples
 abbrev pub WrittenLinesAreRead : Type 0
-WrittenLinesAreRead = (tuples : List Tuple) → All IsStreamTuple tuples → map line_tuple (lines (text_of (map written tuples))) ≡ map (λ tuple. Ok (Some tuple)) tuples
+WrittenLinesAreRead =
+    (tuples : List Tuple) → All IsStreamTuple tuples
+    → map line_tuple (lines (text_of (map written tuples))) ≡ map (λ tuple. Ok (Some tuple)) tuples

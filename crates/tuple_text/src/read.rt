@@ -1,9 +1,11 @@
 //! Reading a line of a stream.
 
-ghost use Rattle.std.specs.Prelude.{◌≡◌, ◌≢◌, ◌+◌, ◌^◌, ◌<◌, ◌≤◌, ◌↔◌, map, length, codes, IfOk, IfErr, IfSome};
+ghost use Rattle.std.specs.Prelude.{◌≡◌, ◌≢◌, ◌+◌, ◌^◌, ◌<◌, ◌≤◌, ◌↔◌, map, length, codes};
+ghost use Rattle.std.specs.Prelude.{IfOk, IfErr, IfSome};
 ghost use Rattle.rpq_base.specs.Plain.{IsPlainLabel, IsPlainAct, IsPlainTuple};
 ghost use Rattle.tuple_text.specs.Parts.{GivesNothing};
-ghost use Rattle.tuple_text.specs.Reading.{time_of, name_of, edge_of, act_of, tick_of, change_of, tuple_of_fields, line_tuple};
+ghost use Rattle.tuple_text.specs.Reading.{time_of, name_of, edge_of, act_of, tick_of, change_of};
+ghost use Rattle.tuple_text.specs.Reading.{tuple_of_fields, line_tuple};
 
 use rpq_base::{Act, Edge, Label, MAX_TIME, Memory, Name, NameFault, Tuple};
 use std::alloc::{AllocError, Global};
@@ -11,8 +13,8 @@ use std::error::Error;
 use std::fmt;
 use text_parts::{NumberFault, fields, is_blank_line, is_comment, read_number};
 
-/// Why a line gives no tuple. A line is answered with the first fault in this order that it has; of several fields that
-/// are no names the first counts.
+/// Why a line gives no tuple. A line is answered with the first fault in this order that it has; of
+/// several fields that are no names the first counts.
 #[derive(Clone, Copy, Debug, PartialEq, Eq)]
 pub enum BadLine {
     /// The line has this many fields, and not 1, 4 or 5.
@@ -33,33 +35,40 @@ impl From<AllocError> for BadLine {
     ghost use Rattle.std.specs.Prelude.{◌≡◌};
     ghost use Rattle.tuple_text.specs.declared.read.BadLine.TheVariants.{Memory};
 
-    ghost from_gives = { λ _ bad. bad ≡ Memory };
+    ghost from_gives = { λ _ fault. fault ≡ Memory };
 
-    fn from(_error: AllocError) -> BadLine {
-        BadLine::Memory
+    fn from(_: AllocError) -> Self {
+        Self::Memory
     }
 }
 
 impl fmt::Display for BadLine {
+    ghost use Rattle.std.specs.Prelude.{Some};
+    ghost use Rattle.tuple_text.specs.FaultText.{fault_text};
+
+    ghost output = { λ fault. Some (fault_text fault) };
+
     fn fmt<W: fmt::Write>(&self, f: &mut fmt::Formatter<W>) -> fmt::Result {
         match self {
-            BadLine::Fields(count) => write!(f, "a line has 1, 4 or 5 fields, and not {count}"),
-            BadLine::Time => f.write_str("the time isn't made of digits"),
-            BadLine::TimeRange => write!(f, "the time is above {MAX_TIME}"),
-            BadLine::BadName(place) => write!(f, "field {place} is no name"),
-            BadLine::Op => f.write_str("the fifth field is neither + nor -"),
-            BadLine::Memory => f.write_str("out of memory"),
+            BadLine::Fields(count) => write!(f, "fields {count}"),
+            BadLine::Time => f.write_str("time"),
+            BadLine::TimeRange => f.write_str("time range"),
+            BadLine::BadName(place) => write!(f, "name {place}"),
+            BadLine::Op => f.write_str("operation"),
+            BadLine::Memory => f.write_str("memory"),
         }
     }
 }
 
 impl Error for BadLine {}
 
-/// The tuple that a line gives, or `None` where the line is blank or a comment. A line is handed over without its line
-/// feed and without the carriage return that may stand at its end; such bytes would be part of its fields.
+/// The tuple that a line gives, or `None` where the line is blank or a comment. A line is handed over
+/// without its line feed and without the carriage return that may stand at its end; such bytes would
+/// be part of its fields.
 ///
-/// A tick is written `TIME`, an insert `TIME SOURCE LABEL TARGET` or the same with `+` as a fifth field, a delete with `-`. The
-/// time is written in digits and is at most [`MAX_TIME`], and the other three are names.
+/// A tick is written `TIME`, an insert `TIME SOURCE LABEL TARGET` or the same with `+` as a fifth
+/// field, a delete with `-`. The time is written in digits and is at most [`MAX_TIME`], and the other
+/// three are names.
 #[tactic(auto, unfolding(crate::specs::Reading::line_tuple))]
 pub fn read_tuple(alloc: Global, line: &[u8]) -> Result<Option<Tuple>, BadLine>
     requires { length line.now < 2 ^ 24 + 1 }
@@ -79,8 +88,10 @@ pub fn read_tuple(alloc: Global, line: &[u8]) -> Result<Option<Tuple>, BadLine>
 #[tactic(auto, unfolding(crate::specs::Reading::tuple_of_fields))]
 fn read_fields(alloc: Global, fields: &[&[u8]]) -> Result<Tuple, BadLine>
     requires { length fields.now < 2 ^ 32 }
-    ensures ok { IfOk result (λ tuple. tuple_of_fields (map (λ field. field.now) fields.now) ≡ Ok tuple) }
-    ensures err { IfErr result (λ bad. bad ≢ BadLine.Memory → tuple_of_fields (map (λ field. field.now) fields.now) ≡ Err bad) }
+    ensures ok { IfOk result (λ tuple.
+        tuple_of_fields (map (λ field. field.now) fields.now) ≡ Ok tuple) }
+    ensures err { IfErr result (λ bad. bad ≢ BadLine.Memory
+        → tuple_of_fields (map (λ field. field.now) fields.now) ≡ Err bad) }
     ensures plain { IfOk result IsPlainTuple }
 {
     match fields {
@@ -116,8 +127,10 @@ fn read_change(
     target: &[u8],
     sign: &[u8],
 ) -> Result<Tuple, BadLine>
-    ensures ok { IfOk result (λ tuple. change_of time.now source.now label.now target.now sign.now ≡ Ok tuple) }
-    ensures err { IfErr result (λ bad. bad ≢ BadLine.Memory → change_of time.now source.now label.now target.now sign.now ≡ Err bad) }
+    ensures ok { IfOk result (λ tuple.
+        change_of time.now source.now label.now target.now sign.now ≡ Ok tuple) }
+    ensures err { IfErr result (λ bad. bad ≢ BadLine.Memory
+        → change_of time.now source.now label.now target.now sign.now ≡ Err bad) }
     ensures plain { IfOk result IsPlainTuple }
 {
     let time = read_time(time)?;
@@ -139,11 +152,13 @@ fn read_time(field: &[u8]) -> Result<u64, BadLine>
     }
 }
 
-/// The edge with the names that three fields are, which stand from the second place on. Its label points forwards.
+/// The edge with the names that three fields are, which stand from the second place on. Its label
+/// points forwards.
 #[tactic(auto, unfolding(crate::specs::Reading::edge_of))]
 fn read_edge(alloc: Global, source: &[u8], label: &[u8], target: &[u8]) -> Result<Edge, BadLine>
     ensures ok { IfOk result (λ edge. edge_of source.now label.now target.now ≡ Ok edge) }
-    ensures err { IfErr result (λ bad. bad ≢ BadLine.Memory → edge_of source.now label.now target.now ≡ Err bad) }
+    ensures err { IfErr result (λ bad. bad ≢ BadLine.Memory
+        → edge_of source.now label.now target.now ≡ Err bad) }
     ensures plain { IfOk result (λ edge. IsPlainLabel edge.label) }
 {
     let from = read_name(alloc, 2, source)?;
@@ -157,7 +172,8 @@ fn read_edge(alloc: Global, source: &[u8], label: &[u8], target: &[u8]) -> Resul
 #[tactic(auto, unfolding(crate::specs::Reading::name_of))]
 fn read_name(alloc: Global, place: u32, field: &[u8]) -> Result<Name, BadLine>
     ensures ok { IfOk result (λ name. name_of place field.now ≡ Ok name) }
-    ensures err { IfErr result (λ bad. bad ≢ BadLine.Memory → name_of place field.now ≡ Err bad) }
+    ensures err { IfErr result (λ bad. bad ≢ BadLine.Memory
+        → name_of place field.now ≡ Err bad) }
 {
     match Name::new(alloc, field) {
         Ok(name) => Ok(name),

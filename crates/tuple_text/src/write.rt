@@ -12,8 +12,9 @@ use rpq_base::{Act, Edge, Memory, Name, Tuple};
 use std::alloc::{AllocError, Global};
 use text_parts::push_decimal;
 
-/// The written form of a tuple, without a line feed: its time, and for an insert or a delete the source, the label,
-/// the target and the sign, with one space between fields. The label points forwards.
+/// The written form of a tuple, without a line feed: its time, and for an insert or a delete the
+/// source, the label, the target and the sign, with one space between fields. The label points
+/// forwards.
 ///
 /// [`read_tuple`](crate::read_tuple) reads it as the tuple that it was.
 pub fn write_tuple(alloc: Global, tuple: &Tuple) -> Result<Vec<u8>, Memory>
