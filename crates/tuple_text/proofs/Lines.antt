@@ -1,5 +1,6 @@
 -- What a line gives is known by its parts.
-use Rattle.std.proofs.Common.{◌≡◌, ℕ, Bool, true, false, eqb, ◌||◌, ◌↔◌, Option, Some, None, Result, Ok, Err, List, refl, sym, ap, ◌∙◌, subst, inl, inr, unwrap_or}
+use Rattle.std.proofs.Common.{◌≡◌, ℕ, Bool, true, false, eqb, ◌||◌, ◌↔◌, Option, Some, None, Result}
+use Rattle.std.proofs.Common.{Ok, Err, List, refl, sym, ap, ◌∙◌, subst, inl, inr, unwrap_or}
 use Rattle.std.proofs.lemmas.Bool.{or_cases, or_right, eqb-true, false≢true}
 use Rattle.text_parts.specs.Lines.{is_blank_line, is_comment, first_solid}
 use Rattle.text_parts.specs.Fields.{fields}
@@ -34,20 +35,25 @@ nothing_read : (line : List ℕ) → gives_nothing line ≡ true → line_tuple 
 unfolding line_tuple
 nothing_read line e = rw e refl
 
-fields_read : (line : List ℕ) → gives_nothing line ≡ false → line_tuple line ≡ (tuple_of_fields (fields line) >>= λ tuple. Ok (Some tuple))
+fields_read : (line : List ℕ) → gives_nothing line ≡ false
+    → line_tuple line ≡ (tuple_of_fields (fields line) >>= λ tuple. Ok (Some tuple))
 unfolding line_tuple
 fields_read line e = rw e refl
 
 -- how a line ends
 data LineEnds (line : List ℕ) : Type 0 where
   empty : GivesNothing line → line_tuple line ≡ Ok None → LineEnds line
-  full : ¬ (GivesNothing line) → (tuple : Tuple) → IsTupleOf tuple (fields line) → ((fault : BadLine) → IsFirstFault fault (fields line) → ⊥) → line_tuple line ≡ Ok (Some tuple) → LineEnds line
-  faulty : ¬ (GivesNothing line) → (fault : BadLine) → IsFirstFault fault (fields line) → line_tuple line ≡ Err fault → LineEnds line
+  full : ¬ (GivesNothing line) → (tuple : Tuple) → IsTupleOf tuple (fields line)
+      → ((fault : BadLine) → IsFirstFault fault (fields line) → ⊥)
+      → line_tuple line ≡ Ok (Some tuple) → LineEnds line
+  faulty : ¬ (GivesNothing line) → (fault : BadLine) → IsFirstFault fault (fields line)
+      → line_tuple line ≡ Err fault → LineEnds line
 
 line_ends : (line : List ℕ) → LineEnds line
 line_ends line = by (gives_nothing line) refl
   where
-    handed : gives_nothing line ≡ false → (r : Result Tuple BadLine) → tuple_of_fields (fields line) ≡ r → line_tuple line ≡ (r >>= λ tuple. Ok (Some tuple))
+    handed : gives_nothing line ≡ false → (r : Result Tuple BadLine)
+        → tuple_of_fields (fields line) ≡ r → line_tuple line ≡ (r >>= λ tuple. Ok (Some tuple))
     handed e r is = fields_read line e ∙ ap (λ read. read >>= λ tuple. Ok (Some tuple)) is
 
     some : gives_nothing line ≡ false → GivesNothing line → ⊥
@@ -62,15 +68,18 @@ line_ends line = by (gives_nothing line) refl
         ]
 
 -- where a line isn't empty its fields are read
-full_read : (line : List ℕ) → ¬ (GivesNothing line) → line_tuple line ≡ (tuple_of_fields (fields line) >>= λ tuple. Ok (Some tuple))
+full_read : (line : List ℕ) → ¬ (GivesNothing line)
+    → line_tuple line ≡ (tuple_of_fields (fields line) >>= λ tuple. Ok (Some tuple))
 full_read line some = by (gives_nothing line) refl
   where
-    by : (nothing : Bool) → gives_nothing line ≡ nothing → line_tuple line ≡ (tuple_of_fields (fields line) >>= λ tuple. Ok (Some tuple))
+    by : (nothing : Bool) → gives_nothing line ≡ nothing
+        → line_tuple line ≡ (tuple_of_fields (fields line) >>= λ tuple. Ok (Some tuple))
     by true e = absurd (some (nothing_found line e))
     by false e = fields_read line e
 
 -- the tuple that the fields write is read
-pub tuple_again : (line : List ℕ) (tuple : Tuple) → ¬ (GivesNothing line) → IsTupleOf tuple (fields line) → line_tuple line ≡ Ok (Some tuple)
+pub tuple_again : (line : List ℕ) (tuple : Tuple) → ¬ (GivesNothing line)
+    → IsTupleOf tuple (fields line) → line_tuple line ≡ Ok (Some tuple)
 tuple_again line tuple some (text, rest, e, is, acts) =
     full_read line some ∙ ap (λ read. read >>= λ tuple. Ok (Some tuple)) (ap tuple_of_fields e ∙ complete tuple.time tuple.act text rest is acts)
 
@@ -79,13 +88,15 @@ nothing_exactly line (empty h e) = (λ _. h, λ _. e)
 nothing_exactly line (full some tuple is none e) = (λ n. absurd cc, λ h. absurd (some h))
 nothing_exactly line (faulty some fault first e) = (λ n. absurd cc, λ h. absurd (some h))
 
-tuple_exactly : (line : List ℕ) → LineEnds line → (tuple : Tuple) → (line_tuple line ≡ Ok (Some tuple)) ↔ (¬ (GivesNothing line) × IsTupleOf tuple (fields line))
+tuple_exactly : (line : List ℕ) → LineEnds line → (tuple : Tuple)
+    → (line_tuple line ≡ Ok (Some tuple)) ↔ (¬ (GivesNothing line) × IsTupleOf tuple (fields line))
 tuple_exactly line (empty h e) tuple = (λ t. absurd cc, λ w. absurd (w.0 h))
 tuple_exactly line (full some found is none e) tuple =
     (λ t. let same : found ≡ tuple = cc in (some, subst (λ (other : Tuple). IsTupleOf other (fields line)) same is), λ w. tuple_again line tuple w.0 w.1)
 tuple_exactly line (faulty some fault first e) tuple = (λ t. absurd cc, λ w. tuple_again line tuple w.0 w.1)
 
-fault_exactly : (line : List ℕ) → LineEnds line → (fault : BadLine) → (line_tuple line ≡ Err fault) ↔ (¬ (GivesNothing line) × IsFirstFault fault (fields line))
+fault_exactly : (line : List ℕ) → LineEnds line → (fault : BadLine)
+    → (line_tuple line ≡ Err fault) ↔ (¬ (GivesNothing line) × IsFirstFault fault (fields line))
 fault_exactly line (empty h e) fault = (λ t. absurd cc, λ w. absurd (w.0 h))
 fault_exactly line (full some tuple is none e) fault = (λ t. absurd cc, λ w. absurd (none fault w.1))
 fault_exactly line (faulty some found first e) fault = (

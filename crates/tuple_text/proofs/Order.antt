@@ -1,11 +1,13 @@
 -- The first fault of some fields.
-use Rattle.std.proofs.Common.{◌≡◌, ℕ, ◌+◌, ◌-◌, ◌≤◌, cond, eqb, ne_eqb, List, length, refl, sym, ap, ◌∙◌, subst, arith, inl, inr, ◌⊎◌}
+use Rattle.std.proofs.Common.{◌≡◌, ℕ, ◌+◌, ◌-◌, ◌≤◌, cond, eqb, ne_eqb, List, length, refl, sym, ap}
+use Rattle.std.proofs.Common.{◌∙◌, subst, arith, inl, inr, ◌⊎◌}
 use Rattle.std.proofs.lemmas.Bool.{cases_lt}
 use Rattle.text_parts.specs.Numbers.{IsDigitText, number_of}
 use Rattle.rpq_base.specs.declared.data.TheConstants.{MAX_TIME}
 use Rattle.rpq_base.specs.Names.{IsName}
 use Rattle.tuple_text.specs.declared.read.BadLine.{BadLine}
-use Rattle.tuple_text.specs.declared.read.BadLine.TheVariants.{Fields, Time, TimeRange, BadName, Op, Memory}
+use Rattle.tuple_text.specs.declared.read.BadLine.TheVariants.{Fields, Time, TimeRange, BadName, Op}
+use Rattle.tuple_text.specs.declared.read.BadLine.TheVariants.{Memory}
 use Rattle.tuple_text.specs.Parts.{field_at, HasFault, IsFirstFault, rank}
 
 -- no fault that the fields have is tested before this rank
@@ -13,7 +15,8 @@ abbrev pub Passes : ℕ → List (List ℕ) → Type 0
 Passes k list = (other : BadLine) → HasFault other list → k ≤ rank other
 
 -- none at this rank either
-step : (k : ℕ) (list : List (List ℕ)) → Passes k list → ((other : BadLine) → rank other ≡ k → HasFault other list → ⊥) → Passes (k + 1) list
+step : (k : ℕ) (list : List (List ℕ)) → Passes k list
+    → ((other : BadLine) → rank other ≡ k → HasFault other list → ⊥) → Passes (k + 1) list
 step k list p none other f =
     elim (cases_lt k (rank other)) [
       | inl l ↦ omega arith
@@ -21,7 +24,8 @@ step k list p none other f =
     ]
 
 -- the number of fields is right
-pub counted : (list : List (List ℕ)) → ((n : ℕ) → n ≡ length list → (n ≡ 1) ⊎ ((n ≡ 4) ⊎ (n ≡ 5))) → Passes 2 list
+pub counted : (list : List (List ℕ)) → ((n : ℕ) → n ≡ length list → (n ≡ 1) ⊎ ((n ≡ 4) ⊎ (n ≡ 5)))
+    → Passes 2 list
 counted list right (Fields n) f =
     elim (right n f.0) [
       | inl e ↦ absurd (f.1 e)
@@ -46,7 +50,8 @@ timed list p digits = step 2 list p none
     none Memory e f = f
 
 -- the time is in its range
-pub ranged : (list : List (List ℕ)) → Passes 3 list → number_of (field_at list 1) ≤ MAX_TIME → Passes 4 list
+pub ranged : (list : List (List ℕ)) → Passes 3 list → number_of (field_at list 1) ≤ MAX_TIME
+    → Passes 4 list
 ranged list p small = step 3 list p none
   where
     none : (other : BadLine) → rank other ≡ 3 → HasFault other list → ⊥
@@ -58,7 +63,8 @@ ranged list p small = step 3 list p none
     none Memory e f = f
 
 -- the field at this place is a name
-pub named : (k : ℕ) (list : List (List ℕ)) → 2 ≤ k → k ≤ 4 → Passes (2 + k) list → IsName (field_at list k) → Passes (2 + k + 1) list
+pub named : (k : ℕ) (list : List (List ℕ)) → 2 ≤ k → k ≤ 4 → Passes (2 + k) list
+    → IsName (field_at list k) → Passes (2 + k + 1) list
 named k list low high p name = step (2 + k) list p none
   where
     none : (other : BadLine) → rank other ≡ 2 + k → HasFault other list → ⊥
@@ -97,7 +103,8 @@ tested_at : ℕ → ℕ → BadLine
 tested_at k n = cond (eqb k 1) (Fields n) (cond (eqb k 2) Time (cond (eqb k 3) TimeRange (cond (eqb k 7) Op (BadName (k - 2)))))
 
 -- what fault the fields have at a rank is known by the rank
-found_by_rank : (list : List (List ℕ)) (fault : BadLine) → HasFault fault list → fault ≡ tested_at (rank fault) (length list)
+found_by_rank : (list : List (List ℕ)) (fault : BadLine) → HasFault fault list
+    → fault ≡ tested_at (rank fault) (length list)
 unfolding tested_at
 found_by_rank list (Fields n) f = ap (λ count. Fields count) f.0
 found_by_rank list Time f = refl
@@ -113,7 +120,8 @@ found_by_rank list Op f = refl
 found_by_rank list Memory f = absurd f
 
 -- there is one first fault
-pub same_fault : (list : List (List ℕ)) (fault other : BadLine) → IsFirstFault fault list → IsFirstFault other list → fault ≡ other
+pub same_fault : (list : List (List ℕ)) (fault other : BadLine) → IsFirstFault fault list
+    → IsFirstFault other list → fault ≡ other
 same_fault list fault other one two =
     let ranks : rank fault ≡ rank other = omega (arith, one.first other two.has, two.first fault one.has) in
     found_by_rank list fault one.has ∙ ap (λ k. tested_at k (length list)) ranks ∙ sym (found_by_rank list other two.has)

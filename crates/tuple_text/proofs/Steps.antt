@@ -1,12 +1,16 @@
 -- What each step of the reading gives, by what its fields are.
-use Rattle.std.proofs.Common.{◌≡◌, ◌≢◌, ℕ, ◌+◌, ◌<◌, ◌≤◌, Bool, true, false, not, eqb, Ok, Err, ne_eqb, List, [], ◌∷◌, length, get_or, codes, refl, sym, ap, ◌∙◌, arith, inl, inr}
+use Rattle.std.proofs.Common.{◌≡◌, ◌≢◌, ℕ, ◌+◌, ◌<◌, ◌≤◌, Bool, true, false, not, eqb, Ok, Err}
+use Rattle.std.proofs.Common.{ne_eqb, List, [], ◌∷◌, length, get_or, codes, refl, sym, ap, ◌∙◌}
+use Rattle.std.proofs.Common.{arith, inl, inr}
 use Rattle.std.specs.Char.{IsAsciiDigit, is_ascii_digit}
 use Rattle.std.specs.Str.{bytes_eq}
 use Rattle.std.specs.Cmp.Lexicographic.{same_text, other_text}
 use Rattle.std.specs.List.{slice_split}
-use Rattle.std.proofs.lemmas.Bool.{and_from, and_parts, le-leb, lt-leb, cases_Bool, cases_lt, eqb-true, eqb-false, false≢true}
+use Rattle.std.proofs.lemmas.Bool.{and_from, and_parts, le-leb, lt-leb, cases_Bool, cases_lt}
+use Rattle.std.proofs.lemmas.Bool.{eqb-true, eqb-false, false≢true}
 use Rattle.std.proofs.lemmas.Bool.Decides.{nat_tests}
-use Rattle.std.proofs.lemmas.List.Sums.{list_all-from_AllPass, AllPass-from_list_all, length-filter, count_by-le-length}
+use Rattle.std.proofs.lemmas.List.Sums.{list_all-from_AllPass, AllPass-from_list_all, length-filter}
+use Rattle.std.proofs.lemmas.List.Sums.{count_by-le-length}
 use Rattle.std.proofs.lemmas.List.Splits.{length-slice_split}
 use Rattle.text_parts.specs.Lines.{is_blank}
 use Rattle.text_parts.specs.Fields.{fields}
@@ -17,7 +21,8 @@ use Rattle.rpq_base.specs.declared.data.Edge.{Edge}
 use Rattle.rpq_base.specs.declared.data.Act.TheVariants.{Insert, Delete, Tick}
 use Rattle.tuple_text.specs.declared.read.BadLine.{BadLine}
 use Rattle.tuple_text.specs.declared.read.BadLine.TheVariants.{Time, TimeRange, BadName, Op}
-use Rattle.tuple_text.specs.Reading.{◌>>=◌, time_of, name_of, edge_of, edge_named, act_of, tick_of, change_of, tuple_at}
+use Rattle.tuple_text.specs.Reading.{◌>>=◌, time_of, name_of, edge_of, edge_named, act_of, tick_of}
+use Rattle.tuple_text.specs.Reading.{change_of, tuple_at}
 use Rattle.tuple_text.specs.Parts.{IsTimeText}
 
 -- a line has at most one field more than bytes
@@ -25,7 +30,14 @@ pub fields_few : (line : List ℕ) → length (fields line) ≤ length line + 1
 unfolding fields
 fields_few line =
     let parts = slice_split is_blank line in
-    omega (arith, length-filter (λ run. not (eqb (length run) 0)) parts, count_by-le-length (λ run. not (eqb (length run) 0)) parts, length-slice_split is_blank line, count_by-le-length is_blank line)
+    let some : List ℕ → Bool = λ run. not (eqb (length run) 0) in
+    omega (
+      arith,
+      length-filter some parts,
+      count_by-le-length some parts,
+      length-slice_split is_blank line,
+      count_by-le-length is_blank line,
+    )
 
 -- the test passes each digit text
 pub digit_text_passes : (text : List ℕ) → IsDigitText text → is_digit_text text ≡ true
@@ -58,12 +70,14 @@ unfolding time_of
 time_not_digits text h = rw (no_digit_text text h) refl
 
 -- a time out of range
-pub time_too_large : (text : List ℕ) → IsDigitText text → MAX_TIME < number_of text → time_of text ≡ Err TimeRange
+pub time_too_large : (text : List ℕ) → IsDigitText text → MAX_TIME < number_of text
+    → time_of text ≡ Err TimeRange
 unfolding time_of
 time_too_large text h l = rw (digit_text_passes text h, lt-leb (number_of text) MAX_TIME l) refl
 
 -- a time
-pub time_read : (text : List ℕ) → IsDigitText text → number_of text ≤ MAX_TIME → time_of text ≡ Ok (number_of text)
+pub time_read : (text : List ℕ) → IsDigitText text → number_of text ≤ MAX_TIME
+    → time_of text ≡ Ok (number_of text)
 unfolding time_of
 time_read text h l = rw (digit_text_passes text h, le-leb (number_of text) MAX_TIME l) refl
 
@@ -94,25 +108,30 @@ pub name_read : (place : ℕ) (field : List ℕ) → IsName field → name_of pl
 unfolding name_of
 name_read place field h = rw h refl
 
-pub no_name : (place : ℕ) (field : List ℕ) → is_name field ≡ false → name_of place field ≡ Err (BadName place)
+pub no_name : (place : ℕ) (field : List ℕ) → is_name field ≡ false
+    → name_of place field ≡ Err (BadName place)
 unfolding name_of
 no_name place field h = rw h refl
 
 -- the first field of an edge that is no name
-pub edge_bad_source : (source label target : List ℕ) → is_name source ≡ false → edge_of source label target ≡ Err (BadName 2)
+pub edge_bad_source : (source label target : List ℕ) → is_name source ≡ false
+    → edge_of source label target ≡ Err (BadName 2)
 unfolding edge_of
 edge_bad_source source label target h = rw (no_name 2 source h) refl
 
-pub edge_bad_label : (source label target : List ℕ) → IsName source → is_name label ≡ false → edge_of source label target ≡ Err (BadName 3)
+pub edge_bad_label : (source label target : List ℕ) → IsName source → is_name label ≡ false
+    → edge_of source label target ≡ Err (BadName 3)
 unfolding edge_of
 edge_bad_label source label target s h = rw (name_read 2 source s, no_name 3 label h) refl
 
-pub edge_bad_target : (source label target : List ℕ) → IsName source → IsName label → is_name target ≡ false → edge_of source label target ≡ Err (BadName 4)
+pub edge_bad_target : (source label target : List ℕ) → IsName source → IsName label
+    → is_name target ≡ false → edge_of source label target ≡ Err (BadName 4)
 unfolding edge_of
 edge_bad_target source label target s l h = rw (name_read 2 source s, name_read 3 label l, no_name 4 target h) refl
 
 -- three names are an edge
-pub edge_read : (source label target : List ℕ) → IsName source → IsName label → IsName target → edge_of source label target ≡ Ok (edge_named source label target)
+pub edge_read : (source label target : List ℕ) → IsName source → IsName label → IsName target
+    → edge_of source label target ≡ Ok (edge_named source label target)
 unfolding edge_of
 edge_read source label target s l t = rw (name_read 2 source s, name_read 3 label l, name_read 4 target t) refl
 
@@ -136,23 +155,30 @@ sign_cases edge sign = by (bytes_eq sign (codes "+")) (bytes_eq sign (codes "-")
         (rw (p, m) refl)
 
 -- a change with a bad time, with a bad edge, and with neither
-pub change_bad_time : (field source label target sign : List ℕ) (fault : BadLine) → time_of field ≡ Err fault → change_of field source label target sign ≡ Err fault
+pub change_bad_time : (field source label target sign : List ℕ) (fault : BadLine)
+    → time_of field ≡ Err fault → change_of field source label target sign ≡ Err fault
 unfolding change_of
 change_bad_time field source label target sign fault e = rw e refl
 
-pub change_bad_edge : (field source label target sign : List ℕ) (time : ℕ) (fault : BadLine) → time_of field ≡ Ok time → edge_of source label target ≡ Err fault → change_of field source label target sign ≡ Err fault
+pub change_bad_edge : (field source label target sign : List ℕ) (time : ℕ) (fault : BadLine)
+    → time_of field ≡ Ok time → edge_of source label target ≡ Err fault
+    → change_of field source label target sign ≡ Err fault
 unfolding change_of
 change_bad_edge field source label target sign time fault t e = rw (t, e) refl
 
-pub change_read : (field source label target sign : List ℕ) (time : ℕ) (edge : Edge) → time_of field ≡ Ok time → edge_of source label target ≡ Ok edge → change_of field source label target sign ≡ (act_of edge sign >>= λ act. Ok (tuple_at time act))
+pub change_read : (field source label target sign : List ℕ) (time : ℕ) (edge : Edge)
+    → time_of field ≡ Ok time → edge_of source label target ≡ Ok edge
+    → change_of field source label target sign ≡ (act_of edge sign >>= λ act. Ok (tuple_at time act))
 unfolding change_of
 change_read field source label target sign time edge t e = rw (t, e) refl
 
 -- a tick with a bad time, and with a good one
-pub tick_bad_time : (field : List ℕ) (fault : BadLine) → time_of field ≡ Err fault → tick_of field ≡ Err fault
+pub tick_bad_time : (field : List ℕ) (fault : BadLine) → time_of field ≡ Err fault
+    → tick_of field ≡ Err fault
 unfolding tick_of
 tick_bad_time field fault e = rw e refl
 
-pub tick_read : (field : List ℕ) (time : ℕ) → time_of field ≡ Ok time → tick_of field ≡ Ok (tuple_at time Tick)
+pub tick_read : (field : List ℕ) (time : ℕ) → time_of field ≡ Ok time
+    → tick_of field ≡ Ok (tuple_at time Tick)
 unfolding tick_of
 tick_read field time e = rw e refl

@@ -1,12 +1,15 @@
 -- What is written is read.
-use Rattle.std.proofs.Common.{◌≡◌, ◌≢◌, ℕ, ◌+◌, ◌-◌, ◌*◌, ◌≤◌, true, false, ne_eqb, List, [], ◌∷◌, ◌++◌, length, get_or, map, codes, refl, sym, ap, ap₂, ◌∙◌, arith, inl, inr, append_assoc, length-append}
+use Rattle.std.proofs.Common.{◌≡◌, ◌≢◌, ℕ, ◌+◌, ◌-◌, ◌*◌, ◌≤◌, true, false, ne_eqb, List, [], ◌∷◌}
+use Rattle.std.proofs.Common.{◌++◌, length, get_or, map, codes, refl, sym, ap, ap₂, ◌∙◌, arith, inl}
+use Rattle.std.proofs.Common.{inr, append_assoc, length-append}
 use Rattle.std.specs.Char.{IsAsciiDigit}
 use Rattle.std.specs.Fmt.{decimal}
 use Rattle.std.specs.List.{All, join_with_byte, onto_first}
 use Rattle.std.proofs.lemmas.Bool.{and_parts, leb-true, false≢true}
 use Rattle.std.proofs.lemmas.Fmt.{length-decimal-le}
 use Rattle.std.proofs.lemmas.List.{append-nil}
-use Rattle.std.proofs.lemmas.List.Elements.{All-nil, All-cons, All-head, All-tail, All-append, All-weaker}
+use Rattle.std.proofs.lemmas.List.Elements.{All-nil, All-cons, All-head, All-tail, All-append}
+use Rattle.std.proofs.lemmas.List.Elements.{All-weaker}
 use Rattle.std.proofs.lemmas.List.Sums.{AllPass-from_list_all}
 use Rattle.std.proofs.lemmas.Option.{same_Some}
 use Rattle.text_parts.specs.Lines.{raw_lines, without_return, text_of, is_blank}
@@ -19,7 +22,8 @@ use Rattle.rpq_base.specs.declared.data.Act.TheVariants.{Insert, Delete, Tick}
 use Rattle.rpq_base.specs.declared.data.Tuple.{Tuple}
 use Rattle.tuple_text.specs.Reading.{line_tuple}
 use Rattle.tuple_text.specs.Parts.{IsStreamEdge, edge_fields, IsActOf, GivesNothing}
-use Rattle.tuple_text.specs.Written.{written_edge, written_act, written, IsStreamAct, IsStreamTuple, WrittenIsRead, WrittenIsShort, WrittenLinesAreRead}
+use Rattle.tuple_text.specs.Written.{written_edge, written_act, written, IsStreamAct, IsStreamTuple}
+use Rattle.tuple_text.specs.Written.{WrittenIsRead, WrittenIsShort, WrittenLinesAreRead}
 use Rattle.tuple_text.proofs.Lines.{tuple_again}
 
 -- no digit is blank
@@ -48,7 +52,11 @@ name_some name h e = false≢true (sym (ap is_name e) ∙ h)
 
 -- names, digit texts and signs are fields
 name_field : (name : List ℕ) → IsName name → IsField name
-name_field name h = record { some = name_some name h; solid = All-weaker (λ byte. is_name_byte byte ≡ true) (λ byte. is_blank byte ≡ false) name_byte_solid name (name_bytes name h) }
+name_field name h = record {
+  some = name_some name h;
+  solid = All-weaker (λ byte. is_name_byte byte ≡ true) (λ byte. is_blank byte ≡ false) name_byte_solid name
+      (name_bytes name h);
+}
 
 digit_field : (text : List ℕ) → IsDigitText text → IsField text
 digit_field text h = record { some = h.some; solid = All-weaker IsAsciiDigit (λ byte. is_blank byte ≡ false) digit_solid text h.digits }
@@ -62,7 +70,8 @@ act_fields (Insert edge) = edge_fields edge ++ codes "+" ∷ []
 act_fields (Delete edge) = edge_fields edge ++ codes "-" ∷ []
 act_fields Tick = []
 
-edge_are_fields : (edge : Edge) (sign : ℕ) → IsStreamEdge edge → is_blank sign ≡ false → All IsField (edge.from ∷ edge.label.name ∷ edge.to ∷ (sign ∷ []) ∷ [])
+edge_are_fields : (edge : Edge) (sign : ℕ) → IsStreamEdge edge → is_blank sign ≡ false
+    → All IsField (edge.from ∷ edge.label.name ∷ edge.to ∷ (sign ∷ []) ∷ [])
 edge_are_fields edge sign h e =
     All-cons IsField edge.from (edge.label.name ∷ edge.to ∷ (sign ∷ []) ∷ []) (name_field edge.from h.from)
     (All-cons IsField edge.label.name (edge.to ∷ (sign ∷ []) ∷ []) (name_field edge.label.name h.label)
@@ -81,7 +90,8 @@ act_is_written (Delete edge) h = (h, refl)
 act_is_written Tick h = refl
 
 -- what is written is these fields with one space between each two
-joined : (text : List ℕ) (act : Act) → text ++ written_act act ≡ join_with_byte 32 (text ∷ act_fields act)
+joined : (text : List ℕ) (act : Act)
+    → text ++ written_act act ≡ join_with_byte 32 (text ∷ act_fields act)
 unfolding act_fields
 joined text (Insert edge) = simp append_assoc
 joined text (Delete edge) = simp append_assoc
@@ -102,12 +112,16 @@ written_is_read joins decimals tuple h =
     let time = decimals tuple.time (omega (arith, h.time)) in
     let text = decimal tuple.time in
     let rest = act_fields tuple.act in
-    let split : fields (written tuple) ≡ text ∷ rest = ap fields (joined text tuple.act) ∙ joins (text ∷ rest) (All-cons IsField text rest (digit_field text time.digits) (act_are_fields tuple.act h.act)) in
+    let solid : All IsField (text ∷ rest) =
+    All-cons IsField text rest (digit_field text time.digits) (act_are_fields tuple.act h.act) in
+    let split : fields (written tuple) ≡ text ∷ rest =
+    ap fields (joined text tuple.act) ∙ joins (text ∷ rest) solid in
     tuple_again (written tuple) tuple (some_line text (written_act tuple.act) time.digits)
     (text, rest, split, record { digits = time.digits; value = time.value; range = h.time }, act_is_written tuple.act h.act)
 
 -- how long an edge is
-edge_short : (edge : Edge) (sign : ℕ) → IsStreamEdge edge → length (written_edge edge ++ 32 ∷ sign ∷ []) ≤ 3 * (1 + 255) + 2
+edge_short : (edge : Edge) (sign : ℕ) → IsStreamEdge edge
+    → length (written_edge edge ++ 32 ∷ sign ∷ []) ≤ 3 * (1 + 255) + 2
 edge_short edge sign h =
     let from = name_short edge.from h.from in
     let label = name_short edge.label.name h.label in
@@ -121,14 +135,18 @@ act_short Tick h = omega arith
 
 pub written_is_short : WrittenIsShort
 written_is_short tuple h =
-    omega (arith, length-append (decimal tuple.time) (written_act tuple.act), length-decimal-le 19 tuple.time (omega arith) (omega (arith, h.time)) (omega (arith, h.time)), act_short tuple.act h.act)
+    let digits = length-decimal-le 19 tuple.time (omega arith) (omega (arith, h.time)) (omega (arith, h.time)) in
+    omega (arith, length-append (decimal tuple.time) (written_act tuple.act), digits, act_short tuple.act h.act)
 
 -- a byte that is neither a line feed nor a carriage return
 abbrev Stays : ℕ → Type 0
 Stays byte = (byte ≢ 10) × (byte ≢ 13)
 
 name_stays : (name : List ℕ) → IsName name → All Stays name
-name_stays name h = All-weaker (λ byte. is_name_byte byte ≡ true) Stays (λ byte good. (name_byte_other byte 10 good refl, name_byte_other byte 13 good refl)) name (name_bytes name h)
+name_stays name h =
+    All-weaker (λ byte. is_name_byte byte ≡ true) Stays
+    (λ byte good. (name_byte_other byte 10 good refl, name_byte_other byte 13 good refl)) name
+    (name_bytes name h)
 
 digits_stay : (text : List ℕ) → IsDigitText text → All Stays text
 digits_stay text h = All-weaker IsAsciiDigit Stays (λ byte digit. (λ e. omega (arith, e, digit), λ e. omega (arith, e, digit))) text h.digits
@@ -136,14 +154,17 @@ digits_stay text h = All-weaker IsAsciiDigit Stays (λ byte digit. (λ e. omega 
 byte_stays : (byte : ℕ) → Stays byte → All Stays (byte ∷ [])
 byte_stays byte h = All-cons Stays byte [] h (All-nil Stays)
 
-edge_stays : (edge : Edge) (sign : ℕ) → IsStreamEdge edge → Stays sign → All Stays (written_edge edge ++ 32 ∷ sign ∷ [])
+edge_stays : (edge : Edge) (sign : ℕ) → IsStreamEdge edge → Stays sign
+    → All Stays (written_edge edge ++ 32 ∷ sign ∷ [])
 edge_stays edge sign h s =
     let space : Stays 32 = (λ e. omega (arith, e), λ e. omega (arith, e)) in
     All-append Stays (written_edge edge) (32 ∷ sign ∷ [])
     (All-append Stays (codes " " ++ edge.from ++ codes " " ++ edge.label.name ++ codes " ") edge.to
     (All-append Stays (codes " " ++ edge.from ++ codes " " ++ edge.label.name) (codes " ")
     (All-append Stays (codes " " ++ edge.from ++ codes " ") edge.label.name
-    (All-append Stays (codes " " ++ edge.from) (codes " ") (All-append Stays (codes " ") edge.from (byte_stays 32 space) (name_stays edge.from h.from)) (byte_stays 32 space))
+    (All-append Stays (codes " " ++ edge.from) (codes " ")
+    (All-append Stays (codes " ") edge.from (byte_stays 32 space) (name_stays edge.from h.from))
+    (byte_stays 32 space))
     (name_stays edge.label.name h.label))
     (byte_stays 32 space))
     (name_stays edge.to h.to))
@@ -156,10 +177,13 @@ act_stays Tick h = All-nil Stays
 
 written_stays : DecimalIsRead → (tuple : Tuple) → IsStreamTuple tuple → All Stays (written tuple)
 written_stays decimals tuple h =
-    All-append Stays (decimal tuple.time) (written_act tuple.act) (digits_stay (decimal tuple.time) (decimals tuple.time (omega (arith, h.time))).digits) (act_stays tuple.act h.act)
+    All-append Stays (decimal tuple.time) (written_act tuple.act)
+    (digits_stay (decimal tuple.time) (decimals tuple.time (omega (arith, h.time))).digits)
+    (act_stays tuple.act h.act)
 
 -- such a line is cut off at its line feed
-first_line : (line rest : List ℕ) → All Stays line → raw_lines (line ++ 10 ∷ rest) ≡ line ∷ raw_lines rest
+first_line : (line rest : List ℕ) → All Stays line
+    → raw_lines (line ++ 10 ∷ rest) ≡ line ∷ raw_lines rest
 unfolding raw_lines
 first_line [] rest h = refl
 first_line (byte ∷ line) rest h = rw (ne_eqb byte 10 (All-head Stays byte line h).0) (ap (onto_first byte) (first_line line rest (All-tail Stays byte line h)))
@@ -177,6 +201,9 @@ written_lines_are_read decimals reads (tuple ∷ tuples) h =
     let first = All-head IsStreamTuple tuple tuples h in
     let stays = written_stays decimals tuple first in
     let after = text_of (map written tuples) in
-    let cut : raw_lines (text_of (map written (tuple ∷ tuples))) ≡ written tuple ∷ raw_lines after = ap raw_lines (append_assoc (written tuple) (10 ∷ []) after) ∙ first_line (written tuple) after stays in
+    let cut : raw_lines (text_of (map written (tuple ∷ tuples))) ≡ written tuple ∷ raw_lines after =
+    ap raw_lines (append_assoc (written tuple) (10 ∷ []) after) ∙ first_line (written tuple) after stays in
     ap (λ (raw : List (List ℕ)). map line_tuple (map without_return raw)) cut
-    ∙ ap₂ (λ read more. read ∷ more) (ap line_tuple (kept_whole (written tuple) stays) ∙ reads tuple first) (written_lines_are_read decimals reads tuples (All-tail IsStreamTuple tuple tuples h))
+    ∙ ap₂ (λ read more. read ∷ more)
+    (ap line_tuple (kept_whole (written tuple) stays) ∙ reads tuple first)
+    (written_lines_are_read decimals reads tuples (All-tail IsStreamTuple tuple tuples h))

@@ -62,7 +62,7 @@ HasFault Op list =
     (length list ≡ 5) × (field_at list 5 ≢ codes "+") × (field_at list 5 ≢ codes "-")
 HasFault Memory list = ⊥
 
--- the place of a fault in the order in which they are tested, names from the second field to the fourth
+-- the place of a fault in the order in which they are tested, names from field 2 to field 4
 abbrev pub rank : BadLine → ℕ
 rank (Fields n) = 1
 rank Time = 2
@@ -85,10 +85,10 @@ pub record IsReadByParts (line : List ℕ) : Type 0 where
   pub nothing : (line_tuple line ≡ Ok None) ↔ GivesNothing line
   pub tuple : (tuple : Tuple)
       → (line_tuple line ≡ Ok (Some tuple))
-          ↔ (¬ (GivesNothing line) × IsTupleOf tuple (fields line))
+      ↔ (¬ (GivesNothing line) × IsTupleOf tuple (fields line))
   pub fault : (fault : BadLine)
       → (line_tuple line ≡ Err fault)
-          ↔ (¬ (GivesNothing line) × IsFirstFault fault (fields line))
+      ↔ (¬ (GivesNothing line) × IsFirstFault fault (fields line))
 
 abbrev pub LineByParts : Type 0
 LineByParts = (line : List ℕ) → IsReadByParts line

@@ -68,8 +68,8 @@ change_of field source label target sign = do
   act ← act_of edge sign
   Ok (tuple_at time act)
 
--- the tuple that the fields of a line give: TIME, or TIME SOURCE LABEL TARGET with or without a sign;
--- without one it is an insert
+-- the tuple that the fields of a line give: TIME, or TIME SOURCE LABEL TARGET with a sign or without
+-- one, as an insert
 unfoldable pub tuple_of_fields : List (List ℕ) → Result Tuple BadLine
 tuple_of_fields (time ∷ []) = tick_of time
 tuple_of_fields (time ∷ source ∷ label ∷ target ∷ []) =

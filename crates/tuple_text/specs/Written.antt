@@ -40,8 +40,8 @@ abbrev pub WrittenIsRead : Type 0
 WrittenIsRead =
     (tuple : Tuple) → IsStreamTuple tuple → line_tuple (written tuple) ≡ Ok (Some tuple)
 
--- what is written has at most the 19 digits of a time, three names of 255 bytes, each after a space,
--- and a sign after one
+-- what is written has at most the 19 digits of a time, three names of 255 bytes and a sign, each of
+-- the last four after a space
 abbrev pub WrittenIsShort : Type 0
 WrittenIsShort =
     (tuple : Tuple) → IsStreamTuple tuple → length (written tuple) ≤ 19 + 3 * (1 + 255) + 2

@@ -62,13 +62,13 @@ impl fmt::Display for BadLine {
 
 impl Error for BadLine {}
 
-/// The tuple that a line gives, or `None` where the line is blank or a comment. A line is handed over
-/// without its line feed and without the carriage return that may stand at its end; such bytes would
-/// be part of its fields.
+/// The tuple that a line gives, or `None` where the line is blank or a comment. A line is handed
+/// over without its line feed and without the carriage return that may stand at its end; such bytes
+/// would be part of its fields.
 ///
 /// A tick is written `TIME`, an insert `TIME SOURCE LABEL TARGET` or the same with `+` as a fifth
-/// field, a delete with `-`. The time is written in digits and is at most [`MAX_TIME`], and the other
-/// three are names.
+/// field, a delete with `-`. The time is written in digits and is at most [`MAX_TIME`], and the
+/// other three are names.
 #[tactic(auto, unfolding(crate::specs::Reading::line_tuple))]
 pub fn read_tuple(alloc: Global, line: &[u8]) -> Result<Option<Tuple>, BadLine>
     requires { length line.now < 2 ^ 24 + 1 }
