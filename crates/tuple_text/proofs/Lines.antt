@@ -1,8 +1,9 @@
 -- What a line gives is known by its parts.
-use Rattle.std.proofs.Common.{◌≡◌, ℕ, Bool, true, false, eqb, ◌||◌, ◌↔◌, Option, Some, None, Result}
-use Rattle.std.proofs.Common.{Ok, Err, List, refl, sym, ap, ◌∙◌, subst, inl, inr, unwrap_or}
-use Rattle.std.proofs.lemmas.Bool.{or_cases, or_right, eqb-true, false≢true}
-use Rattle.text_parts.specs.Lines.{is_blank_line, is_comment, first_solid}
+use Rattle.std.proofs.Common.{◌≡◌, ℕ, Bool, true, false, ◌||◌, ◌↔◌, Some, None, Result}
+use Rattle.std.proofs.Common.{Ok, Err, List, refl, sym, ap, ◌∙◌, subst, inl, inr}
+use Rattle.std.proofs.lemmas.Bool.{or_cases, or_right, false≢true}
+use Rattle.text_parts.specs.Lines.{is_blank_line, is_comment}
+use Rattle.text_parts.proofs.LineEnds.{comment_decides}
 use Rattle.text_parts.specs.Fields.{fields}
 use Rattle.rpq_base.specs.declared.data.Tuple.{Tuple}
 use Rattle.tuple_text.specs.declared.read.BadLine.{BadLine}
@@ -15,20 +16,19 @@ use Rattle.tuple_text.proofs.Cases.{well, badly, ends, complete}
 abbrev gives_nothing : List ℕ → Bool
 gives_nothing line = is_blank_line line || is_comment line
 
--- the first byte that isn't blank is '#'
-comment_byte : (byte : Option ℕ) → eqb (unwrap_or byte 0) 35 ≡ true → byte ≡ Some 35
-comment_byte None e = absurd (false≢true e)
-comment_byte (Some byte) e = ap (λ b. Some b) (eqb-true byte 35 e)
-
 -- the test finds what gives nothing
 nothing_found : (line : List ℕ) → gives_nothing line ≡ true → GivesNothing line
 nothing_found line e =
-    elim (or_cases (is_blank_line line) (is_comment line) e) [ inl blank ↦ inl blank | inr comment ↦ inr (comment_byte (first_solid line) comment) ]
+    elim (or_cases (is_blank_line line) (is_comment line) e) [
+      | inl blank ↦ inl blank
+      | inr comment ↦ inr ((comment_decides line).0 comment)
+    ]
 
 -- what gives nothing passes it
 nothing_passes : (line : List ℕ) → GivesNothing line → gives_nothing line ≡ true
 nothing_passes line (inl blank) = ap (λ b. b || is_comment line) blank
-nothing_passes line (inr comment) = or_right (is_blank_line line) (is_comment line) (ap (λ byte. eqb (unwrap_or byte 0) 35) comment)
+nothing_passes line (inr comment) =
+    or_right (is_blank_line line) (is_comment line) ((comment_decides line).1 comment)
 
 -- such a line, and another
 nothing_read : (line : List ℕ) → gives_nothing line ≡ true → line_tuple line ≡ Ok None

@@ -1,19 +1,12 @@
 -- What each step of the reading gives, by what its fields are.
-use Rattle.std.proofs.Common.{◌≡◌, ◌≢◌, ℕ, ◌+◌, ◌<◌, ◌≤◌, Bool, true, false, not, eqb, Ok, Err}
-use Rattle.std.proofs.Common.{ne_eqb, List, [], ◌∷◌, length, get_or, codes, refl, sym, ap, ◌∙◌}
+use Rattle.std.proofs.Common.{◌≡◌, ◌≢◌, ℕ, ◌<◌, ◌≤◌, Bool, true, false, Ok, Err}
+use Rattle.std.proofs.Common.{List, codes, refl, sym, ap, ◌∙◌}
 use Rattle.std.proofs.Common.{arith, inl, inr}
-use Rattle.std.specs.Char.{IsAsciiDigit, is_ascii_digit}
 use Rattle.std.specs.Str.{bytes_eq}
 use Rattle.std.specs.Cmp.Lexicographic.{same_text, other_text}
-use Rattle.std.specs.List.{slice_split}
-use Rattle.std.proofs.lemmas.Bool.{and_from, and_parts, le-leb, lt-leb, cases_Bool, cases_lt}
-use Rattle.std.proofs.lemmas.Bool.{eqb-true, eqb-false, false≢true}
-use Rattle.std.proofs.lemmas.Bool.Decides.{nat_tests}
-use Rattle.std.proofs.lemmas.List.Sums.{list_all-from_AllPass, AllPass-from_list_all, length-filter}
-use Rattle.std.proofs.lemmas.List.Sums.{count_by-le-length}
-use Rattle.std.proofs.lemmas.List.Splits.{length-slice_split}
-use Rattle.text_parts.specs.Lines.{is_blank}
-use Rattle.text_parts.specs.Fields.{fields}
+use Rattle.std.proofs.lemmas.Bool.{le-leb, lt-leb, cases_lt}
+use Rattle.std.proofs.lemmas.Bool.{false≢true}
+use Rattle.text_parts.proofs.Digits.{digit_text_passes, digit_text_found, no_digit_text}
 use Rattle.text_parts.specs.Numbers.{number_of, IsDigitText, is_digit_text}
 use Rattle.rpq_base.specs.declared.data.TheConstants.{MAX_TIME}
 use Rattle.rpq_base.specs.Names.{is_name, IsName}
@@ -24,45 +17,6 @@ use Rattle.tuple_text.specs.declared.read.BadLine.TheVariants.{Time, TimeRange, 
 use Rattle.tuple_text.specs.Reading.{◌>>=◌, time_of, name_of, edge_of, edge_named, act_of, tick_of}
 use Rattle.tuple_text.specs.Reading.{change_of, tuple_at}
 use Rattle.tuple_text.specs.Parts.{IsTimeText}
-
--- a line has at most one field more than bytes
-pub fields_few : (line : List ℕ) → length (fields line) ≤ length line + 1
-unfolding fields
-fields_few line =
-    let parts = slice_split is_blank line in
-    let some : List ℕ → Bool = λ run. not (eqb (length run) 0) in
-    omega (
-      arith,
-      length-filter some parts,
-      count_by-le-length some parts,
-      length-slice_split is_blank line,
-      count_by-le-length is_blank line,
-    )
-
--- the test passes each digit text
-pub digit_text_passes : (text : List ℕ) → IsDigitText text → is_digit_text text ≡ true
-digit_text_passes [] h = absurd (h.some refl)
-digit_text_passes (digit ∷ text) h =
-    and_from _ _ (ap not (ne_eqb (length (digit ∷ text)) 0 (λ z. omega arith))) (list_all-from_AllPass is_ascii_digit (digit ∷ text) (λ k d l. passes (get_or (digit ∷ text) k d) (h.digits k d l)))
-  where
-    passes : (byte : ℕ) → IsAsciiDigit byte → is_ascii_digit byte ≡ true
-    passes byte h = grind (arith, nat_tests)
-
--- what passes it is a digit text
-pub digit_text_found : (text : List ℕ) → is_digit_text text ≡ true → IsDigitText text
-digit_text_found [] e = absurd cc
-digit_text_found (digit ∷ text) e =
-    record {
-      some = λ none. absurd cc;
-      digits = λ k d l. found (get_or (digit ∷ text) k d) (AllPass-from_list_all is_ascii_digit (digit ∷ text) (and_parts _ _ e).1 k d l);
-    }
-  where
-    found : (byte : ℕ) → is_ascii_digit byte ≡ true → IsAsciiDigit byte
-    found byte e = grind (arith, nat_tests)
-
--- what is no digit text doesn't pass
-pub no_digit_text : (text : List ℕ) → ¬ (IsDigitText text) → is_digit_text text ≡ false
-no_digit_text text h = elim (cases_Bool (is_digit_text text)) [ inl e ↦ absurd (h (digit_text_found text e)) | inr e ↦ e ]
 
 -- no time
 pub time_not_digits : (text : List ℕ) → ¬ (IsDigitText text) → time_of text ≡ Err Time

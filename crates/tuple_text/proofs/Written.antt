@@ -4,7 +4,7 @@ use Rattle.std.proofs.Common.{◌++◌, length, get_or, map, codes, refl, sym, a
 use Rattle.std.proofs.Common.{inr, append_assoc, length-append}
 use Rattle.std.specs.Char.{IsAsciiDigit}
 use Rattle.std.specs.Fmt.{decimal}
-use Rattle.std.specs.List.{All, join_with_byte, onto_first}
+use Rattle.std.specs.List.{All, join_with_byte}
 use Rattle.std.proofs.lemmas.Bool.{and_parts, leb-true, false≢true}
 use Rattle.std.proofs.lemmas.Fmt.{length-decimal-le}
 use Rattle.std.proofs.lemmas.List.{append-nil}
@@ -12,7 +12,8 @@ use Rattle.std.proofs.lemmas.List.Elements.{All-nil, All-cons, All-head, All-tai
 use Rattle.std.proofs.lemmas.List.Elements.{All-weaker}
 use Rattle.std.proofs.lemmas.List.Sums.{AllPass-from_list_all}
 use Rattle.std.proofs.lemmas.Option.{same_Some}
-use Rattle.text_parts.specs.Lines.{raw_lines, without_return, text_of, is_blank}
+use Rattle.text_parts.specs.Lines.{IsLine, raw_lines, without_return, text_of, is_blank}
+use Rattle.text_parts.proofs.Cuts.{raw_lines_first}
 use Rattle.text_parts.specs.Fields.{fields, IsField, JoinedFieldsAreRead}
 use Rattle.text_parts.specs.Numbers.{IsDigitText, DecimalIsRead}
 use Rattle.rpq_base.specs.Names.{is_name_byte, is_name, IsName}
@@ -181,14 +182,7 @@ written_stays decimals tuple h =
     (digits_stay (decimal tuple.time) (decimals tuple.time (omega (arith, h.time))).digits)
     (act_stays tuple.act h.act)
 
--- such a line is cut off at its line feed
-first_line : (line rest : List ℕ) → All Stays line
-    → raw_lines (line ++ 10 ∷ rest) ≡ line ∷ raw_lines rest
-unfolding raw_lines
-first_line [] rest h = refl
-first_line (byte ∷ line) rest h = rw (ne_eqb byte 10 (All-head Stays byte line h).0) (ap (onto_first byte) (first_line line rest (All-tail Stays byte line h)))
-
--- and loses no byte at its end
+-- such a line loses no byte at its end
 kept_whole : (line : List ℕ) → All Stays line → without_return line ≡ line
 unfolding without_return
 kept_whole [] h = refl
@@ -201,8 +195,9 @@ written_lines_are_read decimals reads (tuple ∷ tuples) h =
     let first = All-head IsStreamTuple tuple tuples h in
     let stays = written_stays decimals tuple first in
     let after = text_of (map written tuples) in
+    let whole : IsLine (written tuple) = All-weaker Stays (λ byte. byte ≢ 10) (λ byte both. both.0) (written tuple) stays in
     let cut : raw_lines (text_of (map written (tuple ∷ tuples))) ≡ written tuple ∷ raw_lines after =
-    ap raw_lines (append_assoc (written tuple) (10 ∷ []) after) ∙ first_line (written tuple) after stays in
+    ap raw_lines (append_assoc (written tuple) (10 ∷ []) after) ∙ raw_lines_first (written tuple) after whole in
     ap (λ (raw : List (List ℕ)). map line_tuple (map without_return raw)) cut
     ∙ ap₂ (λ read more. read ∷ more)
     (ap line_tuple (kept_whole (written tuple) stays) ∙ reads tuple first)

@@ -1,4 +1,4 @@
 pub mod Reading
 pub mod Parts
 pub mod Written
-pub mod FaultText
+pub mod FaultTexts

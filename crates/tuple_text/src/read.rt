@@ -1,8 +1,10 @@
 //! Reading a line of a stream.
 
 ghost use Rattle.std.specs.Prelude.{◌≡◌, ◌≢◌, ◌+◌, ◌^◌, ◌<◌, ◌≤◌, ◌↔◌, map, length, codes};
-ghost use Rattle.std.specs.Prelude.{IfOk, IfErr, IfSome};
+ghost use Rattle.std.specs.Prelude.{Some, IfOk, IfErr, IfSome};
 ghost use Rattle.rpq_base.specs.Plain.{IsPlainLabel, IsPlainAct, IsPlainTuple};
+ghost use Rattle.tuple_text.specs.declared.read.BadLine.{BadLine};
+ghost use Rattle.tuple_text.specs.FaultTexts.{fault_text};
 ghost use Rattle.tuple_text.specs.Parts.{GivesNothing};
 ghost use Rattle.tuple_text.specs.Reading.{time_of, name_of, edge_of, act_of, tick_of, change_of};
 ghost use Rattle.tuple_text.specs.Reading.{tuple_of_fields, line_tuple};
@@ -32,10 +34,7 @@ pub enum BadLine {
 }
 
 impl From<AllocError> for BadLine {
-    ghost use Rattle.std.specs.Prelude.{◌≡◌};
-    ghost use Rattle.tuple_text.specs.declared.read.BadLine.TheVariants.{Memory};
-
-    ghost from_gives = { λ _ fault. fault ≡ Memory };
+    ghost from_gives = { λ _ fault. fault ≡ BadLine.Memory };
 
     fn from(_: AllocError) -> Self {
         Self::Memory
@@ -43,19 +42,16 @@ impl From<AllocError> for BadLine {
 }
 
 impl fmt::Display for BadLine {
-    ghost use Rattle.std.specs.Prelude.{Some};
-    ghost use Rattle.tuple_text.specs.FaultText.{fault_text};
-
     ghost output = { λ fault. Some (fault_text fault) };
 
     fn fmt<W: fmt::Write>(&self, f: &mut fmt::Formatter<W>) -> fmt::Result {
         match self {
-            BadLine::Fields(count) => write!(f, "fields {count}"),
-            BadLine::Time => f.write_str("time"),
-            BadLine::TimeRange => f.write_str("time range"),
-            BadLine::BadName(place) => write!(f, "name {place}"),
-            BadLine::Op => f.write_str("operation"),
-            BadLine::Memory => f.write_str("memory"),
+            Self::Fields(count) => write!(f, "fields {count}"),
+            Self::Time => f.write_str("time"),
+            Self::TimeRange => f.write_str("time range"),
+            Self::BadName(place) => write!(f, "name {place}"),
+            Self::Op => f.write_str("operation"),
+            Self::Memory => f.write_str("memory"),
         }
     }
 }

@@ -1,6 +1,6 @@
 use Rattle.std.proofs.Common.{length, ap, arith}
 use Rattle.std.proofs.lemmas.List.{length-map}
-use Rattle.tuple_text.proofs.Steps.{fields_few}
+use Rattle.text_parts.proofs.FieldLaws.{fields_few}
 use Rattle.tuple_text.proofs.read.read_tuple.Goals as goal
 
 pub read_fields-requires : goal.read_fields-requires
