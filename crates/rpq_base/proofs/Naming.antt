@@ -16,7 +16,8 @@ unfolding is_name
 no_name_from_length bytes wrong = rw wrong
 
 -- bytes of which one may not stand in a name are no name
-pub no_name_from_byte : (bytes : List ℕ) (index : ℕ) → has_name_length bytes ≡ true → index < length bytes → is_name_byte (get_or bytes index 0) ≡ false → is_name bytes ≡ false
+pub no_name_from_byte : (bytes : List ℕ) (index : ℕ) → has_name_length bytes ≡ true → index < length bytes →
+    is_name_byte (get_or bytes index 0) ≡ false → is_name bytes ≡ false
 unfolding is_name
 no_name_from_byte bytes index right within bad = rw (right, list_all_at is_name_byte bytes index 0 within bad)
 

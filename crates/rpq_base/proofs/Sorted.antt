@@ -59,7 +59,8 @@ pub fold_sorted : {A X : Type 0} {cmp : X → X → Ordering} → IsTotalOrder c
     IsStrictlySortedBy cmp (fold (λ found element. if test element then insert_key cmp found (give element) else found) found elements)
 fold_sorted total [] test give found sorted = sorted
 fold_sorted {A} {X} {cmp} total (first ∷ rest) test give found sorted =
-    fold_sorted total rest test give (if test first then insert_key cmp found (give first) else found) (choice_sorted total (test first) found (give first) sorted)
+    fold_sorted total rest test give (if test first then insert_key cmp found (give first) else found)
+    (choice_sorted total (test first) found (give first) sorted)
 
 -- ---- members tell them apart
 

@@ -1,5 +1,6 @@
 -- Names of vertices, labels and queries.
-use Rattle.std.specs.Prelude.{◌≡◌, ℕ, ◌≤◌, Bool, not, ◌&&◌, ◌||◌, nat_le, List, length, IsTrue, Some, ◌-◌}
+use Rattle.std.specs.Prelude.{◌≡◌, ℕ, ◌-◌, ◌≤◌, nat_le, Bool, not, ◌&&◌, ◌||◌, IsTrue}
+use Rattle.std.specs.Prelude.{List, length, Some}
 use Rattle.std.specs.List.{list_all, position}
 use Rattle.rpq_base.specs.declared.name.NameFault.{NameFault}
 use Rattle.rpq_base.specs.declared.name.NameFault.TheVariants.{Length, Byte, Memory}
@@ -19,8 +20,11 @@ is_name bytes = has_name_length bytes && list_all is_name_byte bytes
 abbrev pub IsName : List ℕ → Type 0
 IsName bytes = IsTrue (is_name bytes)
 
--- why the bytes are no name: their number, or else the place, from 1, of the first byte that may not stand in one
+-- why the bytes are no name: their number, or else the place, from 1, of the first byte that may
+-- not stand in one
 abbrev pub IsNameFault : NameFault → List ℕ → Type 0
 IsNameFault (Length n) bytes = (n ≡ length bytes) × IsTrue (not (has_name_length bytes))
-IsNameFault (Byte at) bytes = IsTrue (has_name_length bytes) × (1 ≤ at) × (position (λ byte. not (is_name_byte byte)) bytes ≡ Some (at - 1))
+IsNameFault (Byte at) bytes =
+    IsTrue (has_name_length bytes) × (1 ≤ at)
+    × (position (λ byte. not (is_name_byte byte)) bytes ≡ Some (at - 1))
 IsNameFault Memory bytes = Unit {0}

@@ -12,12 +12,15 @@ name_cmp = slice_cmp nat_cmp
 
 -- labels by their names, and of one name the one that points forwards first
 abbrev pub label_cmp : Label → Label → Ordering
-label_cmp first second = ordering_then (name_cmp first.name second.name) (bool_cmp first.back second.back)
+label_cmp first second =
+    ordering_then (name_cmp first.name second.name) (bool_cmp first.back second.back)
 
 -- words by their lengths, and of one length label by label
 abbrev pub word_cmp : List Label → List Label → Ordering
-word_cmp first second = ordering_then (nat_cmp (length first) (length second)) (slice_cmp label_cmp first second)
+word_cmp first second =
+    ordering_then (nat_cmp (length first) (length second)) (slice_cmp label_cmp first second)
 
 -- pairs by the vertex that they lead from, then by the vertex that they lead to
 abbrev pub pair_cmp : Pair → Pair → Ordering
-pair_cmp first second = ordering_then (name_cmp first.from second.from) (name_cmp first.to second.to)
+pair_cmp first second =
+    ordering_then (name_cmp first.from second.from) (name_cmp first.to second.to)

@@ -1,11 +1,12 @@
 //! The values that every layer of rpq speaks of: names, labels, edges, tuples, entries, pairs and
 //! events.
 //!
-//! A tuple is what a stream says at a time; an entry is a tuple in a history; a pair is an answer; an
-//! event is an answer gained or lost. Contracts see a [`Name`] as its bytes, a [`Word`] as its labels,
-//! and every other type as the record of its fields. Names are compared byte by byte, and all else
-//! field by field; names, labels and pairs have an order.
-//! Each value is copied by [`Copied::copy`], which gives an equal one or answers that memory ran out.
+//! A tuple is what a stream says at a time; an entry is a tuple in a history; a pair is an answer;
+//! an event is an answer gained or lost. Contracts see a [`Name`] as its bytes, a [`Word`] as its
+//! labels, and every other type as the record of its fields. Names are compared byte by byte, and
+//! all else field by field; names, labels and pairs have an order.
+//! Each value is copied by [`Copied::copy`], which gives an equal one, or answers that memory ran
+//! out.
 #![tactic(auto)]
 
 mod data;

@@ -22,7 +22,8 @@ pub const MAX_NAME: usize = 255;
 pub enum NameFault {
     /// There are this many bytes: none, or more than 255.
     Length(usize),
-    /// The number is right; the byte at this place, from 1, is the first that may not stand in a name.
+    /// The number is right; the byte at this place, from 1, is the first that may not stand in a
+    /// name.
     Byte(usize),
     /// Memory ran out.
     Memory,
@@ -50,9 +51,11 @@ impl fmt::Display for NameFault {
 
 impl Error for NameFault {}
 
-/// The name of a vertex, a label or a query: 1 to 255 bytes, each from 0x21 to 0x7E or at least 0x80.
+/// The name of a vertex, a label or a query: 1 to 255 bytes, each from 0x21 to 0x7E or at least
+/// 0x80.
 ///
-/// Contracts see it as its bytes. Names are ordered by their bytes, a name before those that it begins.
+/// Contracts see it as its bytes. Names are ordered by their bytes, a name before those that it
+/// begins.
 #[derive(Debug, Drop)]
 pub struct Name {
     bytes: Vec<u8>,
@@ -99,7 +102,8 @@ impl Name {
         ensures ok { IfOk result (λ name. name ≡ bytes.now) }
         ensures valid { OnOk result (IsName bytes.now) }
         ensures cause { IfErr result (λ fault. IsNameFault fault bytes.now) }
-        ensures invalid { IfErr result (λ fault. (fault ≡ NameFault.Memory) ⊎ (is_name bytes.now ≡ false)) }
+        ensures invalid { IfErr result
+            (λ fault. (fault ≡ NameFault.Memory) ⊎ (is_name bytes.now ≡ false)) }
     {
         if !has_name_length(bytes) {
             return Err(NameFault::Length(bytes.len()));

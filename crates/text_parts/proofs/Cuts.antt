@@ -1,5 +1,7 @@
 -- Where a text is cut into lines.
-use Rattle.std.proofs.Common.{◌≡◌, ◌≢◌, ℕ, suc, ◌+◌, ◌-◌, ◌<◌, true, false, cond, eqb, List, [], ◌∷◌, ◌++◌, length, get_or, take, drop, Some, position, refl, sym, ap, ◌∙◌, arith, ne_eqb, eq-eqb, add-one, length-drop, length-take, append_assoc}
+use Rattle.std.proofs.Common.{◌≡◌, ◌≢◌, ℕ, suc, ◌+◌, ◌-◌, ◌<◌, true, false, cond, eqb, List, [], ◌∷◌, ◌++◌, length, get_or, take}
+use Rattle.std.proofs.Common.{drop, Some, position, refl, sym, ap, ◌∙◌, arith, ne_eqb, eq-eqb, add-one, length-drop, length-take}
+use Rattle.std.proofs.Common.{append_assoc}
 use Rattle.std.specs.List.{onto_first, All}
 use Rattle.std.proofs.lemmas.Bool.{eqb-true, false≢true}
 use Rattle.std.proofs.lemmas.List.{take_all, nil_from_length, get_or-take}

@@ -1,5 +1,6 @@
 -- The fields of a line, and lines that are made of fields.
-use Rattle.std.proofs.Common.{◌≡◌, ℕ, zero, suc, ◌+◌, ◌≤◌, Bool, true, false, cond, not, eqb, List, [], ◌∷◌, ◌++◌, length, filter, map, refl, sym, ap, ◌∙◌, arith, ne_eqb}
+use Rattle.std.proofs.Common.{◌≡◌, ℕ, zero, suc, ◌+◌, ◌≤◌, Bool, true, false, cond, not, eqb, List, [], ◌∷◌, ◌++◌, length, filter}
+use Rattle.std.proofs.Common.{map, refl, sym, ap, ◌∙◌, arith, ne_eqb}
 use Rattle.std.specs.List.{All, slice_split, join_with_byte}
 use Rattle.std.proofs.lemmas.List.{append-nil}
 use Rattle.std.proofs.lemmas.List.Elements.{All-nil, All-cons, All-head, All-tail, All-same, All-filter, filter_passes}
@@ -24,8 +25,10 @@ parts_solid [] = All-cons IsSolid [] [] (All-nil (λ byte. is_blank byte ≡ fal
 parts_solid (byte ∷ line) = by (is_blank byte) refl (parts_solid line)
   where
     by : (blank : Bool) → is_blank byte ≡ blank → All IsSolid (slice_split is_blank line) → All IsSolid (slice_split is_blank (byte ∷ line))
-    by true e rest = All-same IsSolid _ _ (slice_split-cons_yes is_blank byte line e) (All-cons IsSolid [] (slice_split is_blank line) (All-nil (λ b. is_blank b ≡ false)) rest)
-    by false e rest = All-same IsSolid _ _ (slice_split-cons_no is_blank byte line e) (all_onto_first (λ b. is_blank b ≡ false) byte (slice_split is_blank line) e rest)
+    by true e rest = All-same IsSolid _ _ (slice_split-cons_yes is_blank byte line e) (All-cons IsSolid [] (slice_split is_blank line)
+        (All-nil (λ b. is_blank b ≡ false)) rest)
+    by false e rest = All-same IsSolid _ _ (slice_split-cons_no is_blank byte line e)
+        (all_onto_first (λ b. is_blank b ≡ false) byte (slice_split is_blank line) e rest)
 
 -- the fields of a line are fields
 pub fields_are_fields : (line : List ℕ) → All IsField (fields line)
@@ -47,7 +50,8 @@ all_from_map P f (x ∷ list) h (suc k) d l = all_from_map P f list (All-tail P 
 -- a field is kept
 solid_runs_cons : (field : List ℕ) (runs : List (List ℕ)) → IsField field → solid_runs (field ∷ runs) ≡ field ∷ solid_runs runs
 solid_runs_cons [] runs h = absurd (h.some refl)
-solid_runs_cons (byte ∷ field) runs h = ap (λ none. cond (not none) ((byte ∷ field) ∷ solid_runs runs) (solid_runs runs)) (ne_eqb (length (byte ∷ field)) 0 (λ z. omega arith))
+solid_runs_cons (byte ∷ field) runs h = ap (λ none. cond (not none) ((byte ∷ field) ∷ solid_runs runs) (solid_runs runs))
+    (ne_eqb (length (byte ∷ field)) 0 (λ z. omega arith))
 
 -- fields with one space between each two are read as these fields
 pub joined_fields_are_read : JoinedFieldsAreRead
@@ -67,7 +71,13 @@ pub fields_few : (line : List ℕ) → length (fields line) ≤ length line + 1
 unfolding fields
 fields_few line =
     let parts = slice_split is_blank line in
-    omega (arith, length-filter (λ run. not (eqb (length run) 0)) parts, count_by-le-length (λ run. not (eqb (length run) 0)) parts, length-slice_split is_blank line, count_by-le-length is_blank line)
+    omega (
+      arith,
+      length-filter (λ run. not (eqb (length run) 0)) parts,
+      count_by-le-length (λ run. not (eqb (length run) 0)) parts,
+      length-slice_split is_blank line,
+      count_by-le-length is_blank line,
+    )
 
 -- ---- fields by runs
 

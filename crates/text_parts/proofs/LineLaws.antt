@@ -49,15 +49,18 @@ raw_lines_joined [] = ap text_of raw_lines_nil
 raw_lines_joined (byte ∷ []) = by (eqb byte 10) refl
   where
     by : (feeds : Bool) → eqb byte 10 ≡ feeds → text_of (raw_lines (byte ∷ [])) ≡ ended (has_ended (byte ∷ [])) (byte ∷ [])
-    by true e = ap text_of (raw_lines_cons_feed byte [] e) ∙ ap (λ lines. text_of ([] ∷ lines)) raw_lines_nil ∙ ap (λ b. b ∷ []) (sym (eqb-true byte 10 e)) ∙ ap (λ has. ended has (byte ∷ [])) (sym e)
-    by false e = ap text_of (raw_lines_cons_other byte [] e) ∙ ap (λ lines. text_of (onto_first byte lines)) raw_lines_nil ∙ ap (λ has. ended has (byte ∷ [])) (sym e)
+    by true e = ap text_of (raw_lines_cons_feed byte [] e) ∙ ap (λ lines. text_of ([] ∷ lines)) raw_lines_nil
+        ∙ ap (λ b. b ∷ []) (sym (eqb-true byte 10 e)) ∙ ap (λ has. ended has (byte ∷ [])) (sym e)
+    by false e = ap text_of (raw_lines_cons_other byte [] e) ∙ ap (λ lines. text_of (onto_first byte lines)) raw_lines_nil
+        ∙ ap (λ has. ended has (byte ∷ [])) (sym e)
 raw_lines_joined (byte ∷ next ∷ text) =
     by (eqb byte 10) refl (ap (λ more. byte ∷ more) (raw_lines_joined (next ∷ text)) ∙ ended_cons byte (has_ended (next ∷ text)) (next ∷ text))
   where
     by : (feeds : Bool) → eqb byte 10 ≡ feeds → byte ∷ text_of (raw_lines (next ∷ text)) ≡ ended (has_ended (next ∷ text)) (byte ∷ next ∷ text)
         → text_of (raw_lines (byte ∷ next ∷ text)) ≡ ended (has_ended (next ∷ text)) (byte ∷ next ∷ text)
     by true e rest = ap text_of (raw_lines_cons_feed byte (next ∷ text) e) ∙ ap (λ b. b ∷ text_of (raw_lines (next ∷ text))) (sym (eqb-true byte 10 e)) ∙ rest
-    by false e rest = ap text_of (raw_lines_cons_other byte (next ∷ text) e) ∙ text_of_onto_first byte (raw_lines (next ∷ text)) (raw_lines_some (next ∷ text) (omega arith)) ∙ rest
+    by false e rest = ap text_of (raw_lines_cons_other byte (next ∷ text) e)
+        ∙ text_of_onto_first byte (raw_lines (next ∷ text)) (raw_lines_some (next ∷ text) (omega arith)) ∙ rest
 
 -- the raw lines of every text are the text
 pub lines_are_the_text : LinesAreTheText

@@ -1,5 +1,7 @@
 -- The length of the first line of a text, and the text cut there.
-use Rattle.std.proofs.Common.{◌≡◌, ◌≢◌, ℕ, zero, suc, ◌+◌, ◌-◌, ◌<◌, ◌≤◌, Bool, true, false, cond, not, eqb, ltb, List, [], ◌∷◌, ◌++◌, length, get_or, take, drop, position, unwrap_or, Some, None, refl, sym, ap, ◌∙◌, ◌⊎◌, inl, inr, arith, ne_eqb, eq-eqb, length-append, length-drop, length-take}
+use Rattle.std.proofs.Common.{◌≡◌, ◌≢◌, ℕ, zero, suc, ◌+◌, ◌-◌, ◌<◌, ◌≤◌, Bool, true, false, cond, not, eqb, ltb, List, [], ◌∷◌}
+use Rattle.std.proofs.Common.{◌++◌, length, get_or, take, drop, position, unwrap_or, Some, None, refl, sym, ap, ◌∙◌, ◌⊎◌, inl}
+use Rattle.std.proofs.Common.{inr, arith, ne_eqb, eq-eqb, length-append, length-drop, length-take}
 use Rattle.std.specs.List.{position_or_len}
 use Rattle.std.proofs.lemmas.Bool.{ltb-false, eqb-true, eqb-false, false≢true}
 use Rattle.std.proofs.lemmas.List.{take_all, get_or-take}
@@ -75,7 +77,8 @@ line_length_later (byte ∷ bytes) (suc from) known = by (eqb byte 10) refl (lin
         omega (arith, later (omega arith))
 
 -- the same, as the rest of the bytes stands in the code
-pub line_length_rest : (bytes : List ℕ) (from : ℕ) → from ≤ line_length bytes → line_length bytes ≡ from + line_length (take (length bytes - from) (drop from bytes))
+pub line_length_rest : (bytes : List ℕ) (from : ℕ) → from ≤ line_length bytes →
+    line_length bytes ≡ from + line_length (take (length bytes - from) (drop from bytes))
 line_length_rest bytes from known =
     line_length_later bytes from known
     ∙ ap (λ rest. from + line_length rest) (sym (take_all (length bytes - from) (drop from bytes) (omega (arith, length-drop from bytes))))
@@ -126,7 +129,17 @@ first_cut (byte ∷ text) = by (eqb byte 10) refl (first_cut text)
     by true is rest = inr ([], text, ap (λ b. b ∷ text) (eqb-true byte 10 is), All-nil (λ b. b ≢ 10), line_length-feed byte text is)
     by false is (inl one) = inl (All-cons (λ b. b ≢ 10) byte text (eqb-false byte 10 is) one.0, omega (arith, line_length-other byte text is, one.1))
     by false is (inr cut) =
-        inr (byte ∷ cut.0, cut.1, ap (λ t. byte ∷ t) cut.2, All-cons (λ b. b ≢ 10) byte cut.0 (eqb-false byte 10 is) cut.3, omega (arith, line_length-other byte text is, cut.4))
+        inr (
+          byte ∷ cut.0,
+          cut.1,
+          ap (λ t. byte ∷ t) cut.2,
+          All-cons (λ b. b ≢ 10) byte cut.0 (eqb-false byte 10 is) cut.3,
+          omega (
+            arith,
+            line_length-other byte text is,
+            cut.4,
+          ),
+        )
 
 -- a text whose first line is all of it has no line feed
 pub one_line : (text : List ℕ) → line_length text ≡ length text → IsLine text

@@ -1,5 +1,6 @@
 -- The lines of a text that end with a line feed, and the open one.
-use Rattle.std.proofs.Common.{◌≡◌, ◌≢◌, ℕ, zero, suc, ◌-◌, ◌<◌, ◌≤◌, false, eqb, List, [], ◌∷◌, ◌++◌, length, take, get_or, refl, ap, ap₂, sym, subst, ◌∙◌, arith, ne_eqb, length-append, inl, inr}
+use Rattle.std.proofs.Common.{◌≡◌, ◌≢◌, ℕ, zero, suc, ◌-◌, ◌<◌, ◌≤◌, false, eqb, List, [], ◌∷◌, ◌++◌, length, take, get_or, refl}
+use Rattle.std.proofs.Common.{ap, ap₂, sym, subst, ◌∙◌, arith, ne_eqb, length-append, inl, inr}
 use Rattle.std.specs.List.{All}
 use Rattle.std.proofs.lemmas.List.{append-nil}
 use Rattle.std.proofs.lemmas.List.Elements.{All-nil, All-cons, All-head, All-tail, All-same, All-weaker}
@@ -69,7 +70,8 @@ pub ended_many : (lines : List (List ℕ)) (rest : List ℕ) → All IsLine line
 ended_many [] rest whole = refl
 ended_many (line ∷ lines) rest whole =
     ap ended_lines (regrouped line lines rest)
-    ∙ (ended_first line (text_of lines ++ rest) (All-head IsLine line lines whole) ∙ ap (λ ls. line ∷ ls) (ended_many lines rest (All-tail IsLine line lines whole)))
+    ∙ (ended_first line (text_of lines ++ rest) (All-head IsLine line lines whole)
+    ∙ ap (λ ls. line ∷ ls) (ended_many lines rest (All-tail IsLine line lines whole)))
 
 -- and leave the open line
 pub open_many : (lines : List (List ℕ)) (rest : List ℕ) → All IsLine lines → open_line (text_of lines ++ rest) ≡ open_line rest
@@ -102,7 +104,8 @@ one_piece text whole = record {
 -- a line more in front
 more_pieces : (line rest : List ℕ) → IsLine line → AreEndedLinesOf rest → AreEndedLinesOf (line ++ 10 ∷ rest)
 more_pieces line rest whole are = record {
-  whole = All-same IsLine (ended_lines (line ++ 10 ∷ rest)) (line ∷ ended_lines rest) (ended_first line rest whole) (All-cons IsLine line (ended_lines rest) whole are.whole);
+  whole = All-same IsLine (ended_lines (line ++ 10 ∷ rest)) (line ∷ ended_lines rest) (ended_first line rest whole)
+      (All-cons IsLine line (ended_lines rest) whole are.whole);
   last = subst IsLine (sym (open_first line rest whole)) are.last;
   joined = ap₂ (λ (ls : List (List ℕ)) (l : List ℕ). text_of ls ++ l) (ended_first line rest whole) (open_first line rest whole)
       ∙ (regrouped line (ended_lines rest) (open_line rest) ∙ ap (λ t. line ++ 10 ∷ t) are.joined);
@@ -114,7 +117,8 @@ ended_within zero [] fits = one_piece [] (All-nil (λ b. b ≢ 10))
 ended_within zero (byte ∷ text) fits = absurd (omega arith)
 ended_within (suc most) text fits = elim (first_cut text) [
   | inl one ↦ one_piece text one.0
-  | inr cut ↦ subst AreEndedLinesOf (sym cut.2) (more_pieces cut.0 cut.1 cut.3 (ended_within most cut.1 (omega (arith, ap length cut.2, length-append cut.0 (10 ∷ cut.1)))))
+  | inr cut ↦ subst AreEndedLinesOf (sym cut.2)
+      (more_pieces cut.0 cut.1 cut.3 (ended_within most cut.1 (omega (arith, ap length cut.2, length-append cut.0 (10 ∷ cut.1)))))
 ]
 
 -- the lines of every text are it

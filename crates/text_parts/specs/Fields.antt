@@ -1,5 +1,6 @@
 -- The fields of a line.
-use Rattle.std.specs.Prelude.{◌≡◌, ◌≢◌, ℕ, true, false, ◌==◌, not, List, [], ◌∷◌, ◌++◌, length, filter, All}
+use Rattle.std.specs.Prelude.{◌≡◌, ◌≢◌, ℕ, true, false, ◌==◌, not}
+use Rattle.std.specs.Prelude.{List, [], ◌∷◌, ◌++◌, length, filter, All}
 use Rattle.std.specs.List.{slice_split, join_with_byte}
 use Rattle.text_parts.specs.Lines.{is_blank}
 
@@ -18,7 +19,8 @@ AreBlanks blanks = All (λ byte. is_blank byte ≡ true) blanks
 
 -- fields with one space between each two are read as these fields
 abbrev pub JoinedFieldsAreRead : Type 0
-JoinedFieldsAreRead = (list : List (List ℕ)) → All IsField list → fields (join_with_byte 32 list) ≡ list
+JoinedFieldsAreRead =
+    (list : List (List ℕ)) → All IsField list → fields (join_with_byte 32 list) ≡ list
 
 -- the fields of a line by its runs: blanks alone have none; a field behind blanks is the first, and
 -- what stands behind it begins with a blank and has the others
@@ -26,5 +28,6 @@ pub record FieldsByRuns : Type 0 where
   pub none : (blanks : List ℕ) → AreBlanks blanks → fields blanks ≡ []
   pub last : (blanks field : List ℕ) → AreBlanks blanks → IsField field →
       fields (blanks ++ field) ≡ field ∷ []
-  pub more : (blanks field : List ℕ) (blank : ℕ) (rest : List ℕ) → AreBlanks blanks → IsField field →
-      is_blank blank ≡ true → fields (blanks ++ (field ++ blank ∷ rest)) ≡ field ∷ fields rest
+  pub more : (blanks field : List ℕ) (blank : ℕ) (rest : List ℕ) → AreBlanks blanks →
+      IsField field → is_blank blank ≡ true →
+      fields (blanks ++ (field ++ blank ∷ rest)) ≡ field ∷ fields rest

@@ -1,6 +1,7 @@
 -- The lines of a text.
-use Rattle.std.specs.Prelude.{◌≡◌, ◌≢◌, ℕ, Bool, true, false, ◌==◌, ◌||◌, ◌⊎◌, not, List, [], ◌∷◌, ◌++◌, Option, Some, None}
-use Rattle.std.specs.Prelude.{map, flat_map, find, All, if◌then◌else◌}
+use Rattle.std.specs.Prelude.{◌≡◌, ◌≢◌, ℕ, Bool, true, false, ◌==◌, ◌||◌, ◌⊎◌, not, List, []}
+use Rattle.std.specs.Prelude.{◌∷◌, ◌++◌, map, flat_map, find, All, Option, Some, None}
+use Rattle.std.specs.Prelude.{if◌then◌else◌}
 use Rattle.std.specs.List.{list_all, onto_first, position_or_len}
 use Rattle.std.specs.Str.Lines.{strip_carriage_return}
 
@@ -27,7 +28,8 @@ raw_lines [] = []
 raw_lines (byte ∷ text) =
     if byte == line_feed then [] ∷ raw_lines text else onto_first byte (raw_lines text)
 
--- the text is a line, its line feed and the rest; or it is one line without a line feed, and no rest
+-- the text is a line, its line feed and the rest; or it is one line without a line feed, and there
+-- is no rest
 pub record IsCut (text line rest : List ℕ) : Type 0 where
   pub whole : IsLine line
   pub joined : (text ≡ line ++ line_feed ∷ rest) ⊎ ((text ≡ line) × (rest ≡ []))

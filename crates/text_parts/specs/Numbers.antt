@@ -1,5 +1,7 @@
 -- Numbers as they are written.
-use Rattle.std.specs.Prelude.{◌≡◌, ◌≢◌, ℕ, ◌+◌, ◌-◌, ◌*◌, ◌^◌, ◌<◌, ◌==◌, nat_le, Bool, ◌&&◌, not, List, [], length, slice_index, fold, All, Option, Some, None, decimal, if◌then◌else◌}
+use Rattle.std.specs.Prelude.{◌≡◌, ◌≢◌, ℕ, ◌+◌, ◌-◌, ◌*◌, ◌^◌, ◌<◌, ◌==◌, nat_le, Bool, ◌&&◌, not}
+use Rattle.std.specs.Prelude.{List, [], length, slice_index, fold, All, Option, Some, None}
+use Rattle.std.specs.Prelude.{decimal, if◌then◌else◌}
 use Rattle.std.specs.Char.{IsAsciiDigit, is_ascii_digit}
 use Rattle.std.specs.List.{list_all}
 
@@ -18,7 +20,8 @@ number_of text = fold (λ number digit. 10 * number + (digit - 48)) 0 text
 
 -- the number that a digit text writes, where it is at most `most`
 unfoldable pub number_within : ℕ → List ℕ → Option ℕ
-number_within most text = if is_digit_text text && nat_le (number_of text) most then Some (number_of text) else None
+number_within most text =
+    if is_digit_text text && nat_le (number_of text) most then Some (number_of text) else None
 
 -- the text is a digit text of this number, and a zero stands first in it only where it stands alone
 pub record IsShortestOf (number : ℕ) (text : List ℕ) : Type 0 where

@@ -6,8 +6,8 @@ ghost use Rattle.text_parts.specs.Fields.{FieldsByRuns, JoinedFieldsAreRead};
 ghost use Rattle.text_parts.specs.Lines.{LinesAreTheText, ReturnIsDropped};
 ghost use Rattle.text_parts.specs.Numbers.{DecimalIsRead};
 
-/// The raw lines of a text, each followed by a line feed, are the text, up to the line feed that its
-/// end may lack.
+/// The raw lines of a text, each followed by a line feed, are the text, up to the line feed that
+/// its end may lack.
 pub fn lines_are_the_text()
     ensures { LinesAreTheText }
 {}
@@ -22,7 +22,8 @@ pub fn return_is_dropped()
     ensures { (line : List ℕ) → ReturnIsDropped line }
 {}
 
-/// The fields of a line are its runs between blanks, wherever spaces and tabs stand, and however many.
+/// The fields of a line are its runs between blanks, wherever spaces and tabs stand, and however
+/// many.
 pub fn fields_by_runs()
     ensures { FieldsByRuns }
 {}

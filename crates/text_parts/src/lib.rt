@@ -1,7 +1,7 @@
 //! What every text format is made of, said once: the lines of a text, blank lines and comments, the
 //! fields of a line, and numbers in digits.
-//! Its one contract for the layer above: each function computes exactly what a definition in `specs/`
-//! says, so a format's grammar is written in those words alone.
+//! Its one contract for the layer above: each function computes exactly what a definition in
+//! `specs/` says, so a format's grammar is written in those words alone.
 //! Each call goes over its bytes once, `read_number` twice; only `fields` and `push_decimal` take
 //! memory.
 #![tactic(auto)]

@@ -1,9 +1,10 @@
 //! The lines of a text.
 
-ghost use Rattle.std.specs.Prelude.{◌≡◌, ◌<◌, ◌≤◌, ◌↔◌, [], ◌∷◌, ◌≢◌, ◌==◌, All, length, position, IsTrue};
-ghost use Rattle.std.specs.Prelude.{IsNone, IfNone, IfSome};
+ghost use Rattle.std.specs.Prelude.{◌≡◌, ◌≢◌, ◌<◌, ◌≤◌, ◌==◌, ◌↔◌, [], ◌∷◌, length, position};
+ghost use Rattle.std.specs.Prelude.{All, IsTrue, IsNone, IfNone, IfSome};
 ghost use Rattle.text_parts.specs.Lines.{line_feed, raw_lines, IsCut, line_length, without_return};
-ghost use Rattle.text_parts.specs.Lines.{is_blank, is_blank_line, first_solid, IsComment, is_comment};
+ghost use Rattle.text_parts.specs.Lines.{is_blank, is_blank_line, first_solid};
+ghost use Rattle.text_parts.specs.Lines.{IsComment, is_comment};
 
 /// The first line of a text, with the carriage return that may stand at its end, and the text after
 /// its line feed. `None` where the text is empty: it has no line.

@@ -77,9 +77,11 @@ fn with_digit(number: u64, digit: u64, most: u64) -> Option<u64>
         .filter(|next| *next <= most)
 }
 
-/// Writes a number in decimal at the end of the bytes. Where memory is refused they stay as they are.
+/// Writes a number in decimal at the end of the bytes. Where memory is refused they stay as they
+/// are.
 pub fn push_decimal(out: &mut Vec<u8>, number: u64) -> Result<(), AllocError>
-    ensures { out.new.items ≡ (if is_ok result then out.old.items ++ decimal number else out.old.items) }
+    ensures { out.new.items
+        ≡ (if is_ok result then out.old.items ++ decimal number else out.old.items) }
 {
     out.extend_from_slice(Buffer::new().format(number).as_bytes())
 }

@@ -17,7 +17,8 @@ returns-in-None-clause-refused c = λ _. number_of_above c.args.text.now c.loop-
 pub returns-in-None-clause-answer : goal.returns-in-None-clause-answer
 returns-in-None-clause-answer c =
     let text = c.args.text.now in
-    sym (within_larger text c.args.most (c.is_digit_text.ensures.exact.0 cc) (number_of_above text c.loop-byte.byte-index c.args.most (omega arith) (omega arith)))
+    sym (within_larger text c.args.most (c.is_digit_text.ensures.exact.0 cc)
+    (number_of_above text c.loop-byte.byte-index c.args.most (omega arith) (omega arith)))
 
 pub returns-clause-answer : goal.returns-clause-answer
 returns-clause-answer c =
