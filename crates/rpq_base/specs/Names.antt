@@ -17,6 +17,7 @@ has_name_length bytes = nat_le 1 (length bytes) && nat_le (length bytes) 255
 unfoldable pub is_name : List ℕ → Bool
 is_name bytes = has_name_length bytes && list_all is_name_byte bytes
 
+-- the bytes are a name
 abbrev pub IsName : List ℕ → Type 0
 IsName bytes = IsTrue (is_name bytes)
 

@@ -16,8 +16,10 @@ IsPlainAct (Insert edge) = IsPlainLabel edge.label
 IsPlainAct (Delete edge) = IsPlainLabel edge.label
 IsPlainAct Tick = Unit {0}
 
+-- a tuple with such an act
 abbrev pub IsPlainTuple : Tuple → Type 0
 IsPlainTuple tuple = IsPlainAct tuple.act
 
+-- an entry with such a tuple
 abbrev pub IsPlain : Entry → Type 0
 IsPlain entry = IsPlainTuple entry.tuple
