@@ -1,4 +1,6 @@
+pub mod Numbering
 mod OneStep
+pub mod Order
 pub mod Places
 mod Rows
 pub mod Runs

@@ -4,7 +4,8 @@ use Rattle.std.proofs.lemmas.List.Elements.{All-cons, All-nil}
 use Rattle.std.specs.List.Sorted.{IsStrictlySortedBy}
 use Rattle.std.proofs.lemmas.Option.{none-some, same_Some}
 use Rattle.rpq_base.specs.declared.data.Label.{Label}
-use Rattle.dfa_table.specs.DfaValue.{DfaValue, IsDfa, label_cmp, step_of}
+use Rattle.rpq_base.specs.Order.{label_cmp}
+use Rattle.dfa_table.specs.DfaValue.{DfaValue, IsDfa, step_of}
 
 abbrev one_step : Label → DfaValue
 one_step label = record { labels = label ∷ []; rows = (Some 1 ∷ []) ∷ (None ∷ []) ∷ []; finals = false ∷ true ∷ [] }
@@ -26,7 +27,9 @@ one_step_is_valid label = record {
   few_labels = lit< tt;
   some = omega arith;
   few = omega arith;
-  even = All-cons (λ (row : List (Option ℕ)). length row ≡ 1) (Some 1 ∷ []) ((None ∷ []) ∷ []) refl (All-cons (λ (row : List (Option ℕ)). length row ≡ 1) (None ∷ []) [] refl (All-nil (λ (row : List (Option ℕ)). length row ≡ 1)));
+  even =
+      let one : List (Option ℕ) → Type 0 = λ row. length row ≡ 1 in
+      All-cons one (Some 1 ∷ []) ((None ∷ []) ∷ []) refl (All-cons one (None ∷ []) [] refl (All-nil one));
   finals = refl;
   targets = targets label;
   start = refl;

@@ -1,6 +1,6 @@
 -- The rows of an automaton, and the table in which they stand one after another.
-use Rattle.std.proofs.Common.{◌≡◌, ℕ, zero, suc, ◌+◌, ◌*◌, ◌<◌, List, [], ◌∷◌, ◌++◌, length, take, drop, get_or, map, Option, None, refl, ap, sym, subst, ◌∙◌, arith}
-use Rattle.std.specs.Prelude.{All, Bool}
+use Rattle.std.proofs.Common.{◌≡◌, ℕ, zero, suc, ◌+◌, ◌*◌, ◌<◌, List, [], ◌∷◌, ◌++◌, length, take, drop, get_or, map, Option, Some, None, refl, ap, sym, subst, ◌∙◌, arith}
+use Rattle.std.specs.Prelude.{All, Bool, IfSome}
 use Rattle.std.specs.List.{flat_map}
 use Rattle.std.proofs.lemmas.List.{get_or-take, get_or-drop, get_or_read, drop-drop, take_at, drop_at, length-append, length-map}
 use Rattle.std.proofs.lemmas.List.Elements.{All-head, All-tail}
@@ -64,6 +64,12 @@ step_read labels steps finals dfa state place found is whole below within read =
     get_or_read steps (state * length labels + place) found inside read None
     ∙ (sym (step_at (length finals) (length labels) state place steps few within)
     ∙ ap (λ (d : DfaValue). step_of d state place) is)
+
+-- a step leads to a state, and not to the start
+pub lands : (found : Option ℕ) (dfa : DfaValue) (state place : ℕ) → IsDfa dfa → found ≡ step_of dfa state place →
+    IfSome found (λ next. (0 < next) × (next < length dfa.rows))
+lands None dfa state place valid is = tt
+lands (Some next) dfa state place valid is = valid.targets state place next (sym is)
 
 -- the automaton of the table in which these rows stand one after another
 pub value_of_joined : {R : Type 0} (items : R → List (Option ℕ)) (labels : List Label) (rows : List R) (steps : List (Option ℕ)) (finals : List Bool) →

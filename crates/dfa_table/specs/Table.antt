@@ -1,4 +1,4 @@
--- The table in which the rows of an automaton stand one after another.
+-- The table in which the rows of an automaton stand one after another. No public contract cites this file.
 use Rattle.std.specs.Prelude.{◌≡◌, ℕ, zero, suc, ◌*◌, Bool, List, [], ◌∷◌, length, take, drop, Option}
 use Rattle.rpq_base.specs.declared.data.Label.{Label}
 use Rattle.dfa_table.specs.DfaValue.{DfaValue, IsDfa}

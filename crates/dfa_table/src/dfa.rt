@@ -1,9 +1,11 @@
 //! The table of a deterministic automaton.
 
-ghost use Rattle.std.specs.Prelude.{◌≡◌, ◌<◌, ◌*◌, map, length, IfOk, IfSome};
+ghost use Rattle.std.specs.Prelude.{◌≡◌, ◌<◌, ◌*◌, ◌^◌, ◌≤◌, map, length, IfOk, IfSome};
 ghost use Rattle.std.specs.List.{flat_map, position};
+ghost use Rattle.std.specs.List.Sorted.{IsStrictlySortedBy};
+ghost use Rattle.rpq_base.specs.Order.{label_cmp};
 ghost use Rattle.rpq_base.specs.Same.{same_label};
-ghost use Rattle.dfa_table.specs.DfaValue.{DfaValue, IsDfa, step_of, place_of, is_final};
+ghost use Rattle.dfa_table.specs.DfaValue.{IsDfa, value_of, step_of, place_of, is_final};
 
 use rpq_base::{Label, Memory};
 use std::alloc::Global;
@@ -34,23 +36,30 @@ impl Model for Dfa {
     ghost invariant = { λ dfa. IsTable dfa.labels.items dfa.steps.items dfa.finals.items };
 }
 
-/// The rows, one after another.
-fn joined(alloc: Global, rows: &[Vec<Option<u32>>]) -> Result<Vec<Option<u32>>, Memory>
+/// The rows, each of this width, one after another.
+fn joined(
+    alloc: Global,
+    rows: &[Vec<Option<u32>>],
+    width: usize,
+) -> Result<Vec<Option<u32>>, Memory>
+    requires few { length rows.now ≤ 513 }
+    requires narrow { width < 2 ^ 32 }
     ensures { IfOk result (λ steps. steps.items ≡ flat_map (λ row. row.items) rows.now) }
 {
-    let mut steps = Vec::new(alloc);
+    let mut steps = Vec::with_capacity(alloc, rows.len() * width)?;
     for row in rows {
         steps.extend_from_slice(row)?;
     }
     Ok(steps)
 }
 
-/// The index of the label.
+/// The index of the label among sorted ones, by binary search.
 fn find_label(labels: &[Label], label: &Label) -> Option<usize>
+    requires { IsStrictlySortedBy label_cmp labels.now }
     ensures place { result ≡ position (λ each. same_label each label.now) labels.now }
     ensures within { IfSome result (λ place. place < length labels.now) }
 {
-    labels.iter().position(|each| each == label)
+    labels.binary_search(label).ok()
 }
 
 impl Dfa {
@@ -62,12 +71,14 @@ impl Dfa {
         rows: Vec<Vec<Option<u32>>>,
         finals: Vec<bool>,
     ) -> Result<Dfa, Memory>
-        requires { IsDfa (record { labels = labels.items; rows = map (λ row. row.items) rows.items; finals = finals.items }) }
-        ensures { IfOk result (λ dfa. dfa ≡ record { labels = labels.items; rows = map (λ row. row.items) rows.items; finals = finals.items }) }
+        requires { IsDfa (value_of labels.items (map (λ row. row.items) rows.items) finals.items) }
+        ensures { IfOk result (λ dfa.
+            dfa ≡ value_of labels.items (map (λ row. row.items) rows.items) finals.items) }
     {
+        let steps = joined(alloc, &rows, labels.len())?;
         Ok(Dfa {
             labels,
-            steps: joined(alloc, &rows)?,
+            steps,
             finals,
         })
     }
@@ -88,9 +99,10 @@ impl Dfa {
         &self.labels
     }
 
-    /// The number of the label, or none where the automaton lacks it. The labels are compared one after another.
+    /// The number of the label, or none where the automaton lacks it, by binary search.
     pub fn label_number(&self, label: &Label) -> Option<u32>
-        ensures { result ≡ place_of self.now label.now }
+        ensures number { result ≡ place_of self.now label.now }
+        ensures within { IfSome result (λ number. number < length self.now.labels) }
     {
         match find_label(&self.labels, label) {
             Some(place) => Some(place as u32),
@@ -98,11 +110,12 @@ impl Dfa {
         }
     }
 
-    /// The state that a step from the state with the label of this number leads to. A label number that the
-    /// automaton lacks has no step. This is one index into a table.
+    /// The state that a step from the state with the label of this number leads to, which is never the
+    /// start. A label number that the automaton lacks has no step. This is one index into a table.
     pub fn step(&self, state: u32, label: u32) -> Option<u32>
         requires { state < length self.now.rows }
-        ensures { result ≡ step_of self.now state label }
+        ensures step { result ≡ step_of self.now state label }
+        ensures within { IfSome result (λ next. (0 < next) × (next < length self.now.rows)) }
     {
         let width = self.labels.len();
         if label as usize >= width {

@@ -1,4 +1,4 @@
-ghost use Rattle.std.specs.Prelude.{◌≡◌, ◌∷◌, List, [], map, true, false, Some, None, IfOk};
+ghost use Rattle.std.specs.Prelude.{◌≡◌, ◌∷◌, List, [], length, map, true, false, Some, None, IfOk};
 ghost use Rattle.dfa_table.specs.DfaValue.{DfaValue};
 
 use super::*;
@@ -44,14 +44,26 @@ fn one_step(alloc: Global, label: Label) -> Result<Dfa, Fail>
     Ok(Dfa::new(alloc, one(alloc, label)?, rows, finals)?)
 }
 
+/// Whether each call answers what it must for the automaton of the word of this one label.
+fn are_answers(dfa: &Dfa, label: &Label, other: &Label) -> bool
+    requires { length dfa.now.rows ≡ 2 }
+{
+    dfa.states() == 2
+        && dfa.labels().len() == 1
+        && dfa.labels()[0] == *label
+        && dfa.label_number(label) == Some(0)
+        && dfa.label_number(other) == None
+        && dfa.step(0, 0) == Some(1)
+        && dfa.step(0, 1) == None
+        && dfa.step(1, 0) == None
+        && dfa.is_final(1)
+        && !dfa.is_final(0)
+}
+
 #[test]
 fn one_label_and_one_step(rt: HostRuntime) -> Result<(), Fail> {
     let alloc = rt.alloc();
     let dfa = one_step(alloc, label(alloc, b"a")?)?;
-    assert_eq!(rt; dfa.states(), 2);
-    assert_eq!(rt; dfa.label_number(&label(alloc, b"a")?), Some(0));
-    assert_eq!(rt; dfa.label_number(&label(alloc, b"b")?), None);
-    assert_eq!(rt; dfa.step(0, 0), Some(1));
-    assert!(rt; dfa.is_final(1));
+    assert!(rt; are_answers(&dfa, &label(alloc, b"a")?, &label(alloc, b"b")?));
     Ok(())
 }

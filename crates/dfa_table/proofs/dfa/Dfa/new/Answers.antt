@@ -5,10 +5,10 @@ use Rattle.dfa_table.proofs.dfa.Dfa.new.Goals as goal
 
 pub invariant_of-result : goal.invariant_of-result
 invariant_of-result c =
-    table_of_joined (λ (row : Vec (Option ℕ) Global). row.items) c.args.labels.items c.args.rows.items c.in_ok-joined.field-0.items c.args.finals.items
-    c.requires (c.in_ok-joined.ensures ∙ ap (flat_map (λ (row : Vec (Option ℕ) Global). row.items)) c.deref.ensures.value)
+    table_of_joined (λ (row : Vec (Option ℕ) Global). row.items) c.args.labels.items c.args.rows.items c.in_ok-steps.steps.items c.args.finals.items
+    c.requires (c.in_ok-steps.ensures ∙ ap (flat_map (λ (row : Vec (Option ℕ) Global). row.items)) c.deref.ensures.value)
 
 pub returns : goal.returns
 returns c =
-    value_of_joined (λ (row : Vec (Option ℕ) Global). row.items) c.args.labels.items c.args.rows.items c.in_ok-joined.field-0.items c.args.finals.items
-    c.requires.even c.requires.finals (c.in_ok-joined.ensures ∙ ap (flat_map (λ (row : Vec (Option ℕ) Global). row.items)) c.deref.ensures.value)
+    value_of_joined (λ (row : Vec (Option ℕ) Global). row.items) c.args.labels.items c.args.rows.items c.in_ok-steps.steps.items c.args.finals.items
+    c.requires.even c.requires.finals (c.in_ok-steps.ensures ∙ ap (flat_map (λ (row : Vec (Option ℕ) Global). row.items)) c.deref.ensures.value)
