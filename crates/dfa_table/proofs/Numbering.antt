@@ -90,7 +90,8 @@ steps_agree first second one other place valid valid2 alike both below =
     let word = both.0 ++ label ∷ [] in
     let here = step_after first one place both.0 valid below both.1 in
     let below2 : place < length second.labels = subst (λ (labels : List Label). place < length labels) alike.labels below in
-    let same : label_at first place ≡ label_at second place = ap (λ (labels : List Label). get_or labels place (record { name = []; back = false })) alike.labels in
+    let same : label_at first place ≡ label_at second place =
+    ap (λ (labels : List Label). get_or labels place (record { name = []; back = false })) alike.labels in
     let there : run_from second 0 word ≡ step_of second other place =
     ap (λ (l : Label). run_from second 0 (both.0 ++ l ∷ [])) same ∙ step_after second other place both.0 valid2 below2 both.2 in
     let leads = alike.leads word in
@@ -143,8 +144,9 @@ record AreSameRows (first second : DfaValue) (greatest : ℕ) (ones others : Lis
   same : ones ≡ others
   known : AreKnown first second (greatest_of greatest ones)
 
-same_rows : (ones others : List (Option ℕ)) (first second : DfaValue) (greatest : ℕ) → AreAlike first second → IsInOrder greatest ones → IsInOrder greatest others →
-    AreKnown first second greatest → AllAgree first second ones others → AreSameRows first second greatest ones others
+same_rows : (ones others : List (Option ℕ)) (first second : DfaValue) (greatest : ℕ) → AreAlike first second →
+    IsInOrder greatest ones → IsInOrder greatest others → AreKnown first second greatest →
+    AllAgree first second ones others → AreSameRows first second greatest ones others
 same_rows [] [] first second greatest alike ordered ordered2 known all = record { same = refl; known = known }
 same_rows [] (other ∷ others) first second greatest alike ordered ordered2 known all = absurd all
 same_rows (one ∷ ones) [] first second greatest alike ordered ordered2 known all = absurd all
@@ -221,7 +223,8 @@ mirrored first second alike = record {
   accepts = λ word. ((alike.accepts word).1, (alike.accepts word).0);
 }
 
-no_fewer : (first second : DfaValue) → IsNumberedByDiscovery first → IsNumberedByDiscovery second → AreAlike first second → length first.rows ≤ length second.rows
+no_fewer : (first second : DfaValue) → IsNumberedByDiscovery first → IsNumberedByDiscovery second → AreAlike first second →
+    length first.rows ≤ length second.rows
 no_fewer first second numbered numbered2 alike = ⊎_elim
     (λ fewer.
     let both = same_number first second (length second.rows) numbered numbered2 alike fewer (omega arith) in
@@ -230,7 +233,8 @@ no_fewer first second numbered numbered2 alike = ⊎_elim
     (λ most. most)
     (cases_lt (length second.rows) (length first.rows))
 
-as_many : (first second : DfaValue) → IsNumberedByDiscovery first → IsNumberedByDiscovery second → AreAlike first second → length first.rows ≡ length second.rows
+as_many : (first second : DfaValue) → IsNumberedByDiscovery first → IsNumberedByDiscovery second → AreAlike first second →
+    length first.rows ≡ length second.rows
 as_many first second numbered numbered2 alike =
     let one = no_fewer first second numbered numbered2 alike in
     let other = no_fewer second first numbered2 numbered (mirrored first second alike) in
@@ -238,13 +242,15 @@ as_many first second numbered numbered2 alike =
 
 -- ---- final states
 
-final_too : (first second : DfaValue) (state : ℕ) → AreAlike first second → LeadToBoth first second state state → IsTrue (is_final first state) → IsTrue (is_final second state)
+final_too : (first second : DfaValue) (state : ℕ) → AreAlike first second → LeadToBoth first second state state →
+    IsTrue (is_final first state) → IsTrue (is_final second state)
 final_too first second state alike both final =
     let accepted = (alike.accepts both.0).0 (state, both.1, final) in
     let same : accepted.0 ≡ state = same_Some accepted.0 state (sym accepted.1 ∙ both.2) in
     subst (λ (n : ℕ). IsTrue (is_final second n)) same accepted.2
 
-same_finals : (first second : DfaValue) → IsNumberedByDiscovery first → IsNumberedByDiscovery second → AreAlike first second → first.finals ≡ second.finals
+same_finals : (first second : DfaValue) → IsNumberedByDiscovery first → IsNumberedByDiscovery second → AreAlike first second →
+    first.finals ≡ second.finals
 same_finals first second numbered numbered2 alike =
     let many = as_many first second numbered numbered2 alike in
     ext_get_or false first.finals second.finals (numbered.valid.finals ∙ (many ∙ sym numbered2.valid.finals))

@@ -38,8 +38,8 @@ abbrev pub LeadsToStates : DfaValue → Type 0
 LeadsToStates dfa = (state number target : ℕ) →
     step_of dfa state number ≡ Some target → (0 < target) × (target < length dfa.rows)
 
--- sorted distinct labels; 1 to 513 states, each with a place for each label; steps to states other
--- than the start, which isn't final
+-- sorted distinct labels; 1 to 513 states, each with a place for each label; steps to states
+-- other than the start, which isn't final
 pub record IsDfa (dfa : DfaValue) : Type 0 where
   pub sorted : IsStrictlySortedBy label_cmp dfa.labels
   pub few_labels : length dfa.labels < 2 ^ 32

@@ -13,7 +13,8 @@ pub record StartIsApart : Type 0 where
       IsDfa dfa → run_from dfa state (label ∷ word) ≡ Some 0 → ⊥
   pub empty : (dfa : DfaValue) → IsDfa dfa → Accepts dfa [] → ⊥
 
--- a word that is one word and then another leads where the second leads from where the first leads to
+-- a word that is one word and then another leads where the second leads from where the first
+-- leads to
 abbrev pub RunsJoin : Type 0
 RunsJoin = (dfa : DfaValue) (state : ℕ) (front rest : List Label) →
     run_from dfa state (front ++ rest)
@@ -35,8 +36,8 @@ abbrev pub AcceptedWordsPass : Type 0
 AcceptedWordsPass =
     (dfa : DfaValue) (word : List Label) → Accepts dfa word ↔ IsTrue (accepts_from dfa 0 word)
 
--- a word leads where the numbers of its labels lead; numbers that lead somewhere are those of labels,
--- and a word that leads somewhere has numbers
+-- a word leads where the numbers of its labels lead; numbers that lead somewhere are those of
+-- labels, and a word that leads somewhere has numbers
 pub record RunsGoByNumbers : Type 0 where
   pub spelled : (dfa : DfaValue) (state : ℕ) (numbers : List ℕ) →
       IsDfa dfa → All (λ number. number < length dfa.labels) numbers →
@@ -46,15 +47,17 @@ pub record RunsGoByNumbers : Type 0 where
       All (λ number. number < length dfa.labels) numbers
   pub numbered : (dfa : DfaValue) (state target : ℕ) (word : List Label) →
       IsDfa dfa → run_from dfa state word ≡ Some target →
-      (numbers : List ℕ) × (map (label_at dfa) numbers ≡ word) × (walk dfa state numbers ≡ Some target)
+      (numbers : List ℕ)
+      × (map (label_at dfa) numbers ≡ word) × (walk dfa state numbers ≡ Some target)
 
--- the two automata have the same labels, lead the same words somewhere, lead the same words to one
--- state, and accept the same words
+-- the two automata have the same labels, lead the same words somewhere, lead the same words to
+-- one state, and accept the same words
 pub record AreAlike (first second : DfaValue) : Type 0 where
   pub labels : first.labels ≡ second.labels
   pub leads : (word : List Label) → IsSome (run_from first 0 word) ↔ IsSome (run_from second 0 word)
   pub same : (one other : List Label) →
-      (run_from first 0 one ≡ run_from first 0 other) ↔ (run_from second 0 one ≡ run_from second 0 other)
+      (run_from first 0 one ≡ run_from first 0 other)
+      ↔ (run_from second 0 one ≡ run_from second 0 other)
   pub accepts : (word : List Label) → Accepts first word ↔ Accepts second word
 
 -- a reached automaton whose states are in the order of discovery
@@ -65,5 +68,6 @@ pub record IsNumberedByDiscovery (dfa : DfaValue) : Type 0 where
 
 -- of automata that are alike, one alone has its states in the order of discovery
 abbrev pub OneNumbering : Type 0
-OneNumbering = (first second : DfaValue) → IsNumberedByDiscovery first → IsNumberedByDiscovery second →
-    AreAlike first second → first ≡ second
+OneNumbering = (first second : DfaValue) →
+    IsNumberedByDiscovery first → IsNumberedByDiscovery second → AreAlike first second →
+    first ≡ second

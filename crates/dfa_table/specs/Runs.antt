@@ -6,11 +6,12 @@ use Rattle.dfa_table.specs.DfaValue.{DfaValue, step_of, place_of, is_final}
 
 -- the state that a step with this label leads to, from the state
 abbrev pub step_with : DfaValue → ℕ → Label → Option ℕ
-step_with dfa state label = option_and_then (λ number. step_of dfa state number) (place_of dfa label)
+step_with dfa state label =
+    option_and_then (λ number. step_of dfa state number) (place_of dfa label)
 
--- the state that the word leads to from the state: for the empty word the state itself, else a step
--- with the first label and then the rest. Of a number that is no state this says nothing: the empty
--- word leads from it to itself.
+-- the state that the word leads to from the state: for the empty word the state itself, else a
+-- step with the first label and then the rest. Of a number that is no state this says nothing:
+-- the empty word leads from it to itself.
 abbrev pub run_from : DfaValue → ℕ → List Label → Option ℕ
 run_from dfa state [] = Some state
 run_from dfa state (label ∷ word) =

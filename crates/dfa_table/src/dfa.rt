@@ -11,11 +11,11 @@ use rpq_base::{Label, Memory};
 use std::alloc::Global;
 use std::marker::Model;
 
-/// A deterministic automaton: states from 0, labels in their order, for each state and label at most one step, and
-/// which states are final.
+/// A deterministic automaton: states from 0, labels in their order, for each state and label at
+/// most one step, and which states are final.
 ///
-/// State 0 is the start; no step leads to it, and it isn't final. There are at most 513 states. Contracts see it as a
-/// `DfaValue` of `specs/`.
+/// State 0 is the start; no step leads to it, and it isn't final. There are at most 513 states.
+/// Contracts see it as a `DfaValue` of `specs/`.
 #[derive(Debug, Drop)]
 pub struct Dfa {
     labels: Vec<Label>,
@@ -63,8 +63,8 @@ fn find_label(labels: &[Label], label: &Label) -> Option<usize>
 }
 
 impl Dfa {
-    /// The automaton with these labels, rows and finals. A row has a place for each label, with the state that the
-    /// step leads to. The only error is [`Memory`].
+    /// The automaton with these labels, rows and finals. A row has a place for each label, with
+    /// the state that the step leads to. The only error is [`Memory`].
     pub fn new(
         alloc: Global,
         labels: Vec<Label>,
@@ -110,8 +110,9 @@ impl Dfa {
         }
     }
 
-    /// The state that a step from the state with the label of this number leads to, which is never the
-    /// start. A label number that the automaton lacks has no step. This is one index into a table.
+    /// The state that a step from the state with the label of this number leads to, which is
+    /// never the start. A label number that the automaton lacks has no step. This is one index
+    /// into a table.
     pub fn step(&self, state: u32, label: u32) -> Option<u32>
         requires { state < length self.now.rows }
         ensures step { result ≡ step_of self.now state label }

@@ -7,7 +7,8 @@ pub fn start_is_apart()
     ensures { StartIsApart }
 {}
 
-/// A word that is one word and then another leads where the second leads from where the first leads to.
+/// A word that is one word and then another leads where the second leads from where the first
+/// leads to.
 pub fn runs_join()
     ensures { RunsJoin }
 {}
@@ -27,7 +28,8 @@ pub fn accepted_words_pass()
     ensures { AcceptedWordsPass }
 {}
 
-/// A word leads where the numbers of its labels lead, and a word that leads somewhere has numbers.
+/// A word leads where the numbers of its labels lead, and a word that leads somewhere has
+/// numbers.
 pub fn runs_go_by_numbers()
     ensures { RunsGoByNumbers }
 {}

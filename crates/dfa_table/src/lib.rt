@@ -1,11 +1,12 @@
 //! Deterministic automata over labels, as tables.
 //!
-//! A [`Dfa`] has states from 0, labels in their order, and for each state and label at most one step. State 0 is the
-//! start: no step leads to it and it isn't final, so the empty word is never accepted. The contract for
-//! the layers above: each look-up answers exactly what the value says that contracts see, within its
-//! range, and takes no memory; a step is one index into a flat table. `specs/Runs` defines the state that
-//! a word leads to, by labels and by their numbers, and the words that are accepted; `specs/Order` the
-//! order in which a search from the start discovers the states.
+//! A [`Dfa`] has states from 0, labels in their order, and for each state and label at most one
+//! step. State 0 is the start: no step leads to it and it isn't final, so the empty word is never
+//! accepted. The contract for the layers above: each look-up answers exactly what the value says
+//! that contracts see, within its range, and takes no memory; a step is one index into a flat
+//! table. `specs/Runs` defines the state that a word leads to, by labels and by their numbers,
+//! and the words that are accepted; `specs/Order` the order in which a search from the start
+//! discovers the states.
 #![tactic(auto)]
 
 mod dfa;
