@@ -23,9 +23,9 @@ line_length_ended (byte ∷ raw) rest solid =
 
 -- a line is cut only where the first line is no longer than may be, and is whole or the rest before the end
 pub cuts_only_lines : CutsOnlyLines
-cuts_only_lines line_cap ended bytes rest line cuts = by cuts.cut
+cuts_only_lines line_limit is_at_end bytes rest line cuts = by cuts.cut
   where
-    by : (bytes ≡ cuts.raw ++ 10 ∷ rest) ⊎ ((ended ≡ true) × (cuts.raw ≢ []) × (bytes ≡ cuts.raw) × (rest ≡ [])) → AllowsLine line_cap ended bytes
+    by : (bytes ≡ cuts.raw ++ 10 ∷ rest) ⊎ ((is_at_end ≡ true) × (cuts.raw ≢ []) × (bytes ≡ cuts.raw) × (rest ≡ [])) → AllowsLine line_limit is_at_end bytes
     by (inl cut) =
         let first : line_length bytes ≡ length cuts.raw = ap line_length cut ∙ line_length_ended cuts.raw rest cuts.solid in
         let long : length bytes ≡ length cuts.raw + suc (length rest) = ap length cut ∙ length-append cuts.raw (10 ∷ rest) in

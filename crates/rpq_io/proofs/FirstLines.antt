@@ -58,10 +58,10 @@ first_line_cut bytes within =
     (eqb-true (get_or bytes (position_or_len (λ byte. eqb byte 10) bytes) 0) 10 (passes_at_first (λ byte. eqb byte 10) bytes 0 within))
 
 -- a text whose first line is longer than may be
-long_first_line : (line_cap : ℕ) (text : List ℕ) → line_cap < line_length text → HasLongLine line_cap text
-long_first_line line_cap text long = by (cases_lt (line_length text) (length text))
+long_first_line : (line_limit : ℕ) (text : List ℕ) → line_limit < line_length text → HasLongLine line_limit text
+long_first_line line_limit text long = by (cases_lt (line_length text) (length text))
   where
-    by : (line_length text < length text) ⊎ (length text ≤ line_length text) → HasLongLine line_cap text
+    by : (line_length text < length text) ⊎ (length text ≤ line_length text) → HasLongLine line_limit text
     by (inl within) = record {
       raw = take (line_length text) text;
       others = raw_lines (drop (line_length text + 1) text);
@@ -76,5 +76,5 @@ long_first_line line_cap text long = by (cases_lt (line_length text) (length tex
     }
 
 -- a first line that is longer than may be stays so where more stands behind it
-pub long_line : (bytes after : List ℕ) (line_cap : ℕ) → line_cap < line_length bytes → HasLongLine line_cap (bytes ++ after)
-long_line bytes after line_cap long = long_first_line line_cap (bytes ++ after) (omega (arith, line_length_grows bytes after))
+pub long_line : (bytes after : List ℕ) (line_limit : ℕ) → line_limit < line_length bytes → HasLongLine line_limit (bytes ++ after)
+long_line bytes after line_limit long = long_first_line line_limit (bytes ++ after) (omega (arith, line_length_grows bytes after))

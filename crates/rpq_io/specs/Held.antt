@@ -1,7 +1,7 @@
--- The bytes that a reader of lines holds.
-use Rattle.std.specs.Prelude.{◌≡◌, ℕ, ◌+◌, ◌-◌, ◌<◌, ◌≤◌, List, ◌++◌, length, slice_range, Option, if◌then◌else◌}
+-- The bytes that a reader of lines holds. No public contract cites these.
+use Rattle.std.specs.Prelude.{◌≡◌, ℕ, ◌+◌, ◌-◌, ◌<◌, ◌≤◌, Bool, true, List, [], ◌++◌, length, slice_range, Option, IfSome, if◌then◌else◌}
 use Rattle.std.specs.Io.KnownBytes.{prepend_known}
-use Rattle.rpq_io.specs.Reader.{ReaderState, taken, ended, byte_cap_of, line_length}
+use Rattle.rpq_io.specs.Reader.{ReaderState, line_length}
 
 -- the bytes held, how many can be read behind them, and how many can be held at most
 pub record HeldBytes : Type 0 where
@@ -23,11 +23,17 @@ pub record Grows (count : ℕ) (old new : List ℕ) (before after : Option (List
   pub moved : before ≡ prepend_known more after
 
 -- there is room for a line as long as may be and one byte more; each line given took a byte at least; no more bytes were taken than may be
-pub record IsInBounds (buffer : HeldBytes) (taken given line_cap byte_cap : ℕ) : Type 0 where
-  pub room : line_cap < buffer.size
-  pub counted : given + length buffer.bytes ≤ taken
-  pub within : taken ≤ byte_cap
+pub record IsInBounds (buffer : HeldBytes) (taken_count line_count line_limit byte_limit : ℕ) : Type 0 where
+  pub room : line_limit < buffer.size
+  pub counted : line_count + length buffer.bytes ≤ taken_count
+  pub within : taken_count ≤ byte_limit
+
+-- the reader is at its end where its source told so: then nothing is left, and more bytes could have been taken
+pub record IsTold (is_at_end has_told_end : Bool) (left : Option (List ℕ)) (taken_count byte_limit : ℕ) : Type 0 where
+  pub told : has_told_end ≡ is_at_end
+  pub over : is_at_end ≡ true → IfSome left (λ rest. rest ≡ [])
+  pub before_limit : is_at_end ≡ true → taken_count < byte_limit
 
 -- how often the reader may still read: once for each byte that it may take, and once to be told the end
 abbrev pub reads_left : {S : Type 0} → ReaderState S → ℕ
-reads_left reader = byte_cap_of reader - taken reader + (if ended reader then 0 else 1)
+reads_left reader = reader.byte_limit - reader.taken_count + (if reader.is_at_end then 0 else 1)

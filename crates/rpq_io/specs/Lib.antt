@@ -1,7 +1,14 @@
 pub mod Counts
+pub mod FaultTexts
+pub mod Files
 pub mod Held
+pub mod Host
+pub mod Memory
 pub mod Names
 pub mod Outcomes
+pub mod Places
 pub mod Reader
+pub mod Reads
+pub mod Script
 pub mod Takes
 pub mod Writes

@@ -1,5 +1,11 @@
 //! What can go wrong at the edge.
 
+ghost use Rattle.std.specs.Prelude.{◌≡◌, Some};
+ghost use Rattle.rpq_io.specs.declared.fault.AllFault.{AllFault};
+ghost use Rattle.rpq_io.specs.declared.fault.LineFault.{LineFault};
+ghost use Rattle.rpq_io.specs.declared.fault.OpenFault.{OpenFault};
+ghost use Rattle.rpq_io.specs.FaultTexts.{failed_text, write_text, open_fault_text, all_fault_text, line_fault_text};
+
 use rpq_base::Memory;
 use std::alloc::AllocError;
 use std::error::Error;
@@ -10,6 +16,8 @@ use std::fmt;
 pub struct Failed;
 
 impl fmt::Display for Failed {
+    ghost output = { λ _. Some failed_text };
+
     fn fmt<W: fmt::Write>(&self, f: &mut fmt::Formatter<W>) -> fmt::Result {
         f.write_str("a read or a write failed")
     }
@@ -22,12 +30,14 @@ impl Error for Failed {}
 pub struct Write;
 
 impl From<Failed> for Write {
-    fn from(_fault: Failed) -> Write {
-        Write
+    fn from(_: Failed) -> Self {
+        Self
     }
 }
 
 impl fmt::Display for Write {
+    ghost output = { λ _. Some write_text };
+
     fn fmt<W: fmt::Write>(&self, f: &mut fmt::Formatter<W>) -> fmt::Result {
         f.write_str("a write failed")
     }
@@ -44,29 +54,33 @@ pub enum OpenFault {
     Memory,
 }
 
+impl From<Failed> for OpenFault {
+    ghost from_gives = { λ _ fault. fault ≡ OpenFault.Failed };
+
+    fn from(_: Failed) -> Self {
+        Self::Failed
+    }
+}
+
 impl From<Memory> for OpenFault {
-    ghost use Rattle.std.specs.Prelude.{◌≡◌};
-    ghost use Rattle.rpq_io.specs.declared.fault.OpenFault.TheVariants.{Memory};
+    ghost from_gives = { λ _ fault. fault ≡ OpenFault.Memory };
 
-    ghost from_gives = { λ _ fault. fault ≡ Memory };
-
-    fn from(_error: Memory) -> OpenFault {
-        OpenFault::Memory
+    fn from(_: Memory) -> Self {
+        Self::Memory
     }
 }
 
 impl From<AllocError> for OpenFault {
-    ghost use Rattle.std.specs.Prelude.{◌≡◌};
-    ghost use Rattle.rpq_io.specs.declared.fault.OpenFault.TheVariants.{Memory};
+    ghost from_gives = { λ _ fault. fault ≡ OpenFault.Memory };
 
-    ghost from_gives = { λ _ fault. fault ≡ Memory };
-
-    fn from(_error: AllocError) -> OpenFault {
-        OpenFault::Memory
+    fn from(_: AllocError) -> Self {
+        Self::Memory
     }
 }
 
 impl fmt::Display for OpenFault {
+    ghost output = { λ fault. Some (open_fault_text fault) };
+
     fn fmt<W: fmt::Write>(&self, f: &mut fmt::Formatter<W>) -> fmt::Result {
         match self {
             OpenFault::Failed => f.write_str("a file could not be opened"),
@@ -82,35 +96,31 @@ impl Error for OpenFault {}
 pub enum AllFault {
     /// A read failed.
     Read,
-    /// The source gave as many bytes as its cap, and did not tell its end.
+    /// The source gave as many bytes as the limit, and did not tell its end.
     Long,
     /// Memory ran out.
     Memory,
 }
 
 impl From<Failed> for AllFault {
-    ghost use Rattle.std.specs.Prelude.{◌≡◌};
-    ghost use Rattle.rpq_io.specs.declared.fault.AllFault.TheVariants.{Read};
+    ghost from_gives = { λ _ fault. fault ≡ AllFault.Read };
 
-    ghost from_gives = { λ _ fault. fault ≡ Read };
-
-    fn from(_fault: Failed) -> AllFault {
-        AllFault::Read
+    fn from(_: Failed) -> Self {
+        Self::Read
     }
 }
 
 impl From<AllocError> for AllFault {
-    ghost use Rattle.std.specs.Prelude.{◌≡◌};
-    ghost use Rattle.rpq_io.specs.declared.fault.AllFault.TheVariants.{Memory};
+    ghost from_gives = { λ _ fault. fault ≡ AllFault.Memory };
 
-    ghost from_gives = { λ _ fault. fault ≡ Memory };
-
-    fn from(_error: AllocError) -> AllFault {
-        AllFault::Memory
+    fn from(_: AllocError) -> Self {
+        Self::Memory
     }
 }
 
 impl fmt::Display for AllFault {
+    ghost output = { λ fault. Some (all_fault_text fault) };
+
     fn fmt<W: fmt::Write>(&self, f: &mut fmt::Formatter<W>) -> fmt::Result {
         match self {
             AllFault::Read => f.write_str("a read failed"),
@@ -136,28 +146,24 @@ pub enum LineFault {
 }
 
 impl From<Failed> for LineFault {
-    ghost use Rattle.std.specs.Prelude.{◌≡◌};
-    ghost use Rattle.rpq_io.specs.declared.fault.LineFault.TheVariants.{Read};
+    ghost from_gives = { λ _ fault. fault ≡ LineFault.Read };
 
-    ghost from_gives = { λ _ fault. fault ≡ Read };
-
-    fn from(_fault: Failed) -> LineFault {
-        LineFault::Read
+    fn from(_: Failed) -> Self {
+        Self::Read
     }
 }
 
 impl From<AllocError> for LineFault {
-    ghost use Rattle.std.specs.Prelude.{◌≡◌};
-    ghost use Rattle.rpq_io.specs.declared.fault.LineFault.TheVariants.{Memory};
+    ghost from_gives = { λ _ fault. fault ≡ LineFault.Memory };
 
-    ghost from_gives = { λ _ fault. fault ≡ Memory };
-
-    fn from(_error: AllocError) -> LineFault {
-        LineFault::Memory
+    fn from(_: AllocError) -> Self {
+        Self::Memory
     }
 }
 
 impl fmt::Display for LineFault {
+    ghost output = { λ fault. Some (line_fault_text fault) };
+
     fn fmt<W: fmt::Write>(&self, f: &mut fmt::Formatter<W>) -> fmt::Result {
         match self {
             LineFault::Read => f.write_str("a read failed"),

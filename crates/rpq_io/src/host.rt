@@ -1,29 +1,46 @@
-//! Sources and sinks over std's readers and writers. What they give and take is the host's, and isn't told.
+//! Sources and sinks over std's readers and writers. They hand on what these give and take, which isn't told.
 
-ghost use Rattle.std.specs.Prelude.{◌≡◌};
-ghost use Rattle.std.specs.Io.{WritesAtMost};
+ghost use Rattle.std.specs.Prelude.{◌≡◌, ◌<◌, ◌≤◌, false, length, IfOk, OnErr, IsErr};
+ghost use Rattle.std.specs.Io.KnownBytes.{ReadConsumes, WriteAppends};
+ghost use Rattle.rpq_io.specs.Counts.{CountsFault};
+ghost use Rattle.rpq_io.specs.Reads.{tells_end};
 
 use crate::fault::Failed;
 use crate::sink::Sink;
 use crate::source::Source;
-use std::io;
 use std::io::{Read, Write};
-use std::rt::{Stderr, Stdout};
+use std::marker::Model;
 
 /// A source over a reader of std. It counts the reads that fail, up to 2^64 - 1.
 #[derive(Drop)]
 pub struct HostSource<R> {
     reader: R,
-    faults: u64,
+    has_told_end: bool,
+    fault_count: u64,
+}
+
+impl<R> Model for HostSource<R> {
+    ghost use Rattle.rpq_io.specs.Host.{HostReader};
+
+    ghost Value = { HostReader R };
+
+    ghost view = { λ source. record {
+      reader = source.reader;
+      has_told_end = source.has_told_end;
+      fault_count = source.fault_count;
+    } };
 }
 
 impl<R: Read> HostSource<R> {
     /// A source that reads from here on, with no fault yet.
     pub fn new(reader: R) -> HostSource<R>
-        ensures left { ⟦<HostSource<R> as Source>⟧.left result ≡ None }
-        ensures faults { ⟦<HostSource<R> as Source>⟧.faults result ≡ 0 }
+        ensures { result ≡ record { reader = reader; has_told_end = false; fault_count = 0 } }
     {
-        HostSource { reader, faults: 0 }
+        HostSource {
+            reader,
+            has_told_end: false,
+            fault_count: 0,
+        }
     }
 }
 
@@ -32,78 +49,57 @@ impl<R: Read> Source for HostSource<R> {
 
     ghost left = { λ _. None };
 
-    ghost faults = { λ source. source.faults };
+    ghost has_told_end = { λ source. source.has_told_end };
 
-    fn read(&mut self, into: &mut [u8]) -> Result<usize, Failed> {
+    ghost faults = { λ source. source.fault_count };
+
+    /// Hands on what the reader gives, with one read of it.
+    fn read(&mut self, into: &mut [u8]) -> Result<usize, Failed>
+        requires room { 0 < length into.old }
+        requires untold { self.old.has_told_end ≡ false }
+        ensures bound { IfOk result (λ count. count ≤ length into.new) }
+        ensures bytes { ReadConsumes (R.remaining self.old.reader) (R.remaining self.new.reader)
+            result into.new }
+        ensures told { self.new.has_told_end ≡ tells_end result }
+        ensures faults { CountsFault (IsErr result) self.old.fault_count self.new.fault_count }
+    {
         match self.reader.read(into) {
-            Ok(count) => Ok(count),
+            Ok(count) => {
+                self.has_told_end = count == 0;
+                Ok(count)
+            }
             Err(_) => {
-                self.faults = self.faults.saturating_add(1);
+                self.fault_count = self.fault_count.saturating_add(1);
                 Err(Failed)
             }
         }
     }
 }
 
-/// Where a [`HostSink`] writes.
-#[derive(Drop)]
-enum Place<W> {
-    File(W),
-    Output(Stdout),
-    Errors(Stderr),
-}
-
-impl<W: Write> Place<W> {
-    fn write(&mut self, from: &[u8]) -> io::Result<usize>
-        ensures { WritesAtMost result from.now }
-    {
-        match self {
-            Place::File(file) => file.write(from),
-            Place::Output(output) => output.write(from),
-            Place::Errors(errors) => errors.write(from),
-        }
-    }
-}
-
-/// A sink over a writer of std, as a file, or over standard output or standard error. It counts the writes
-/// that fail, up to 2^64 - 1. A write that takes nothing is one that fails.
+/// A sink over a writer of std. It counts the writes that fail, up to 2^64 - 1. A write that takes nothing is
+/// one that fails.
 #[derive(Drop)]
 pub struct HostSink<W> {
-    place: Place<W>,
-    faults: u64,
+    writer: W,
+    fault_count: u64,
+}
+
+impl<W> Model for HostSink<W> {
+    ghost use Rattle.rpq_io.specs.Host.{HostWriter};
+
+    ghost Value = { HostWriter W };
+
+    ghost view = { λ sink. record { writer = sink.writer; fault_count = sink.fault_count } };
 }
 
 impl<W: Write> HostSink<W> {
     /// A sink over this writer, with no fault yet.
-    pub fn file(writer: W) -> HostSink<W>
-        ensures written { ⟦<HostSink<W> as Sink>⟧.written result ≡ None }
-        ensures faults { ⟦<HostSink<W> as Sink>⟧.faults result ≡ 0 }
+    pub fn new(writer: W) -> HostSink<W>
+        ensures { result ≡ record { writer = writer; fault_count = 0 } }
     {
         HostSink {
-            place: Place::File(writer),
-            faults: 0,
-        }
-    }
-
-    /// A sink over standard output, with no fault yet.
-    pub fn output(output: Stdout) -> HostSink<W>
-        ensures written { ⟦<HostSink<W> as Sink>⟧.written result ≡ None }
-        ensures faults { ⟦<HostSink<W> as Sink>⟧.faults result ≡ 0 }
-    {
-        HostSink {
-            place: Place::Output(output),
-            faults: 0,
-        }
-    }
-
-    /// A sink over standard error, with no fault yet.
-    pub fn errors(errors: Stderr) -> HostSink<W>
-        ensures written { ⟦<HostSink<W> as Sink>⟧.written result ≡ None }
-        ensures faults { ⟦<HostSink<W> as Sink>⟧.faults result ≡ 0 }
-    {
-        HostSink {
-            place: Place::Errors(errors),
-            faults: 0,
+            writer,
+            fault_count: 0,
         }
     }
 }
@@ -113,13 +109,21 @@ impl<W: Write> Sink for HostSink<W> {
 
     ghost written = { λ _. None };
 
-    ghost faults = { λ sink. sink.faults };
+    ghost faults = { λ sink. sink.fault_count };
 
-    fn write(&mut self, from: &[u8]) -> Result<usize, Failed> {
-        match self.place.write(from) {
+    /// Hands the bytes to the writer, in one write of it.
+    fn write(&mut self, from: &[u8]) -> Result<usize, Failed>
+        requires { 0 < length from.now }
+        ensures some { IfOk result (λ count. 1 ≤ count) }
+        ensures bound { IfOk result (λ count. count ≤ length from.now) }
+        ensures bytes { WriteAppends (W.contents self.old.writer) (W.contents self.new.writer)
+            result from.now }
+        ensures faults { CountsFault (IsErr result) self.old.fault_count self.new.fault_count }
+    {
+        match self.writer.write(from) {
             Ok(count) if count > 0 => Ok(count),
             _ => {
-                self.faults = self.faults.saturating_add(1);
+                self.fault_count = self.fault_count.saturating_add(1);
                 Err(Failed)
             }
         }

@@ -1,28 +1,46 @@
 //! The host's files.
 
-ghost use Rattle.std.specs.Prelude.{ℕ, List, [], ◌≡◌, ◌||◌};
-ghost use Rattle.rpq_io.specs.Names.{is_noted};
+ghost use Rattle.std.specs.Prelude.{[], ◌≡◌, ◌≤◌, false, is_ok, is_err, string_bytes, IfOk, IsErr, IsTrue};
+ghost use Rattle.rpq_io.specs.Counts.{CountsOpening};
+ghost use Rattle.rpq_io.specs.Host.{was_opened, after_reading, after_making};
+ghost use Rattle.rpq_io.specs.Names.{noted_if, times};
 
-use crate::fault::OpenFault;
+use crate::fault::{Failed, OpenFault};
 use crate::files::Files;
 use crate::host::{HostSink, HostSource};
 use crate::name_list::NameList;
+use crate::place::Place;
 use std::alloc::Global;
 use std::fs;
+use std::io;
+use std::marker::Model;
 use std::rt::Files as FileSystem;
 
 /// The files of the host, by their names. What they hold isn't told.
 ///
 /// A name that was opened before, to read or to write, isn't opened to write: that opening fails, and is
-/// counted. Names are compared as text.
+/// counted. Names are compared as text. All memory is taken before a file is touched.
 #[derive(Drop)]
 pub struct HostFiles<H> {
     alloc: Global,
     host: H,
-    opened: NameList,
+    read: NameList,
     unread: NameList,
-    unmade: NameList,
     made: NameList,
+    unmade: NameList,
+}
+
+impl<H> Model for HostFiles<H> {
+    ghost use Rattle.rpq_io.specs.Host.{OpenedNames};
+
+    ghost Value = { OpenedNames };
+
+    ghost view = { λ files. record {
+      read_names = files.read.names;
+      unread_names = files.unread.names;
+      made_names = files.made.names;
+      unmade_names = files.unmade.names;
+    } };
 }
 
 impl<H: FileSystem> HostFiles<H>
@@ -31,28 +49,84 @@ where
 {
     /// The files of this host, none of which was opened yet.
     pub fn new(alloc: Global, host: H) -> HostFiles<H>
-        ensures unread { (name : List ℕ) → ⟦<HostFiles<H> as Files>⟧.unread result name ≡ 0 }
-        ensures unmade { (name : List ℕ) → ⟦<HostFiles<H> as Files>⟧.unmade result name ≡ 0 }
-        ensures made { ⟦<HostFiles<H> as Files>⟧.made result ≡ [] }
+        ensures { result ≡ record {
+          read_names = [];
+          unread_names = [];
+          made_names = [];
+          unmade_names = [];
+        } }
     {
         HostFiles {
             alloc,
             host,
-            opened: NameList::new(alloc),
+            read: NameList::new(alloc),
             unread: NameList::new(alloc),
-            unmade: NameList::new(alloc),
             made: NameList::new(alloc),
+            unmade: NameList::new(alloc),
         }
     }
+}
+
+/// Notes a name among those opened or among those opened in vain. It takes no memory: each list has room.
+fn note_outcome<T>(
+    outcome: io::Result<T>,
+    name: String,
+    opened: &mut NameList,
+    failed: &mut NameList,
+) -> Result<T, Failed>
+    requires opened { 1 ≤ opened.old.room }
+    requires failed { 1 ≤ failed.old.room }
+    ensures opened { opened.new.names ≡ noted_if (is_ok result) (string_bytes name) opened.old.names }
+    ensures failed { failed.new.names ≡ noted_if (is_err result) (string_bytes name) failed.old.names }
+{
+    match outcome {
+        Ok(file) => {
+            opened.note(name);
+            Ok(file)
+        }
+        Err(_) => {
+            failed.note(name);
+            Err(Failed)
+        }
+    }
+}
+
+/// Opens the file of this name to read. Its fault isn't want of memory, so all memory is taken before.
+fn open<H: FileSystem>(
+    host: &H,
+    name: String,
+    opened: &mut NameList,
+    failed: &mut NameList,
+) -> Result<H::File, Failed>
+    requires opened { 1 ≤ opened.old.room }
+    requires failed { 1 ≤ failed.old.room }
+    ensures opened { opened.new.names ≡ noted_if (is_ok result) (string_bytes name) opened.old.names }
+    ensures failed { failed.new.names ≡ noted_if (is_err result) (string_bytes name) failed.old.names }
+{
+    note_outcome(fs::open(host, name.as_str()), name, opened, failed)
+}
+
+/// Opens the file of this name to write it anew. Its fault isn't want of memory, so all memory is taken before.
+fn create<H: FileSystem>(
+    host: &H,
+    name: String,
+    opened: &mut NameList,
+    failed: &mut NameList,
+) -> Result<H::File, Failed>
+    requires opened { 1 ≤ opened.old.room }
+    requires failed { 1 ≤ failed.old.room }
+    ensures opened { opened.new.names ≡ noted_if (is_ok result) (string_bytes name) opened.old.names }
+    ensures failed { failed.new.names ≡ noted_if (is_err result) (string_bytes name) failed.old.names }
+{
+    note_outcome(fs::create(host, name.as_str()), name, opened, failed)
 }
 
 impl<H> HostFiles<H> {
     /// Whether a file of this name was opened before, to read or to write.
     fn was_opened(&self, name: &str) -> bool
-        ensures { result ≡
-            (is_noted name.now self.now.opened.names || is_noted name.now self.now.made.names) }
+        ensures { result ≡ was_opened name.now self.now }
     {
-        self.opened.contains(name) || self.made.contains(name)
+        self.read.contains(name) || self.made.contains(name)
     }
 }
 
@@ -65,49 +139,47 @@ where
 
     type Source = HostSource<H::File>;
 
-    type Sink = HostSink<H::File>;
+    type Sink = HostSink<Place<H::File>>;
 
     ghost holds = { λ _ _. None };
 
-    ghost unread = { λ files name. times name files.unread.names };
+    ghost unread = { λ files name. times name files.unread_names };
 
-    ghost unmade = { λ files name. times name files.unmade.names };
+    ghost unmade = { λ files name. times name files.unmade_names };
 
-    ghost made = { λ files. files.made.names };
+    ghost made = { λ files. files.made_names };
 
-    fn source(&mut self, name: &str) -> Result<HostSource<H::File>, OpenFault> {
+    /// Notes the name where it is opened.
+    fn source(&mut self, name: &str) -> Result<HostSource<H::File>, OpenFault>
+        ensures untold { IfOk result (λ source. source.has_told_end ≡ false) }
+        ensures fresh { IfOk result (λ source. source.fault_count ≡ 0) }
+        ensures after { self.new ≡ after_reading self.old name.now result }
+        ensures faults { CountsOpening (result ≡ Err OpenFault.Failed) name.now
+            (λ any. times any self.old.unread_names) (λ any. times any self.new.unread_names) }
+    {
+        self.read.make_room()?;
         self.unread.make_room()?;
-        self.opened.make_room()?;
         let noted = String::from_str(self.alloc, name)?;
-        match fs::open(&self.host, name) {
-            Ok(file) => {
-                self.opened.note(noted);
-                Ok(HostSource::new(file))
-            }
-            Err(_) => {
-                self.unread.note(noted);
-                Err(OpenFault::Failed)
-            }
-        }
+        let file = open(&self.host, noted, &mut self.read, &mut self.unread)?;
+        Ok(HostSource::new(file))
     }
 
-    fn sink(&mut self, name: &str) -> Result<HostSink<H::File>, OpenFault> {
-        self.unmade.make_room()?;
+    /// Refuses a name that was opened before.
+    fn sink(&mut self, name: &str) -> Result<HostSink<Place<H::File>>, OpenFault>
+        ensures fresh { IfOk result (λ sink. sink.fault_count ≡ 0) }
+        ensures refused { IsTrue (was_opened name.now self.old) → IsErr result }
+        ensures after { self.new ≡ after_making self.old name.now result }
+        ensures faults { CountsOpening (result ≡ Err OpenFault.Failed) name.now
+            (λ any. times any self.old.unmade_names) (λ any. times any self.new.unmade_names) }
+    {
         self.made.make_room()?;
+        self.unmade.make_room()?;
         let noted = String::from_str(self.alloc, name)?;
         if self.was_opened(name) {
             self.unmade.note(noted);
             return Err(OpenFault::Failed);
         }
-        match fs::create(&self.host, name) {
-            Ok(file) => {
-                self.made.note(noted);
-                Ok(HostSink::file(file))
-            }
-            Err(_) => {
-                self.unmade.note(noted);
-                Err(OpenFault::Failed)
-            }
-        }
+        let file = create(&self.host, noted, &mut self.made, &mut self.unmade)?;
+        Ok(HostSink::new(Place::File(file)))
     }
 }

@@ -9,7 +9,6 @@
 //! content. Each byte is copied once by [`read_all`], twice at most by [`LineReader`] and not at all by [`put_all`].
 #![tactic(auto)]
 
-mod calls;
 mod fault;
 mod files;
 mod host;
@@ -21,6 +20,8 @@ mod memory_files;
 mod memory_sink;
 mod memory_source;
 mod name_list;
+mod place;
+mod script;
 mod sink;
 mod source;
 mod whole;
@@ -34,11 +35,8 @@ pub use line_reader::LineReader;
 pub use memory_files::MemoryFiles;
 pub use memory_sink::MemorySink;
 pub use memory_source::MemorySource;
+pub use place::Place;
 pub use sink::Sink;
 pub use source::Source;
 pub use whole::{put_all, read_all};
 
-#[cfg(test)]
-mod line_tests;
-#[cfg(test)]
-mod tests;

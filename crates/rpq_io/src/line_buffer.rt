@@ -1,10 +1,11 @@
 //! Bytes that were taken from a source and not yet given.
 
-ghost use Rattle.std.specs.Prelude.{[], ◌≡◌, ◌+◌, ◌<◌, ◌≤◌, ◌==◌, length, take, drop, slice_range, position, IfOk, OnErr, IfSome};
+ghost use Rattle.std.specs.Prelude.{[], ◌≡◌, ◌+◌, ◌<◌, ◌≤◌, ◌==◌, length, take, drop, slice_range, position, false, IfOk, OnErr, IsErr, IfSome};
 ghost use Rattle.std.specs.Io.KnownBytes.{prepend_known};
-ghost use Rattle.rpq_io.specs.Counts.{Rose};
+ghost use Rattle.rpq_io.specs.Counts.{CountsFault};
 ghost use Rattle.rpq_io.specs.Held.{HeldBytes, Grows};
 ghost use Rattle.rpq_io.specs.Reader.{line_length};
+ghost use Rattle.rpq_io.specs.Reads.{tells_end};
 ghost use Rattle.text_parts.specs.Lines.{line_feed};
 
 use crate::fault::Failed;
@@ -12,12 +13,12 @@ use crate::source::Source;
 use std::alloc::{AllocError, Global};
 use std::marker::Model;
 
-/// Where fewer bytes than this could be read behind those held, these are moved to the front. A buffer of this size and twice
-/// that of what is held at most moves no byte more often than it reads one.
+/// Where fewer bytes than this could be read behind those held, these are moved to the front. A buffer of this
+/// size and twice that of what is held at most moves no byte more often than it reads one.
 pub const PIECE: usize = 4096;
 
-/// Bytes in their order, some of them given and the others held, of which it knows the length of the first line. Contracts see the bytes
-/// held, how many more can be read behind them, and how many it can hold at most.
+/// Bytes in their order, some of them given and the others held, of which it knows the length of the first
+/// line. Contracts see the bytes held, how many more can be read behind them, and how many it can hold at most.
 #[derive(Drop)]
 pub struct LineBuffer {
     bytes: Vec<u8>,
@@ -38,7 +39,8 @@ impl Model for LineBuffer {
       size = length buffer.bytes.items;
     } };
 
-    ghost invariant = { λ buffer. IsLaidOut buffer.bytes.items buffer.start buffer.end buffer.line_length };
+    ghost invariant = { λ buffer.
+        IsLaidOut buffer.bytes.items buffer.start buffer.end buffer.line_length };
 }
 
 impl LineBuffer {
@@ -107,14 +109,16 @@ impl LineBuffer {
     pub fn read_from<S: Source>(&mut self, source: &mut S, most: u64) -> Result<usize, Failed>
         requires room { 0 < self.old.room }
         requires some { 0 < most }
-        ensures grown { IfOk result (λ count. Grows count self.old.bytes self.new.bytes (S.left source.old) (S.left source.new)) }
+        requires untold { S.has_told_end source.old ≡ false }
+        ensures grown { IfOk result (λ count.
+            Grows count self.old.bytes self.new.bytes (S.left source.old) (S.left source.new)) }
         ensures few { IfOk result (λ count. count ≤ most) }
         ensures end { result ≡ Ok 0 → IfSome (S.left source.new) (λ rest. rest ≡ []) }
+        ensures told { S.has_told_end source.new ≡ tells_end result }
         ensures err { OnErr result (S.left source.new ≡ S.left source.old) }
         ensures kept { OnErr result (self.new.bytes ≡ self.old.bytes) }
         ensures size { self.new.size ≡ self.old.size }
-        ensures cause { OnErr result (Rose (S.faults source.old) (S.faults source.new)) }
-        ensures never_falls { S.faults source.old ≤ S.faults source.new }
+        ensures faults { CountsFault (IsErr result) (S.faults source.old) (S.faults source.new) }
     {
         let count = read_behind(source, self.bytes.as_mut_slice(), self.end, most)?;
         self.end += count;
@@ -135,15 +139,16 @@ fn read_behind<S: Source>(
 ) -> Result<usize, Failed>
     requires room { end < length bytes.old }
     requires some { 0 < most }
-    ensures taken { IfOk result (λ count.
-        S.left source.old ≡ prepend_known (slice_range bytes.new end (end + count)) (S.left source.new)) }
+    requires untold { S.has_told_end source.old ≡ false }
+    ensures taken { IfOk result (λ count. S.left source.old
+        ≡ prepend_known (slice_range bytes.new end (end + count)) (S.left source.new)) }
     ensures within { IfOk result (λ count. end + count ≤ length bytes.new) }
     ensures few { IfOk result (λ count. count ≤ most) }
     ensures end { result ≡ Ok 0 → IfSome (S.left source.new) (λ rest. rest ≡ []) }
+    ensures told { S.has_told_end source.new ≡ tells_end result }
     ensures before { take end bytes.new ≡ take end bytes.old }
     ensures err { OnErr result (S.left source.new ≡ S.left source.old) }
-    ensures cause { OnErr result (Rose (S.faults source.old) (S.faults source.new)) }
-    ensures never_falls { S.faults source.old ≤ S.faults source.new }
+    ensures faults { CountsFault (IsErr result) (S.faults source.old) (S.faults source.new) }
 {
     let room = (bytes.len() - end) as u64;
     let wanted = room.min(most) as usize;

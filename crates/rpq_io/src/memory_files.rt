@@ -1,15 +1,18 @@
 //! Files in memory.
 
-ghost use Rattle.std.specs.Prelude.{ℕ, List, [], ◌≡◌, ◌≢◌, ◌≤◌, IfOk, OnOk, OnErr, option_map, find, string_bytes, bytes_eq, option_copied};
+ghost use Rattle.std.specs.Prelude.{ℕ, List, [], ◌∷◌, ◌++◌, ◌≡◌, ◌≢◌, ◌≤◌, ◌||◌, false, IfOk, OnOk, OnErr, IsTrue, is_none, bytes_eq, option_map, option_copied};
+ghost use Rattle.rpq_io.specs.Memory.{new_writer, file_named, reader_of, after_source, after_sink};
+ghost use Rattle.rpq_io.specs.Script.{new_script, next_fails};
 
-use crate::calls::Calls;
 use crate::fault::OpenFault;
 use crate::files::Files;
 use crate::memory_sink::MemorySink;
 use crate::memory_source::MemorySource;
 use crate::name_list::NameList;
+use crate::script::Script;
 use rpq_base::Memory;
 use std::alloc::Global;
+use std::marker::Model;
 
 /// A file in memory, and how a source opened on it gives its bytes.
 #[derive(Drop)]
@@ -18,7 +21,38 @@ struct MemoryFile {
     bytes: Vec<u8>,
     piece: usize,
     fails: Vec<u64>,
-    ghost moves: { 1 ≤ piece },
+}
+
+impl Model for MemoryFile {
+    ghost use Rattle.std.specs.Prelude.{◌≤◌, string_bytes};
+    ghost use Rattle.rpq_io.specs.Memory.{FileBytes};
+
+    ghost Value = { FileBytes };
+
+    ghost view = { λ file. record {
+      name = string_bytes file.name;
+      bytes = file.bytes.items;
+      piece = file.piece;
+      fails = file.fails.items;
+    } };
+
+    ghost invariant = { λ file. 1 ≤ file.piece };
+}
+
+impl MemoryFile {
+    /// Whether the file has this name.
+    fn has_name(&self, name: &str) -> bool
+        ensures { result ≡ bytes_eq self.now.name name.now }
+    {
+        self.name.as_str() == name
+    }
+
+    /// A source over the bytes of the file.
+    fn open(&self, alloc: Global) -> Result<MemorySource, Memory>
+        ensures { IfOk result (λ source. source ≡ reader_of self.now) }
+    {
+        MemorySource::new(alloc, self.bytes.as_slice(), self.piece, self.fails.as_slice())
+    }
 }
 
 /// Files in memory, which tell what they hold. The openings fail where they are asked to, and so does the
@@ -30,18 +64,37 @@ pub struct MemoryFiles {
     room: usize,
     piece: usize,
     sink_fails: Vec<u64>,
-    openings: Calls,
+    openings: Script,
     unread: NameList,
     unmade: NameList,
     made: NameList,
-    ghost moves: { 1 ≤ piece },
+}
+
+impl Model for MemoryFiles {
+    ghost use Rattle.std.specs.Prelude.{◌≤◌};
+    ghost use Rattle.rpq_io.specs.Memory.{MemoryDisk};
+
+    ghost Value = { MemoryDisk };
+
+    ghost view = { λ files. record {
+      files = files.files.items;
+      room = files.room;
+      piece = files.piece;
+      sink_fails = files.sink_fails.items;
+      openings = files.openings;
+      unread_names = files.unread.names;
+      unmade_names = files.unmade.names;
+      made_names = files.made.names;
+    } };
+
+    ghost invariant = { λ files. 1 ≤ files.piece };
 }
 
 /// The file of this name.
 fn file_named<'a>(name: &str, files: &'a [MemoryFile]) -> Option<&'a MemoryFile>
-    ensures { option_copied result ≡ find (λ file. bytes_eq (string_bytes file.name) name.now) files.now }
+    ensures { option_copied result ≡ file_named name.now files.now }
 {
-    files.iter().find(|file| file.name.as_str() == name)
+    files.iter().find(|file| file.has_name(name))
 }
 
 impl MemoryFiles {
@@ -56,13 +109,16 @@ impl MemoryFiles {
         fails: &[u64],
     ) -> Result<MemoryFiles, Memory>
         requires { 1 ≤ piece }
-        ensures holds { IfOk result (λ files.
-            (name : List ℕ) → ⟦<MemoryFiles as Files>⟧.holds files name ≡ None) }
-        ensures unread { IfOk result (λ files.
-            (name : List ℕ) → ⟦<MemoryFiles as Files>⟧.unread files name ≡ 0) }
-        ensures unmade { IfOk result (λ files.
-            (name : List ℕ) → ⟦<MemoryFiles as Files>⟧.unmade files name ≡ 0) }
-        ensures made { IfOk result (λ files. ⟦<MemoryFiles as Files>⟧.made files ≡ []) }
+        ensures { IfOk result (λ files. files ≡ record {
+          files = [];
+          room = room;
+          piece = piece;
+          sink_fails = sink_fails.now;
+          openings = new_script fails.now;
+          unread_names = [];
+          unmade_names = [];
+          made_names = [];
+        }) }
     {
         Ok(MemoryFiles {
             alloc,
@@ -70,7 +126,7 @@ impl MemoryFiles {
             room,
             piece,
             sink_fails: Vec::from_slice(alloc, sink_fails)?,
-            openings: Calls::new(alloc, fails)?,
+            openings: Script::new(alloc, fails)?,
             unread: NameList::new(alloc),
             unmade: NameList::new(alloc),
             made: NameList::new(alloc),
@@ -91,12 +147,13 @@ impl MemoryFiles {
         ensures ok { OnOk result (⟦<MemoryFiles as Files>⟧.holds self.new name.now ≡ Some bytes.now) }
         ensures others { (other : List ℕ) → other ≢ name.now
             → ⟦<MemoryFiles as Files>⟧.holds self.new other ≡ ⟦<MemoryFiles as Files>⟧.holds self.old other }
-        ensures err { OnErr result (⟦<MemoryFiles as Files>⟧.holds self.new name.now ≡ None) }
-        ensures unread { (any : List ℕ)
-            → ⟦<MemoryFiles as Files>⟧.unread self.new any ≡ ⟦<MemoryFiles as Files>⟧.unread self.old any }
-        ensures unmade { (any : List ℕ)
-            → ⟦<MemoryFiles as Files>⟧.unmade self.new any ≡ ⟦<MemoryFiles as Files>⟧.unmade self.old any }
-        ensures made { ⟦<MemoryFiles as Files>⟧.made self.new ≡ ⟦<MemoryFiles as Files>⟧.made self.old }
+        ensures added { OnOk result (self.new ≡ record self.old { files = self.old.files ++ (record {
+          name = name.now;
+          bytes = bytes.now;
+          piece = piece;
+          fails = fails.now;
+        }) ∷ [] }) }
+        ensures err { OnErr result (self.new ≡ self.old) }
     {
         let file = MemoryFile {
             name: String::from_str(self.alloc, name)?,
@@ -107,57 +164,73 @@ impl MemoryFiles {
         self.files.push(file)?;
         Ok(())
     }
+
+    /// A source over the file of this name, if there is one.
+    fn source_of(&self, name: &str) -> Result<Option<MemorySource>, Memory>
+        ensures { IfOk result (λ source. source ≡ option_map reader_of (file_named name.now self.now.files)) }
+    {
+        match file_named(name, self.files.as_slice()) {
+            Some(file) => Ok(Some(file.open(self.alloc)?)),
+            None => Ok(None),
+        }
+    }
 }
 
 impl Files for MemoryFiles {
+    ghost use Rattle.std.specs.Prelude.{option_map};
+    ghost use Rattle.rpq_io.specs.Memory.{file_named};
     ghost use Rattle.rpq_io.specs.Names.{times};
 
     type Source = MemorySource;
 
     type Sink = MemorySink;
 
-    ghost holds = { λ files name. option_map (λ file. file.bytes.items)
-        (find (λ file. bytes_eq (string_bytes file.name) name) files.files.items) };
+    ghost holds = { λ disk name. option_map (λ file. file.bytes) (file_named name disk.files) };
 
-    ghost unread = { λ files name. times name files.unread.names };
+    ghost unread = { λ disk name. times name disk.unread_names };
 
-    ghost unmade = { λ files name. times name files.unmade.names };
+    ghost unmade = { λ disk name. times name disk.unmade_names };
 
-    ghost made = { λ files. files.made.names };
+    ghost made = { λ disk. disk.made_names };
 
-    fn source(&mut self, name: &str) -> Result<MemorySource, OpenFault> {
+    /// Fails exactly at the listed openings and where no file has this name. Memory is taken before the
+    /// opening is counted.
+    fn source(&mut self, name: &str) -> Result<MemorySource, OpenFault>
+        ensures opened { IfOk result (λ source. (next_fails self.old.openings ≡ false)
+            × (option_map reader_of (file_named name.now self.old.files) ≡ Some source)) }
+        ensures failed { result ≡ Err OpenFault.Failed
+            → IsTrue (next_fails self.old.openings || is_none (file_named name.now self.old.files)) }
+        ensures after { self.new ≡ after_source self.old name.now result }
+    {
         self.unread.make_room()?;
         let noted = String::from_str(self.alloc, name)?;
-        if self.openings.next_fails() {
-            self.unread.note(noted);
-            return Err(OpenFault::Failed);
-        }
-        match file_named(name, self.files.as_slice()) {
-            Some(file) => {
-                let fails = file.fails.as_slice();
-                Ok(MemorySource::new(self.alloc, file.bytes.as_slice(), file.piece, fails)?)
-            }
-            None => {
+        let source = self.source_of(name)?;
+        let fails = self.openings.next_fails();
+        match source {
+            Some(source) if !fails => Ok(source),
+            _ => {
                 self.unread.note(noted);
                 Err(OpenFault::Failed)
             }
         }
     }
 
-    fn sink(&mut self, name: &str) -> Result<MemorySink, OpenFault> {
+    /// Fails exactly at the listed openings. Memory is taken before the opening is counted.
+    fn sink(&mut self, name: &str) -> Result<MemorySink, OpenFault>
+        ensures opened { IfOk result (λ sink. (next_fails self.old.openings ≡ false)
+            × (sink ≡ new_writer self.old.room self.old.piece self.old.sink_fails)) }
+        ensures failed { result ≡ Err OpenFault.Failed → IsTrue (next_fails self.old.openings) }
+        ensures after { self.new ≡ after_sink self.old name.now result }
+    {
         self.unmade.make_room()?;
         self.made.make_room()?;
         let noted = String::from_str(self.alloc, name)?;
+        let fails = self.sink_fails.as_slice();
+        let sink = MemorySink::new(self.alloc, self.room, self.piece, fails)?;
         if self.openings.next_fails() {
             self.unmade.note(noted);
             return Err(OpenFault::Failed);
         }
-        let sink = MemorySink::new(
-            self.alloc,
-            self.room,
-            self.piece,
-            self.sink_fails.as_slice(),
-        )?;
         self.made.note(noted);
         Ok(sink)
     }

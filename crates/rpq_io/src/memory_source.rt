@@ -1,22 +1,42 @@
 //! A source over bytes in memory.
 
-ghost use Rattle.std.specs.Prelude.{◌≡◌, ◌≤◌, IfOk, vec_len};
+ghost use Rattle.std.specs.Prelude.{◌≡◌, ◌<◌, ◌≤◌, ◌++◌, false, is_err, take, length, IfOk};
+ghost use Rattle.rpq_io.specs.Memory.{new_reader, read_count, after_read};
+ghost use Rattle.rpq_io.specs.Script.{next_fails};
 
-use crate::calls::Calls;
 use crate::fault::Failed;
+use crate::script::Script;
 use crate::source::Source;
 use rpq_base::Memory;
 use std::alloc::Global;
+use std::marker::Model;
 
 /// A source over bytes in memory, which it tells. It gives them in pieces, and fails where it is asked to.
 #[derive(Drop)]
 pub struct MemorySource {
     bytes: Vec<u8>,
-    taken: usize,
+    taken_count: usize,
+    has_told_end: bool,
     piece: usize,
-    calls: Calls,
-    ghost within: { taken ≤ vec_len bytes },
-    ghost moves: { 1 ≤ piece },
+    script: Script,
+    fault_count: u64,
+}
+
+impl Model for MemorySource {
+    ghost use Rattle.std.specs.Prelude.{◌≤◌, drop, vec_len};
+    ghost use Rattle.rpq_io.specs.Memory.{MemoryReader};
+
+    ghost Value = { MemoryReader };
+
+    ghost view = { λ source. record {
+      left_bytes = drop source.taken_count source.bytes.items;
+      has_told_end = source.has_told_end;
+      piece = source.piece;
+      script = source.script;
+      fault_count = source.fault_count;
+    } };
+
+    ghost invariant = { λ source. (source.taken_count ≤ vec_len source.bytes) × (1 ≤ source.piece) };
 }
 
 impl MemorySource {
@@ -29,33 +49,46 @@ impl MemorySource {
         fails: &[u64],
     ) -> Result<MemorySource, Memory>
         requires { 1 ≤ piece }
-        ensures left { IfOk result (λ source. ⟦<MemorySource as Source>⟧.left source ≡ Some bytes.now) }
-        ensures faults { IfOk result (λ source. ⟦<MemorySource as Source>⟧.faults source ≡ 0) }
+        ensures { IfOk result (λ source. source ≡ new_reader bytes.now piece fails.now) }
     {
         Ok(MemorySource {
             bytes: Vec::from_slice(alloc, bytes)?,
-            taken: 0,
+            taken_count: 0,
+            has_told_end: false,
             piece,
-            calls: Calls::new(alloc, fails)?,
+            script: Script::new(alloc, fails)?,
+            fault_count: 0,
         })
     }
 }
 
 impl Source for MemorySource {
-    ghost use Rattle.std.specs.Prelude.{Some, drop};
+    ghost use Rattle.std.specs.Prelude.{Some};
 
-    ghost left = { λ source. Some (drop source.taken source.bytes.items) };
+    ghost left = { λ source. Some source.left_bytes };
 
-    ghost faults = { λ source. source.calls.failed };
+    ghost has_told_end = { λ source. source.has_told_end };
 
-    fn read(&mut self, into: &mut [u8]) -> Result<usize, Failed> {
-        if self.calls.next_fails() {
+    ghost faults = { λ source. source.fault_count };
+
+    /// Fails exactly at the listed calls, and else takes as many bytes as it may.
+    fn read(&mut self, into: &mut [u8]) -> Result<usize, Failed>
+        requires room { 0 < length into.old }
+        requires untold { self.old.has_told_end ≡ false }
+        ensures listed { is_err result ≡ next_fails self.old.script }
+        ensures count { IfOk result (λ count. count ≡ read_count self.old (length into.old)) }
+        ensures bytes { IfOk result (λ count. take count into.new ≡ take count self.old.left_bytes) }
+        ensures after { self.new ≡ after_read self.old result }
+    {
+        if self.script.next_fails() {
+            self.fault_count = self.fault_count.saturating_add(1);
             return Err(Failed);
         }
-        let rest = &self.bytes.as_slice()[self.taken..];
+        let rest = &self.bytes.as_slice()[self.taken_count..];
         let count = rest.len().min(self.piece).min(into.len());
         into[..count].copy_from_slice(&rest[..count]);
-        self.taken += count;
+        self.taken_count += count;
+        self.has_told_end = count == 0;
         Ok(count)
     }
 }

@@ -1,8 +1,8 @@
 //! Lists of names.
 
-ghost use Rattle.std.specs.Prelude.{ℕ, List, [], ◌∷◌, ◌++◌, ◌≡◌, ◌≢◌, ◌+◌, ◌≤◌, OnOk, bytes_eq, string_bytes};
+ghost use Rattle.std.specs.Prelude.{[], ◌∷◌, ◌++◌, ◌≡◌, ◌≤◌, OnOk, bytes_eq, string_bytes};
 ghost use Rattle.std.specs.List.{list_any};
-ghost use Rattle.rpq_io.specs.Names.{times, is_noted};
+ghost use Rattle.rpq_io.specs.Names.{is_noted};
 
 use rpq_base::Memory;
 use std::alloc::Global;
@@ -49,11 +49,7 @@ impl NameList {
     /// Notes a name, for which there is room.
     pub fn note(&mut self, name: String)
         requires { 1 ≤ self.old.room }
-        ensures names { self.new.names ≡ self.old.names ++ string_bytes name ∷ [] }
-        ensures counted { times (string_bytes name) self.new.names
-            ≡ times (string_bytes name) self.old.names + 1 }
-        ensures others { (other : List ℕ) → other ≢ string_bytes name
-            → times other self.new.names ≡ times other self.old.names }
+        ensures { self.new.names ≡ self.old.names ++ string_bytes name ∷ [] }
     {
         self.names.push_reserved(name);
     }

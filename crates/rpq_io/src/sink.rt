@@ -1,8 +1,8 @@
 //! Where bytes go.
 
-ghost use Rattle.std.specs.Prelude.{ℕ, List, Option, ◌≡◌, ◌<◌, ◌≤◌, length, take, IfOk, OnErr};
+ghost use Rattle.std.specs.Prelude.{ℕ, List, Option, ◌≡◌, ◌<◌, ◌≤◌, length, take, IfOk, OnErr, IsErr};
 ghost use Rattle.std.specs.Io.KnownBytes.{append_known};
-ghost use Rattle.rpq_io.specs.Counts.{Rose};
+ghost use Rattle.rpq_io.specs.Counts.{CountsFault};
 
 use crate::fault::Failed;
 
@@ -24,6 +24,5 @@ pub trait Sink {
         ensures given { IfOk result (λ count.
             written self.new ≡ append_known (written self.old) (take count from.now)) }
         ensures err { OnErr result (written self.new ≡ written self.old) }
-        ensures cause { OnErr result (Rose (faults self.old) (faults self.new)) }
-        ensures never_falls { faults self.old ≤ faults self.new };
+        ensures faults { CountsFault (IsErr result) (faults self.old) (faults self.new) };
 }

@@ -1,9 +1,9 @@
 //! All the bytes of a source, and all bytes to a sink.
 
-ghost use Rattle.std.specs.Prelude.{ℕ, List, [], ◌≡◌, ◌<◌, ◌≤◌, length, IfOk, OnOk, OnErr, IfSome};
+ghost use Rattle.std.specs.Prelude.{[], false, ◌≡◌, ◌<◌, is_ok, length, IfOk, OnOk, OnErr, IsErr, IfSome};
 ghost use Rattle.std.specs.Io.KnownBytes.{prepend_known, append_known};
-ghost use Rattle.rpq_io.specs.Counts.{Rose};
-ghost use Rattle.rpq_io.specs.Takes.{Takes, TakesAtMost};
+ghost use Rattle.rpq_io.specs.Counts.{CountsFault};
+ghost use Rattle.rpq_io.specs.Takes.{TakesAtMost, IsTooMuch};
 ghost use Rattle.rpq_io.specs.Writes.{WritesProperPrefix};
 
 use crate::fault::{AllFault, Write};
@@ -14,32 +14,33 @@ use std::alloc::Global;
 /// The most bytes that [`read_all`] asks a source for at once.
 const PIECE: u64 = 4096;
 
-/// All the bytes that the source has left, in their order, which are to be fewer than `byte_cap`. It never
-/// takes more than `byte_cap` bytes, and a source that gives few at a time isn't taken to be at its end.
-/// After a fault the source is past what was taken, which is lost.
+/// All the bytes that the source has left, in their order, which are to be fewer than `byte_limit`. It never
+/// takes more than `byte_limit` bytes, and a source that gives few at a time isn't taken to be at its end.
+/// The source told its end exactly where the answer is `Ok`. After a fault it is past what was taken, which is
+/// lost. A failed read isn't tried again.
 pub fn read_all<S: Source>(
     alloc: Global,
     source: &mut S,
-    byte_cap: u64,
+    byte_limit: u64,
 ) -> Result<Vec<u8>, AllFault>
+    requires { S.has_told_end source.old ≡ false }
     ensures ok { IfOk result (λ bytes.
         S.left source.old ≡ prepend_known bytes.items (S.left source.new)) }
     ensures end { OnOk result (IfSome (S.left source.new) (λ rest. rest ≡ [])) }
-    ensures fits { IfOk result (λ bytes. length bytes.items < byte_cap) }
+    ensures fits { IfOk result (λ bytes. length bytes.items < byte_limit) }
     ensures whole { IfOk result (λ bytes. IfSome (S.left source.old) (λ left. bytes.items ≡ left)) }
+    ensures told { S.has_told_end source.new ≡ is_ok result }
 
-    ensures read { result ≡ Err AllFault.Read → Rose (S.faults source.old) (S.faults source.new) }
     ensures long { result ≡ Err AllFault.Long
-        → Takes byte_cap (S.left source.old) (S.left source.new) }
-    ensures too_long { result ≡ Err AllFault.Long
-        → IfSome (S.left source.old) (λ left. byte_cap ≤ length left) }
-    ensures err { OnErr result (TakesAtMost byte_cap (S.left source.old) (S.left source.new)) }
-    ensures never_falls { S.faults source.old ≤ S.faults source.new }
+        → IsTooMuch byte_limit (S.left source.old) (S.left source.new) }
+    ensures err { OnErr result (TakesAtMost byte_limit (S.left source.old) (S.left source.new)) }
+    ensures faults { CountsFault (result ≡ Err AllFault.Read)
+        (S.faults source.old) (S.faults source.new) }
 {
     let mut bytes = Vec::new(alloc);
     let mut buffer = [0; PIECE as usize];
-    while (bytes.len() as u64) < byte_cap {
-        let room = PIECE.min(byte_cap - bytes.len() as u64) as usize;
+    while (bytes.len() as u64) < byte_limit {
+        let room = PIECE.min(byte_limit - bytes.len() as u64) as usize;
         let count = source.read(&mut buffer[..room])?;
         if count == 0 {
             return Ok(bytes);
@@ -49,12 +50,12 @@ pub fn read_all<S: Source>(
     Err(AllFault::Long)
 }
 
-/// Writes all the bytes, in their order, or a proper prefix of them and answers [`Write`]. Takes no memory.
+/// Writes all the bytes, in their order, or a proper prefix of them and answers [`Write`]. A failed write
+/// isn't tried again. Takes no memory.
 pub fn put_all<S: Sink>(sink: &mut S, bytes: &[u8]) -> Result<(), Write>
     ensures ok { OnOk result (S.written sink.new ≡ append_known (S.written sink.old) bytes.now) }
     ensures err { OnErr result (WritesProperPrefix bytes.now (S.written sink.old) (S.written sink.new)) }
-    ensures cause { OnErr result (Rose (S.faults sink.old) (S.faults sink.new)) }
-    ensures never_falls { S.faults sink.old ≤ S.faults sink.new }
+    ensures faults { CountsFault (IsErr result) (S.faults sink.old) (S.faults sink.new) }
 {
     let mut done = 0;
     while done < bytes.len() {

@@ -18,5 +18,5 @@ pub loop-done-preserved : goal.loop-done-preserved
 loop-done-preserved g c = record {
   within = search rules;
   written = append_known_more _ _ _ c.loop-done.done _ c.args.bytes.now c.loop-done.invariant.written c.in_ok-done.ensures.given;
-  never_falls = search rules;
+  quiet = search rules;
 }

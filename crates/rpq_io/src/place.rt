@@ -1,0 +1,37 @@
+//! Where the host's sinks write.
+
+ghost use Rattle.std.specs.Prelude.{◌≡◌};
+
+use std::io;
+use std::io::Write;
+use std::rt::{Stderr, Stdout};
+
+/// A file, standard output or standard error, so that one type of sink serves all three.
+#[derive(Drop)]
+pub enum Place<F> {
+    File(F),
+    Output(Stdout),
+    Errors(Stderr),
+}
+
+impl<F: Write> Write for Place<F> {
+    ghost use Rattle.rpq_io.specs.Places.{place_contents};
+
+    ghost contents = { place_contents F.contents };
+
+    fn write(&mut self, from: &[u8]) -> io::Result<usize> {
+        match self {
+            Place::File(file) => file.write(from),
+            Place::Output(output) => output.write(from),
+            Place::Errors(errors) => errors.write(from),
+        }
+    }
+
+    fn flush(&mut self) -> io::Result<()> {
+        match self {
+            Place::File(file) => file.flush(),
+            Place::Output(output) => output.flush(),
+            Place::Errors(errors) => errors.flush(),
+        }
+    }
+}
