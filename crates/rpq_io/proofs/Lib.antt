@@ -1,9 +1,8 @@
-mod Bytes
+pub mod Bytes
 mod CutLines
 mod Finding
-mod FirstLines
 mod HeldParts
-mod LineLengths
+mod LongLines
 mod Names
 mod ReaderSteps
 mod TextAhead

@@ -40,9 +40,9 @@ times-others other name names differs =
     ∙ add-zero (times other names)
 
 -- an opening that failed counts by the name that is noted
-pub counts-noted : (fault : Type 0) (name : List ℕ) (before after : List (List ℕ)) → fault → after ≡ before ++ name ∷ []
+pub counts_noted : (fault : Type 0) (name : List ℕ) (before after : List (List ℕ)) → fault → after ≡ before ++ name ∷ []
     → CountsOpening fault name (λ any. times any before) (λ any. times any after)
-counts-noted fault name before after failed noted = record {
+counts_noted fault name before after failed noted = record {
   never_fall = λ any. omega (arith, ap (times any) noted, times-more any name before);
   rose = λ _. inl (omega (arith, ap (times name) noted, times-noted name before));
   quiet = λ none. absurd (none failed);
@@ -50,9 +50,9 @@ counts-noted fault name before after failed noted = record {
 }
 
 -- an opening that didn't fail counts nothing
-pub counts-same : (fault : Type 0) (name : List ℕ) (before after : List (List ℕ)) → (fault → ⊥) → after ≡ before
+pub counts_same : (fault : Type 0) (name : List ℕ) (before after : List (List ℕ)) → (fault → ⊥) → after ≡ before
     → CountsOpening fault name (λ any. times any before) (λ any. times any after)
-counts-same fault name before after fine same = record {
+counts_same fault name before after fine same = record {
   never_fall = λ any. omega (arith, ap (times any) same);
   rose = λ failed. absurd (fine failed);
   quiet = λ _ any. ap (times any) same;

@@ -2,10 +2,9 @@
 use Rattle.std.proofs.Common.{◌≡◌, ℕ, ◌+◌, ◌<◌, ◌≤◌, ◌⊎◌, Bool, true, false, List, ◌∷◌, ◌++◌, length, take, drop, inl, inr, refl, sym, ap, ◌∙◌, subst, arith, length-take-le}
 use Rattle.std.proofs.lemmas.Bool.{cases_lt}
 use Rattle.std.proofs.lemmas.List.{take_all, drop_all}
-use Rattle.text_parts.specs.Lines.{without_return}
-use Rattle.rpq_io.specs.Reader.{ReaderState, line_length, HoldsNoAnswer, CutsLine, IsLongStream}
-use Rattle.rpq_io.proofs.FirstLines.{IsSolid, first_line_solid, first_line_cut}
-use Rattle.rpq_io.proofs.LineLengths.{line_length_within}
+use Rattle.text_parts.specs.Lines.{IsLine, line_length, without_return}
+use Rattle.text_parts.proofs.LineLengths.{line_length_within, first_line_whole, first_line_cut}
+use Rattle.rpq_io.specs.Reader.{ReaderState, HoldsNoAnswer, CutsLine, IsLongStream}
 
 -- the line up to the first line feed
 pub cut_at_feed : (line_limit : ℕ) (is_at_end : Bool) (bytes rest line : List ℕ) (place : ℕ) → place ≡ line_length bytes
@@ -13,7 +12,7 @@ pub cut_at_feed : (line_limit : ℕ) (is_at_end : Bool) (bytes rest line : List 
     → CutsLine line_limit is_at_end bytes rest line
 cut_at_feed line_limit is_at_end bytes rest line place is_place within fits dropped after = record {
   raw = take place bytes;
-  solid = subst (λ (first : ℕ). IsSolid (take first bytes)) (sym is_place) (first_line_solid bytes);
+  whole = subst (λ (first : ℕ). IsLine (take first bytes)) (sym is_place) (first_line_whole bytes);
   fits = omega (arith, length-take-le place bytes (omega arith));
   dropped = dropped;
   cut = inl (first_line_cut bytes (omega arith) ∙ ap (λ first. take first bytes ++ 10 ∷ drop (first + 1) bytes) (sym is_place)
@@ -28,7 +27,7 @@ cut_at_end line_limit is_at_end bytes rest line place is_place whole some fits t
     let all : take place bytes ≡ bytes = take_all place bytes whole in
     record {
       raw = bytes;
-      solid = subst IsSolid (ap (λ first. take first bytes) (sym is_place) ∙ all) (first_line_solid bytes);
+      whole = subst IsLine (ap (λ first. take first bytes) (sym is_place) ∙ all) (first_line_whole bytes);
       fits = omega (arith, line_length_within bytes);
       dropped = dropped ∙ ap without_return all;
       cut = inr (told, (λ none. omega (arith, ap length none, line_length_within bytes)), refl, after ∙ drop_all place bytes whole);
@@ -47,6 +46,7 @@ long_stream reader settled untold whole fits within = record {
   where
     no_line : line_length reader.held_bytes ≡ length reader.held_bytes
     no_line = omega (arith, line_length_within reader.held_bytes)
+
     by : (reader.taken_count < reader.byte_limit) ⊎ (reader.byte_limit ≤ reader.taken_count) → reader.byte_limit ≤ reader.taken_count
     by (inl more) = absurd (settled (record { untold = untold; no_line = no_line; short = omega (arith, no_line); more = more }))
     by (inr all) = all

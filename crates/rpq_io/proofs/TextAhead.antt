@@ -1,11 +1,13 @@
 -- The text that is still to be given as lines, after a call.
-use Rattle.std.proofs.Common.{◌≡◌, ◌≢◌, ℕ, ◌<◌, ◌⊎◌, inl, inr, Bool, true, List, [], ◌∷◌, ◌++◌, Option, Some, None, IfSome, sym, ap, ◌∙◌, subst, append_assoc, append-nil}
+use Rattle.std.proofs.Common.{◌≡◌, ◌≢◌, ℕ, ◌+◌, ◌<◌, ◌⊎◌, inl, inr, Bool, true, List, [], ◌∷◌, ◌++◌, Option, Some, None, IfSome, length, refl, arith, sym, ap, ◌∙◌, subst, append_assoc, append-nil}
 use Rattle.std.specs.Option.{IsSomeAnd}
 use Rattle.std.specs.Io.KnownBytes.{prepend_known}
-use Rattle.text_parts.specs.Lines.{raw_lines}
-use Rattle.rpq_io.specs.Reader.{ReaderState, line_length, text_ahead, Had, CutsLine, TakesNothing, StaysSound, IsFirstLine, HasLongLine}
+use Rattle.text_parts.specs.Lines.{raw_lines, line_length}
+use Rattle.rpq_io.specs.Held.{GivesHeld}
+use Rattle.rpq_io.specs.Reader.{ReaderState, text_ahead, Had, CutsLine, TakesNothing, StaysSound, GivesLine, IsFirstLine, HasLongLine}
 use Rattle.rpq_io.proofs.Bytes.{prepend_known-prepend}
-use Rattle.rpq_io.proofs.FirstLines.{raw_lines-nil, raw_lines_cut, raw_lines_whole, long_line}
+use Rattle.text_parts.proofs.Cuts.{raw_lines_nil, raw_lines_first, raw_lines_only}
+use Rattle.rpq_io.proofs.LongLines.{long_line}
 
 -- the text ahead of a call is the bytes that it had, and then what is left after it
 pub text_had : {S : Type 0} (left : S → Option (List ℕ)) (old new : ReaderState S) (bytes : List ℕ) → Had left old new bytes
@@ -14,6 +16,11 @@ text_had left old new bytes had =
     ap (prepend_known old.held_bytes) had.moved
     ∙ prepend_known-prepend (left new.source) old.held_bytes had.more
     ∙ ap (λ front. prepend_known front (left new.source)) (sym had.joined)
+
+-- a list that isn't empty has a first byte
+has_byte : (bytes : List ℕ) → bytes ≢ [] → 0 < length bytes
+has_byte [] some = absurd (some refl)
+has_byte (byte ∷ bytes) some = omega arith
 
 -- where bytes are cut, the text that begins with them is
 cut_text : (line_limit : ℕ) (is_at_end : Bool) (bytes rest line after : List ℕ) → CutsLine line_limit is_at_end bytes rest line
@@ -27,7 +34,7 @@ cut_text line_limit is_at_end bytes rest line after cuts over = by cuts.cut
       fits = cuts.fits;
       dropped = cuts.dropped;
       first = ap (λ front. raw_lines (front ++ after)) cut ∙ ap raw_lines (append_assoc cuts.raw (10 ∷ rest) after)
-          ∙ raw_lines_cut cuts.raw (rest ++ after) cuts.solid;
+          ∙ raw_lines_first cuts.raw (rest ++ after) cuts.whole;
     }
     by (inr cut) = record {
       raw = cuts.raw;
@@ -35,13 +42,13 @@ cut_text line_limit is_at_end bytes rest line after cuts over = by cuts.cut
       dropped = cuts.dropped;
       first =
           ap (λ behind. raw_lines (bytes ++ behind)) (over cut.0) ∙ ap raw_lines (append-nil bytes) ∙ ap raw_lines cut.2
-          ∙ raw_lines_whole cuts.raw cut.1 cuts.solid
+          ∙ raw_lines_only cuts.raw cuts.whole (has_byte cuts.raw cut.1)
           ∙ ap (λ others. cuts.raw ∷ others)
-          (sym (ap (λ behind. raw_lines (rest ++ behind)) (over cut.0) ∙ ap raw_lines (append-nil rest) ∙ ap raw_lines cut.3 ∙ raw_lines-nil));
+          (sym (ap (λ behind. raw_lines (rest ++ behind)) (over cut.0) ∙ ap raw_lines (append-nil rest) ∙ ap raw_lines cut.3 ∙ raw_lines_nil));
     }
 
 -- steps that lost nothing, and then a line of the bytes that they left, gave the first line of the text ahead
-pub line_of_text : {S : Type 0} (left : S → Option (List ℕ)) (has_told_end : S → Bool) (old middle new : ReaderState S) (line : List ℕ)
+line_of_text : {S : Type 0} (left : S → Option (List ℕ)) (has_told_end : S → Bool) (old middle new : ReaderState S) (line : List ℕ)
     → Had left old middle middle.held_bytes → middle.line_limit ≡ old.line_limit → TakesNothing middle new
     → StaysSound left has_told_end middle new
     → CutsLine middle.line_limit middle.is_at_end middle.held_bytes new.held_bytes line
@@ -58,6 +65,24 @@ line_of_text left has_told_end old middle new line had limit same sound cuts =
     by (Some after) over =
         subst (λ most. IsFirstLine most line (middle.held_bytes ++ after) (new.held_bytes ++ after)) limit
         (cut_text middle.line_limit middle.is_at_end middle.held_bytes new.held_bytes line after cuts (λ told. over (same.end ∙ told)))
+
+-- the same, with what else a call says that gave it
+pub gives_line : {S : Type 0} (left : S → Option (List ℕ)) (has_told_end : S → Bool) (old middle new : ReaderState S) (line : List ℕ)
+    → Had left old middle middle.held_bytes → middle.line_limit ≡ old.line_limit → middle.line_count ≡ old.line_count
+    → TakesNothing middle new → StaysSound left has_told_end middle new → GivesHeld middle new line → GivesLine left old new line
+gives_line left has_told_end old middle new line had limit count same sound gives = record {
+  bytes = middle.held_bytes;
+  had = record {
+    more = had.more;
+    joined = had.joined;
+    moved = had.moved ∙ ap (λ source. prepend_known had.more (left source)) (sym same.source);
+    counted = same.count ∙ had.counted;
+  };
+  cut = subst (λ most. CutsLine most new.is_at_end middle.held_bytes new.held_bytes line) limit
+      (subst (λ told. CutsLine middle.line_limit told middle.held_bytes new.held_bytes line) (sym same.end) gives.cut);
+  counted = omega (arith, gives.counted);
+  text = line_of_text left has_told_end old middle new line had limit same sound gives.cut;
+}
 
 -- steps that lost nothing and hold a line longer than may be found it first in the text ahead
 pub long_line_of_text : {S : Type 0} (left : S → Option (List ℕ)) (old middle : ReaderState S) (line_limit : ℕ)

@@ -1,7 +1,9 @@
 -- The bytes that a reader of lines holds. No public contract cites these.
-use Rattle.std.specs.Prelude.{◌≡◌, ℕ, ◌+◌, ◌-◌, ◌<◌, ◌≤◌, Bool, true, List, [], ◌++◌, length, slice_range, Option, IfSome, if◌then◌else◌}
+use Rattle.std.specs.Prelude.{◌≡◌, ℕ, ◌+◌, ◌-◌, ◌<◌, ◌≤◌, Bool, true, List, [], ◌++◌, length}
+use Rattle.std.specs.Prelude.{slice_range, Option, IfSome, if◌then◌else◌}
 use Rattle.std.specs.Io.KnownBytes.{prepend_known}
-use Rattle.rpq_io.specs.Reader.{ReaderState, line_length}
+use Rattle.text_parts.specs.Lines.{line_length}
+use Rattle.rpq_io.specs.Reader.{ReaderState, CutsLine}
 
 -- the bytes held, how many can be read behind them, and how many can be held at most
 pub record HeldBytes : Type 0 where
@@ -22,18 +24,28 @@ pub record Grows (count : ℕ) (old new : List ℕ) (before after : Option (List
   pub joined : new ≡ old ++ more
   pub moved : before ≡ prepend_known more after
 
--- there is room for a line as long as may be and one byte more; each line given took a byte at least; no more bytes were taken than may be
-pub record IsInBounds (buffer : HeldBytes) (taken_count line_count line_limit byte_limit : ℕ) : Type 0 where
+-- there is room for a line as long as may be and one byte more; each line given took a byte at
+-- least; no more bytes were taken than may be
+pub record IsInBounds (buffer : HeldBytes)
+    (taken_count line_count line_limit byte_limit : ℕ) : Type 0 where
   pub room : line_limit < buffer.size
   pub counted : line_count + length buffer.bytes ≤ taken_count
   pub within : taken_count ≤ byte_limit
 
--- the reader is at its end where its source told so: then nothing is left, and more bytes could have been taken
-pub record IsTold (is_at_end has_told_end : Bool) (left : Option (List ℕ)) (taken_count byte_limit : ℕ) : Type 0 where
+-- the reader is at its end where its source told so: then nothing is left, and more bytes could
+-- have been taken
+pub record IsTold (is_at_end has_told_end : Bool) (left : Option (List ℕ))
+    (taken_count byte_limit : ℕ) : Type 0 where
   pub told : has_told_end ≡ is_at_end
   pub over : is_at_end ≡ true → IfSome left (λ rest. rest ≡ [])
   pub before_limit : is_at_end ≡ true → taken_count < byte_limit
 
--- how often the reader may still read: once for each byte that it may take, and once to be told the end
+-- how often the reader may still read: once for each byte that it may take, and once to be told the
+-- end
 abbrev pub reads_left : {S : Type 0} → ReaderState S → ℕ
 reads_left reader = reader.byte_limit - reader.taken_count + (if reader.is_at_end then 0 else 1)
+
+-- a line of the bytes held was given, and the bytes after it are held
+pub record GivesHeld {S : Type 0} (old new : ReaderState S) (line : List ℕ) : Type 0 where
+  pub cut : CutsLine old.line_limit old.is_at_end old.held_bytes new.held_bytes line
+  pub counted : new.line_count ≡ old.line_count + 1

@@ -29,11 +29,15 @@ was_opened name names = is_noted name names.read_names || is_noted name names.ma
 -- the names after an opening to read with this answer
 abbrev pub after_reading : {A : Type 0} → OpenedNames → List ℕ → Result A OpenFault → OpenedNames
 after_reading names name (Ok _) = record names { read_names = names.read_names ++ name ∷ [] }
-after_reading names name (Err Failed) = record names { unread_names = names.unread_names ++ name ∷ [] }
+after_reading names name (Err Failed) = record names {
+  unread_names = names.unread_names ++ name ∷ [];
+}
 after_reading names name (Err Memory) = names
 
 -- the names after an opening to write with this answer
 abbrev pub after_making : {A : Type 0} → OpenedNames → List ℕ → Result A OpenFault → OpenedNames
 after_making names name (Ok _) = record names { made_names = names.made_names ++ name ∷ [] }
-after_making names name (Err Failed) = record names { unmade_names = names.unmade_names ++ name ∷ [] }
+after_making names name (Err Failed) = record names {
+  unmade_names = names.unmade_names ++ name ∷ [];
+}
 after_making names name (Err Memory) = names

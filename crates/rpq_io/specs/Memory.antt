@@ -1,11 +1,14 @@
 -- Sources, sinks and files in memory, and what each call does to them.
-use Rattle.std.specs.Prelude.{◌≡◌, ◌≢◌, ℕ, ◌+◌, ◌-◌, ◌==◌, ◌≤◌, min, Bool, true, false, List, [], ◌∷◌, ◌++◌, length, take, drop, Option, option_map, find, bytes_eq, Result, Ok, Err}
+use Rattle.std.specs.Prelude.{◌≡◌, ◌≢◌, ℕ, ◌+◌, ◌-◌, ◌==◌, ◌≤◌, min, Bool, true, false, List, []}
+use Rattle.std.specs.Prelude.{◌∷◌, ◌++◌, length, take, drop, Option, option_map, find, bytes_eq}
+use Rattle.std.specs.Prelude.{Result, Ok, Err}
 use Rattle.rpq_io.specs.Counts.{raised}
 use Rattle.rpq_io.specs.Script.{CallScript, new_script, after_call}
 use Rattle.rpq_io.specs.declared.fault.OpenFault.{OpenFault}
 use Rattle.rpq_io.specs.declared.fault.OpenFault.TheVariants.{Failed, Memory}
 
--- a source: the bytes left, whether it told its end, the most bytes of a read, which reads fail, and how many did
+-- a source: the bytes left, whether it told its end, the most bytes of a read, which reads fail,
+-- and how many did
 pub record MemoryReader : Type 0 where
   pub left_bytes : List ℕ
   pub has_told_end : Bool
@@ -44,7 +47,8 @@ after_read reader (Err _) = record {
   fault_count = raised reader.fault_count;
 }
 
--- a sink: the bytes written, the most that it holds, the most bytes of a write, which writes fail, and how many did
+-- a sink: the bytes written, the most that it holds, the most bytes of a write, which writes fail,
+-- and how many did
 pub record MemoryWriter : Type 0 where
   pub written_bytes : List ℕ
   pub room : ℕ
@@ -94,7 +98,8 @@ pub record FileBytes : Type 0 where
   pub piece : ℕ
   pub fails : List ℕ
 
--- files; what sinks opened on them are like; which openings fail; and the names opened in vain, and to write
+-- files; what sinks opened on them are like; which openings fail; and the names opened in vain, and
+-- to write
 pub record MemoryDisk : Type 0 where
   pub files : List FileBytes
   pub room : ℕ

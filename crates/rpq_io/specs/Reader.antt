@@ -1,16 +1,13 @@
 -- A reader of lines, and what its calls do.
-use Rattle.std.specs.Prelude.{◌≡◌, ◌≢◌, ℕ, ◌+◌, ◌<◌, ◌≤◌, ◌==◌, Bool, true, false, List, [], ◌∷◌, ◌++◌, length, All, Option, IfSome, ◌⊎◌}
-use Rattle.std.specs.List.{position_or_len}
+use Rattle.std.specs.Prelude.{◌≡◌, ◌≢◌, ℕ, ◌+◌, ◌<◌, ◌≤◌, Bool, true, false, List, [], ◌∷◌, ◌++◌}
+use Rattle.std.specs.Prelude.{length, Option, IfSome, ◌⊎◌}
 use Rattle.std.specs.Option.{IsSomeAnd}
 use Rattle.std.specs.Io.KnownBytes.{prepend_known}
-use Rattle.text_parts.specs.Lines.{line_feed, raw_lines, without_return}
+use Rattle.text_parts.specs.Lines.{line_feed, IsLine, raw_lines, line_length, without_return}
 
--- the length of the first line of these bytes: how many stand before the first line feed, or how many they are where they have none
-unfoldable pub line_length : List ℕ → ℕ
-line_length bytes = position_or_len (λ byte. byte == line_feed) bytes
-
--- a reader of lines: its source, the bytes taken from it and not yet given as lines, how many bytes were taken in all,
--- whether the source told its end, how many lines were given, and the most bytes of a line and in all
+-- a reader of lines: its source, the bytes taken from it and not yet given as lines, how many bytes
+-- were taken in all, whether the source told its end, how many lines were given, and the most bytes
+-- of a line and in all
 pub record ReaderState (S : Type 0) : Type 0 where
   pub source : S
   pub held_bytes : List ℕ
@@ -20,33 +17,39 @@ pub record ReaderState (S : Type 0) : Type 0 where
   pub line_limit : ℕ
   pub byte_limit : ℕ
 
--- the reader holds no answer: neither the end nor a whole line nor a longer one than may be, and it may take more bytes
+-- the reader holds no answer: neither the end nor a whole line nor a longer one than may be, and it
+-- may take more bytes
 pub record HoldsNoAnswer {S : Type 0} (reader : ReaderState S) : Type 0 where
   pub untold : reader.is_at_end ≡ false
   pub no_line : line_length reader.held_bytes ≡ length reader.held_bytes
   pub short : length reader.held_bytes ≤ reader.line_limit
   pub more : reader.taken_count < reader.byte_limit
 
--- the text that is still to be given as lines, where it is told: the bytes held, and then those left in the source
+-- the text that is still to be given as lines, where it is told: the bytes held, and then those
+-- left in the source
 abbrev pub text_ahead : {S : Type 0} → (S → Option (List ℕ)) → ReaderState S → Option (List ℕ)
 text_ahead left reader = prepend_known reader.held_bytes (left reader.source)
 
 -- a call had these bytes: those held before it, and then those that it took from the source
-pub record Had {S : Type 0} (left : S → Option (List ℕ)) (old new : ReaderState S) (bytes : List ℕ) : Type 0 where
+pub record Had {S : Type 0} (left : S → Option (List ℕ)) (old new : ReaderState S)
+    (bytes : List ℕ) : Type 0 where
   pub more : List ℕ
   pub joined : bytes ≡ old.held_bytes ++ more
   pub moved : left old.source ≡ prepend_known more (left new.source)
   pub counted : new.taken_count ≡ old.taken_count + length more
 
--- a line stands first in these bytes, and the rest after it: up to a line feed, or up to the end of the source
+-- a line stands first in these bytes, and the rest after it: up to a line feed, or up to the end of
+-- the source
 pub record CutsLine (line_limit : ℕ) (is_at_end : Bool) (bytes rest line : List ℕ) : Type 0 where
   pub raw : List ℕ
-  pub solid : All (λ byte. byte ≢ line_feed) raw
+  pub whole : IsLine raw
   pub fits : length raw ≤ line_limit
   pub dropped : line ≡ without_return raw
-  pub cut : (bytes ≡ raw ++ line_feed ∷ rest) ⊎ ((is_at_end ≡ true) × (raw ≢ []) × (bytes ≡ raw) × (rest ≡ []))
+  pub cut : (bytes ≡ raw ++ line_feed ∷ rest)
+      ⊎ ((is_at_end ≡ true) × (raw ≢ []) × (bytes ≡ raw) × (rest ≡ []))
 
--- the first line of a text is this one, which is no longer than may be, and its other lines are those of the rest
+-- the first line of a text is this one, which is no longer than may be, and its other lines are
+-- those of the rest
 pub record IsFirstLine (line_limit : ℕ) (line text rest : List ℕ) : Type 0 where
   pub raw : List ℕ
   pub fits : length raw ≤ line_limit
@@ -60,8 +63,10 @@ pub record HasLongLine (line_limit : ℕ) (text : List ℕ) : Type 0 where
   pub first : raw_lines text ≡ raw ∷ others
   pub long : line_limit < length raw
 
--- a call gave this line: it stood first in the bytes that the call had, and in the text ahead; the bytes after it are held
-pub record GivesLine {S : Type 0} (left : S → Option (List ℕ)) (old new : ReaderState S) (line : List ℕ) : Type 0 where
+-- a call gave this line: it stood first in the bytes that the call had, and in the text ahead; the
+-- bytes after it are held
+pub record GivesLine {S : Type 0} (left : S → Option (List ℕ)) (old new : ReaderState S)
+    (line : List ℕ) : Type 0 where
   pub bytes : List ℕ
   pub had : Had left old new bytes
   pub cut : CutsLine old.line_limit new.is_at_end bytes new.held_bytes line
@@ -69,26 +74,32 @@ pub record GivesLine {S : Type 0} (left : S → Option (List ℕ)) (old new : Re
   pub text : IfSome (text_ahead left old) (λ text. IsSomeAnd (text_ahead left new) (λ rest.
       IsFirstLine old.line_limit line text rest))
 
--- a call found nothing more: the source told its end, and the call had no bytes, so no text was ahead
-pub record IsAtEnd {S : Type 0} (left : S → Option (List ℕ)) (old new : ReaderState S) : Type 0 where
+-- a call found nothing more: the source told its end, and the call had no bytes, so no text was
+-- ahead
+pub record IsAtEnd {S : Type 0} (left : S → Option (List ℕ))
+    (old new : ReaderState S) : Type 0 where
   pub told : new.is_at_end ≡ true
   pub had : Had left old new []
   pub none : new.held_bytes ≡ []
   pub counted : new.line_count ≡ old.line_count
   pub text : IfSome (text_ahead left old) (λ text. text ≡ [])
 
--- a call gave nothing and lost nothing: the bytes that it had are held, and the text ahead is the same
-pub record LosesNothing {S : Type 0} (left : S → Option (List ℕ)) (old new : ReaderState S) : Type 0 where
+-- a call gave nothing and lost nothing: the bytes that it had are held, and the text ahead is the
+-- same
+pub record LosesNothing {S : Type 0} (left : S → Option (List ℕ))
+    (old new : ReaderState S) : Type 0 where
   pub had : Had left old new new.held_bytes
   pub counted : new.line_count ≡ old.line_count
   pub text : text_ahead left new ≡ text_ahead left old
 
 -- the first line held is longer than may be, and so is that of the text ahead of the call
-pub record IsLongLine {S : Type 0} (left : S → Option (List ℕ)) (old new : ReaderState S) : Type 0 where
+pub record IsLongLine {S : Type 0} (left : S → Option (List ℕ))
+    (old new : ReaderState S) : Type 0 where
   pub long : old.line_limit < line_length new.held_bytes
   pub text : IfSome (text_ahead left old) (λ text. HasLongLine old.line_limit text)
 
--- as many bytes were taken as may be, the end wasn't told, and neither a whole line nor a longer one than may be is held
+-- as many bytes were taken as may be, the end wasn't told, and neither a whole line nor a longer
+-- one than may be is held
 pub record IsLongStream {S : Type 0} (reader : ReaderState S) : Type 0 where
   pub all : reader.taken_count ≡ reader.byte_limit
   pub untold : reader.is_at_end ≡ false
@@ -101,9 +112,11 @@ pub record TakesNothing {S : Type 0} (old new : ReaderState S) : Type 0 where
   pub count : new.taken_count ≡ old.taken_count
   pub end : new.is_at_end ≡ old.is_at_end
 
--- a call keeps the limits and what holds of each reader: it took no more than may be, each line given took a byte at least,
--- and it is at its end where its source told so, with nothing left and before the limit
-pub record StaysSound {S : Type 0} (left : S → Option (List ℕ)) (has_told_end : S → Bool) (old new : ReaderState S) : Type 0 where
+-- a call keeps the limits and what holds of each reader: it took no more than may be, each line
+-- given took a byte at least, and it is at its end where its source told so, with nothing left and
+-- before the limit
+pub record StaysSound {S : Type 0} (left : S → Option (List ℕ)) (has_told_end : S → Bool)
+    (old new : ReaderState S) : Type 0 where
   pub line_limit : new.line_limit ≡ old.line_limit
   pub byte_limit : new.byte_limit ≡ old.byte_limit
   pub within : new.taken_count ≤ new.byte_limit

@@ -4,7 +4,8 @@ ghost use Rattle.std.specs.Prelude.{◌≡◌, Some};
 ghost use Rattle.rpq_io.specs.declared.fault.AllFault.{AllFault};
 ghost use Rattle.rpq_io.specs.declared.fault.LineFault.{LineFault};
 ghost use Rattle.rpq_io.specs.declared.fault.OpenFault.{OpenFault};
-ghost use Rattle.rpq_io.specs.FaultTexts.{failed_text, write_text, open_fault_text, all_fault_text, line_fault_text};
+ghost use Rattle.rpq_io.specs.FaultTexts.{failed_text, write_text, open_fault_text, all_fault_text};
+ghost use Rattle.rpq_io.specs.FaultTexts.{line_fault_text};
 
 use rpq_base::Memory;
 use std::alloc::AllocError;

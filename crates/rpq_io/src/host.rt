@@ -1,4 +1,5 @@
-//! Sources and sinks over std's readers and writers. They hand on what these give and take, which isn't told.
+//! Sources and sinks over std's readers and writers. They hand on what these give and take, which
+//! isn't told.
 
 ghost use Rattle.std.specs.Prelude.{◌≡◌, ◌<◌, ◌≤◌, false, length, IfOk, OnErr, IsErr};
 ghost use Rattle.std.specs.Io.KnownBytes.{ReadConsumes, WriteAppends};
@@ -76,8 +77,8 @@ impl<R: Read> Source for HostSource<R> {
     }
 }
 
-/// A sink over a writer of std. It counts the writes that fail, up to 2^64 - 1. A write that takes nothing is
-/// one that fails.
+/// A sink over a writer of std. It counts the writes that fail, up to 2^64 - 1. A write that takes
+/// nothing is one that fails.
 #[derive(Drop)]
 pub struct HostSink<W> {
     writer: W,
@@ -101,6 +102,17 @@ impl<W: Write> HostSink<W> {
             writer,
             fault_count: 0,
         }
+    }
+
+    /// The writer, as it stands after the bytes that were written.
+    pub fn into_writer(self) -> W
+        ensures { result ≡ self.writer }
+    {
+        let HostSink {
+            writer,
+            fault_count: _,
+        } = self;
+        writer
     }
 }
 

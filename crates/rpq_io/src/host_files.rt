@@ -1,6 +1,7 @@
 //! The host's files.
 
-ghost use Rattle.std.specs.Prelude.{[], ◌≡◌, ◌≤◌, false, is_ok, is_err, string_bytes, IfOk, IsErr, IsTrue};
+ghost use Rattle.std.specs.Prelude.{[], ◌≡◌, ◌≤◌, false, is_ok, is_err, string_bytes, IfOk, IsErr};
+ghost use Rattle.std.specs.Prelude.{IsTrue};
 ghost use Rattle.rpq_io.specs.Counts.{CountsOpening};
 ghost use Rattle.rpq_io.specs.Host.{was_opened, after_reading, after_making};
 ghost use Rattle.rpq_io.specs.Names.{noted_if, times};
@@ -11,15 +12,14 @@ use crate::host::{HostSink, HostSource};
 use crate::name_list::NameList;
 use crate::place::Place;
 use std::alloc::Global;
-use std::fs;
-use std::io;
 use std::marker::Model;
 use std::rt::Files as FileSystem;
+use std::{fs, io};
 
 /// The files of the host, by their names. What they hold isn't told.
 ///
-/// A name that was opened before, to read or to write, isn't opened to write: that opening fails, and is
-/// counted. Names are compared as text. All memory is taken before a file is touched.
+/// A name that was opened before, to read or to write, isn't opened to write: that opening fails,
+/// and is counted. Names are compared as text. All memory is taken before a file is touched.
 #[derive(Drop)]
 pub struct HostFiles<H> {
     alloc: Global,
@@ -67,7 +67,8 @@ where
     }
 }
 
-/// Notes a name among those opened or among those opened in vain. It takes no memory: each list has room.
+/// Notes a name among those opened or among those opened in vain. It takes no memory: each list has
+/// room.
 fn note_outcome<T>(
     outcome: io::Result<T>,
     name: String,
@@ -76,8 +77,10 @@ fn note_outcome<T>(
 ) -> Result<T, Failed>
     requires opened { 1 ≤ opened.old.room }
     requires failed { 1 ≤ failed.old.room }
-    ensures opened { opened.new.names ≡ noted_if (is_ok result) (string_bytes name) opened.old.names }
-    ensures failed { failed.new.names ≡ noted_if (is_err result) (string_bytes name) failed.old.names }
+    ensures opened { opened.new.names
+        ≡ noted_if (is_ok result) (string_bytes name) opened.old.names }
+    ensures failed { failed.new.names
+        ≡ noted_if (is_err result) (string_bytes name) failed.old.names }
 {
     match outcome {
         Ok(file) => {
@@ -91,7 +94,8 @@ fn note_outcome<T>(
     }
 }
 
-/// Opens the file of this name to read. Its fault isn't want of memory, so all memory is taken before.
+/// Opens the file of this name to read. Its fault isn't want of memory, so all memory is taken
+/// before.
 fn open<H: FileSystem>(
     host: &H,
     name: String,
@@ -100,13 +104,16 @@ fn open<H: FileSystem>(
 ) -> Result<H::File, Failed>
     requires opened { 1 ≤ opened.old.room }
     requires failed { 1 ≤ failed.old.room }
-    ensures opened { opened.new.names ≡ noted_if (is_ok result) (string_bytes name) opened.old.names }
-    ensures failed { failed.new.names ≡ noted_if (is_err result) (string_bytes name) failed.old.names }
+    ensures opened { opened.new.names
+        ≡ noted_if (is_ok result) (string_bytes name) opened.old.names }
+    ensures failed { failed.new.names
+        ≡ noted_if (is_err result) (string_bytes name) failed.old.names }
 {
     note_outcome(fs::open(host, name.as_str()), name, opened, failed)
 }
 
-/// Opens the file of this name to write it anew. Its fault isn't want of memory, so all memory is taken before.
+/// Opens the file of this name to write it anew. Its fault isn't want of memory, so all memory is
+/// taken before.
 fn create<H: FileSystem>(
     host: &H,
     name: String,
@@ -115,8 +122,10 @@ fn create<H: FileSystem>(
 ) -> Result<H::File, Failed>
     requires opened { 1 ≤ opened.old.room }
     requires failed { 1 ≤ failed.old.room }
-    ensures opened { opened.new.names ≡ noted_if (is_ok result) (string_bytes name) opened.old.names }
-    ensures failed { failed.new.names ≡ noted_if (is_err result) (string_bytes name) failed.old.names }
+    ensures opened { opened.new.names
+        ≡ noted_if (is_ok result) (string_bytes name) opened.old.names }
+    ensures failed { failed.new.names
+        ≡ noted_if (is_err result) (string_bytes name) failed.old.names }
 {
     note_outcome(fs::create(host, name.as_str()), name, opened, failed)
 }

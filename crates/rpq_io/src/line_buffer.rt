@@ -1,24 +1,27 @@
 //! Bytes that were taken from a source and not yet given.
 
-ghost use Rattle.std.specs.Prelude.{[], ◌≡◌, ◌+◌, ◌<◌, ◌≤◌, ◌==◌, length, take, drop, slice_range, position, false, IfOk, OnErr, IsErr, IfSome};
+ghost use Rattle.std.specs.Prelude.{[], ◌≡◌, ◌+◌, ◌<◌, ◌≤◌, length, take, drop, slice_range, false};
+ghost use Rattle.std.specs.Prelude.{IfOk, OnErr, IsErr, IfSome};
 ghost use Rattle.std.specs.Io.KnownBytes.{prepend_known};
 ghost use Rattle.rpq_io.specs.Counts.{CountsFault};
 ghost use Rattle.rpq_io.specs.Held.{HeldBytes, Grows};
-ghost use Rattle.rpq_io.specs.Reader.{line_length};
 ghost use Rattle.rpq_io.specs.Reads.{tells_end};
-ghost use Rattle.text_parts.specs.Lines.{line_feed};
+ghost use Rattle.text_parts.specs.Lines.{line_length};
 
 use crate::fault::Failed;
 use crate::source::Source;
 use std::alloc::{AllocError, Global};
 use std::marker::Model;
+use text_parts::line_length;
 
-/// Where fewer bytes than this could be read behind those held, these are moved to the front. A buffer of this
-/// size and twice that of what is held at most moves no byte more often than it reads one.
+/// Where fewer bytes than this could be read behind those held, these are moved to the front. A
+/// buffer of this size and twice that of what is held at most moves no byte more often than it
+/// reads one.
 pub const PIECE: usize = 4096;
 
-/// Bytes in their order, some of them given and the others held, of which it knows the length of the first
-/// line. Contracts see the bytes held, how many more can be read behind them, and how many it can hold at most.
+/// Bytes in their order, some of them given and the others held, of which it knows the length of
+/// the first line. Contracts see the bytes held, how many more can be read behind them, and how
+/// many it can hold at most.
 #[derive(Drop)]
 pub struct LineBuffer {
     bytes: Vec<u8>,
@@ -79,7 +82,8 @@ impl LineBuffer {
         &self.bytes.as_slice()[self.start..self.start + count]
     }
 
-    /// Lets go of the first `count` bytes held. Each byte is looked at once until the next line feed is found.
+    /// Lets go of the first `count` bytes held. Each byte is looked at once until the next line
+    /// feed is found.
     pub fn remove_front(&mut self, count: usize)
         requires { count ≤ length self.old.bytes }
         ensures bytes { self.new.bytes ≡ drop count self.old.bytes }
@@ -155,24 +159,11 @@ fn read_behind<S: Source>(
     source.read(&mut bytes[end..end + wanted])
 }
 
-/// The length of the first line of the bytes, of which the first `from` are known to hold no line feed.
+/// The length of the first line of the bytes, of which the first `from` are known to hold no line
+/// feed.
 fn line_length_from(bytes: &[u8], from: usize) -> usize
     requires { from ≤ line_length bytes.now }
     ensures { result ≡ line_length bytes.now }
 {
     from + line_length(&bytes[from..])
-}
-
-/// How many bytes stand before the first line feed, or how many they are where they have none.
-fn line_length(bytes: &[u8]) -> usize
-    ensures { result ≡ line_length bytes.now }
-{
-    first_feed(bytes).unwrap_or(bytes.len())
-}
-
-/// Where the first line feed stands.
-fn first_feed(bytes: &[u8]) -> Option<usize>
-    ensures { result ≡ position (λ byte. byte == line_feed) bytes.now }
-{
-    bytes.iter().position(|byte| *byte == b'\n')
 }

@@ -1,10 +1,12 @@
 //! The lines of a source.
 
-ghost use Rattle.std.specs.Prelude.{[], take, drop, ◌≡◌, ◌≢◌, ◌+◌, ◌<◌, ◌≤◌, ◌↔◌, length, true, false, IsTrue, IfOk, OnErr, IfErr, IsErr, OnOk, IfSome, OnSome, IfNone};
+ghost use Rattle.std.specs.Prelude.{[], take, drop, ◌≡◌, ◌≢◌, ◌+◌, ◌<◌, ◌≤◌, ◌↔◌, length, true};
+ghost use Rattle.std.specs.Prelude.{false, IsTrue, IfOk, OnErr, IfErr, IsErr, OnOk, IfSome, IfNone};
 ghost use Rattle.rpq_io.specs.Counts.{CountsFault};
-ghost use Rattle.rpq_io.specs.Held.{reads_left};
-ghost use Rattle.rpq_io.specs.Reader.{line_length, HoldsNoAnswer, Had, CutsLine, GivesLine, IsAtEnd, LosesNothing, TakesNothing, IsLongLine, IsLongStream, StaysSound};
-ghost use Rattle.text_parts.specs.Lines.{without_return};
+ghost use Rattle.rpq_io.specs.Held.{reads_left, GivesHeld};
+ghost use Rattle.rpq_io.specs.Reader.{HoldsNoAnswer, Had, GivesLine, IsAtEnd, LosesNothing};
+ghost use Rattle.rpq_io.specs.Reader.{TakesNothing, IsLongLine, IsLongStream, StaysSound};
+ghost use Rattle.text_parts.specs.Lines.{line_length, without_return};
 
 use crate::fault::{Failed, LineFault};
 use crate::line_buffer::{LineBuffer, PIECE};
@@ -44,15 +46,16 @@ impl<S: Source> Model for LineReader<S> {
     } };
 
     ghost invariant = { λ reader.
-        IsInBounds reader.buffer reader.taken_count reader.line_count reader.line_limit reader.byte_limit
+        IsInBounds reader.buffer reader.taken_count reader.line_count
+        reader.line_limit reader.byte_limit
         × IsTold reader.is_at_end (S.has_told_end reader.source) (S.left reader.source)
-            reader.taken_count reader.byte_limit };
+        reader.taken_count reader.byte_limit };
 }
 
 impl<S: Source> LineReader<S> {
-    /// A reader that has taken nothing. A line may have `line_limit` bytes, a carriage return at its end too
-    /// and the line feed not, and `byte_limit` bytes may be taken in all. Its buffer is taken here. Where
-    /// memory is refused the source comes back.
+    /// A reader that has taken nothing. A line may have `line_limit` bytes, a carriage return at
+    /// its end too and the line feed not, and `byte_limit` bytes may be taken in all. Its buffer is
+    /// taken here. Where memory is refused the source comes back.
     pub fn new(
         alloc: Global,
         source: S,
@@ -89,11 +92,12 @@ impl<S: Source> LineReader<S> {
         }
     }
 
-    /// The next line, without its line feed and without one carriage return at its end, or `None` where the
-    /// source told its end and no byte is left. What stands after the last line feed is a line where it isn't
-    /// empty. It reads only where it holds no answer, and a failed read isn't tried again. After a fault
-    /// nothing is lost: after `Read` and `Memory` the call may be made again, and after the others it answers
-    /// the same again. Each byte is read once, looked at once, moved once at most, and copied into its line.
+    /// The next line, without its line feed and without one carriage return at its end, or `None`
+    /// where the source told its end and no byte is left. What stands after the last line feed is a
+    /// line where it isn't empty. It reads only where it holds no answer, and a failed read isn't
+    /// tried again. After a fault nothing is lost: after `Read` and `Memory` the call may be made
+    /// again, and after the others it answers the same again. Each byte is read once, looked at
+    /// once, moved once at most, and copied into its line.
     pub fn next_line(&mut self) -> Result<Option<Vec<u8>>, LineFault>
         ensures line { IfOk result (λ answer. IfSome answer (λ line.
             GivesLine S.left self.old self.new line.items)) }
@@ -147,9 +151,7 @@ impl<S: Source> LineReader<S> {
     fn give(&mut self) -> Result<Option<Vec<u8>>, LineFault>
         requires { ¬ HoldsNoAnswer self.old }
         ensures line { IfOk result (λ answer. IfSome answer (λ line.
-            CutsLine self.old.line_limit self.old.is_at_end self.old.held_bytes self.new.held_bytes line.items)) }
-        ensures counted { IfOk result (λ answer.
-            OnSome answer (self.new.line_count ≡ self.old.line_count + 1)) }
+            GivesHeld self.old self.new line.items)) }
         ensures none { IfOk result (λ answer. IfNone answer
             ((self.old.is_at_end ≡ true) × (self.old.held_bytes ≡ []) × (self.new ≡ self.old))) }
         ensures read { result ≢ Err LineFault.Read }
@@ -174,8 +176,8 @@ impl<S: Source> LineReader<S> {
         }
     }
 
-    /// A copy of the first `line` bytes held, without a carriage return at their end. Lets go of the first
-    /// `count`.
+    /// A copy of the first `line` bytes held, without a carriage return at their end. Lets go of
+    /// the first `count`.
     fn give_line(&mut self, line: usize, count: usize) -> Result<Vec<u8>, AllocError>
         requires some { 0 < count }
         requires order { line ≤ count }

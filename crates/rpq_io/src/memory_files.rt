@@ -1,7 +1,10 @@
 //! Files in memory.
 
-ghost use Rattle.std.specs.Prelude.{ℕ, List, [], ◌∷◌, ◌++◌, ◌≡◌, ◌≢◌, ◌≤◌, ◌||◌, false, IfOk, OnOk, OnErr, IsTrue, is_none, bytes_eq, option_map, option_copied};
+ghost use Rattle.std.specs.Prelude.{ℕ, List, [], ◌∷◌, ◌++◌, ◌≡◌, ◌≢◌, ◌≤◌, ◌||◌, false, IfOk, OnOk};
+ghost use Rattle.std.specs.Prelude.{OnErr, IsTrue, is_none, bytes_eq, option_map, option_copied};
+ghost use Rattle.rpq_io.specs.Counts.{CountsOpening};
 ghost use Rattle.rpq_io.specs.Memory.{new_writer, file_named, reader_of, after_source, after_sink};
+ghost use Rattle.rpq_io.specs.Names.{times};
 ghost use Rattle.rpq_io.specs.Script.{new_script, next_fails};
 
 use crate::fault::OpenFault;
@@ -51,12 +54,18 @@ impl MemoryFile {
     fn open(&self, alloc: Global) -> Result<MemorySource, Memory>
         ensures { IfOk result (λ source. source ≡ reader_of self.now) }
     {
-        MemorySource::new(alloc, self.bytes.as_slice(), self.piece, self.fails.as_slice())
+        MemorySource::new(
+            alloc,
+            self.bytes.as_slice(),
+            self.piece,
+            self.fails.as_slice(),
+        )
     }
 }
 
-/// Files in memory, which tell what they hold. The openings fail where they are asked to, and so does the
-/// opening of a name to read that isn't there. What is written on a sink stays with the sink.
+/// Files in memory, which tell what they hold. The openings fail where they are asked to, and so
+/// does the opening of a name to read that isn't there. What is written on a sink stays with the
+/// sink.
 #[derive(Drop)]
 pub struct MemoryFiles {
     alloc: Global,
@@ -98,9 +107,9 @@ fn file_named<'a>(name: &str, files: &'a [MemoryFile]) -> Option<&'a MemoryFile>
 }
 
 impl MemoryFiles {
-    /// No files. Each sink that is opened has room for `room` bytes, takes `piece` bytes at most in a write,
-    /// and fails at the writes with a number in `sink_fails`. The openings, to read and to write together,
-    /// fail where their number is in `fails`. All these are counted from 1.
+    /// No files. Each sink that is opened has room for `room` bytes, takes `piece` bytes at most in
+    /// a write, and fails at the writes with a number in `sink_fails`. The openings, to read and to
+    /// write together, fail where their number is in `fails`. All these are counted from 1.
     pub fn new(
         alloc: Global,
         room: usize,
@@ -133,8 +142,8 @@ impl MemoryFiles {
         })
     }
 
-    /// Adds a file of a name that isn't there yet. A source opened on it takes `piece` bytes at most in a
-    /// read, and fails at the reads with a number in `fails`, counted from 1.
+    /// Adds a file of a name that isn't there yet. A source opened on it takes `piece` bytes at
+    /// most in a read, and fails at the reads with a number in `fails`, counted from 1.
     pub fn add(
         &mut self,
         name: &str,
@@ -144,15 +153,19 @@ impl MemoryFiles {
     ) -> Result<(), Memory>
         requires absent { ⟦<MemoryFiles as Files>⟧.holds self.old name.now ≡ None }
         requires moves { 1 ≤ piece }
-        ensures ok { OnOk result (⟦<MemoryFiles as Files>⟧.holds self.new name.now ≡ Some bytes.now) }
+        ensures ok { OnOk result
+            (⟦<MemoryFiles as Files>⟧.holds self.new name.now ≡ Some bytes.now) }
         ensures others { (other : List ℕ) → other ≢ name.now
-            → ⟦<MemoryFiles as Files>⟧.holds self.new other ≡ ⟦<MemoryFiles as Files>⟧.holds self.old other }
-        ensures added { OnOk result (self.new ≡ record self.old { files = self.old.files ++ (record {
-          name = name.now;
-          bytes = bytes.now;
-          piece = piece;
-          fails = fails.now;
-        }) ∷ [] }) }
+            → ⟦<MemoryFiles as Files>⟧.holds self.new other
+            ≡ ⟦<MemoryFiles as Files>⟧.holds self.old other }
+        ensures added { OnOk result (self.new ≡ record self.old {
+          files = self.old.files ++ (record {
+            name = name.now;
+            bytes = bytes.now;
+            piece = piece;
+            fails = fails.now;
+          }) ∷ [];
+        }) }
         ensures err { OnErr result (self.new ≡ self.old) }
     {
         let file = MemoryFile {
@@ -167,7 +180,8 @@ impl MemoryFiles {
 
     /// A source over the file of this name, if there is one.
     fn source_of(&self, name: &str) -> Result<Option<MemorySource>, Memory>
-        ensures { IfOk result (λ source. source ≡ option_map reader_of (file_named name.now self.now.files)) }
+        ensures { IfOk result (λ source.
+            source ≡ option_map reader_of (file_named name.now self.now.files)) }
     {
         match file_named(name, self.files.as_slice()) {
             Some(file) => Ok(Some(file.open(self.alloc)?)),
@@ -193,14 +207,17 @@ impl Files for MemoryFiles {
 
     ghost made = { λ disk. disk.made_names };
 
-    /// Fails exactly at the listed openings and where no file has this name. Memory is taken before the
-    /// opening is counted.
+    /// Fails exactly at the listed openings and where no file has this name. Memory is taken before
+    /// the opening is counted.
     fn source(&mut self, name: &str) -> Result<MemorySource, OpenFault>
         ensures opened { IfOk result (λ source. (next_fails self.old.openings ≡ false)
             × (option_map reader_of (file_named name.now self.old.files) ≡ Some source)) }
         ensures failed { result ≡ Err OpenFault.Failed
-            → IsTrue (next_fails self.old.openings || is_none (file_named name.now self.old.files)) }
+            → IsTrue (next_fails self.old.openings
+            || is_none (file_named name.now self.old.files)) }
         ensures after { self.new ≡ after_source self.old name.now result }
+        ensures faults { CountsOpening (result ≡ Err OpenFault.Failed) name.now
+            (λ any. times any self.old.unread_names) (λ any. times any self.new.unread_names) }
     {
         self.unread.make_room()?;
         let noted = String::from_str(self.alloc, name)?;
@@ -221,6 +238,8 @@ impl Files for MemoryFiles {
             × (sink ≡ new_writer self.old.room self.old.piece self.old.sink_fails)) }
         ensures failed { result ≡ Err OpenFault.Failed → IsTrue (next_fails self.old.openings) }
         ensures after { self.new ≡ after_sink self.old name.now result }
+        ensures faults { CountsOpening (result ≡ Err OpenFault.Failed) name.now
+            (λ any. times any self.old.unmade_names) (λ any. times any self.new.unmade_names) }
     {
         self.unmade.make_room()?;
         self.made.make_room()?;

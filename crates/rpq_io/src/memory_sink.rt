@@ -1,6 +1,7 @@
 //! A sink into memory.
 
-ghost use Rattle.std.specs.Prelude.{◌≡◌, ◌<◌, ◌≤◌, ◌||◌, is_err, length, IfOk};
+ghost use Rattle.std.specs.Prelude.{◌≡◌, ◌<◌, ◌≤◌, ◌||◌, is_err, length, IfOk, IsErr};
+ghost use Rattle.rpq_io.specs.Counts.{CountsFault};
 ghost use Rattle.rpq_io.specs.Memory.{new_writer, write_count, is_full, after_write};
 ghost use Rattle.rpq_io.specs.Script.{next_fails};
 
@@ -11,8 +12,8 @@ use rpq_base::Memory;
 use std::alloc::Global;
 use std::marker::Model;
 
-/// A sink into memory, which tells what is written on it. It has room for so many bytes, takes them in
-/// pieces, and fails where it is asked to.
+/// A sink into memory, which tells what is written on it. It has room for so many bytes, takes them
+/// in pieces, and fails where it is asked to.
 #[derive(Drop)]
 pub struct MemorySink {
     bytes: Vec<u8>,
@@ -37,12 +38,15 @@ impl Model for MemorySink {
     } };
 
     ghost invariant = { λ sink.
-        (vec_len sink.bytes ≤ sink.room) × (sink.room ≤ vec_capacity sink.bytes) × (1 ≤ sink.piece) };
+        (vec_len sink.bytes ≤ sink.room)
+        × (sink.room ≤ vec_capacity sink.bytes)
+        × (1 ≤ sink.piece) };
 }
 
 impl MemorySink {
-    /// A sink with room for `room` bytes, which is taken here. A write takes `piece` bytes at most; those
-    /// with a number in `fails`, counted from 1, fail, and so does one that finds no room left.
+    /// A sink with room for `room` bytes, which is taken here. A write takes `piece` bytes at most;
+    /// those with a number in `fails`, counted from 1, fail, and so does one that finds no room
+    /// left.
     pub fn new(
         alloc: Global,
         room: usize,
@@ -76,13 +80,15 @@ impl Sink for MemorySink {
 
     ghost faults = { λ sink. sink.fault_count };
 
-    /// Fails exactly at the listed calls and where no room is left, and else writes as many bytes as it may.
+    /// Fails exactly at the listed calls and where no room is left, and else writes as many bytes
+    /// as it may.
     fn write(&mut self, from: &[u8]) -> Result<usize, Failed>
         requires { 0 < length from.now }
         ensures some { IfOk result (λ count. 1 ≤ count) }
         ensures listed { is_err result ≡ (next_fails self.old.script || is_full self.old) }
         ensures count { IfOk result (λ count. count ≡ write_count self.old (length from.now)) }
         ensures after { self.new ≡ after_write self.old from.now result }
+        ensures faults { CountsFault (IsErr result) self.old.fault_count self.new.fault_count }
     {
         let listed = self.script.next_fails();
         let room = self.room - self.bytes.len();

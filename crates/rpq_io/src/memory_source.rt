@@ -1,6 +1,7 @@
 //! A source over bytes in memory.
 
-ghost use Rattle.std.specs.Prelude.{◌≡◌, ◌<◌, ◌≤◌, ◌++◌, false, is_err, take, length, IfOk};
+ghost use Rattle.std.specs.Prelude.{◌≡◌, ◌<◌, ◌≤◌, [], false, is_err, take, length, IfOk, IsErr};
+ghost use Rattle.rpq_io.specs.Counts.{CountsFault};
 ghost use Rattle.rpq_io.specs.Memory.{new_reader, read_count, after_read};
 ghost use Rattle.rpq_io.specs.Script.{next_fails};
 
@@ -11,7 +12,8 @@ use rpq_base::Memory;
 use std::alloc::Global;
 use std::marker::Model;
 
-/// A source over bytes in memory, which it tells. It gives them in pieces, and fails where it is asked to.
+/// A source over bytes in memory, which it tells. It gives them in pieces, and fails where it is
+/// asked to.
 #[derive(Drop)]
 pub struct MemorySource {
     bytes: Vec<u8>,
@@ -36,12 +38,13 @@ impl Model for MemorySource {
       fault_count = source.fault_count;
     } };
 
-    ghost invariant = { λ source. (source.taken_count ≤ vec_len source.bytes) × (1 ≤ source.piece) };
+    ghost invariant = { λ source.
+        (source.taken_count ≤ vec_len source.bytes) × (1 ≤ source.piece) };
 }
 
 impl MemorySource {
-    /// A source of these bytes, which are copied. A read takes `piece` bytes at most; those with a number in
-    /// `fails`, counted from 1, fail.
+    /// A source of these bytes, which are copied. A read takes `piece` bytes at most; those with a
+    /// number in `fails`, counted from 1, fail.
     pub fn new(
         alloc: Global,
         bytes: &[u8],
@@ -77,8 +80,11 @@ impl Source for MemorySource {
         requires untold { self.old.has_told_end ≡ false }
         ensures listed { is_err result ≡ next_fails self.old.script }
         ensures count { IfOk result (λ count. count ≡ read_count self.old (length into.old)) }
-        ensures bytes { IfOk result (λ count. take count into.new ≡ take count self.old.left_bytes) }
+        ensures bytes { IfOk result (λ count.
+            take count into.new ≡ take count self.old.left_bytes) }
+        ensures end { result ≡ Ok 0 → self.new.left_bytes ≡ [] }
         ensures after { self.new ≡ after_read self.old result }
+        ensures faults { CountsFault (IsErr result) self.old.fault_count self.new.fault_count }
     {
         if self.script.next_fails() {
             self.fault_count = self.fault_count.saturating_add(1);

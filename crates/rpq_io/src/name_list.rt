@@ -8,8 +8,8 @@ use rpq_base::Memory;
 use std::alloc::Global;
 use std::marker::Model;
 
-/// Names in the order in which they were noted. Contracts see their bytes, and for how many more there is
-/// room without new memory.
+/// Names in the order in which they were noted. Contracts see their bytes, and for how many more
+/// there is room without new memory.
 #[derive(Drop)]
 pub struct NameList {
     names: Vec<String>,

@@ -6,7 +6,8 @@ ghost use Rattle.rpq_io.specs.Script.{new_script, next_fails, after_call};
 use std::alloc::{AllocError, Global};
 use std::marker::Model;
 
-/// Counts the calls of an object, from 1 and up to 2^64 - 1, and knows the numbers of those that are to fail.
+/// Counts the calls of an object, from 1 and up to 2^64 - 1, and knows the numbers of those that
+/// are to fail.
 #[derive(Drop)]
 pub struct Script {
     fails: Vec<u64>,
@@ -18,7 +19,10 @@ impl Model for Script {
 
     ghost Value = { CallScript };
 
-    ghost view = { λ script. record { fails = script.fails.items; call_count = script.call_count } };
+    ghost view = { λ script. record {
+      fails = script.fails.items;
+      call_count = script.call_count;
+    } };
 }
 
 impl Script {

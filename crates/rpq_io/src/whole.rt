@@ -1,6 +1,7 @@
 //! All the bytes of a source, and all bytes to a sink.
 
-ghost use Rattle.std.specs.Prelude.{[], false, ◌≡◌, ◌<◌, is_ok, length, IfOk, OnOk, OnErr, IsErr, IfSome};
+ghost use Rattle.std.specs.Prelude.{[], false, ◌≡◌, ◌<◌, is_ok, length, IfOk, OnOk, OnErr, IsErr};
+ghost use Rattle.std.specs.Prelude.{IfSome};
 ghost use Rattle.std.specs.Io.KnownBytes.{prepend_known, append_known};
 ghost use Rattle.rpq_io.specs.Counts.{CountsFault};
 ghost use Rattle.rpq_io.specs.Takes.{TakesAtMost, IsTooMuch};
@@ -14,10 +15,10 @@ use std::alloc::Global;
 /// The most bytes that [`read_all`] asks a source for at once.
 const PIECE: u64 = 4096;
 
-/// All the bytes that the source has left, in their order, which are to be fewer than `byte_limit`. It never
-/// takes more than `byte_limit` bytes, and a source that gives few at a time isn't taken to be at its end.
-/// The source told its end exactly where the answer is `Ok`. After a fault it is past what was taken, which is
-/// lost. A failed read isn't tried again.
+/// All the bytes that the source has left, in their order, which are to be fewer than `byte_limit`.
+/// It never takes more than `byte_limit` bytes, and a source that gives few at a time isn't taken
+/// to be at its end. The source told its end exactly where the answer is `Ok`. After a fault it is
+/// past what was taken, which is lost. A failed read isn't tried again.
 pub fn read_all<S: Source>(
     alloc: Global,
     source: &mut S,
@@ -50,11 +51,12 @@ pub fn read_all<S: Source>(
     Err(AllFault::Long)
 }
 
-/// Writes all the bytes, in their order, or a proper prefix of them and answers [`Write`]. A failed write
-/// isn't tried again. Takes no memory.
+/// Writes all the bytes, in their order, or a proper prefix of them and answers [`Write`]. A failed
+/// write isn't tried again. Takes no memory.
 pub fn put_all<S: Sink>(sink: &mut S, bytes: &[u8]) -> Result<(), Write>
     ensures ok { OnOk result (S.written sink.new ≡ append_known (S.written sink.old) bytes.now) }
-    ensures err { OnErr result (WritesProperPrefix bytes.now (S.written sink.old) (S.written sink.new)) }
+    ensures err { OnErr result
+        (WritesProperPrefix bytes.now (S.written sink.old) (S.written sink.new)) }
     ensures faults { CountsFault (IsErr result) (S.faults sink.old) (S.faults sink.new) }
 {
     let mut done = 0;

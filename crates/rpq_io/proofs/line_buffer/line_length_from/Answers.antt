@@ -1,5 +1,5 @@
 use Rattle.std.proofs.Common.{◌+◌, arith, sym, ap, ◌∙◌}
-use Rattle.rpq_io.proofs.LineLengths.{line_length_within, line_length_rest}
+use Rattle.text_parts.proofs.LineLengths.{line_length_within, line_length_rest}
 use Rattle.rpq_io.proofs.line_buffer.line_length_from.Goals as goal
 
 pub slice_bounds-line_length-count : goal.slice_bounds-line_length-count

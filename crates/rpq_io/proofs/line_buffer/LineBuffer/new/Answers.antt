@@ -1,5 +1,5 @@
 use Rattle.std.proofs.Common.{arith, sym}
-use Rattle.rpq_io.proofs.LineLengths.{line_length-nil}
+use Rattle.text_parts.proofs.LineLengths.{line_length-nil}
 use Rattle.rpq_io.proofs.line_buffer.LineBuffer.new.Goals as goal
 
 pub invariant_of-result : goal.invariant_of-result

@@ -1,8 +1,8 @@
 use Rattle.std.proofs.Common.{◌≡◌, ◌≤◌, ◌+◌, ◌++◌, length, take, rules, arith, refl, ap, ◌∙◌}
 use Rattle.std.specs.List.{slice_range}
-use Rattle.rpq_io.specs.Reader.{line_length}
+use Rattle.text_parts.specs.Lines.{line_length}
 use Rattle.rpq_io.proofs.HeldParts.{held_kept, held_grown, part_length}
-use Rattle.rpq_io.proofs.LineLengths.{line_length_grows}
+use Rattle.text_parts.proofs.LineLengths.{line_length_grows}
 use Rattle.rpq_io.proofs.line_buffer.LineBuffer.read_from.Goals as goal
 
 pub returns-in_err-count-clause-kept : goal.returns-in_err-count-clause-kept

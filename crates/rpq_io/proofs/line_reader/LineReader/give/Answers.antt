@@ -1,6 +1,7 @@
 use Rattle.std.proofs.Common.{length, sym, ap, ◌∙◌, subst, arith}
-use Rattle.rpq_io.specs.Reader.{line_length, HoldsNoAnswer, IsLongStream}
-use Rattle.rpq_io.proofs.LineLengths.{line_length_within}
+use Rattle.rpq_io.specs.Reader.{HoldsNoAnswer, IsLongStream}
+use Rattle.text_parts.specs.Lines.{line_length}
+use Rattle.text_parts.proofs.LineLengths.{line_length_within}
 use Rattle.rpq_io.proofs.ReaderSteps.{cut_at_feed, cut_at_end, long_stream}
 use Rattle.rpq_io.proofs.line_reader.LineReader.give.Goals as goal
 
@@ -9,10 +10,12 @@ give_line-requires-else-line-eq0-clause-within g c =
     omega (arith, c.line_length-line.ensures, ap (λ reader. length reader.held_bytes) c.self.view_is, line_length_within c.self.inside.buffer.bytes)
 
 pub returns-in_ok-give_line-clause-line : goal.returns-in_ok-give_line-clause-line
-returns-in_ok-give_line-clause-line g c =
-    cut_at_feed _ _ _ _ _ c.line_length-line.result (c.line_length-line.ensures ∙ ap (λ reader. line_length reader.held_bytes) c.self.view_is)
-    (omega (arith, ap (λ reader. length reader.held_bytes) c.self.view_is)) (omega (arith, ap (λ reader. reader.line_limit) c.self.view_is))
-    c.in_ok-give_line.ensures.line c.in_ok-give_line.ensures.held
+returns-in_ok-give_line-clause-line g c = record {
+  cut = cut_at_feed _ _ _ _ _ c.line_length-line.result (c.line_length-line.ensures ∙ ap (λ reader. line_length reader.held_bytes) c.self.view_is)
+      (omega (arith, ap (λ reader. length reader.held_bytes) c.self.view_is)) (omega (arith, ap (λ reader. reader.line_limit) c.self.view_is))
+      c.in_ok-give_line.ensures.line c.in_ok-give_line.ensures.held;
+  counted = c.in_ok-give_line.ensures.counted;
+}
 
 pub returns-then-not-self-clause-long_stream : goal.returns-then-not-self-clause-long_stream
 returns-then-not-self-clause-long_stream g c = λ _.
@@ -20,8 +23,10 @@ returns-then-not-self-clause-long_stream g c = λ _.
     (long_stream _ (λ none. c.requires (subst HoldsNoAnswer c.self.view_is none)) c.if-not-self.true (omega arith) (omega arith) c.self.invariant.0.within)
 
 pub returns-in_ok-give_line-2-clause-line : goal.returns-in_ok-give_line-2-clause-line
-returns-in_ok-give_line-2-clause-line g c =
-    cut_at_end _ _ _ _ _ c.line_length-line.result (c.line_length-line.ensures ∙ ap (λ reader. line_length reader.held_bytes) c.self.view_is)
-    (omega (arith, ap (λ reader. length reader.held_bytes) c.self.view_is)) (omega arith) (omega (arith, ap (λ reader. reader.line_limit) c.self.view_is))
-    (sym (ap (λ reader. reader.is_at_end) c.self.view_is) ∙ c.if-not-self.false)
-    c.in_ok-give_line-2.ensures.line c.in_ok-give_line-2.ensures.held
+returns-in_ok-give_line-2-clause-line g c = record {
+  cut = cut_at_end _ _ _ _ _ c.line_length-line.result (c.line_length-line.ensures ∙ ap (λ reader. line_length reader.held_bytes) c.self.view_is)
+      (omega (arith, ap (λ reader. length reader.held_bytes) c.self.view_is)) (omega arith) (omega (arith, ap (λ reader. reader.line_limit) c.self.view_is))
+      (sym (ap (λ reader. reader.is_at_end) c.self.view_is) ∙ c.if-not-self.false)
+      c.in_ok-give_line-2.ensures.line c.in_ok-give_line-2.ensures.held;
+  counted = c.in_ok-give_line-2.ensures.counted;
+}
