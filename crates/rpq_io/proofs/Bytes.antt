@@ -1,5 +1,5 @@
 -- Bytes given and written piece by piece.
-use Rattle.std.proofs.Common.{◌≡◌, ◌≢◌, ℕ, ◌+◌, ◌<◌, ◌≤◌, ◌-◌, List, [], ◌++◌, length, take, drop, Option, Some, None, refl, sym, ap, ◌∙◌, append_assoc, take_all, take-append-drop, length-append, length-drop, length-take-le, drop-drop, arith}
+use Rattle.std.proofs.Common.{◌≡◌, ◌≢◌, ℕ, ◌+◌, ◌<◌, ◌≤◌, ◌-◌, List, [], ◌++◌, length, take, drop, Option, Some, None, refl, sym, ap, ◌∙◌, append_assoc, take_all, take-append-drop, length-append, length-drop, length-take-le, drop-drop, arith, IfSome, append-nil, subst}
 use Rattle.std.proofs.lemmas.List.{take-append-le}
 use Rattle.std.proofs.Math.Seq.{take-add}
 use Rattle.std.specs.Io.KnownBytes.{prepend_known, append_known}
@@ -14,6 +14,34 @@ append_known-append (Some bytes) front next = ap (λ all. Some all) (append_asso
 pub prepend_known-prepend : (known : Option (List ℕ)) (front next : List ℕ) → prepend_known front (prepend_known next known) ≡ prepend_known (front ++ next) known
 prepend_known-prepend None front next = refl
 prepend_known-prepend (Some bytes) front next = ap (λ all. Some all) (sym (append_assoc front next bytes))
+
+-- no bytes written change nothing
+pub append_known-nil : (known : Option (List ℕ)) → append_known known [] ≡ known
+append_known-nil None = refl
+append_known-nil (Some bytes) = ap (λ (all : List ℕ). Some all) (append-nil bytes)
+
+-- no bytes given change nothing
+pub prepend_known-nil : (known : Option (List ℕ)) → prepend_known [] known ≡ known
+prepend_known-nil None = refl
+prepend_known-nil (Some bytes) = refl
+
+-- what holds of some bytes and all that may come after them holds of the known bytes that these make
+pub of_known : (known left : Option (List ℕ)) (bytes : List ℕ) (P : List ℕ → Type 0) → known ≡ prepend_known bytes left
+    → ((rest : List ℕ) → left ≡ Some rest → P (bytes ++ rest)) → IfSome known P
+of_known None left bytes P came all = tt
+of_known (Some text) None bytes P came all = absurd cc
+of_known (Some text) (Some rest) bytes P came all =
+    let same : bytes ++ rest ≡ text = cc in
+    subst P same (all rest refl)
+
+-- what holds of some bytes holds of the known bytes where nothing is left
+pub of_all : (known left : Option (List ℕ)) (bytes : List ℕ) (P : List ℕ → Type 0) → known ≡ prepend_known bytes left
+    → IfSome left (λ rest. rest ≡ []) → P bytes → IfSome known P
+of_all None left bytes P came none all = tt
+of_all (Some text) None bytes P came none all = absurd cc
+of_all (Some text) (Some rest) bytes P came none all =
+    let same : bytes ≡ text = sym (append-nil bytes) ∙ (ap (λ r. bytes ++ r) (sym none) ∙ cc) in
+    subst P same all
 
 -- the rest of some bytes, from a place to their end
 pub slice_to_end : (done : ℕ) (bytes : List ℕ) → take (length bytes - done) (drop done bytes) ≡ drop done bytes

@@ -1,4 +1,5 @@
 pub mod Bytes
+pub mod Counting
 mod CutLines
 mod Finding
 mod HeldParts

@@ -2,6 +2,7 @@
 use Rattle.std.proofs.Common.{◌≡◌, ◌≢◌, ℕ, ◌+◌, ◌≤◌, Bool, true, false, cond, ◌||◌, List, [], ◌∷◌, ◌++◌, map, bytes_eq, inl, refl, sym, ap, ◌∙◌, add-zero, arith}
 use Rattle.std.specs.List.{list_any}
 use Rattle.std.specs.Cmp.Lexicographic.{same_text}
+use Rattle.std.proofs.lemmas.Bool.{false_from_ne_true}
 use Rattle.std.proofs.lemmas.Cmp.{nat_list_eq_equiv}
 use Rattle.std.proofs.lemmas.List.Sums.{sum_by-append}
 use Rattle.rpq_io.specs.Counts.{CountsOpening}
@@ -12,18 +13,13 @@ pub list_any-map : {A B : Type 0} (test : B → Bool) (image : A → B) (values 
 list_any-map test image [] = refl
 list_any-map test image (value ∷ values) = ap (λ rest. test (image value) || rest) (list_any-map test image values)
 
--- a test that isn't passed is failed
-false_from_not : (test : Bool) → test ≢ true → test ≡ false
-false_from_not true fails = absurd (fails refl)
-false_from_not false fails = refl
-
 -- a name is itself
 pub bytes_eq-same : (name : List ℕ) → bytes_eq name name ≡ true
 bytes_eq-same name = nat_list_eq_equiv.refl name
 
 -- a name is no other
 pub bytes_eq-other : (name other : List ℕ) → other ≢ name → bytes_eq name other ≡ false
-bytes_eq-other name other differs = false_from_not (bytes_eq name other) (λ equal. differs (sym (same_text name other (sym equal))))
+bytes_eq-other name other differs = false_from_ne_true (bytes_eq name other) (λ equal. differs (sym (same_text name other (sym equal))))
 
 -- how often any name stands in a list with one name more
 times-more : (any name : List ℕ) (names : List (List ℕ)) → times any (names ++ name ∷ []) ≡ times any names + (0 + cond (bytes_eq name any) 1 0)
