@@ -4,7 +4,7 @@ use Rattle.std.specs.Result.{IfOk, MatchResult}
 use Rattle.path_syntax.specs.declared.read.BadExpr.{BadExpr}
 use Rattle.path_syntax.specs.declared.read.BadExpr.TheVariants.{Unexpected, Ended, TooLarge, LongName, Memory}
 use Rattle.path_syntax.specs.Expression.{Expression}
-use Rattle.path_syntax.specs.Grammar.{IsLabel, Bare, Quoted, IsAlternative, OneSequence, Either, IsSequence, OneElement, Then, IsElement, Once, Starred, Plussed, Optional, IsPrimary, Named, InParentheses, IsText}
+use Rattle.path_syntax.specs.Grammar.{one_way, IsLabel, Bare, Quoted, IsAlternative, OneSequence, Either, IsSequence, OneElement, Then, IsElement, Once, Starred, Plussed, Optional, IsPrimary, Named, Inverse, InParentheses, IsText}
 use Rattle.path_syntax.specs.Faults.{IsWithinLimits, IsFault, IsOutcome, Whole, Faulty, Tells}
 use Rattle.path_syntax.specs.Plain.{IsPlainExpression}
 use Rattle.path_syntax.specs.Size.{nodes}
@@ -17,7 +17,7 @@ use Rattle.path_syntax.proofs.OneFault as fault
 -- the expression that is read, with its text
 pub record IsFound (bytes : List ℕ) (e : Expression) : Type 0 where
   pub text : IsText bytes e
-  pub limits : IsWithinLimits bytes
+  pub limits : IsWithinLimits one_way bytes
 
 by_ok : (bytes : List ℕ) (read : Result Expression BadExpr) → IsOutcome bytes read → (e : Expression) → read ≡ Ok e → IsFound bytes e
 by_ok bytes read (Whole f text limits) e is = let same : f ≡ e = cc in record { text = subst (IsText bytes) same text; limits = limits }
@@ -26,31 +26,32 @@ by_ok bytes read (Faulty fault has) e is = absurd cc
 is_found : (bytes : List ℕ) (e : Expression) → reading bytes ≡ Ok e → IsFound bytes e
 is_found bytes e is = by_ok bytes (reading bytes) (outcome bytes) e is
 
-by_err : (bytes : List ℕ) (read : Result Expression BadExpr) → IsOutcome bytes read → (fault : BadExpr) → read ≡ Err fault → IsFault fault bytes
+by_err : (bytes : List ℕ) (read : Result Expression BadExpr) → IsOutcome bytes read → (fault : BadExpr) → read ≡ Err fault → IsFault one_way fault bytes
 by_err bytes read (Whole f text limits) fault is = absurd cc
-by_err bytes read (Faulty other has) fault is = let same : other ≡ fault = cc in subst (λ f. IsFault f bytes) same has
+by_err bytes read (Faulty other has) fault is = let same : other ≡ fault = cc in subst (λ f. IsFault one_way f bytes) same has
 
-pub has_fault : (bytes : List ℕ) (fault : BadExpr) → reading bytes ≡ Err fault → IsFault fault bytes
+pub has_fault : (bytes : List ℕ) (fault : BadExpr) → reading bytes ≡ Err fault → IsFault one_way fault bytes
 has_fault bytes fault is = by_err bytes (reading bytes) (outcome bytes) fault is
 
 -- the labels of a text point forwards
 mutual
-  alternative_plain : {text : List ℕ} {e : Expression} → IsAlternative text e → IsPlainExpression e
+  alternative_plain : {text : List ℕ} {e : Expression} → IsAlternative one_way text e → IsPlainExpression e
   alternative_plain (OneSequence s) = sequence_plain s
   alternative_plain (Either left right a s) = (alternative_plain a, sequence_plain s)
 
-  sequence_plain : {text : List ℕ} {e : Expression} → IsSequence text e → IsPlainExpression e
+  sequence_plain : {text : List ℕ} {e : Expression} → IsSequence one_way text e → IsPlainExpression e
   sequence_plain (OneElement l) = element_plain l
   sequence_plain (Then left right s l) = (sequence_plain s, element_plain l)
 
-  element_plain : {text : List ℕ} {e : Expression} → IsElement text e → IsPlainExpression e
+  element_plain : {text : List ℕ} {e : Expression} → IsElement one_way text e → IsPlainExpression e
   element_plain (Once p) = primary_plain p
   element_plain (Starred text after p a) = primary_plain p
   element_plain (Plussed text after p a) = primary_plain p
   element_plain (Optional text after p a) = primary_plain p
 
-  primary_plain : {text : List ℕ} {e : Expression} → IsPrimary text e → IsPlainExpression e
+  primary_plain : {text : List ℕ} {e : Expression} → IsPrimary one_way text e → IsPlainExpression e
   primary_plain (Named before text after b l a) = refl
+  primary_plain (Inverse before between text after taken b w l a) = absurd cc
   primary_plain (InParentheses before inside after b i a) = alternative_plain i
 
 pub plain_text : (bytes : List ℕ) (e : Expression) → IsText bytes e → IsPlainExpression e
@@ -63,26 +64,27 @@ label_some (Quoted name some named) = omega arith
 
 -- an expression has no more nodes than its text has bytes
 mutual
-  alternative_size : {text : List ℕ} {e : Expression} → IsAlternative text e → nodes e ≤ length text
+  alternative_size : {text : List ℕ} {e : Expression} → IsAlternative one_way text e → nodes e ≤ length text
   alternative_size (OneSequence s) = sequence_size s
   alternative_size (Either left right a s) =
       let first = alternative_size a in let second = sequence_size s in
       simp length-append (omega arith)
 
-  sequence_size : {text : List ℕ} {e : Expression} → IsSequence text e → nodes e ≤ length text
+  sequence_size : {text : List ℕ} {e : Expression} → IsSequence one_way text e → nodes e ≤ length text
   sequence_size (OneElement l) = element_size l
   sequence_size (Then left right s l) =
       let first = sequence_size s in let second = element_size l in
       simp length-append (omega arith)
 
-  element_size : {text : List ℕ} {e : Expression} → IsElement text e → nodes e ≤ length text
+  element_size : {text : List ℕ} {e : Expression} → IsElement one_way text e → nodes e ≤ length text
   element_size (Once p) = primary_size p
   element_size (Starred text after p a) = let body = primary_size p in simp length-append (omega arith)
   element_size (Plussed text after p a) = let body = primary_size p in simp length-append (omega arith)
   element_size (Optional text after p a) = let body = primary_size p in simp length-append (omega arith)
 
-  primary_size : {text : List ℕ} {e : Expression} → IsPrimary text e → nodes e ≤ length text
+  primary_size : {text : List ℕ} {e : Expression} → IsPrimary one_way text e → nodes e ≤ length text
   primary_size (Named before text after b l a) = let some = label_some l in simp length-append (omega arith)
+  primary_size (Inverse before between text after taken b w l a) = absurd cc
   primary_size (InParentheses before inside after b i a) = let body = alternative_size i in simp length-append (omega arith)
 
 pub small_text : (bytes : List ℕ) (e : Expression) → IsText bytes e → nodes e ≤ length bytes
@@ -93,7 +95,7 @@ module _ {X : Type 0} (view : X → Expression) (bytes : List ℕ) where
   found (Ok x) gives = is_found bytes (view x) gives
   found (Err fault) gives = tt
 
-  pub whole : (given : Result X BadExpr) → Gives view given (reading bytes) → (e : Expression) → IsText bytes e → IsWithinLimits bytes →
+  pub whole : (given : Result X BadExpr) → Gives view given (reading bytes) → (e : Expression) → IsText bytes e → IsWithinLimits one_way bytes →
       MatchResult given (λ x. view x ≡ e) (λ fault. fault ≡ Memory)
   whole given gives e text limits = by given gives (outcome_is_read bytes (Ok e) (Whole e text limits))
     where
@@ -116,13 +118,13 @@ module _ {X : Type 0} (view : X → Expression) (bytes : List ℕ) where
   answered (Err Memory) gives = λ other. absurd (other refl)
 
   -- a fault that is no want of memory is the bytes' own
-  sure : (given : Result X BadExpr) → Gives view given (reading bytes) → (fault : BadExpr) → fault ≢ Memory → given ≡ Err fault → IsFault fault bytes
+  sure : (given : Result X BadExpr) → Gives view given (reading bytes) → (fault : BadExpr) → fault ≢ Memory → given ≡ Err fault → IsFault one_way fault bytes
   sure (Ok x) gives fault other is = absurd cc
   sure (Err Memory) gives fault other is = let same : Memory ≡ fault = cc in absurd (other (sym same))
-  sure (Err (Unexpected at)) gives fault other is = let same : Unexpected at ≡ fault = cc in subst (λ f. IsFault f bytes) same (has_fault bytes (Unexpected at) gives)
-  sure (Err Ended) gives fault other is = let same : Ended ≡ fault = cc in subst (λ f. IsFault f bytes) same (has_fault bytes Ended gives)
-  sure (Err TooLarge) gives fault other is = let same : TooLarge ≡ fault = cc in subst (λ f. IsFault f bytes) same (has_fault bytes TooLarge gives)
-  sure (Err (LongName at)) gives fault other is = let same : LongName at ≡ fault = cc in subst (λ f. IsFault f bytes) same (has_fault bytes (LongName at) gives)
+  sure (Err (Unexpected at)) gives fault other is = let same : Unexpected at ≡ fault = cc in subst (λ f. IsFault one_way f bytes) same (has_fault bytes (Unexpected at) gives)
+  sure (Err Ended) gives fault other is = let same : Ended ≡ fault = cc in subst (λ f. IsFault one_way f bytes) same (has_fault bytes Ended gives)
+  sure (Err TooLarge) gives fault other is = let same : TooLarge ≡ fault = cc in subst (λ f. IsFault one_way f bytes) same (has_fault bytes TooLarge gives)
+  sure (Err (LongName at)) gives fault other is = let same : LongName at ≡ fault = cc in subst (λ f. IsFault one_way f bytes) same (has_fault bytes (LongName at) gives)
 
   told : (given : Result X BadExpr) → Gives view given (reading bytes) → (fault : BadExpr) → reading bytes ≡ Err fault → (given ≡ Err fault) ⊎ (given ≡ Err Memory)
   told (Ok x) gives fault is = let both : Ok (view x) ≡ Err fault = sym gives ∙ is in absurd cc
@@ -132,7 +134,7 @@ module _ {X : Type 0} (view : X → Expression) (bytes : List ℕ) where
   told (Err TooLarge) gives fault is = inl (let both : Err TooLarge ≡ Err fault = sym gives ∙ is in cc)
   told (Err (LongName at)) gives fault is = inl (let both : Err (LongName at) ≡ Err fault = sym gives ∙ is in cc)
 
-  pub tells : (given : Result X BadExpr) → Gives view given (reading bytes) → (fault : BadExpr) → fault ≢ Memory → Tells given fault (IsFault fault bytes)
+  pub tells : (given : Result X BadExpr) → Gives view given (reading bytes) → (fault : BadExpr) → fault ≢ Memory → Tells given fault (IsFault one_way fault bytes)
   tells given gives fault other = record {
     sure = sure given gives fault other;
     told = λ has. told given gives fault (outcome_is_read bytes (Err fault) (Faulty fault has));

@@ -1,5 +1,5 @@
 -- The reader goes through every text of an expression, and ends with that expression.
-use Rattle.std.proofs.Common.{◌≡◌, ℕ, true, false, List, [], ◌∷◌, ◌++◌, Option, Some, None, option_map, codes, refl, sym, ◌∙◌, ap, subst, append_assoc, ⊎_elim}
+use Rattle.std.proofs.Common.{◌≡◌, ℕ, Bool, true, false, List, [], ◌∷◌, ◌++◌, Option, Some, None, option_map, codes, refl, sym, ◌∙◌, ap, subst, append_assoc, ⊎_elim}
 use Rattle.std.proofs.lemmas.List.{append-nil}
 use Rattle.std.proofs.lemmas.Bool.{and_parts, ne_eqb, cases_eq}
 use Rattle.std.specs.Option.{option_and_then}
@@ -7,16 +7,16 @@ use Rattle.rpq_base.specs.Names.{is_name_byte}
 use Rattle.path_syntax.specs.declared.byte_kind.Kind.{Kind}
 use Rattle.path_syntax.specs.declared.byte_kind.Kind.TheVariants as kinds
 use Rattle.path_syntax.specs.Expression.{Expression, Atom, Seq, Alt, Star, Plus, Opt}
-use Rattle.path_syntax.specs.Grammar.{is_blank, AreBlanks, is_bare_byte, IsBare, AreNameBytes, escaped, quoted, label_named, IsLabel, Bare, Quoted, IsAlternative, OneSequence, Either, IsSequence, OneElement, Then, IsElement, Once, Starred, Plussed, Optional, IsPrimary, Named, InParentheses, IsText}
+use Rattle.path_syntax.specs.Grammar.{one_way, is_blank, AreBlanks, is_bare_byte, IsBare, AreNameBytes, escaped, quoted, label_with, label_named, IsLabel, Bare, Quoted, IsAlternative, OneSequence, Either, IsSequence, OneElement, Then, IsElement, Once, Starred, Plussed, Optional, IsPrimary, Named, Inverse, InParentheses, IsText}
 use Rattle.path_syntax.specs.Reading.{kind_of, FrameValue, ModeValue, Operand, BareLabel, QuotedLabel, Escape, Primary, Element, StateValue, state_with, empty_frame, initial, in_sequence, whole_with, after_element, after_primary, in_bare, in_quotes, step_by, step, element_of, whole_of}
 use Rattle.path_syntax.proofs.Meaning.{Means, kind_means, kind_of_bare, kind_of_blank, blank_is_strange}
 use Rattle.path_syntax.proofs.Steps.{primary_of, behind_slash, behind_bar, run, run_from, run_one}
 
 pub primary_ends : (mode : ModeValue) (e : Expression) → primary_of mode ≡ Some e → element_of mode ≡ Some e
 primary_ends Operand e is = absurd cc
-primary_ends (BareLabel name) e is = is
-primary_ends (QuotedLabel name) e is = absurd cc
-primary_ends (Escape name) e is = absurd cc
+primary_ends (BareLabel name back) e is = is
+primary_ends (QuotedLabel name back) e is = absurd cc
+primary_ends (Escape name back) e is = absurd cc
 primary_ends (Primary f) e is = is
 primary_ends (Element f) e is = absurd cc
 
@@ -34,21 +34,21 @@ primary_joint outer frame e kinds.Bar j = refl
 primary_joint outer frame e kinds.Close j = refl
 primary_joint outer frame e _ j = absurd j
 
-bare_joint : (outer : List FrameValue) (frame : FrameValue) (name : List ℕ) (kind : Kind) (byte : ℕ) → IsJoint kind →
-    in_bare outer frame name kind byte ≡ after_primary outer frame (Atom (label_named name)) kind
-bare_joint outer frame name kinds.Slash byte j = refl
-bare_joint outer frame name kinds.Bar byte j = refl
-bare_joint outer frame name kinds.Close byte j = refl
-bare_joint outer frame name _ byte j = absurd j
+bare_joint : (outer : List FrameValue) (frame : FrameValue) (name : List ℕ) (back : Bool) (kind : Kind) (byte : ℕ) → IsJoint kind →
+    in_bare outer frame name back kind byte ≡ after_primary outer frame (Atom (label_with name back)) kind
+bare_joint outer frame name back kinds.Slash byte j = refl
+bare_joint outer frame name back kinds.Bar byte j = refl
+bare_joint outer frame name back kinds.Close byte j = refl
+bare_joint outer frame name back _ byte j = absurd j
 
 joint_step : (outer : List FrameValue) (frame : FrameValue) (mode : ModeValue) (e : Expression) (kind : Kind) (byte : ℕ) →
     element_of mode ≡ Some e → IsJoint kind → step_by outer frame mode kind byte ≡ after_element outer frame e kind
 joint_step outer frame Operand e kind byte ends j = absurd cc
-joint_step outer frame (BareLabel name) e kind byte ends j =
-    let same : Atom (label_named name) ≡ e = cc in
-    bare_joint outer frame name kind byte j ∙ primary_joint outer frame (Atom (label_named name)) kind j ∙ ap (λ f. after_element outer frame f kind) same
-joint_step outer frame (QuotedLabel name) e kind byte ends j = absurd cc
-joint_step outer frame (Escape name) e kind byte ends j = absurd cc
+joint_step outer frame (BareLabel name back) e kind byte ends j =
+    let same : Atom (label_with name back) ≡ e = cc in
+    bare_joint outer frame name back kind byte j ∙ primary_joint outer frame (Atom (label_with name back)) kind j ∙ ap (λ f. after_element outer frame f kind) same
+joint_step outer frame (QuotedLabel name back) e kind byte ends j = absurd cc
+joint_step outer frame (Escape name back) e kind byte ends j = absurd cc
 joint_step outer frame (Primary f) e kind byte ends j =
     let same : f ≡ e = cc in primary_joint outer frame f kind j ∙ ap (λ f. after_element outer frame f kind) same
 joint_step outer frame (Element f) e kind byte ends j =
@@ -75,9 +75,9 @@ star_step : (outer : List FrameValue) (frame : FrameValue) (mode : ModeValue) (e
     run (42 ∷ []) (state_with outer frame mode) ≡ Some (state_with outer frame (Element (Star e)))
 unfolding kind_of
 star_step outer frame Operand e is = absurd cc
-star_step outer frame (BareLabel name) e is = let same : Atom (label_named name) ≡ e = cc in ap (λ f. Some (state_with outer frame (Element (Star f)))) same
-star_step outer frame (QuotedLabel name) e is = absurd cc
-star_step outer frame (Escape name) e is = absurd cc
+star_step outer frame (BareLabel name back) e is = let same : Atom (label_with name back) ≡ e = cc in ap (λ f. Some (state_with outer frame (Element (Star f)))) same
+star_step outer frame (QuotedLabel name back) e is = absurd cc
+star_step outer frame (Escape name back) e is = absurd cc
 star_step outer frame (Primary f) e is = let same : f ≡ e = cc in ap (λ f. Some (state_with outer frame (Element (Star f)))) same
 star_step outer frame (Element f) e is = absurd cc
 
@@ -85,9 +85,9 @@ plus_step : (outer : List FrameValue) (frame : FrameValue) (mode : ModeValue) (e
     run (43 ∷ []) (state_with outer frame mode) ≡ Some (state_with outer frame (Element (Plus e)))
 unfolding kind_of
 plus_step outer frame Operand e is = absurd cc
-plus_step outer frame (BareLabel name) e is = let same : Atom (label_named name) ≡ e = cc in ap (λ f. Some (state_with outer frame (Element (Plus f)))) same
-plus_step outer frame (QuotedLabel name) e is = absurd cc
-plus_step outer frame (Escape name) e is = absurd cc
+plus_step outer frame (BareLabel name back) e is = let same : Atom (label_with name back) ≡ e = cc in ap (λ f. Some (state_with outer frame (Element (Plus f)))) same
+plus_step outer frame (QuotedLabel name back) e is = absurd cc
+plus_step outer frame (Escape name back) e is = absurd cc
 plus_step outer frame (Primary f) e is = let same : f ≡ e = cc in ap (λ f. Some (state_with outer frame (Element (Plus f)))) same
 plus_step outer frame (Element f) e is = absurd cc
 
@@ -95,9 +95,9 @@ opt_step : (outer : List FrameValue) (frame : FrameValue) (mode : ModeValue) (e 
     run (63 ∷ []) (state_with outer frame mode) ≡ Some (state_with outer frame (Element (Opt e)))
 unfolding kind_of
 opt_step outer frame Operand e is = absurd cc
-opt_step outer frame (BareLabel name) e is = let same : Atom (label_named name) ≡ e = cc in ap (λ f. Some (state_with outer frame (Element (Opt f)))) same
-opt_step outer frame (QuotedLabel name) e is = absurd cc
-opt_step outer frame (Escape name) e is = absurd cc
+opt_step outer frame (BareLabel name back) e is = let same : Atom (label_with name back) ≡ e = cc in ap (λ f. Some (state_with outer frame (Element (Opt f)))) same
+opt_step outer frame (QuotedLabel name back) e is = absurd cc
+opt_step outer frame (Escape name back) e is = absurd cc
 opt_step outer frame (Primary f) e is = let same : f ≡ e = cc in ap (λ f. Some (state_with outer frame (Element (Opt f)))) same
 opt_step outer frame (Element f) e is = absurd cc
 
@@ -161,10 +161,10 @@ record BlanksRun (blanks : List ℕ) (outer : List FrameValue) (frame : FrameVal
 blank_behind : (byte : ℕ) (outer : List FrameValue) (frame : FrameValue) (mode : ModeValue) (e : Expression) → primary_of mode ≡ Some e →
     is_blank byte ≡ true → step (state_with outer frame mode) byte ≡ Some (state_with outer frame (Primary e))
 blank_behind byte outer frame Operand e is blank = absurd cc
-blank_behind byte outer frame (BareLabel name) e is blank =
-    let same : Atom (label_named name) ≡ e = cc in rw (kind_of_blank byte blank) (ap (λ f. Some (state_with outer frame (Primary f))) same)
-blank_behind byte outer frame (QuotedLabel name) e is blank = absurd cc
-blank_behind byte outer frame (Escape name) e is blank = absurd cc
+blank_behind byte outer frame (BareLabel name back) e is blank =
+    let same : Atom (label_with name back) ≡ e = cc in rw (kind_of_blank byte blank) (ap (λ f. Some (state_with outer frame (Primary f))) same)
+blank_behind byte outer frame (QuotedLabel name back) e is blank = absurd cc
+blank_behind byte outer frame (Escape name back) e is blank = absurd cc
 blank_behind byte outer frame (Primary f) e is blank =
     let same : f ≡ e = cc in rw (kind_of_blank byte blank) (ap (λ f. Some (state_with outer frame (Primary f))) same)
 blank_behind byte outer frame (Element f) e is blank = absurd cc
@@ -181,71 +181,71 @@ blanks_behind (byte ∷ blanks) outer frame mode e is blank =
     }
 
 -- labels
-pub bare_run : (bytes name : List ℕ) (outer : List FrameValue) (frame : FrameValue) → IsBare bytes →
-    run bytes (state_with outer frame (BareLabel name)) ≡ Some (state_with outer frame (BareLabel (name ++ bytes)))
-bare_run [] name outer frame bare = ap (λ t. Some (state_with outer frame (BareLabel t))) (sym (append-nil name))
-bare_run (byte ∷ bytes) name outer frame bare =
+pub bare_run : (bytes name : List ℕ) (back : Bool) (outer : List FrameValue) (frame : FrameValue) → IsBare bytes →
+    run bytes (state_with outer frame (BareLabel name back)) ≡ Some (state_with outer frame (BareLabel (name ++ bytes) back))
+bare_run [] name back outer frame bare = ap (λ t. Some (state_with outer frame (BareLabel t back))) (sym (append-nil name))
+bare_run (byte ∷ bytes) name back outer frame bare =
     let both : (is_bare_byte byte ≡ true) × (IsBare bytes) = and_parts _ _ bare in
     rw (kind_of_bare byte both.0)
-    (bare_run bytes (name ++ byte ∷ []) outer frame both.1 ∙ ap (λ t. Some (state_with outer frame (BareLabel t))) (append_assoc name (byte ∷ []) bytes))
+    (bare_run bytes (name ++ byte ∷ []) back outer frame both.1 ∙ ap (λ t. Some (state_with outer frame (BareLabel t back))) (append_assoc name (byte ∷ []) bytes))
 
-plain_in_quotes : (outer : List FrameValue) (frame : FrameValue) (name : List ℕ) (kind : Kind) (byte : ℕ) → Means kind byte →
+plain_in_quotes : (outer : List FrameValue) (frame : FrameValue) (name : List ℕ) (back : Bool) (kind : Kind) (byte : ℕ) → Means kind byte →
     is_name_byte byte ≡ true → (byte ≡ 34 → ⊥) → (byte ≡ 92 → ⊥) →
-    in_quotes outer frame name kind byte ≡ Some (state_with outer frame (QuotedLabel (name ++ byte ∷ [])))
-plain_in_quotes outer frame name kinds.Blank byte m named quote backslash = absurd (let h : false ≡ true = sym (blank_is_strange byte m) ∙ named in cc)
-plain_in_quotes outer frame name kinds.Strange byte m named quote backslash = absurd (let h : false ≡ true = sym m ∙ named in cc)
-plain_in_quotes outer frame name kinds.Quote byte m named quote backslash = absurd (quote m)
-plain_in_quotes outer frame name kinds.Backslash byte m named quote backslash = absurd (backslash m)
-plain_in_quotes outer frame name _ byte m named quote backslash = refl
+    in_quotes outer frame name back kind byte ≡ Some (state_with outer frame (QuotedLabel (name ++ byte ∷ []) back))
+plain_in_quotes outer frame name back kinds.Blank byte m named quote backslash = absurd (let h : false ≡ true = sym (blank_is_strange byte m) ∙ named in cc)
+plain_in_quotes outer frame name back kinds.Strange byte m named quote backslash = absurd (let h : false ≡ true = sym m ∙ named in cc)
+plain_in_quotes outer frame name back kinds.Quote byte m named quote backslash = absurd (quote m)
+plain_in_quotes outer frame name back kinds.Backslash byte m named quote backslash = absurd (backslash m)
+plain_in_quotes outer frame name back _ byte m named quote backslash = refl
 
-escaped_quote : (name : List ℕ) (outer : List FrameValue) (frame : FrameValue) →
-    run (escaped 34) (state_with outer frame (QuotedLabel name)) ≡ Some (state_with outer frame (QuotedLabel (name ++ 34 ∷ [])))
+escaped_quote : (name : List ℕ) (back : Bool) (outer : List FrameValue) (frame : FrameValue) →
+    run (escaped 34) (state_with outer frame (QuotedLabel name back)) ≡ Some (state_with outer frame (QuotedLabel (name ++ 34 ∷ []) back))
 unfolding kind_of
-escaped_quote name outer frame = refl
+escaped_quote name back outer frame = refl
 
-escaped_backslash : (name : List ℕ) (outer : List FrameValue) (frame : FrameValue) →
-    run (escaped 92) (state_with outer frame (QuotedLabel name)) ≡ Some (state_with outer frame (QuotedLabel (name ++ 92 ∷ [])))
+escaped_backslash : (name : List ℕ) (back : Bool) (outer : List FrameValue) (frame : FrameValue) →
+    run (escaped 92) (state_with outer frame (QuotedLabel name back)) ≡ Some (state_with outer frame (QuotedLabel (name ++ 92 ∷ []) back))
 unfolding kind_of
-escaped_backslash name outer frame = refl
+escaped_backslash name back outer frame = refl
 
-escaped_other : (byte : ℕ) (name : List ℕ) (outer : List FrameValue) (frame : FrameValue) → is_name_byte byte ≡ true → (byte ≡ 34 → ⊥) → (byte ≡ 92 → ⊥) →
-    run (escaped byte) (state_with outer frame (QuotedLabel name)) ≡ Some (state_with outer frame (QuotedLabel (name ++ byte ∷ [])))
-escaped_other byte name outer frame named quote backslash =
+escaped_other : (byte : ℕ) (name : List ℕ) (back : Bool) (outer : List FrameValue) (frame : FrameValue) → is_name_byte byte ≡ true → (byte ≡ 34 → ⊥) → (byte ≡ 92 → ⊥) →
+    run (escaped byte) (state_with outer frame (QuotedLabel name back)) ≡ Some (state_with outer frame (QuotedLabel (name ++ byte ∷ []) back))
+escaped_other byte name back outer frame named quote backslash =
     rw (ne_eqb byte 34 quote, ne_eqb byte 92 backslash)
-    (run_one byte (state_with outer frame (QuotedLabel name)) _
-    (plain_in_quotes outer frame name (kind_of byte) byte (kind_means byte) named quote backslash))
+    (run_one byte (state_with outer frame (QuotedLabel name back)) _
+    (plain_in_quotes outer frame name back (kind_of byte) byte (kind_means byte) named quote backslash))
 
-pub escaped_run : (byte : ℕ) (name : List ℕ) (outer : List FrameValue) (frame : FrameValue) → is_name_byte byte ≡ true →
-    run (escaped byte) (state_with outer frame (QuotedLabel name)) ≡ Some (state_with outer frame (QuotedLabel (name ++ byte ∷ [])))
-escaped_run byte name outer frame named =
-    let P : ℕ → Type 0 = λ b. run (escaped b) (state_with outer frame (QuotedLabel name)) ≡ Some (state_with outer frame (QuotedLabel (name ++ b ∷ []))) in
-    ⊎_elim (λ quote. subst P (sym quote) (escaped_quote name outer frame)) (λ no_quote.
-    ⊎_elim (λ backslash. subst P (sym backslash) (escaped_backslash name outer frame)) (λ no_backslash.
-    escaped_other byte name outer frame named no_quote no_backslash)
+pub escaped_run : (byte : ℕ) (name : List ℕ) (back : Bool) (outer : List FrameValue) (frame : FrameValue) → is_name_byte byte ≡ true →
+    run (escaped byte) (state_with outer frame (QuotedLabel name back)) ≡ Some (state_with outer frame (QuotedLabel (name ++ byte ∷ []) back))
+escaped_run byte name back outer frame named =
+    let P : ℕ → Type 0 = λ b. run (escaped b) (state_with outer frame (QuotedLabel name back)) ≡ Some (state_with outer frame (QuotedLabel (name ++ b ∷ []) back)) in
+    ⊎_elim (λ quote. subst P (sym quote) (escaped_quote name back outer frame)) (λ no_quote.
+    ⊎_elim (λ backslash. subst P (sym backslash) (escaped_backslash name back outer frame)) (λ no_backslash.
+    escaped_other byte name back outer frame named no_quote no_backslash)
     (cases_eq byte 92)) (cases_eq byte 34)
 
-pub quoted_run : (bytes name : List ℕ) (outer : List FrameValue) (frame : FrameValue) → AreNameBytes bytes →
-    run (quoted bytes) (state_with outer frame (QuotedLabel name)) ≡ Some (state_with outer frame (QuotedLabel (name ++ bytes)))
-quoted_run [] name outer frame named = ap (λ t. Some (state_with outer frame (QuotedLabel t))) (sym (append-nil name))
-quoted_run (byte ∷ bytes) name outer frame named =
+pub quoted_run : (bytes name : List ℕ) (back : Bool) (outer : List FrameValue) (frame : FrameValue) → AreNameBytes bytes →
+    run (quoted bytes) (state_with outer frame (QuotedLabel name back)) ≡ Some (state_with outer frame (QuotedLabel (name ++ bytes) back))
+quoted_run [] name back outer frame named = ap (λ t. Some (state_with outer frame (QuotedLabel t back))) (sym (append-nil name))
+quoted_run (byte ∷ bytes) name back outer frame named =
     let both : (is_name_byte byte ≡ true) × (AreNameBytes bytes) = and_parts _ _ named in
-    run_from (escaped byte) (quoted bytes) (state_with outer frame (QuotedLabel name)) _ (escaped_run byte name outer frame both.0) ∙
-    quoted_run bytes (name ++ byte ∷ []) outer frame both.1 ∙
-    ap (λ t. Some (state_with outer frame (QuotedLabel t))) (append_assoc name (byte ∷ []) bytes)
+    run_from (escaped byte) (quoted bytes) (state_with outer frame (QuotedLabel name back)) _ (escaped_run byte name back outer frame both.0) ∙
+    quoted_run bytes (name ++ byte ∷ []) back outer frame both.1 ∙
+    ap (λ t. Some (state_with outer frame (QuotedLabel t back))) (append_assoc name (byte ∷ []) bytes)
 
 pub begin_bare : (byte : ℕ) (outer : List FrameValue) (frame : FrameValue) → is_bare_byte byte ≡ true →
-    step (state_with outer frame Operand) byte ≡ Some (state_with outer frame (BareLabel (byte ∷ [])))
+    step (state_with outer frame Operand) byte ≡ Some (state_with outer frame (BareLabel (byte ∷ []) false))
 begin_bare byte outer frame bare = rw (kind_of_bare byte bare) refl
 
 pub begin_quoted : (outer : List FrameValue) (frame : FrameValue) →
-    step (state_with outer frame Operand) 34 ≡ Some (state_with outer frame (QuotedLabel []))
+    step (state_with outer frame Operand) 34 ≡ Some (state_with outer frame (QuotedLabel [] false))
 unfolding kind_of
 begin_quoted outer frame = refl
 
-end_quoted : (byte : ℕ) (name : List ℕ) (outer : List FrameValue) (frame : FrameValue) →
-    run (34 ∷ []) (state_with outer frame (QuotedLabel (byte ∷ name))) ≡ Some (state_with outer frame (Primary (Atom (label_named (byte ∷ name)))))
+end_quoted : (byte : ℕ) (name : List ℕ) (back : Bool) (outer : List FrameValue) (frame : FrameValue) →
+    run (34 ∷ []) (state_with outer frame (QuotedLabel (byte ∷ name) back)) ≡ Some (state_with outer frame (Primary (Atom (label_with (byte ∷ name) back))))
 unfolding kind_of
-end_quoted byte name outer frame = refl
+end_quoted byte name back outer frame = refl
 
 pub label_run : {text name : List ℕ} → IsLabel text name → (outer : List FrameValue) (frame : FrameValue) →
     PrimaryRun outer frame text (Atom (label_named name))
@@ -253,17 +253,17 @@ label_run (Bare [] some bare) outer frame = absurd (some refl)
 label_run (Bare (byte ∷ name) some bare) outer frame =
     let both : (is_bare_byte byte ≡ true) × (IsBare name) = and_parts _ _ bare in
     record {
-      mode = BareLabel (byte ∷ name);
+      mode = BareLabel (byte ∷ name) false;
       is = refl;
-      ran = ap (option_and_then (run name)) (begin_bare byte outer frame both.0) ∙ bare_run name (byte ∷ []) outer frame both.1;
+      ran = ap (option_and_then (run name)) (begin_bare byte outer frame both.0) ∙ bare_run name (byte ∷ []) false outer frame both.1;
     }
 label_run (Quoted [] some named) outer frame = absurd (some refl)
 label_run (Quoted (byte ∷ name) some named) outer frame = record {
   mode = Primary (Atom (label_named (byte ∷ name)));
   is = refl;
   ran = ap (option_and_then (run (quoted (byte ∷ name) ++ 34 ∷ []))) (begin_quoted outer frame) ∙
-      run_from (quoted (byte ∷ name)) (34 ∷ []) (state_with outer frame (QuotedLabel [])) _ (quoted_run (byte ∷ name) [] outer frame named) ∙
-      end_quoted byte name outer frame;
+      run_from (quoted (byte ∷ name)) (34 ∷ []) (state_with outer frame (QuotedLabel [] false)) _ (quoted_run (byte ∷ name) [] false outer frame named) ∙
+      end_quoted byte name false outer frame;
 }
 
 open_step : (outer : List FrameValue) (frame : FrameValue) →
@@ -272,7 +272,7 @@ unfolding kind_of
 open_step outer frame = refl
 
 mutual
-  run_alternative : {text : List ℕ} {e : Expression} → IsAlternative text e → (outer : List FrameValue) → AlternativeRun outer text e
+  run_alternative : {text : List ℕ} {e : Expression} → IsAlternative one_way text e → (outer : List FrameValue) → AlternativeRun outer text e
   run_alternative (OneSequence s) outer =
       let r = run_sequence s outer None in
       record { frame = frame_with None r.sequence; mode = r.mode; last = r.last; ends = r.ends; whole = r.joined; ran = r.ran }
@@ -289,7 +289,7 @@ mutual
             (run_from left (codes "|") _ _ l.ran ∙ bar_step outer l.frame l.mode l.last l.ends) ∙ r.ran;
       }
 
-  run_sequence : {text : List ℕ} {e : Expression} → IsSequence text e → (outer : List FrameValue) (alternatives : Option Expression) →
+  run_sequence : {text : List ℕ} {e : Expression} → IsSequence one_way text e → (outer : List FrameValue) (alternatives : Option Expression) →
       SequenceRun outer alternatives text e
   run_sequence (OneElement {text} {e} l) outer alternatives =
       let r = run_element l outer (frame_with alternatives None) in
@@ -307,7 +307,7 @@ mutual
             (run_from left (codes "/") _ _ q.ran ∙ slash_step outer (frame_with alternatives q.sequence) q.mode q.last q.ends) ∙ r.ran;
       }
 
-  run_element : {text : List ℕ} {e : Expression} → IsElement text e → (outer : List FrameValue) (frame : FrameValue) → ElementRun outer frame text e
+  run_element : {text : List ℕ} {e : Expression} → IsElement one_way text e → (outer : List FrameValue) (frame : FrameValue) → ElementRun outer frame text e
   run_element (Once {text} {e} p) outer frame =
       let r = run_primary p outer frame in
       record { mode = r.mode; ends = primary_ends r.mode e r.is; ran = r.ran }
@@ -336,7 +336,7 @@ mutual
             element_blanks after outer frame (Opt e) a;
       }
 
-  run_primary : {text : List ℕ} {e : Expression} → IsPrimary text e → (outer : List FrameValue) (frame : FrameValue) → PrimaryRun outer frame text e
+  run_primary : {text : List ℕ} {e : Expression} → IsPrimary one_way text e → (outer : List FrameValue) (frame : FrameValue) → PrimaryRun outer frame text e
   run_primary (Named before text after {name} b l a) outer frame =
       let r = label_run l outer frame in
       let k = blanks_behind after outer frame r.mode (Atom (label_named name)) r.is a in
@@ -345,6 +345,7 @@ mutual
         is = k.is;
         ran = run_from (before ++ text) after _ _ (run_from before text _ _ (operand_blanks before outer frame b) ∙ r.ran) ∙ k.ran;
       }
+  run_primary (Inverse before between text after taken b w l a) outer frame = absurd cc
   run_primary (InParentheses before inside after {e} b i a) outer frame =
       let r = run_alternative i (frame ∷ outer) in
       let k = blanks_behind after outer frame (Primary (whole_with r.frame r.last)) e (ap (λ x. Some x) r.whole) a in

@@ -1,8 +1,8 @@
 -- Some texts and their expressions, and some faults, by going through the bytes.
-use Rattle.std.proofs.Common.{codes, refl}
+use Rattle.std.proofs.Common.{codes, ◌++◌, replicate, refl}
 use Rattle.path_syntax.specs.GrammarLaws.{GrammarExamples, FaultExamples}
 use Rattle.path_syntax.specs.Reading.{kind_of, read_byte, reading}
-use Rattle.path_syntax.specs.declared.read.BadExpr.TheVariants.{Unexpected, Ended}
+use Rattle.path_syntax.specs.declared.read.BadExpr.TheVariants.{Unexpected, Ended, TooLarge, LongName}
 use Rattle.path_syntax.proofs.Answering.{has_fault}
 use Rattle.path_syntax.proofs.Soundness.{sound}
 use Rattle.path_syntax.proofs.Completeness.{complete}
@@ -24,4 +24,6 @@ faults = record {
   empty_quotes = has_fault (codes "\"\"") (Unexpected 2) refl;
   wrong_escape = has_fault (codes "\"a\\b\"") (Unexpected 4) refl;
   no_operand = has_fault (codes "a/") Ended refl;
+  long_name = has_fault (codes "a/" ++ replicate 256 97) (LongName 3) refl;
+  many_signs = has_fault (replicate 513 40) TooLarge refl;
 }

@@ -1,7 +1,7 @@
 -- What some text of an expression begins with is what the reader goes through.
-use Rattle.std.proofs.Common.{◌≡◌, ℕ, List, [], ◌∷◌, ◌++◌, Some, option_map, refl, sym, ◌∙◌, ap, subst}
+use Rattle.std.proofs.Common.{◌≡◌, ℕ, Bool, false, List, [], ◌∷◌, ◌++◌, Some, option_map, refl, sym, ◌∙◌, ap, subst}
 use Rattle.path_syntax.specs.Expression.{Expression, Atom}
-use Rattle.path_syntax.specs.Grammar.{label_named, Bare, Quoted, CanGoOn}
+use Rattle.path_syntax.specs.Grammar.{one_way, label_with, Bare, Quoted, CanGoOn}
 use Rattle.path_syntax.specs.Faults.{TakesLabel}
 use Rattle.path_syntax.specs.Reading.{kind_of, FrameValue, ModeValue, Operand, BareLabel, QuotedLabel, Escape, Primary, Element, StateValue, state_with, initial, whole_with, element_of, whole_of}
 use Rattle.path_syntax.proofs.Steps.{run, run_from, run_by}
@@ -40,37 +40,37 @@ closes (other ∷ outer) frame mode e ends =
     (close_step other outer frame mode e ends) (closes outer other (Primary (whole_with frame e)) (whole_with frame e) refl)
 
 operand_step : (outer : List FrameValue) (frame : FrameValue) →
-    run (97 ∷ []) (state_with outer frame Operand) ≡ Some (state_with outer frame (BareLabel (97 ∷ [])))
+    run (97 ∷ []) (state_with outer frame Operand) ≡ Some (state_with outer frame (BareLabel (97 ∷ []) false))
 unfolding kind_of
 operand_step outer frame = refl
 
-quoted_steps : (name : List ℕ) (outer : List FrameValue) (frame : FrameValue) →
-    run (97 ∷ 34 ∷ []) (state_with outer frame (QuotedLabel name)) ≡ Some (state_with outer frame (Primary (Atom (label_named (name ++ 97 ∷ [])))))
+quoted_steps : (name : List ℕ) (back : Bool) (outer : List FrameValue) (frame : FrameValue) →
+    run (97 ∷ 34 ∷ []) (state_with outer frame (QuotedLabel name back)) ≡ Some (state_with outer frame (Primary (Atom (label_with (name ++ 97 ∷ []) back))))
 unfolding kind_of
-quoted_steps [] outer frame = refl
-quoted_steps (byte ∷ name) outer frame = refl
+quoted_steps [] back outer frame = refl
+quoted_steps (byte ∷ name) back outer frame = refl
 
-escape_steps : (name : List ℕ) (outer : List FrameValue) (frame : FrameValue) →
-    run (34 ∷ 34 ∷ []) (state_with outer frame (Escape name)) ≡ Some (state_with outer frame (Primary (Atom (label_named (name ++ 34 ∷ [])))))
+escape_steps : (name : List ℕ) (back : Bool) (outer : List FrameValue) (frame : FrameValue) →
+    run (34 ∷ 34 ∷ []) (state_with outer frame (Escape name back)) ≡ Some (state_with outer frame (Primary (Atom (label_with (name ++ 34 ∷ []) back))))
 unfolding kind_of
-escape_steps [] outer frame = refl
-escape_steps (byte ∷ name) outer frame = refl
+escape_steps [] back outer frame = refl
+escape_steps (byte ∷ name) back outer frame = refl
 
 completes : (outer : List FrameValue) (frame : FrameValue) (mode : ModeValue) → Completes (state_with outer frame mode)
 completes outer frame Operand =
-    after_bytes (97 ∷ []) _ _ (operand_step outer frame) (closes outer frame (BareLabel (97 ∷ [])) (Atom (label_named (97 ∷ []))) refl)
-completes outer frame (BareLabel name) = closes outer frame (BareLabel name) (Atom (label_named name)) refl
-completes outer frame (QuotedLabel name) =
-    after_bytes (97 ∷ 34 ∷ []) _ _ (quoted_steps name outer frame)
-    (closes outer frame (Primary (Atom (label_named (name ++ 97 ∷ [])))) (Atom (label_named (name ++ 97 ∷ []))) refl)
-completes outer frame (Escape name) =
-    after_bytes (34 ∷ 34 ∷ []) _ _ (escape_steps name outer frame)
-    (closes outer frame (Primary (Atom (label_named (name ++ 34 ∷ [])))) (Atom (label_named (name ++ 34 ∷ []))) refl)
+    after_bytes (97 ∷ []) _ _ (operand_step outer frame) (closes outer frame (BareLabel (97 ∷ []) false) (Atom (label_with (97 ∷ []) false)) refl)
+completes outer frame (BareLabel name back) = closes outer frame (BareLabel name back) (Atom (label_with name back)) refl
+completes outer frame (QuotedLabel name back) =
+    after_bytes (97 ∷ 34 ∷ []) _ _ (quoted_steps name back outer frame)
+    (closes outer frame (Primary (Atom (label_with (name ++ 97 ∷ []) back))) (Atom (label_with (name ++ 97 ∷ []) back)) refl)
+completes outer frame (Escape name back) =
+    after_bytes (34 ∷ 34 ∷ []) _ _ (escape_steps name back outer frame)
+    (closes outer frame (Primary (Atom (label_with (name ++ 34 ∷ []) back))) (Atom (label_with (name ++ 34 ∷ []) back)) refl)
 completes outer frame (Primary e) = closes outer frame (Primary e) e refl
 completes outer frame (Element e) = closes outer frame (Element e) e refl
 
 -- what the reader goes through can go on
-pub goes_on : (front : List ℕ) (state : StateValue) → run front initial ≡ Some state → CanGoOn front
+pub goes_on : (front : List ℕ) (state : StateValue) → run front initial ≡ Some state → CanGoOn one_way front
 goes_on front state ran =
     let c = completes state.outer state.frame state.mode in
     record { rest = c.rest; whole = c.whole; text = sound (front ++ c.rest) c.last c.whole (run_from front c.rest initial state ran ∙ c.ran) c.is }
@@ -80,14 +80,14 @@ pub record GoesThrough (front : List ℕ) : Type 0 where
   pub state : StateValue
   pub ran : run front initial ≡ Some state
 
-pub goes_through : (front : List ℕ) → CanGoOn front → GoesThrough front
+pub goes_through : (front : List ℕ) → CanGoOn one_way front → GoesThrough front
 goes_through front c =
     let r = complete (front ++ c.rest) c.whole c.text in
     let s = run_by front c.rest initial r.state r.ran in
     record { state = s.middle; ran = s.front }
 
 -- and through a front of it
-pub goes_through_front : (front more : List ℕ) → CanGoOn (front ++ more) → CanGoOn front
+pub goes_through_front : (front more : List ℕ) → CanGoOn one_way (front ++ more) → CanGoOn one_way front
 goes_through_front front more c =
     let g = goes_through (front ++ more) c in
     let s = run_by front more initial g.state g.ran in
@@ -99,7 +99,7 @@ pub record TakesOperand (before : List ℕ) : Type 0 where
   pub frame : FrameValue
   pub ran : run before initial ≡ Some (state_with outer frame Operand)
 
-pub takes_label : (before : List ℕ) → TakesOperand before → TakesLabel before
+pub takes_label : (before : List ℕ) → TakesOperand before → TakesLabel one_way before
 takes_label before t text name label =
     let r = label_run label t.outer t.frame in
     goes_on (before ++ text) (state_with t.outer t.frame r.mode) (run_from before text initial _ t.ran ∙ r.ran)
@@ -109,14 +109,14 @@ only_operand : (before : List ℕ) (outer : List FrameValue) (frame : FrameValue
     run (34 ∷ 97 ∷ 34 ∷ []) (state_with outer frame mode) ≡ Some quoted → TakesOperand before
 unfolding kind_of
 only_operand before outer frame Operand bare quoted ran a q = record { outer = outer; frame = frame; ran = ran }
-only_operand before outer frame (BareLabel name) bare quoted ran a q = absurd cc
-only_operand before outer frame (QuotedLabel []) bare quoted ran a q = absurd cc
-only_operand before outer frame (QuotedLabel (byte ∷ name)) bare quoted ran a q = absurd cc
-only_operand before outer frame (Escape name) bare quoted ran a q = absurd cc
+only_operand before outer frame (BareLabel name back) bare quoted ran a q = absurd cc
+only_operand before outer frame (QuotedLabel [] back) bare quoted ran a q = absurd cc
+only_operand before outer frame (QuotedLabel (byte ∷ name) back) bare quoted ran a q = absurd cc
+only_operand before outer frame (Escape name back) bare quoted ran a q = absurd cc
 only_operand before outer frame (Primary e) bare quoted ran a q = absurd cc
 only_operand before outer frame (Element e) bare quoted ran a q = absurd cc
 
-pub takes_operand_there : (before : List ℕ) → TakesLabel before → TakesOperand before
+pub takes_operand_there : (before : List ℕ) → TakesLabel one_way before → TakesOperand before
 takes_operand_there before takes =
     let a = goes_through (before ++ 97 ∷ []) (takes (97 ∷ []) (97 ∷ []) (Bare (97 ∷ []) (λ h. cc) refl)) in
     let q = goes_through (before ++ 34 ∷ 97 ∷ 34 ∷ []) (takes (34 ∷ 97 ∷ 34 ∷ []) (97 ∷ []) (Quoted (97 ∷ []) (λ h. cc) refl)) in

@@ -7,9 +7,9 @@ use Rattle.rpq_base.specs.Names.{is_name_byte}
 use Rattle.path_syntax.specs.declared.read.BadExpr.{BadExpr}
 use Rattle.path_syntax.specs.declared.read.BadExpr.TheVariants.{Unexpected, Ended, TooLarge, LongName}
 use Rattle.path_syntax.specs.Expression.{Expression}
-use Rattle.path_syntax.specs.Grammar.{is_bare_byte, IsBare, AreNameBytes, quoted, IsText, CanGoOn}
+use Rattle.path_syntax.specs.Grammar.{one_way, is_bare_byte, IsBare, AreNameBytes, quoted, IsText, CanGoOn}
 use Rattle.path_syntax.specs.Faults.{is_sign, signs, BeginsLabel, BeginsBare, BeginsQuoted, HasLongName, IsWithinLimits, IsTaken, Reaches, IsFault, IsOutcome, Whole, Faulty}
-use Rattle.path_syntax.specs.Reading.{FrameValue, ModeValue, Operand, BareLabel, QuotedLabel, Escape, Primary, Element, StateValue, state_with, initial, step, whole_of, name_length, takes_operand, is_outside, ReaderValue, start, operand_after, signs_after, after_step, read_byte, ◌>>=◌, read_all, ended_by, reading}
+use Rattle.path_syntax.specs.Reading.{FrameValue, ModeValue, Operand, BareLabel, QuotedLabel, Escape, Primary, Element, StateValue, state_with, initial, step, whole_of, name_length, takes_operand, is_outside, ReaderValue, start, label_place_after, signs_after, after_step, read_byte, ◌>>=◌, read_all, ended_by, reading}
 use Rattle.path_syntax.proofs.Steps.{Leads, OperandBlank, OperandOpen, OperandQuote, OperandBare, BareMore, QuotedMore, QuotedBackslash, QuotedEnd, EscapeQuote, EscapeBackslash, PrimaryBlank, PrimaryStar, PrimaryPlus, PrimaryOpt, ElementBlank, ElementSlash, ElementBar, ElementClose, step_leads, run, run_from, run_one}
 use Rattle.path_syntax.proofs.Soundness.{quoted_push, escaped_plain, all_push, sound}
 use Rattle.path_syntax.proofs.Completeness.{begin_bare, bare_run, begin_quoted, quoted_run, complete}
@@ -25,9 +25,9 @@ pub record LabelAt (front : List ℕ) (operand : ℕ) (label : List ℕ) : Type 
 
 abbrev SaysOperand : List ℕ → ModeValue → ℕ → Type 0
 SaysOperand front Operand operand = Unit {0}
-SaysOperand front (BareLabel name) operand = LabelAt front operand name × IsBare name
-SaysOperand front (QuotedLabel name) operand = LabelAt front operand (codes "\"" ++ quoted name) × AreNameBytes name
-SaysOperand front (Escape name) operand = LabelAt front operand (codes "\"" ++ quoted name ++ codes "\\") × AreNameBytes name
+SaysOperand front (BareLabel name back) operand = LabelAt front operand name × IsBare name
+SaysOperand front (QuotedLabel name back) operand = LabelAt front operand (codes "\"" ++ quoted name) × AreNameBytes name
+SaysOperand front (Escape name back) operand = LabelAt front operand (codes "\"" ++ quoted name ++ codes "\\") × AreNameBytes name
 SaysOperand front (Primary e) operand = Unit {0}
 SaysOperand front (Element e) operand = Unit {0}
 
@@ -54,24 +54,24 @@ operand_lead (OperandBlank outer frame byte blank) front operand ran says = tt
 operand_lead (OperandOpen outer frame) front operand ran says = tt
 operand_lead (OperandQuote outer frame) front operand ran says = (begun front outer frame (34 ∷ []) ran, refl)
 operand_lead (OperandBare outer frame byte bare) front operand ran says = (begun front outer frame (byte ∷ []) ran, and_from _ _ bare refl)
-operand_lead (BareMore outer frame name byte bare) front operand ran says =
+operand_lead (BareMore outer frame name back byte bare) front operand ran says =
     (longer front operand name (byte ∷ []) says.0, all_push is_bare_byte name byte says.1 bare)
-operand_lead (QuotedMore outer frame name byte named quote backslash) front operand ran says = (
+operand_lead (QuotedMore outer frame name back byte named quote backslash) front operand ran says = (
   relabelled (front ++ byte ∷ []) operand (codes "\"" ++ quoted name ++ byte ∷ []) (codes "\"" ++ quoted (name ++ byte ∷ []))
       (ap (λ t. codes "\"" ++ (quoted name ++ t)) (sym (escaped_plain byte quote backslash)) ∙ ap (λ t. codes "\"" ++ t) (sym (quoted_push name byte)))
       (longer front operand (codes "\"" ++ quoted name) (byte ∷ []) says.0),
   all_push is_name_byte name byte says.1 named,
 )
-operand_lead (QuotedBackslash outer frame name) front operand ran says =
+operand_lead (QuotedBackslash outer frame name back) front operand ran says =
     (longer front operand (codes "\"" ++ quoted name) (92 ∷ []) says.0, says.1)
-operand_lead (QuotedEnd outer frame first name) front operand ran says = tt
-operand_lead (EscapeQuote outer frame name) front operand ran says = (
+operand_lead (QuotedEnd outer frame first name back) front operand ran says = tt
+operand_lead (EscapeQuote outer frame name back) front operand ran says = (
   relabelled (front ++ 34 ∷ []) operand (codes "\"" ++ quoted name ++ codes "\\" ++ 34 ∷ []) (codes "\"" ++ quoted (name ++ 34 ∷ []))
       (append_assoc (codes "\"" ++ quoted name) (codes "\\") (34 ∷ []) ∙ ap (λ t. codes "\"" ++ t) (sym (quoted_push name 34)))
       (longer front operand (codes "\"" ++ quoted name ++ codes "\\") (34 ∷ []) says.0),
   all_push is_name_byte name 34 says.1 refl,
 )
-operand_lead (EscapeBackslash outer frame name) front operand ran says = (
+operand_lead (EscapeBackslash outer frame name back) front operand ran says = (
   relabelled (front ++ 92 ∷ []) operand (codes "\"" ++ quoted name ++ codes "\\" ++ 92 ∷ []) (codes "\"" ++ quoted (name ++ 92 ∷ []))
       (append_assoc (codes "\"" ++ quoted name) (codes "\\") (92 ∷ []) ∙ ap (λ t. codes "\"" ++ t) (sym (quoted_push name 92)))
       (longer front operand (codes "\"" ++ quoted name ++ codes "\\") (92 ∷ []) says.0),
@@ -97,13 +97,13 @@ begins_run (BeginsBare [] bare) outer frame = record { mode = Operand; ran = ref
 begins_run (BeginsBare (byte ∷ name) bare) outer frame =
     let both : (is_bare_byte byte ≡ true) × (IsBare name) = and_parts _ _ bare in
     record {
-      mode = BareLabel (byte ∷ name);
-      ran = ap (option_and_then (run name)) (begin_bare byte outer frame both.0) ∙ bare_run name (byte ∷ []) outer frame both.1;
+      mode = BareLabel (byte ∷ name) false;
+      ran = ap (option_and_then (run name)) (begin_bare byte outer frame both.0) ∙ bare_run name (byte ∷ []) false outer frame both.1;
       size = refl;
     }
 begins_run (BeginsQuoted name named) outer frame = record {
-  mode = QuotedLabel name;
-  ran = ap (option_and_then (run (quoted name))) (begin_quoted outer frame) ∙ quoted_run name [] outer frame named;
+  mode = QuotedLabel name false;
+  ran = ap (option_and_then (run (quoted name))) (begin_quoted outer frame) ∙ quoted_run name [] false outer frame named;
   size = refl;
 }
 
@@ -111,7 +111,7 @@ begins_run (BeginsQuoted name named) outer frame = record {
 abbrev pub IsShort : List ℕ → Type 0
 IsShort front = (first second : List ℕ) (state : StateValue) → front ≡ first ++ second → run first initial ≡ Some state → name_length state.mode ≤ 255
 
-pub short_no_long : (front : List ℕ) → IsShort front → (at : ℕ) → HasLongName front at → ⊥
+pub short_no_long : (front : List ℕ) → IsShort front → (at : ℕ) → HasLongName one_way front at → ⊥
 short_no_long front short at h =
     let t = takes_operand_there h.before h.stands in
     let l = begins_run h.begins t.outer t.frame in
@@ -159,7 +159,7 @@ pub record IsAt (front : List ℕ) (reader : ReaderValue) : Type 0 where
   pub counted : reader.signs ≡ signs front
   pub few : reader.signs ≤ 512
   pub short : IsShort front
-  pub operand : SaysOperand front reader.state.mode reader.operand
+  pub operand : SaysOperand front reader.state.mode reader.label_place
 
 short_start : IsShort []
 short_start [] second state e ran = let same : initial ≡ state = cc in subst (λ s. name_length s.mode ≤ 255) same (omega arith)
@@ -169,7 +169,7 @@ pub at_start : IsAt [] start
 at_start = record { ran = refl; place = refl; counted = refl; few = omega arith; short = short_start; operand = tt }
 
 -- no fault shows in what the reader has gone through
-pub at_taken : (front : List ℕ) (reader : ReaderValue) → IsAt front reader → IsTaken front
+pub at_taken : (front : List ℕ) (reader : ReaderValue) → IsAt front reader → IsTaken one_way front
 at_taken front reader at = record {
   goes_on = goes_on front reader.state at.ran;
   limits = record {
@@ -194,15 +194,15 @@ pub ran_push : (front : List ℕ) (byte : ℕ) (reader : ReaderValue) (state : S
 ran_push front byte reader state at e = run_from front (byte ∷ []) initial reader.state at.ran ∙ run_one byte reader.state state e
 
 says_there : (front : List ℕ) (byte : ℕ) (reader : ReaderValue) (state : StateValue) → IsAt front reader → step reader.state byte ≡ Some state →
-    SaysOperand (front ++ byte ∷ []) state.mode (operand_after reader)
+    SaysOperand (front ++ byte ∷ []) state.mode (label_place_after reader)
 says_there front byte reader state at e =
     let place : length front + 1 ≡ reader.place + 1 = ap (λ n. n + 1) (sym at.place) in
-    subst (λ n. SaysOperand (front ++ byte ∷ []) state.mode (cond (takes_operand reader.state.mode) n reader.operand)) place
-    (operand_lead (step_leads reader.state byte state e) front reader.operand at.ran at.operand)
+    subst (λ n. SaysOperand (front ++ byte ∷ []) state.mode (cond (takes_operand reader.state.mode) n reader.label_place)) place
+    (operand_lead (step_leads reader.state byte state e) front reader.label_place at.ran at.operand)
 
 at_push : (front : List ℕ) (byte : ℕ) (reader : ReaderValue) (state : StateValue) → IsAt front reader → step reader.state byte ≡ Some state →
     name_length state.mode ≤ 255 → signs_after reader byte ≤ 512 →
-    IsAt (front ++ byte ∷ []) (record { state = state; operand = operand_after reader; signs = signs_after reader byte; place = reader.place + 1 })
+    IsAt (front ++ byte ∷ []) (record { state = state; label_place = label_place_after reader; signs = signs_after reader byte; place = reader.place + 1 })
 at_push front byte reader state at e short few = record {
   ran = ran_push front byte reader state at e;
   place = ap (λ n. n + 1) at.place ∙ sym (length_push front byte);
@@ -214,9 +214,9 @@ at_push front byte reader state at e short few = record {
 
 -- a name that has become too long has 256 bytes, and none of them is escaped by half
 long_there : (front : List ℕ) (operand : ℕ) (mode : ModeValue) (before : ℕ) → SaysOperand front mode operand → 255 < name_length mode →
-    name_length mode ≤ 256 → ((name : List ℕ) → mode ≡ Escape name → ⊥) → HasLongName front operand
+    name_length mode ≤ 256 → ((name : List ℕ) (back : Bool) → mode ≡ Escape name back → ⊥) → HasLongName one_way front operand
 long_there front operand Operand before says long bound whole = absurd (omega arith)
-long_there front operand (BareLabel name) before (l, bare) long bound whole = record {
+long_there front operand (BareLabel name back) before (l, bare) long bound whole = record {
   before = l.before;
   label = name;
   after = [];
@@ -227,7 +227,7 @@ long_there front operand (BareLabel name) before (l, bare) long bound whole = re
   begins = BeginsBare name bare;
   long = omega arith;
 }
-long_there front operand (QuotedLabel name) before (l, named) long bound whole = record {
+long_there front operand (QuotedLabel name back) before (l, named) long bound whole = record {
   before = l.before;
   label = codes "\"" ++ quoted name;
   after = [];
@@ -238,50 +238,50 @@ long_there front operand (QuotedLabel name) before (l, named) long bound whole =
   begins = BeginsQuoted name named;
   long = omega arith;
 }
-long_there front operand (Escape name) before says long bound whole = absurd (whole name refl)
+long_there front operand (Escape name back) before says long bound whole = absurd (whole name back refl)
 long_there front operand (Primary e) before says long bound whole = absurd (omega arith)
 long_there front operand (Element e) before says long bound whole = absurd (omega arith)
 
 -- a backslash doesn't make the name longer
 no_escape : {outer : List FrameValue} {frame : FrameValue} {mode : ModeValue} {byte : ℕ} {after : StateValue} → Leads outer frame mode byte after →
-    name_length mode ≤ 255 → 255 < name_length after.mode → (name : List ℕ) → after.mode ≡ Escape name → ⊥
-no_escape (OperandBlank outer frame byte blank) short long name e = cc
-no_escape (OperandOpen outer frame) short long name e = cc
-no_escape (OperandQuote outer frame) short long name e = cc
-no_escape (OperandBare outer frame byte bare) short long name e = cc
-no_escape (BareMore outer frame other byte bare) short long name e = cc
-no_escape (QuotedMore outer frame other byte named quote backslash) short long name e = cc
-no_escape (QuotedBackslash outer frame other) short long name e = omega arith
-no_escape (QuotedEnd outer frame first other) short long name e = cc
-no_escape (EscapeQuote outer frame other) short long name e = cc
-no_escape (EscapeBackslash outer frame other) short long name e = cc
-no_escape (PrimaryBlank outer frame mode f byte is blank) short long name e = cc
-no_escape (PrimaryStar outer frame mode f is) short long name e = cc
-no_escape (PrimaryPlus outer frame mode f is) short long name e = cc
-no_escape (PrimaryOpt outer frame mode f is) short long name e = cc
-no_escape (ElementBlank outer frame f byte blank) short long name e = cc
-no_escape (ElementSlash outer frame mode f ends) short long name e = cc
-no_escape (ElementBar outer frame mode f ends) short long name e = cc
-no_escape (ElementClose other outer frame mode f ends) short long name e = cc
+    name_length mode ≤ 255 → 255 < name_length after.mode → (name : List ℕ) (back : Bool) → after.mode ≡ Escape name back → ⊥
+no_escape (OperandBlank outer frame byte blank) short long name back' e = cc
+no_escape (OperandOpen outer frame) short long name back' e = cc
+no_escape (OperandQuote outer frame) short long name back' e = cc
+no_escape (OperandBare outer frame byte bare) short long name back' e = cc
+no_escape (BareMore outer frame other back byte bare) short long name back' e = cc
+no_escape (QuotedMore outer frame other back byte named quote backslash) short long name back' e = cc
+no_escape (QuotedBackslash outer frame other back) short long name back' e = omega arith
+no_escape (QuotedEnd outer frame first other back) short long name back' e = cc
+no_escape (EscapeQuote outer frame other back) short long name back' e = cc
+no_escape (EscapeBackslash outer frame other back) short long name back' e = cc
+no_escape (PrimaryBlank outer frame mode f byte is blank) short long name back' e = cc
+no_escape (PrimaryStar outer frame mode f is) short long name back' e = cc
+no_escape (PrimaryPlus outer frame mode f is) short long name back' e = cc
+no_escape (PrimaryOpt outer frame mode f is) short long name back' e = cc
+no_escape (ElementBlank outer frame f byte blank) short long name back' e = cc
+no_escape (ElementSlash outer frame mode f ends) short long name back' e = cc
+no_escape (ElementBar outer frame mode f ends) short long name back' e = cc
+no_escape (ElementClose other outer frame mode f ends) short long name back' e = cc
 
 -- what the reader makes of one more byte
 data ByteOutcome (front : List ℕ) (byte : ℕ) : Result ReaderValue BadExpr → Type 0 where
   Goes : (reader : ReaderValue) → IsAt (front ++ byte ∷ []) reader → ByteOutcome front byte (Ok reader)
-  RefusedAt : (at : ℕ) → at ≡ length front + 1 → (CanGoOn (front ++ byte ∷ []) → ⊥) → ByteOutcome front byte (Err (Unexpected at))
-  LongAt : (at : ℕ) → CanGoOn (front ++ byte ∷ []) → HasLongName (front ++ byte ∷ []) at → ByteOutcome front byte (Err (LongName at))
-  ManyAt : CanGoOn (front ++ byte ∷ []) → ((at : ℕ) → HasLongName (front ++ byte ∷ []) at → ⊥) → signs (front ++ byte ∷ []) ≡ 513 →
+  RefusedAt : (at : ℕ) → at ≡ length front + 1 → (CanGoOn one_way (front ++ byte ∷ []) → ⊥) → ByteOutcome front byte (Err (Unexpected at))
+  LongAt : (at : ℕ) → CanGoOn one_way (front ++ byte ∷ []) → HasLongName one_way (front ++ byte ∷ []) at → ByteOutcome front byte (Err (LongName at))
+  ManyAt : CanGoOn one_way (front ++ byte ∷ []) → ((at : ℕ) → HasLongName one_way (front ++ byte ∷ []) at → ⊥) → signs (front ++ byte ∷ []) ≡ 513 →
       ByteOutcome front byte (Err TooLarge)
 
 within : (front : List ℕ) (byte : ℕ) (reader : ReaderValue) (state : StateValue) → IsAt front reader → step reader.state byte ≡ Some state →
     (long many : Bool) → nat_lt 255 (name_length state.mode) ≡ long → nat_lt 512 (signs_after reader byte) ≡ many →
-    ByteOutcome front byte (cond long (Err (LongName (operand_after reader))) (cond many (Err TooLarge)
-    (Ok (record { state = state; operand = operand_after reader; signs = signs_after reader byte; place = reader.place + 1 }))))
+    ByteOutcome front byte (cond long (Err (LongName (label_place_after reader))) (cond many (Err TooLarge)
+    (Ok (record { state = state; label_place = label_place_after reader; signs = signs_after reader byte; place = reader.place + 1 }))))
 within front byte reader state at e true many long_is many_is =
     let long : 255 < name_length state.mode = ltb-true _ _ long_is in
     let short : name_length reader.state.mode ≤ 255 = at.short front [] reader.state (sym (append-nil front)) at.ran in
     let grows : name_length state.mode ≤ name_length reader.state.mode + 1 = name_grows reader.state byte state e in
-    LongAt (operand_after reader) (goes_on (front ++ byte ∷ []) state (ran_push front byte reader state at e))
-    (long_there (front ++ byte ∷ []) (operand_after reader) state.mode 0 (says_there front byte reader state at e) long (omega arith)
+    LongAt (label_place_after reader) (goes_on (front ++ byte ∷ []) state (ran_push front byte reader state at e))
+    (long_there (front ++ byte ∷ []) (label_place_after reader) state.mode 0 (says_there front byte reader state at e) long (omega arith)
     (no_escape (step_leads reader.state byte state e) short long))
 within front byte reader state at e false true long_is many_is =
     let short : name_length state.mode ≤ 255 = ltb-false _ _ long_is in
@@ -315,9 +315,9 @@ byte_outcome front byte reader at = by_step front byte reader at (step reader.st
 -- what the reader makes of bytes
 pub data ReadOutcome (bytes : List ℕ) : Result ReaderValue BadExpr → Type 0 where
   Through : (reader : ReaderValue) → IsAt bytes reader → ReadOutcome bytes (Ok reader)
-  Failed : (fault : BadExpr) → IsFault fault bytes → ReadOutcome bytes (Err fault)
+  Failed : (fault : BadExpr) → IsFault one_way fault bytes → ReadOutcome bytes (Err fault)
 
-reaches : (front : List ℕ) (byte : ℕ) (rest : List ℕ) (reader : ReaderValue) → IsAt front reader → Reaches (front ++ byte ∷ rest) front byte
+reaches : (front : List ℕ) (byte : ℕ) (rest : List ℕ) (reader : ReaderValue) → IsAt front reader → Reaches one_way (front ++ byte ∷ rest) front byte
 reaches front byte rest reader at = record { rest = rest; split = refl; taken = at_taken front reader at }
 
 after_byte : (byte : ℕ) (bytes front : List ℕ) (reader : ReaderValue) → IsAt front reader →

@@ -3,7 +3,7 @@ use Rattle.std.proofs.Common.{◌≡◌, ℕ, ◌==◌, true, false, refl, sym, 
 use Rattle.std.proofs.lemmas.Bool.{cond_both, eqb-true, eqb-false, or_cases, and_parts}
 use Rattle.rpq_base.specs.Names.{is_name_byte}
 use Rattle.path_syntax.specs.declared.byte_kind.Kind.{Kind}
-use Rattle.path_syntax.specs.declared.byte_kind.Kind.TheVariants.{Blank, Bare, Quote, Backslash, Slash, Bar, Asterisk, PlusSign, QuestionMark, Open, Close, Reserved, Strange}
+use Rattle.path_syntax.specs.declared.byte_kind.Kind.TheVariants.{Blank, Bare, Quote, Backslash, Slash, Bar, Asterisk, PlusSign, QuestionMark, Open, Close, Caret, Reserved, Strange}
 use Rattle.path_syntax.specs.Grammar.{is_blank, is_bare_byte}
 use Rattle.path_syntax.specs.Reading.{kind_of, kind_of_sign}
 
@@ -20,6 +20,7 @@ Means PlusSign byte = byte ≡ 43
 Means QuestionMark byte = byte ≡ 63
 Means Open byte = byte ≡ 40
 Means Close byte = byte ≡ 41
+Means Caret byte = byte ≡ 94
 Means Reserved byte = (is_name_byte byte ≡ true) × (byte ≡ 34 → ⊥) × (byte ≡ 92 → ⊥)
 Means Strange byte = is_name_byte byte ≡ false
 
@@ -34,8 +35,9 @@ sign_means byte named =
     cond_both (byte == 43) PlusSign _ P (eqb-true byte 43) (λ _.
     cond_both (byte == 63) QuestionMark _ P (eqb-true byte 63) (λ _.
     cond_both (byte == 40) Open _ P (eqb-true byte 40) (λ _.
-    cond_both (byte == 41) Close Reserved P (eqb-true byte 41) (λ _.
-    (named, eqb-false byte 34 not_quote, eqb-false byte 92 not_backslash))))))))))
+    cond_both (byte == 41) Close _ P (eqb-true byte 41) (λ _.
+    cond_both (byte == 94) Caret Reserved P (eqb-true byte 94) (λ _.
+    (named, eqb-false byte 34 not_quote, eqb-false byte 92 not_backslash)))))))))))
 
 pub kind_means : (byte : ℕ) → Means (kind_of byte) byte
 unfolding kind_of

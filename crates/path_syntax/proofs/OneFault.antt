@@ -8,7 +8,7 @@ use Rattle.rpq_base.specs.Names.{is_name_byte}
 use Rattle.path_syntax.specs.declared.read.BadExpr.{BadExpr}
 use Rattle.path_syntax.specs.declared.read.BadExpr.TheVariants.{Unexpected, Ended, TooLarge, LongName, Memory}
 use Rattle.path_syntax.specs.Expression.{Expression}
-use Rattle.path_syntax.specs.Grammar.{is_bare_byte, IsBare, AreNameBytes, escaped, quoted, IsText, CanGoOn}
+use Rattle.path_syntax.specs.Grammar.{one_way, is_bare_byte, IsBare, AreNameBytes, escaped, quoted, IsText, CanGoOn}
 use Rattle.path_syntax.specs.Faults.{signs, BeginsLabel, BeginsBare, BeginsQuoted, HasLongName, IsWithinLimits, IsTaken, Reaches, IsEnded, IsFault, IsOutcome, Whole, Faulty}
 use Rattle.path_syntax.specs.Reading.{kind_of, FrameValue, ModeValue, Operand, BareLabel, QuotedLabel, Escape, Primary, Element, state_with, initial, name_length, takes_operand, reading}
 use Rattle.path_syntax.proofs.Steps.{run, run_from}
@@ -19,23 +19,23 @@ use Rattle.path_syntax.proofs.Limits.{begins_run, split_push, outcome}
 
 -- a fault shows at a byte
 data Shows (front : List ℕ) (byte : ℕ) : BadExpr → Type 0 where
-  ShowsUnexpected : (at : ℕ) → at ≡ length front + 1 → (CanGoOn (front ++ byte ∷ []) → ⊥) → Shows front byte (Unexpected at)
-  ShowsLong : (at : ℕ) → CanGoOn (front ++ byte ∷ []) → HasLongName (front ++ byte ∷ []) at → Shows front byte (LongName at)
-  ShowsMany : CanGoOn (front ++ byte ∷ []) → ((at : ℕ) → HasLongName (front ++ byte ∷ []) at → ⊥) → signs (front ++ byte ∷ []) ≡ 513 →
+  ShowsUnexpected : (at : ℕ) → at ≡ length front + 1 → (CanGoOn one_way (front ++ byte ∷ []) → ⊥) → Shows front byte (Unexpected at)
+  ShowsLong : (at : ℕ) → CanGoOn one_way (front ++ byte ∷ []) → HasLongName one_way (front ++ byte ∷ []) at → Shows front byte (LongName at)
+  ShowsMany : CanGoOn one_way (front ++ byte ∷ []) → ((at : ℕ) → HasLongName one_way (front ++ byte ∷ []) at → ⊥) → signs (front ++ byte ∷ []) ≡ 513 →
       Shows front byte TooLarge
 
 data Has (bytes : List ℕ) (fault : BadExpr) : Type 0 where
-  Within : (front : List ℕ) (byte : ℕ) → Reaches bytes front byte → Shows front byte fault → Has bytes fault
-  AtEnd : fault ≡ Ended → IsEnded bytes → Has bytes fault
+  Within : (front : List ℕ) (byte : ℕ) → Reaches one_way bytes front byte → Shows front byte fault → Has bytes fault
+  AtEnd : fault ≡ Ended → IsEnded one_way bytes → Has bytes fault
 
-has_fault : (fault : BadExpr) (bytes : List ℕ) → IsFault fault bytes → Has bytes fault
+has_fault : (fault : BadExpr) (bytes : List ℕ) → IsFault one_way fault bytes → Has bytes fault
 has_fault (Unexpected at) bytes f = Within f.front f.byte f.reached (ShowsUnexpected at f.place f.refused)
 has_fault Ended bytes f = AtEnd refl f
 has_fault TooLarge bytes f = Within f.front f.byte f.reached (ShowsMany f.goes_on f.short f.many)
 has_fault (LongName at) bytes f = Within f.front f.byte f.reached (ShowsLong at f.goes_on f.long)
 has_fault Memory bytes f = absurd f
 
-longer_still : (bytes more : List ℕ) (at : ℕ) → HasLongName bytes at → HasLongName (bytes ++ more) at
+longer_still : (bytes more : List ℕ) (at : ℕ) → HasLongName one_way bytes at → HasLongName one_way (bytes ++ more) at
 longer_still bytes more at h = record {
   before = h.before;
   label = h.label;
@@ -49,11 +49,11 @@ longer_still bytes more at h = record {
 }
 
 -- what a fault shows in is not taken, however it goes on
-not_taken : {front : List ℕ} {byte : ℕ} {fault : BadExpr} → Shows front byte fault → (more : List ℕ) → IsTaken (front ++ byte ∷ more) → ⊥
+not_taken : {front : List ℕ} {byte : ℕ} {fault : BadExpr} → Shows front byte fault → (more : List ℕ) → IsTaken one_way (front ++ byte ∷ more) → ⊥
 not_taken {front} {byte} (ShowsUnexpected at place refused) more t =
-    refused (goes_through_front (front ++ byte ∷ []) more (subst CanGoOn (sym (append_assoc front (byte ∷ []) more)) t.goes_on))
+    refused (goes_through_front (front ++ byte ∷ []) more (subst (CanGoOn one_way) (sym (append_assoc front (byte ∷ []) more)) t.goes_on))
 not_taken {front} {byte} (ShowsLong at on long) more t =
-    t.limits.short at (subst (λ b. HasLongName b at) (append_assoc front (byte ∷ []) more) (longer_still (front ++ byte ∷ []) more at long))
+    t.limits.short at (subst (λ b. HasLongName one_way b at) (append_assoc front (byte ∷ []) more) (longer_still (front ++ byte ∷ []) more at long))
 not_taken {front} {byte} (ShowsMany on short many) more t =
     let g = goes_through (front ++ byte ∷ []) on in
     let grows : signs (front ++ byte ∷ []) ≤ signs (front ++ byte ∷ [] ++ more) = signs_grow (front ++ byte ∷ []) more g.state g.ran in
@@ -62,15 +62,15 @@ not_taken {front} {byte} (ShowsMany on short many) more t =
     absurd (omega arith)
 
 -- an expression's text within the limits has no fault
-has_not : (bytes : List ℕ) (fault : BadExpr) → Has bytes fault → (e : Expression) → IsText bytes e → IsWithinLimits bytes → ⊥
+has_not : (bytes : List ℕ) (fault : BadExpr) → Has bytes fault → (e : Expression) → IsText bytes e → IsWithinLimits one_way bytes → ⊥
 has_not bytes fault (Within front byte reached shows) e text limits =
-    not_taken shows reached.rest (subst IsTaken reached.split (record {
+    not_taken shows reached.rest (subst (IsTaken one_way) reached.split (record {
       goes_on = record { rest = []; whole = e; text = subst (λ t. IsText t e) (sym (append-nil bytes)) text };
       limits = limits;
     }))
 has_not bytes fault (AtEnd is ended) e text limits = ended.incomplete e text
 
-pub no_fault : (bytes : List ℕ) (fault : BadExpr) (e : Expression) → IsText bytes e → IsWithinLimits bytes → IsFault fault bytes → ⊥
+pub no_fault : (bytes : List ℕ) (fault : BadExpr) (e : Expression) → IsText bytes e → IsWithinLimits one_way bytes → IsFault one_way fault bytes → ⊥
 no_fault bytes fault e text limits f = has_not bytes fault (has_fault fault bytes f) e text limits
 
 -- two fronts of the same bytes
@@ -99,10 +99,10 @@ pub record InLabel (outer : List FrameValue) (frame : FrameValue) (text : List �
   pub within : takes_operand mode ≡ false
   pub ran : run text (state_with outer frame from) ≡ Some (state_with outer frame mode)
 
-after_escape : (name : List ℕ) (outer : List FrameValue) (frame : FrameValue) →
-    run (92 ∷ []) (state_with outer frame (QuotedLabel name)) ≡ Some (state_with outer frame (Escape name))
+after_escape : (name : List ℕ) (back : Bool) (outer : List FrameValue) (frame : FrameValue) →
+    run (92 ∷ []) (state_with outer frame (QuotedLabel name back)) ≡ Some (state_with outer frame (Escape name back))
 unfolding kind_of
-after_escape name outer frame = refl
+after_escape name back outer frame = refl
 
 escaped_cases : (byte : ℕ) → (escaped byte ≡ 92 ∷ byte ∷ []) ⊎ (escaped byte ≡ byte ∷ [])
 escaped_cases byte = by (byte == 34 || byte == 92)
@@ -111,43 +111,43 @@ escaped_cases byte = by (byte == 34 || byte == 92)
     by true = inl refl
     by false = inr refl
 
-quoted_front : (name front rest before : List ℕ) (outer : List FrameValue) (frame : FrameValue) → AreNameBytes name → front ++ rest ≡ quoted name →
-    InLabel outer frame front (QuotedLabel before)
-quoted_front name [] rest before outer frame named e = record { mode = QuotedLabel before; within = refl; ran = refl }
-quoted_front [] (x ∷ front) rest before outer frame named e = absurd cc
-quoted_front (byte ∷ name) (x ∷ front) rest before outer frame named e =
+quoted_front : (name front rest before : List ℕ) (back : Bool) (outer : List FrameValue) (frame : FrameValue) → AreNameBytes name → front ++ rest ≡ quoted name →
+    InLabel outer frame front (QuotedLabel before back)
+quoted_front name [] rest before back outer frame named e = record { mode = QuotedLabel before back; within = refl; ran = refl }
+quoted_front [] (x ∷ front) rest before back outer frame named e = absurd cc
+quoted_front (byte ∷ name) (x ∷ front) rest before back outer frame named e =
     let both : (is_name_byte byte ≡ true) × (AreNameBytes name) = and_parts _ _ named in
     ⊎_elim
     (λ escape.
     let there : x ∷ (front ++ rest) ≡ 92 ∷ byte ∷ quoted name = e ∙ ap (λ t. t ++ quoted name) escape in
     let head : 92 ≡ x = cc in
     let tail : front ++ rest ≡ byte ∷ quoted name = cc in
-    let ran : run (92 ∷ byte ∷ []) (state_with outer frame (QuotedLabel before)) ≡ Some (state_with outer frame (QuotedLabel (before ++ byte ∷ []))) =
-    ap (λ t. run t (state_with outer frame (QuotedLabel before))) (sym escape) ∙ escaped_run byte before outer frame both.0 in
-    subst (λ z. InLabel outer frame (z ∷ front) (QuotedLabel before)) head
-    (escape_front front tail ran (λ more same. quoted_front name more rest (before ++ byte ∷ []) outer frame both.1 same)))
+    let ran : run (92 ∷ byte ∷ []) (state_with outer frame (QuotedLabel before back)) ≡ Some (state_with outer frame (QuotedLabel (before ++ byte ∷ []) back)) =
+    ap (λ t. run t (state_with outer frame (QuotedLabel before back))) (sym escape) ∙ escaped_run byte before back outer frame both.0 in
+    subst (λ z. InLabel outer frame (z ∷ front) (QuotedLabel before back)) head
+    (escape_front front tail ran (λ more same. quoted_front name more rest (before ++ byte ∷ []) back outer frame both.1 same)))
     (λ plain.
     let there : x ∷ (front ++ rest) ≡ byte ∷ quoted name = e ∙ ap (λ t. t ++ quoted name) plain in
     let head : byte ≡ x = cc in
     let tail : front ++ rest ≡ quoted name = cc in
-    let next = quoted_front name front rest (before ++ byte ∷ []) outer frame both.1 tail in
-    let ran : run (byte ∷ []) (state_with outer frame (QuotedLabel before)) ≡ Some (state_with outer frame (QuotedLabel (before ++ byte ∷ []))) =
-    ap (λ t. run t (state_with outer frame (QuotedLabel before))) (sym plain) ∙ escaped_run byte before outer frame both.0 in
-    subst (λ z. InLabel outer frame (z ∷ front) (QuotedLabel before)) head
-    (record { mode = next.mode; within = next.within; ran = run_from (byte ∷ []) front (state_with outer frame (QuotedLabel before)) (state_with outer frame (QuotedLabel (before ++ byte ∷ []))) ran ∙ next.ran }))
+    let next = quoted_front name front rest (before ++ byte ∷ []) back outer frame both.1 tail in
+    let ran : run (byte ∷ []) (state_with outer frame (QuotedLabel before back)) ≡ Some (state_with outer frame (QuotedLabel (before ++ byte ∷ []) back)) =
+    ap (λ t. run t (state_with outer frame (QuotedLabel before back))) (sym plain) ∙ escaped_run byte before back outer frame both.0 in
+    subst (λ z. InLabel outer frame (z ∷ front) (QuotedLabel before back)) head
+    (record { mode = next.mode; within = next.within; ran = run_from (byte ∷ []) front (state_with outer frame (QuotedLabel before back)) (state_with outer frame (QuotedLabel (before ++ byte ∷ []) back)) ran ∙ next.ran }))
     (escaped_cases byte)
   where
     escape_front : (front : List ℕ) → front ++ rest ≡ byte ∷ quoted name →
-        run (92 ∷ byte ∷ []) (state_with outer frame (QuotedLabel before)) ≡ Some (state_with outer frame (QuotedLabel (before ++ byte ∷ []))) →
-        ((more : List ℕ) → more ++ rest ≡ quoted name → InLabel outer frame more (QuotedLabel (before ++ byte ∷ []))) →
-        InLabel outer frame (92 ∷ front) (QuotedLabel before)
-    escape_front [] tail ran again = record { mode = Escape before; within = refl; ran = after_escape before outer frame }
+        run (92 ∷ byte ∷ []) (state_with outer frame (QuotedLabel before back)) ≡ Some (state_with outer frame (QuotedLabel (before ++ byte ∷ []) back)) →
+        ((more : List ℕ) → more ++ rest ≡ quoted name → InLabel outer frame more (QuotedLabel (before ++ byte ∷ []) back)) →
+        InLabel outer frame (92 ∷ front) (QuotedLabel before back)
+    escape_front [] tail ran again = record { mode = Escape before back; within = refl; ran = after_escape before back outer frame }
     escape_front (y ∷ more) tail ran again =
         let second : byte ≡ y = cc in
         let last : more ++ rest ≡ quoted name = cc in
         let next = again more last in
-        subst (λ z. InLabel outer frame (92 ∷ z ∷ more) (QuotedLabel before)) second
-        (record { mode = next.mode; within = next.within; ran = run_from (92 ∷ byte ∷ []) more (state_with outer frame (QuotedLabel before)) (state_with outer frame (QuotedLabel (before ++ byte ∷ []))) ran ∙ next.ran })
+        subst (λ z. InLabel outer frame (92 ∷ z ∷ more) (QuotedLabel before back)) second
+        (record { mode = next.mode; within = next.within; ran = run_from (92 ∷ byte ∷ []) more (state_with outer frame (QuotedLabel before back)) (state_with outer frame (QuotedLabel (before ++ byte ∷ []) back)) ran ∙ next.ran })
 
 label_front : {label name : List ℕ} → BeginsLabel label name → (x : ℕ) (front rest : List ℕ) → label ≡ x ∷ front ++ rest →
     (outer : List FrameValue) (frame : FrameValue) → InLabel outer frame (x ∷ front) Operand
@@ -159,15 +159,15 @@ label_front (BeginsBare name bare) x front rest e outer frame =
   where
     some : (mode : ModeValue) → name_length mode ≡ length (x ∷ front) → takes_operand mode ≡ false
     some Operand size = absurd cc
-    some (BareLabel name) size = refl
-    some (QuotedLabel name) size = refl
-    some (Escape name) size = refl
+    some (BareLabel name back) size = refl
+    some (QuotedLabel name back) size = refl
+    some (Escape name back) size = refl
     some (Primary e) size = refl
     some (Element e) size = refl
 label_front (BeginsQuoted name named) x front rest e outer frame =
     let head : 34 ≡ x = cc in
     let tail : front ++ rest ≡ quoted name = cc in
-    let r = quoted_front name front rest [] outer frame named tail in
+    let r = quoted_front name front rest [] false outer frame named tail in
     subst (λ z. InLabel outer frame (z ∷ front) Operand) head
     (record { mode = r.mode; within = r.within; ran = ap (option_and_then (run front)) (begin_quoted outer frame) ∙ r.ran })
 
@@ -203,7 +203,7 @@ nothing_between before other label name rest (x ∷ middle) t o begins split par
     absurd cc
 
 -- the label ends the bytes, if no front of them has it
-ends_there : (front : List ℕ) (byte at : ℕ) → IsTaken front → (h : HasLongName (front ++ byte ∷ []) at) → front ++ byte ∷ [] ≡ h.before ++ h.label
+ends_there : (front : List ℕ) (byte at : ℕ) → IsTaken one_way front → (h : HasLongName one_way (front ++ byte ∷ []) at) → front ++ byte ∷ [] ≡ h.before ++ h.label
 ends_there front byte at taken h =
     ⊎_elim
     (λ whole. sym whole.0)
@@ -220,7 +220,7 @@ ends_there front byte at taken h =
     })))
     (split_push front byte (h.before ++ h.label) h.after h.split)
 
-long_place : (front : List ℕ) (byte first second : ℕ) → IsTaken front → HasLongName (front ++ byte ∷ []) first → HasLongName (front ++ byte ∷ []) second →
+long_place : (front : List ℕ) (byte first second : ℕ) → IsTaken one_way front → HasLongName one_way (front ++ byte ∷ []) first → HasLongName one_way (front ++ byte ∷ []) second →
     first ≡ second
 long_place front byte first second taken h k =
     let both : h.before ++ h.label ≡ k.before ++ k.label = sym (ends_there front byte first taken h) ∙ ends_there front byte second taken k in
@@ -232,7 +232,7 @@ long_place front byte first second taken h k =
     same t o (FirstIsFront middle a b) = sym (nothing_between h.before k.before h.label h.name k.label middle t o h.begins a b)
     same t o (ThirdIsFront middle a b) = nothing_between k.before h.before k.label k.name h.label middle o t k.begins a b
 
-one_there : {front : List ℕ} {byte : ℕ} {first second : BadExpr} → IsTaken front → Shows front byte first → Shows front byte second → first ≡ second
+one_there : {front : List ℕ} {byte : ℕ} {first second : BadExpr} → IsTaken one_way front → Shows front byte first → Shows front byte second → first ≡ second
 one_there taken (ShowsUnexpected at place refused) (ShowsUnexpected other there refused') = ap (λ n. Unexpected n) (place ∙ sym there)
 one_there taken (ShowsUnexpected at place refused) (ShowsLong other on long) = absurd (refused on)
 one_there taken (ShowsUnexpected at place refused) (ShowsMany on short many) = absurd (refused on)
@@ -245,19 +245,19 @@ one_there taken (ShowsMany on short many) (ShowsMany on' short' many') = refl
 
 one_has : (bytes : List ℕ) (first second : BadExpr) → Has bytes first → Has bytes second → first ≡ second
 one_has bytes first second (AtEnd is a) (AtEnd there b) = is ∙ sym there
-one_has bytes first second (AtEnd is a) (Within front byte reached shows) = absurd (not_taken shows reached.rest (subst IsTaken reached.split a.taken))
-one_has bytes first second (Within front byte reached shows) (AtEnd there b) = absurd (not_taken shows reached.rest (subst IsTaken reached.split b.taken))
+one_has bytes first second (AtEnd is a) (Within front byte reached shows) = absurd (not_taken shows reached.rest (subst (IsTaken one_way) reached.split a.taken))
+one_has bytes first second (Within front byte reached shows) (AtEnd there b) = absurd (not_taken shows reached.rest (subst (IsTaken one_way) reached.split b.taken))
 one_has bytes first second (Within front byte reached shows) (Within other last reached' shows') =
     by (fronts front byte other last reached.rest reached'.rest (sym reached.split ∙ reached'.split))
   where
     by : Fronts front byte other last → first ≡ second
     by (Equal a b) =
         one_there reached'.taken (subst (λ f. Shows f last first) a (subst (λ c. Shows front c first) b shows)) shows'
-    by (Shorter more a) = absurd (not_taken shows more (subst IsTaken a reached'.taken))
-    by (Longer more a) = absurd (not_taken shows' more (subst IsTaken a reached.taken))
+    by (Shorter more a) = absurd (not_taken shows more (subst (IsTaken one_way) a reached'.taken))
+    by (Longer more a) = absurd (not_taken shows' more (subst (IsTaken one_way) a reached.taken))
 
 -- bytes have one fault at most
-pub one_fault : (bytes : List ℕ) (first second : BadExpr) → IsFault first bytes → IsFault second bytes → first ≡ second
+pub one_fault : (bytes : List ℕ) (first second : BadExpr) → IsFault one_way first bytes → IsFault one_way second bytes → first ≡ second
 one_fault bytes first second f g = one_has bytes first second (has_fault first bytes f) (has_fault second bytes g)
 
 -- and one outcome

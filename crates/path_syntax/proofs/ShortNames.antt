@@ -3,7 +3,7 @@ use Rattle.std.proofs.Common.{◌≡◌, ℕ, ◌≤◌, List, [], ◌∷◌, �
 use Rattle.std.proofs.lemmas.List.{length_push}
 use Rattle.std.proofs.lemmas.Option.{option_and_then_some}
 use Rattle.path_syntax.specs.Expression.{Expression, Atom}
-use Rattle.path_syntax.specs.Grammar.{label_named, IsText}
+use Rattle.path_syntax.specs.Grammar.{one_way, label_with, IsText}
 use Rattle.path_syntax.specs.Faults.{HasLongName}
 use Rattle.path_syntax.specs.GrammarLaws.{HasShortNames}
 use Rattle.path_syntax.specs.Reading.{FrameValue, ModeValue, Operand, BareLabel, QuotedLabel, Escape, Primary, Element, StateValue, state_with, initial, in_sequence, in_alternatives, whole_with, step, element_of, whole_in, name_length}
@@ -26,9 +26,9 @@ ShortFrames (frame ∷ outer) = ShortFrame frame × ShortFrames outer
 
 abbrev ShortMode : ModeValue → Type 0
 ShortMode Operand = Unit {0}
-ShortMode (BareLabel name) = length name ≤ 255
-ShortMode (QuotedLabel name) = length name ≤ 255
-ShortMode (Escape name) = length name ≤ 255
+ShortMode (BareLabel name back) = length name ≤ 255
+ShortMode (QuotedLabel name back) = length name ≤ 255
+ShortMode (Escape name back) = length name ≤ 255
 ShortMode (Primary e) = HasShortNames e
 ShortMode (Element e) = HasShortNames e
 
@@ -39,17 +39,17 @@ record ShortState (outer : List FrameValue) (frame : FrameValue) (mode : ModeVal
 
 short_mode : (mode : ModeValue) → ShortMode mode → name_length mode ≤ 255
 short_mode Operand s = omega arith
-short_mode (BareLabel name) s = s
-short_mode (QuotedLabel name) s = s
-short_mode (Escape name) s = s
+short_mode (BareLabel name back) s = s
+short_mode (QuotedLabel name back) s = s
+short_mode (Escape name back) s = s
 short_mode (Primary e) s = omega arith
 short_mode (Element e) s = omega arith
 
 of_element : (mode : ModeValue) (e : Expression) → element_of mode ≡ Some e → HasShortNames e → ShortMode mode
 of_element Operand e ends s = tt
-of_element (BareLabel name) e ends s = let same : e ≡ Atom (label_named name) = cc in subst HasShortNames same s
-of_element (QuotedLabel name) e ends s = absurd cc
-of_element (Escape name) e ends s = absurd cc
+of_element (BareLabel name back) e ends s = let same : e ≡ Atom (label_with name back) = cc in subst HasShortNames same s
+of_element (QuotedLabel name back) e ends s = absurd cc
+of_element (Escape name back) e ends s = absurd cc
 of_element (Primary f) e ends s = let same : e ≡ f = cc in subst HasShortNames same s
 of_element (Element f) e ends s = let same : e ≡ f = cc in subst HasShortNames same s
 
@@ -76,38 +76,38 @@ less : (name : List ℕ) (byte : ℕ) → length (name ++ byte ∷ []) ≤ 255 �
 less name byte s = omega (arith, length_push name byte)
 
 -- what is short after a step was short before it
-back : {outer : List FrameValue} {frame : FrameValue} {mode : ModeValue} {byte : ℕ} {after : StateValue} → Leads outer frame mode byte after →
+short_before : {outer : List FrameValue} {frame : FrameValue} {mode : ModeValue} {byte : ℕ} {after : StateValue} → Leads outer frame mode byte after →
     ShortState after.outer after.frame after.mode → ShortState outer frame mode
-back (OperandBlank outer frame byte blank) s = s
-back (OperandOpen outer frame) s = record { outside = s.outside.1; inside = s.outside.0; last = tt }
-back (OperandQuote outer frame) s = record { outside = s.outside; inside = s.inside; last = tt }
-back (OperandBare outer frame byte bare) s = record { outside = s.outside; inside = s.inside; last = tt }
-back (BareMore outer frame name byte bare) s = record { outside = s.outside; inside = s.inside; last = less name byte s.last }
-back (QuotedMore outer frame name byte named quote backslash) s = record { outside = s.outside; inside = s.inside; last = less name byte s.last }
-back (QuotedBackslash outer frame name) s = record { outside = s.outside; inside = s.inside; last = s.last }
-back (QuotedEnd outer frame first name) s = record { outside = s.outside; inside = s.inside; last = s.last }
-back (EscapeQuote outer frame name) s = record { outside = s.outside; inside = s.inside; last = less name 34 s.last }
-back (EscapeBackslash outer frame name) s = record { outside = s.outside; inside = s.inside; last = less name 92 s.last }
-back (PrimaryBlank outer frame mode e byte is blank) s =
+short_before (OperandBlank outer frame byte blank) s = s
+short_before (OperandOpen outer frame) s = record { outside = s.outside.1; inside = s.outside.0; last = tt }
+short_before (OperandQuote outer frame) s = record { outside = s.outside; inside = s.inside; last = tt }
+short_before (OperandBare outer frame byte bare) s = record { outside = s.outside; inside = s.inside; last = tt }
+short_before (BareMore outer frame name back byte bare) s = record { outside = s.outside; inside = s.inside; last = less name byte s.last }
+short_before (QuotedMore outer frame name back byte named quote backslash) s = record { outside = s.outside; inside = s.inside; last = less name byte s.last }
+short_before (QuotedBackslash outer frame name back) s = record { outside = s.outside; inside = s.inside; last = s.last }
+short_before (QuotedEnd outer frame first name back) s = record { outside = s.outside; inside = s.inside; last = s.last }
+short_before (EscapeQuote outer frame name back) s = record { outside = s.outside; inside = s.inside; last = less name 34 s.last }
+short_before (EscapeBackslash outer frame name back) s = record { outside = s.outside; inside = s.inside; last = less name 92 s.last }
+short_before (PrimaryBlank outer frame mode e byte is blank) s =
     record { outside = s.outside; inside = s.inside; last = of_element mode e (primary_ends mode e is) s.last }
-back (PrimaryStar outer frame mode e is) s =
+short_before (PrimaryStar outer frame mode e is) s =
     record { outside = s.outside; inside = s.inside; last = of_element mode e (primary_ends mode e is) s.last }
-back (PrimaryPlus outer frame mode e is) s =
+short_before (PrimaryPlus outer frame mode e is) s =
     record { outside = s.outside; inside = s.inside; last = of_element mode e (primary_ends mode e is) s.last }
-back (PrimaryOpt outer frame mode e is) s =
+short_before (PrimaryOpt outer frame mode e is) s =
     record { outside = s.outside; inside = s.inside; last = of_element mode e (primary_ends mode e is) s.last }
-back (ElementBlank outer frame e byte blank) s = s
-back (ElementSlash outer frame mode e ends) s =
+short_before (ElementBlank outer frame e byte blank) s = s
+short_before (ElementSlash outer frame mode e ends) s =
     let parts = before_slash frame.sequence e s.inside.sequence in
     record {
       outside = s.outside;
       inside = record { alternatives = s.inside.alternatives; sequence = parts.0 };
       last = of_element mode e ends parts.1;
     }
-back (ElementBar outer frame mode e ends) s =
+short_before (ElementBar outer frame mode e ends) s =
     let parts = of_whole frame e s.inside.alternatives in
     record { outside = s.outside; inside = parts.inside; last = of_element mode e ends parts.last }
-back (ElementClose other outer frame mode e ends) s =
+short_before (ElementClose other outer frame mode e ends) s =
     let parts = of_whole frame e s.last in
     record { outside = (s.inside, s.outside); inside = parts.inside; last = of_element mode e ends parts.last }
 
@@ -116,7 +116,7 @@ back_run : (bytes : List ℕ) (state after : StateValue) → run bytes state ≡
 back_run [] state after e s = let same : after ≡ state = cc in subst (λ t. ShortState t.outer t.frame t.mode) same s
 back_run (byte ∷ bytes) state after e s =
     option_and_then_some {P = ShortState state.outer state.frame state.mode} (run bytes) (step state byte) after e (λ middle first rest.
-    back (step_leads state byte middle first) (back_run bytes middle after rest s))
+    short_before (step_leads state byte middle first) (back_run bytes middle after rest s))
 
 at_whole : (outer : List FrameValue) (frame : FrameValue) (mode : ModeValue) (e : Expression) → whole_in outer frame mode ≡ Some e → HasShortNames e →
     ShortState outer frame mode
@@ -130,7 +130,7 @@ at_whole [] frame mode e whole s = by (element_of mode) refl whole
         let parts = of_whole frame f (subst HasShortNames same s) in
         record { outside = tt; inside = parts.inside; last = of_element mode f ends parts.last }
 
-pub short_names : (bytes : List ℕ) (e : Expression) → IsText bytes e → HasShortNames e → (at : ℕ) → HasLongName bytes at → ⊥
+pub short_names : (bytes : List ℕ) (e : Expression) → IsText bytes e → HasShortNames e → (at : ℕ) → HasLongName one_way bytes at → ⊥
 short_names bytes e text short at h =
     let r = complete bytes e text in
     let t = takes_operand_there h.before h.stands in

@@ -19,17 +19,17 @@ one_if b = cond b 1 0
 -- the signs of the rest, from where the reader stands
 abbrev signs_from : ModeValue → List ℕ → ℕ
 signs_from Operand bytes = signs bytes
-signs_from (BareLabel name) bytes = signs bytes
-signs_from (QuotedLabel name) bytes = count_by is_sign (behind_quote bytes)
-signs_from (Escape name) bytes = count_by is_sign (behind_backslash bytes)
+signs_from (BareLabel name back) bytes = signs bytes
+signs_from (QuotedLabel name back) bytes = count_by is_sign (behind_quote bytes)
+signs_from (Escape name back) bytes = count_by is_sign (behind_backslash bytes)
 signs_from (Primary e) bytes = signs bytes
 signs_from (Element e) bytes = signs bytes
 
 signs_none : (mode : ModeValue) → signs_from mode [] ≡ 0
 signs_none Operand = refl
-signs_none (BareLabel name) = refl
-signs_none (QuotedLabel name) = refl
-signs_none (Escape name) = refl
+signs_none (BareLabel name back) = refl
+signs_none (QuotedLabel name back) = refl
+signs_none (Escape name back) = refl
 signs_none (Primary e) = refl
 signs_none (Element e) = refl
 
@@ -43,9 +43,9 @@ outside byte bytes no_quote = rw (ne_eqb byte 34 no_quote) (counted byte (outsid
 behind : (mode : ModeValue) (e : Expression) → element_of mode ≡ Some e → (byte : ℕ) (bytes : List ℕ) → (byte ≡ 34 → ⊥) →
     signs_from mode (byte ∷ bytes) ≡ one_if (is_outside mode && is_sign byte) + signs bytes
 behind Operand e ends byte bytes no_quote = absurd cc
-behind (BareLabel name) e ends byte bytes no_quote = outside byte bytes no_quote
-behind (QuotedLabel name) e ends byte bytes no_quote = absurd cc
-behind (Escape name) e ends byte bytes no_quote = absurd cc
+behind (BareLabel name back) e ends byte bytes no_quote = outside byte bytes no_quote
+behind (QuotedLabel name back) e ends byte bytes no_quote = absurd cc
+behind (Escape name back) e ends byte bytes no_quote = absurd cc
 behind (Primary f) e ends byte bytes no_quote = outside byte bytes no_quote
 behind (Element f) e ends byte bytes no_quote = outside byte bytes no_quote
 
@@ -62,12 +62,12 @@ signs_lead (OperandBlank outer frame byte blank) bytes = outside byte bytes (bla
 signs_lead (OperandOpen outer frame) bytes = counted 40 (outside_quotes bytes)
 signs_lead (OperandQuote outer frame) bytes = sym (zero-add _)
 signs_lead (OperandBare outer frame byte bare) bytes = outside byte bytes (bare_no_quote byte 34 refl bare)
-signs_lead (BareMore outer frame name byte bare) bytes = outside byte bytes (bare_no_quote byte 34 refl bare)
-signs_lead (QuotedMore outer frame name byte named quote backslash) bytes = within byte bytes quote backslash
-signs_lead (QuotedBackslash outer frame name) bytes = sym (zero-add _)
-signs_lead (QuotedEnd outer frame first name) bytes = sym (zero-add _)
-signs_lead (EscapeQuote outer frame name) bytes = sym (zero-add _)
-signs_lead (EscapeBackslash outer frame name) bytes = sym (zero-add _)
+signs_lead (BareMore outer frame name back byte bare) bytes = outside byte bytes (bare_no_quote byte 34 refl bare)
+signs_lead (QuotedMore outer frame name back byte named quote backslash) bytes = within byte bytes quote backslash
+signs_lead (QuotedBackslash outer frame name back) bytes = sym (zero-add _)
+signs_lead (QuotedEnd outer frame first name back) bytes = sym (zero-add _)
+signs_lead (EscapeQuote outer frame name back) bytes = sym (zero-add _)
+signs_lead (EscapeBackslash outer frame name back) bytes = sym (zero-add _)
 signs_lead (PrimaryBlank outer frame mode e byte is blank) bytes = behind mode e (primary_ends mode e is) byte bytes (blank_no_quote byte blank)
 signs_lead (PrimaryStar outer frame mode e is) bytes = behind mode e (primary_ends mode e is) 42 bytes (λ h. omega arith)
 signs_lead (PrimaryPlus outer frame mode e is) bytes = behind mode e (primary_ends mode e is) 43 bytes (λ h. omega arith)
@@ -115,12 +115,12 @@ length_lead (OperandBlank outer frame byte blank) = omega arith
 length_lead (OperandOpen outer frame) = omega arith
 length_lead (OperandQuote outer frame) = omega arith
 length_lead (OperandBare outer frame byte bare) = omega arith
-length_lead (BareMore outer frame name byte bare) = omega (arith, length_push name byte)
-length_lead (QuotedMore outer frame name byte named quote backslash) = omega (arith, length_push name byte)
-length_lead (QuotedBackslash outer frame name) = omega arith
-length_lead (QuotedEnd outer frame first name) = omega arith
-length_lead (EscapeQuote outer frame name) = omega (arith, length_push name 34)
-length_lead (EscapeBackslash outer frame name) = omega (arith, length_push name 92)
+length_lead (BareMore outer frame name back byte bare) = omega (arith, length_push name byte)
+length_lead (QuotedMore outer frame name back byte named quote backslash) = omega (arith, length_push name byte)
+length_lead (QuotedBackslash outer frame name back) = omega arith
+length_lead (QuotedEnd outer frame first name back) = omega arith
+length_lead (EscapeQuote outer frame name back) = omega (arith, length_push name 34)
+length_lead (EscapeBackslash outer frame name back) = omega (arith, length_push name 92)
 length_lead (PrimaryBlank outer frame mode e byte is blank) = omega arith
 length_lead (PrimaryStar outer frame mode e is) = omega arith
 length_lead (PrimaryPlus outer frame mode e is) = omega arith

@@ -1,19 +1,19 @@
 -- The steps of the reader, one constructor for each, and going through several bytes.
-use Rattle.std.proofs.Common.{◌≡◌, ℕ, true, false, List, [], ◌∷◌, ◌++◌, Option, Some, None, refl, sym, ◌∙◌, ap, subst}
+use Rattle.std.proofs.Common.{◌≡◌, ℕ, Bool, true, false, List, [], ◌∷◌, ◌++◌, Option, Some, None, refl, sym, ◌∙◌, ap, subst}
 use Rattle.std.specs.Option.{option_and_then}
 use Rattle.std.proofs.lemmas.Bool.{eqb-false}
 use Rattle.std.proofs.lemmas.Option.{option_and_then_some}
 use Rattle.rpq_base.specs.Names.{is_name_byte}
 use Rattle.path_syntax.specs.declared.byte_kind.Kind.{Kind}
-use Rattle.path_syntax.specs.declared.byte_kind.Kind.TheVariants.{Blank, Bare, Quote, Backslash, Slash, Bar, Asterisk, PlusSign, QuestionMark, Open, Close, Reserved, Strange}
+use Rattle.path_syntax.specs.declared.byte_kind.Kind.TheVariants.{Blank, Bare, Quote, Backslash, Slash, Bar, Asterisk, PlusSign, QuestionMark, Open, Close, Caret, Reserved, Strange}
 use Rattle.path_syntax.specs.Expression.{Expression, Atom, Star, Plus, Opt}
-use Rattle.path_syntax.specs.Grammar.{is_blank, is_bare_byte, label_named}
+use Rattle.path_syntax.specs.Grammar.{is_blank, is_bare_byte, label_with}
 use Rattle.path_syntax.specs.Reading.{kind_of, FrameValue, ModeValue, Operand, BareLabel, QuotedLabel, Escape, Primary, Element, StateValue, state_with, empty_frame, in_sequence, whole_with, after_element, after_primary, in_operand, in_quotes, in_escape, in_bare, ended_label, step_by, step, element_of}
 use Rattle.path_syntax.proofs.Meaning.{Means, kind_means, bare_is_named}
 
 -- the primary that ends here
 abbrev pub primary_of : ModeValue → Option Expression
-primary_of (BareLabel name) = Some (Atom (label_named name))
+primary_of (BareLabel name back) = Some (Atom (label_with name back))
 primary_of (Primary e) = Some e
 primary_of _ = None
 
@@ -29,22 +29,22 @@ pub data Leads : List FrameValue → FrameValue → ModeValue → ℕ → StateV
   OperandBlank : (outer : List FrameValue) (frame : FrameValue) (byte : ℕ) → is_blank byte ≡ true →
       Leads outer frame Operand byte (state_with outer frame Operand)
   OperandOpen : (outer : List FrameValue) (frame : FrameValue) → Leads outer frame Operand 40 (state_with (frame ∷ outer) empty_frame Operand)
-  OperandQuote : (outer : List FrameValue) (frame : FrameValue) → Leads outer frame Operand 34 (state_with outer frame (QuotedLabel []))
+  OperandQuote : (outer : List FrameValue) (frame : FrameValue) → Leads outer frame Operand 34 (state_with outer frame (QuotedLabel [] false))
   OperandBare : (outer : List FrameValue) (frame : FrameValue) (byte : ℕ) → is_bare_byte byte ≡ true →
-      Leads outer frame Operand byte (state_with outer frame (BareLabel (byte ∷ [])))
-  BareMore : (outer : List FrameValue) (frame : FrameValue) (name : List ℕ) (byte : ℕ) → is_bare_byte byte ≡ true →
-      Leads outer frame (BareLabel name) byte (state_with outer frame (BareLabel (name ++ byte ∷ [])))
-  QuotedMore : (outer : List FrameValue) (frame : FrameValue) (name : List ℕ) (byte : ℕ) →
+      Leads outer frame Operand byte (state_with outer frame (BareLabel (byte ∷ []) false))
+  BareMore : (outer : List FrameValue) (frame : FrameValue) (name : List ℕ) (back : Bool) (byte : ℕ) → is_bare_byte byte ≡ true →
+      Leads outer frame (BareLabel name back) byte (state_with outer frame (BareLabel (name ++ byte ∷ []) back))
+  QuotedMore : (outer : List FrameValue) (frame : FrameValue) (name : List ℕ) (back : Bool) (byte : ℕ) →
       is_name_byte byte ≡ true → (byte ≡ 34 → ⊥) → (byte ≡ 92 → ⊥) →
-      Leads outer frame (QuotedLabel name) byte (state_with outer frame (QuotedLabel (name ++ byte ∷ [])))
-  QuotedBackslash : (outer : List FrameValue) (frame : FrameValue) (name : List ℕ) →
-      Leads outer frame (QuotedLabel name) 92 (state_with outer frame (Escape name))
-  QuotedEnd : (outer : List FrameValue) (frame : FrameValue) (byte : ℕ) (name : List ℕ) →
-      Leads outer frame (QuotedLabel (byte ∷ name)) 34 (state_with outer frame (Primary (Atom (label_named (byte ∷ name)))))
-  EscapeQuote : (outer : List FrameValue) (frame : FrameValue) (name : List ℕ) →
-      Leads outer frame (Escape name) 34 (state_with outer frame (QuotedLabel (name ++ 34 ∷ [])))
-  EscapeBackslash : (outer : List FrameValue) (frame : FrameValue) (name : List ℕ) →
-      Leads outer frame (Escape name) 92 (state_with outer frame (QuotedLabel (name ++ 92 ∷ [])))
+      Leads outer frame (QuotedLabel name back) byte (state_with outer frame (QuotedLabel (name ++ byte ∷ []) back))
+  QuotedBackslash : (outer : List FrameValue) (frame : FrameValue) (name : List ℕ) (back : Bool) →
+      Leads outer frame (QuotedLabel name back) 92 (state_with outer frame (Escape name back))
+  QuotedEnd : (outer : List FrameValue) (frame : FrameValue) (byte : ℕ) (name : List ℕ) (back : Bool) →
+      Leads outer frame (QuotedLabel (byte ∷ name) back) 34 (state_with outer frame (Primary (Atom (label_with (byte ∷ name) back))))
+  EscapeQuote : (outer : List FrameValue) (frame : FrameValue) (name : List ℕ) (back : Bool) →
+      Leads outer frame (Escape name back) 34 (state_with outer frame (QuotedLabel (name ++ 34 ∷ []) back))
+  EscapeBackslash : (outer : List FrameValue) (frame : FrameValue) (name : List ℕ) (back : Bool) →
+      Leads outer frame (Escape name back) 92 (state_with outer frame (QuotedLabel (name ++ 92 ∷ []) back))
   PrimaryBlank : (outer : List FrameValue) (frame : FrameValue) (mode : ModeValue) (e : Expression) (byte : ℕ) →
       primary_of mode ≡ Some e → is_blank byte ≡ true → Leads outer frame mode byte (state_with outer frame (Primary e))
   PrimaryStar : (outer : List FrameValue) (frame : FrameValue) (mode : ModeValue) (e : Expression) →
@@ -79,44 +79,45 @@ leads_operand outer frame Quote byte m = at_byte 34 byte outer frame Operand _ m
 leads_operand outer frame Bare byte m = OperandBare outer frame byte m
 leads_operand outer frame _ byte m = tt
 
-leads_end : (outer : List FrameValue) (frame : FrameValue) (name : List ℕ) (byte : ℕ) → byte ≡ 34 →
-    LeadsTo outer frame (QuotedLabel name) byte (ended_label outer frame name)
-leads_end outer frame [] byte m = tt
-leads_end outer frame (first ∷ name) byte m = at_byte 34 byte outer frame (QuotedLabel (first ∷ name)) _ m (QuotedEnd outer frame first name)
+leads_end : (outer : List FrameValue) (frame : FrameValue) (name : List ℕ) (back : Bool) (byte : ℕ) → byte ≡ 34 →
+    LeadsTo outer frame (QuotedLabel name back) byte (ended_label outer frame name back)
+leads_end outer frame [] back byte m = tt
+leads_end outer frame (first ∷ name) back byte m = at_byte 34 byte outer frame (QuotedLabel (first ∷ name) back) _ m (QuotedEnd outer frame first name back)
 
-more_at : (sign byte : ℕ) (outer : List FrameValue) (frame : FrameValue) (name : List ℕ) →
+more_at : (sign byte : ℕ) (outer : List FrameValue) (frame : FrameValue) (name : List ℕ) (back : Bool) →
     is_name_byte sign ≡ true → (sign ≡ 34 → ⊥) → (sign ≡ 92 → ⊥) → byte ≡ sign →
-    Leads outer frame (QuotedLabel name) byte (state_with outer frame (QuotedLabel (name ++ byte ∷ [])))
-more_at sign byte outer frame name named no_quote no_backslash e =
-    QuotedMore outer frame name byte (ap is_name_byte e ∙ named) (λ h. no_quote (sym e ∙ h)) (λ h. no_backslash (sym e ∙ h))
+    Leads outer frame (QuotedLabel name back) byte (state_with outer frame (QuotedLabel (name ++ byte ∷ []) back))
+more_at sign byte outer frame name back named no_quote no_backslash e =
+    QuotedMore outer frame name back byte (ap is_name_byte e ∙ named) (λ h. no_quote (sym e ∙ h)) (λ h. no_backslash (sym e ∙ h))
 
 pub bare_no_quote : (byte sign : ℕ) → is_bare_byte sign ≡ false → is_bare_byte byte ≡ true → byte ≡ sign → ⊥
 bare_no_quote byte sign reserved bare e = let h : true ≡ false = sym bare ∙ ap is_bare_byte e ∙ reserved in cc
 
-leads_quotes : (outer : List FrameValue) (frame : FrameValue) (name : List ℕ) (kind : Kind) (byte : ℕ) → Means kind byte →
-    LeadsTo outer frame (QuotedLabel name) byte (in_quotes outer frame name kind byte)
-leads_quotes outer frame name Blank byte m = tt
-leads_quotes outer frame name Strange byte m = tt
-leads_quotes outer frame name Quote byte m = leads_end outer frame name byte m
-leads_quotes outer frame name Backslash byte m = at_byte 92 byte outer frame (QuotedLabel name) _ m (QuotedBackslash outer frame name)
-leads_quotes outer frame name Bare byte m =
-    QuotedMore outer frame name byte (bare_is_named byte m) (bare_no_quote byte 34 refl m) (bare_no_quote byte 92 refl m)
-leads_quotes outer frame name Reserved byte m = QuotedMore outer frame name byte m.0 m.1 m.2
-leads_quotes outer frame name Slash byte m = more_at 47 byte outer frame name refl (eqb-false 47 34 refl) (eqb-false 47 92 refl) m
-leads_quotes outer frame name Bar byte m = more_at 124 byte outer frame name refl (eqb-false 124 34 refl) (eqb-false 124 92 refl) m
-leads_quotes outer frame name Asterisk byte m = more_at 42 byte outer frame name refl (eqb-false 42 34 refl) (eqb-false 42 92 refl) m
-leads_quotes outer frame name PlusSign byte m = more_at 43 byte outer frame name refl (eqb-false 43 34 refl) (eqb-false 43 92 refl) m
-leads_quotes outer frame name QuestionMark byte m = more_at 63 byte outer frame name refl (eqb-false 63 34 refl) (eqb-false 63 92 refl) m
-leads_quotes outer frame name Open byte m = more_at 40 byte outer frame name refl (eqb-false 40 34 refl) (eqb-false 40 92 refl) m
-leads_quotes outer frame name Close byte m = more_at 41 byte outer frame name refl (eqb-false 41 34 refl) (eqb-false 41 92 refl) m
+leads_quotes : (outer : List FrameValue) (frame : FrameValue) (name : List ℕ) (back : Bool) (kind : Kind) (byte : ℕ) → Means kind byte →
+    LeadsTo outer frame (QuotedLabel name back) byte (in_quotes outer frame name back kind byte)
+leads_quotes outer frame name back Blank byte m = tt
+leads_quotes outer frame name back Strange byte m = tt
+leads_quotes outer frame name back Quote byte m = leads_end outer frame name back byte m
+leads_quotes outer frame name back Backslash byte m = at_byte 92 byte outer frame (QuotedLabel name back) _ m (QuotedBackslash outer frame name back)
+leads_quotes outer frame name back Bare byte m =
+    QuotedMore outer frame name back byte (bare_is_named byte m) (bare_no_quote byte 34 refl m) (bare_no_quote byte 92 refl m)
+leads_quotes outer frame name back Caret byte m = more_at 94 byte outer frame name back refl (eqb-false 94 34 refl) (eqb-false 94 92 refl) m
+leads_quotes outer frame name back Reserved byte m = QuotedMore outer frame name back byte m.0 m.1 m.2
+leads_quotes outer frame name back Slash byte m = more_at 47 byte outer frame name back refl (eqb-false 47 34 refl) (eqb-false 47 92 refl) m
+leads_quotes outer frame name back Bar byte m = more_at 124 byte outer frame name back refl (eqb-false 124 34 refl) (eqb-false 124 92 refl) m
+leads_quotes outer frame name back Asterisk byte m = more_at 42 byte outer frame name back refl (eqb-false 42 34 refl) (eqb-false 42 92 refl) m
+leads_quotes outer frame name back PlusSign byte m = more_at 43 byte outer frame name back refl (eqb-false 43 34 refl) (eqb-false 43 92 refl) m
+leads_quotes outer frame name back QuestionMark byte m = more_at 63 byte outer frame name back refl (eqb-false 63 34 refl) (eqb-false 63 92 refl) m
+leads_quotes outer frame name back Open byte m = more_at 40 byte outer frame name back refl (eqb-false 40 34 refl) (eqb-false 40 92 refl) m
+leads_quotes outer frame name back Close byte m = more_at 41 byte outer frame name back refl (eqb-false 41 34 refl) (eqb-false 41 92 refl) m
 
-leads_escape : (outer : List FrameValue) (frame : FrameValue) (name : List ℕ) (kind : Kind) (byte : ℕ) → Means kind byte →
-    LeadsTo outer frame (Escape name) byte (in_escape outer frame name kind byte)
-leads_escape outer frame name Quote byte m =
-    subst (λ b. Leads outer frame (Escape name) b (state_with outer frame (QuotedLabel (name ++ b ∷ [])))) (sym m) (EscapeQuote outer frame name)
-leads_escape outer frame name Backslash byte m =
-    subst (λ b. Leads outer frame (Escape name) b (state_with outer frame (QuotedLabel (name ++ b ∷ [])))) (sym m) (EscapeBackslash outer frame name)
-leads_escape outer frame name _ byte m = tt
+leads_escape : (outer : List FrameValue) (frame : FrameValue) (name : List ℕ) (back : Bool) (kind : Kind) (byte : ℕ) → Means kind byte →
+    LeadsTo outer frame (Escape name back) byte (in_escape outer frame name back kind byte)
+leads_escape outer frame name back Quote byte m =
+    subst (λ b. Leads outer frame (Escape name back) b (state_with outer frame (QuotedLabel (name ++ b ∷ []) back))) (sym m) (EscapeQuote outer frame name back)
+leads_escape outer frame name back Backslash byte m =
+    subst (λ b. Leads outer frame (Escape name back) b (state_with outer frame (QuotedLabel (name ++ b ∷ []) back))) (sym m) (EscapeBackslash outer frame name back)
+leads_escape outer frame name back _ byte m = tt
 
 leads_close : (outer : List FrameValue) (frame : FrameValue) (mode : ModeValue) (e : Expression) (byte : ℕ) → element_of mode ≡ Some e → byte ≡ 41 →
     LeadsTo outer frame mode byte (after_element outer frame e Close)
@@ -151,17 +152,17 @@ leads_element outer frame e Bar byte m = leads_behind outer frame (Element e) e 
 leads_element outer frame e Close byte m = leads_behind outer frame (Element e) e Close byte refl m (λ h. cc)
 leads_element outer frame e _ byte m = tt
 
-leads_bare : (outer : List FrameValue) (frame : FrameValue) (name : List ℕ) (kind : Kind) (byte : ℕ) → Means kind byte →
-    LeadsTo outer frame (BareLabel name) byte (in_bare outer frame name kind byte)
-leads_bare outer frame name Bare byte m = BareMore outer frame name byte m
-leads_bare outer frame name kind byte m = leads_primary outer frame (BareLabel name) (Atom (label_named name)) kind byte refl refl m
+leads_bare : (outer : List FrameValue) (frame : FrameValue) (name : List ℕ) (back : Bool) (kind : Kind) (byte : ℕ) → Means kind byte →
+    LeadsTo outer frame (BareLabel name back) byte (in_bare outer frame name back kind byte)
+leads_bare outer frame name back Bare byte m = BareMore outer frame name back byte m
+leads_bare outer frame name back kind byte m = leads_primary outer frame (BareLabel name back) (Atom (label_with name back)) kind byte refl refl m
 
 leads_by : (outer : List FrameValue) (frame : FrameValue) (mode : ModeValue) (kind : Kind) (byte : ℕ) → Means kind byte →
     LeadsTo outer frame mode byte (step_by outer frame mode kind byte)
 leads_by outer frame Operand kind byte m = leads_operand outer frame kind byte m
-leads_by outer frame (BareLabel name) kind byte m = leads_bare outer frame name kind byte m
-leads_by outer frame (QuotedLabel name) kind byte m = leads_quotes outer frame name kind byte m
-leads_by outer frame (Escape name) kind byte m = leads_escape outer frame name kind byte m
+leads_by outer frame (BareLabel name back) kind byte m = leads_bare outer frame name back kind byte m
+leads_by outer frame (QuotedLabel name back) kind byte m = leads_quotes outer frame name back kind byte m
+leads_by outer frame (Escape name back) kind byte m = leads_escape outer frame name back kind byte m
 leads_by outer frame (Primary e) kind byte m = leads_primary outer frame (Primary e) e kind byte refl refl m
 leads_by outer frame (Element e) kind byte m = leads_element outer frame e kind byte m
 

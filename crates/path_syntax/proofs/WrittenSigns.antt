@@ -1,7 +1,7 @@
 -- The signs and the length of a written form.
 use Rattle.std.proofs.Common.{◌≡◌, ℕ, ◌+◌, ◌*◌, ◌≤◌, ◌&&◌, ◌||◌, ◌==◌, not, Bool, true, false, cond, IsTrue, List, [], ◌∷◌, ◌++◌, length, codes, refl, sym, ◌∙◌, ap, append_assoc, add_assoc, zero-add, arith, leb}
 use Rattle.std.specs.List.{list_all, list_any, count_by}
-use Rattle.std.proofs.lemmas.Bool.{false≢true, ne_eqb, and_parts, leb-true}
+use Rattle.std.proofs.lemmas.Bool.{ne_eqb, and_parts, or_parts, leb-true}
 use Rattle.std.proofs.lemmas.List.{append-nil, length-append}
 use Rattle.std.proofs.lemmas.List.Sums.{sum_by-cons}
 use Rattle.rpq_base.specs.Names.{is_name_byte, has_name_length, is_name, IsName}
@@ -10,7 +10,7 @@ use Rattle.path_syntax.specs.Expression.{Expression, Atom, Seq, Alt, Star, Plus,
 use Rattle.path_syntax.specs.Size.{atoms}
 use Rattle.path_syntax.specs.Grammar.{is_bare_byte, IsBare, escaped, quoted}
 use Rattle.path_syntax.specs.Faults.{outside_quotes, behind_quote, is_sign, signs}
-use Rattle.path_syntax.specs.Written.{written_label, is_atom, is_seq, is_alt, grouped, written_expression, IsNamed}
+use Rattle.path_syntax.specs.Written.{written_name, caret, written_label, is_atom, is_seq, is_alt, grouped, written_expression, IsNamed}
 use Rattle.path_syntax.specs.WrittenLaws.{grouped_signs, written_signs}
 use Rattle.path_syntax.proofs.Steps.{bare_no_quote}
 
@@ -33,17 +33,13 @@ no_sign : (byte : ℕ) → is_sign byte ≡ false → (byte ≡ 34 → ⊥) → 
 no_sign byte is no_quote = record { counted = λ more. outside byte more no_quote ∙ ap (λ b. cond b 1 0 + signs more) is }
 
 -- a byte that may stand bare is no sign
-either_false : (a b : Bool) → (a || b) ≡ false → (a ≡ false) × (b ≡ false)
-either_false true b e = absurd (false≢true (sym e))
-either_false false b e = (refl, e)
-
 not_true : (b : Bool) → not b ≡ true → b ≡ false
 not_true true e = sym e
 not_true false e = refl
 
 fewer : (test : ℕ → Bool) (xs ys : List ℕ) → list_any test (xs ++ ys) ≡ false → list_any test xs ≡ false
 fewer test [] ys e = refl
-fewer test (x ∷ xs) ys e = let parts = either_false (test x) (list_any test (xs ++ ys)) e in rw (parts.0) (fewer test xs ys parts.1)
+fewer test (x ∷ xs) ys e = let parts = or_parts (test x) (list_any test (xs ++ ys)) e in rw (parts.0) (fewer test xs ys parts.1)
 
 bare_no_sign : (byte : ℕ) → is_bare_byte byte ≡ true → is_sign byte ≡ false
 bare_no_sign byte bare =
@@ -77,8 +73,12 @@ label_by false name is = record {
       ap (λ (t : List ℕ). count_by is_sign t) (quoted_behind name more) ∙ sym (zero-add (signs more));
 }
 
+behind_caret : (back : Bool) (text : List ℕ) → HasSigns text 0 → HasSigns (caret back ++ text) 0
+behind_caret true text h = joined (codes "^") text 0 0 (no_sign 94 refl (λ e. omega arith)) h
+behind_caret false text h = h
+
 label_signs : (label : Label) → HasSigns (written_label label) 0
-label_signs label = label_by (list_all is_bare_byte label.name) label.name refl
+label_signs label = behind_caret label.back (written_name label.name) (label_by (list_all is_bare_byte label.name) label.name refl)
 
 slash : HasSigns (codes "/") 1
 slash = sign 47 refl (λ h. omega arith)
@@ -118,13 +118,10 @@ signs_of_written e =
     ap signs (sym (append-nil (written_expression e))) ∙ (written_has e).counted [] ∙ (let none : written_signs e + signs [] ≡ written_signs e = omega arith in none)
 
 -- how long it is
-both : (a b : Bool) → IsTrue (a && b) → IsTrue a × IsTrue b
-both a b e = and_parts a b e
-
 pub short_name : (name : List ℕ) → IsName name → length name ≤ 255
 unfolding is_name
 short_name name valid =
-    leb-true (length name) 255 (both (leb 1 (length name)) (leb (length name) 255) (both (has_name_length name) (list_all is_name_byte name) valid).0).1
+    leb-true (length name) 255 (and_parts (leb 1 (length name)) (leb (length name) 255) (and_parts (has_name_length name) (list_all is_name_byte name) valid).0).1
 
 escaped_length : (quote : Bool) (byte : ℕ) → length (cond quote (92 ∷ byte ∷ []) (byte ∷ [])) ≤ 2
 escaped_length true byte = omega arith
@@ -138,6 +135,10 @@ quoted_length (byte ∷ name) =
 label_length : (bare : Bool) (name : List ℕ) → length name ≤ 255 → length (cond bare name (codes "\"" ++ quoted name ++ codes "\"")) ≤ 512
 label_length true name short = omega arith
 label_length false name short = omega (arith, length-append (codes "\"" ++ quoted name) (codes "\""), quoted_length name)
+
+caret_length : (back : Bool) (text : List ℕ) → length text ≤ 512 → length (caret back ++ text) ≤ 513
+caret_length true text short = omega arith
+caret_length false text short = omega arith
 
 grouped_length : (wanted : Bool) (text : List ℕ) (labels count : ℕ) → length text ≤ labels + 2 * count → length (grouped wanted text) ≤ labels + 2 * grouped_signs wanted count
 grouped_length false text labels count h = h
@@ -161,16 +162,18 @@ repeated_length : (byte : ℕ) (bare : Bool) (text : List ℕ) (labels count : �
 repeated_length byte bare text labels count h =
     omega (arith, length-append (grouped (not bare) text) (byte ∷ []), grouped_length (not bare) text labels count h)
 
-pub written_length : (e : Expression) → IsNamed e → length (written_expression e) ≤ 512 * atoms e + 2 * written_signs e
-written_length (Atom label) named = omega (arith, label_length (list_all is_bare_byte label.name) label.name (short_name label.name named))
+pub written_length : (e : Expression) → IsNamed e → length (written_expression e) ≤ 513 * atoms e + 2 * written_signs e
+written_length (Atom label) named =
+    omega (arith, caret_length label.back (written_name label.name)
+    (label_length (list_all is_bare_byte label.name) label.name (short_name label.name named)))
 written_length (Seq left right) named =
-    let first = grouped_length (is_alt left) (written_expression left) (512 * atoms left) (written_signs left) (written_length left named.0) in
-    let second = grouped_length (is_alt right || is_seq right) (written_expression right) (512 * atoms right) (written_signs right) (written_length right named.1) in
+    let first = grouped_length (is_alt left) (written_expression left) (513 * atoms left) (written_signs left) (written_length left named.0) in
+    let second = grouped_length (is_alt right || is_seq right) (written_expression right) (513 * atoms right) (written_signs right) (written_length right named.1) in
     omega (arith, length-append (grouped (is_alt left) (written_expression left) ++ codes "/") (grouped (is_alt right || is_seq right) (written_expression right)), length-append (grouped (is_alt left) (written_expression left)) (codes "/"), first, second)
 written_length (Alt left right) named =
     let first = written_length left named.0 in
-    let second = grouped_length (is_alt right) (written_expression right) (512 * atoms right) (written_signs right) (written_length right named.1) in
+    let second = grouped_length (is_alt right) (written_expression right) (513 * atoms right) (written_signs right) (written_length right named.1) in
     omega (arith, length-append (written_expression left ++ codes "|") (grouped (is_alt right) (written_expression right)), length-append (written_expression left) (codes "|"), first, second)
-written_length (Star body) named = repeated_length 42 (is_atom body) (written_expression body) (512 * atoms body) (written_signs body) (written_length body named)
-written_length (Plus body) named = repeated_length 43 (is_atom body) (written_expression body) (512 * atoms body) (written_signs body) (written_length body named)
-written_length (Opt body) named = repeated_length 63 (is_atom body) (written_expression body) (512 * atoms body) (written_signs body) (written_length body named)
+written_length (Star body) named = repeated_length 42 (is_atom body) (written_expression body) (513 * atoms body) (written_signs body) (written_length body named)
+written_length (Plus body) named = repeated_length 43 (is_atom body) (written_expression body) (513 * atoms body) (written_signs body) (written_length body named)
+written_length (Opt body) named = repeated_length 63 (is_atom body) (written_expression body) (513 * atoms body) (written_signs body) (written_length body named)

@@ -4,7 +4,7 @@ use Rattle.std.specs.List.{count_by, list_any}
 use Rattle.path_syntax.specs.declared.read.BadExpr.{BadExpr}
 use Rattle.path_syntax.specs.declared.read.BadExpr.TheVariants.{Unexpected, Ended, TooLarge, LongName, Memory}
 use Rattle.path_syntax.specs.Expression.{Expression}
-use Rattle.path_syntax.specs.Grammar.{IsBare, AreNameBytes, quoted, IsLabel, IsText, CanGoOn}
+use Rattle.path_syntax.specs.Grammar.{IsBare, AreNameBytes, quoted, IsLabel, IsAlternative, CanGoOn, one_way}
 
 -- The bytes outside quoted labels; of those from a quote on; of those from behind a backslash within quotes on.
 abbrev mutual
@@ -35,79 +35,83 @@ pub data BeginsLabel : List ℕ → List ℕ → Type 0 where
   BeginsQuoted : (name : List ℕ) → AreNameBytes name → BeginsLabel (codes "\"" ++ quoted name) name
 
 -- a label may stand here, whichever it is
-abbrev pub TakesLabel : List ℕ → Type 0
-TakesLabel before = (text name : List ℕ) → IsLabel text name → CanGoOn (before ++ text)
+abbrev pub TakesLabel : Bool → List ℕ → Type 0
+TakesLabel inverses before = (text name : List ℕ) → IsLabel text name → CanGoOn inverses (before ++ text)
 
 -- the label that begins at this place, from 1, has 256 bytes and perhaps more
-pub record HasLongName (bytes : List ℕ) (at : ℕ) : Type 0 where
+pub record HasLongName (inverses : Bool) (bytes : List ℕ) (at : ℕ) : Type 0 where
   pub before : List ℕ
   pub label : List ℕ
   pub after : List ℕ
   pub name : List ℕ
   pub split : bytes ≡ before ++ label ++ after
   pub place : at ≡ length before + 1
-  pub stands : TakesLabel before
+  pub stands : TakesLabel inverses before
   pub begins : BeginsLabel label name
   pub long : length name ≡ 256
 
 -- at most 512 signs, and no label of 256 bytes or more
-pub record IsWithinLimits (bytes : List ℕ) : Type 0 where
+pub record IsWithinLimits (inverses : Bool) (bytes : List ℕ) : Type 0 where
   pub few : signs bytes ≤ 512
-  pub short : (at : ℕ) → HasLongName bytes at → ⊥
+  pub short : (at : ℕ) → HasLongName inverses bytes at → ⊥
 
 -- bytes that no fault shows in: some text of an expression begins with them, and they are within the limits
-pub record IsTaken (front : List ℕ) : Type 0 where
-  pub goes_on : CanGoOn front
-  pub limits : IsWithinLimits front
+pub record IsTaken (inverses : Bool) (front : List ℕ) : Type 0 where
+  pub goes_on : CanGoOn inverses front
+  pub limits : IsWithinLimits inverses front
 
 -- the bytes up to one at which a fault shows: no fault shows before it
-pub record Reaches (bytes front : List ℕ) (byte : ℕ) : Type 0 where
+pub record Reaches (inverses : Bool) (bytes front : List ℕ) (byte : ℕ) : Type 0 where
   pub rest : List ℕ
   pub split : bytes ≡ front ++ byte ∷ rest
-  pub taken : IsTaken front
+  pub taken : IsTaken inverses front
 
 -- with the byte at this place, from 1, the bytes begin no text of an expression any more
-pub record IsUnexpected (bytes : List ℕ) (at : ℕ) : Type 0 where
+pub record IsUnexpected (inverses : Bool) (bytes : List ℕ) (at : ℕ) : Type 0 where
   pub front : List ℕ
   pub byte : ℕ
-  pub reached : Reaches bytes front byte
+  pub reached : Reaches inverses bytes front byte
   pub place : at ≡ length front + 1
-  pub refused : CanGoOn (front ++ byte ∷ []) → ⊥
+  pub refused : CanGoOn inverses (front ++ byte ∷ []) → ⊥
 
 -- they do, and the byte is the 256th of a label's name; the label begins at this place
-pub record IsLongName (bytes : List ℕ) (at : ℕ) : Type 0 where
+pub record IsLongName (inverses : Bool) (bytes : List ℕ) (at : ℕ) : Type 0 where
   pub front : List ℕ
   pub byte : ℕ
-  pub reached : Reaches bytes front byte
-  pub goes_on : CanGoOn (front ++ byte ∷ [])
-  pub long : HasLongName (front ++ byte ∷ []) at
+  pub reached : Reaches inverses bytes front byte
+  pub goes_on : CanGoOn inverses (front ++ byte ∷ [])
+  pub long : HasLongName inverses (front ++ byte ∷ []) at
 
 -- they do, no label is long, and the byte is the 513th sign
-pub record IsTooLarge (bytes : List ℕ) : Type 0 where
+pub record IsTooLarge (inverses : Bool) (bytes : List ℕ) : Type 0 where
   pub front : List ℕ
   pub byte : ℕ
-  pub reached : Reaches bytes front byte
-  pub goes_on : CanGoOn (front ++ byte ∷ [])
-  pub short : (at : ℕ) → HasLongName (front ++ byte ∷ []) at → ⊥
+  pub reached : Reaches inverses bytes front byte
+  pub goes_on : CanGoOn inverses (front ++ byte ∷ [])
+  pub short : (at : ℕ) → HasLongName inverses (front ++ byte ∷ []) at → ⊥
   pub many : signs (front ++ byte ∷ []) ≡ 513
 
 -- no fault shows in the bytes, and they are the text of no expression
-pub record IsEnded (bytes : List ℕ) : Type 0 where
-  pub taken : IsTaken bytes
-  pub incomplete : (e : Expression) → IsText bytes e → ⊥
+pub record IsEnded (inverses : Bool) (bytes : List ℕ) : Type 0 where
+  pub taken : IsTaken inverses bytes
+  pub incomplete : (e : Expression) → IsAlternative inverses bytes e → ⊥
 
 -- the fault is the one that shows first from the left; that memory runs out is no fault of any bytes
-abbrev pub IsFault : BadExpr → List ℕ → Type 0
-IsFault (Unexpected at) bytes = IsUnexpected bytes at
-IsFault Ended bytes = IsEnded bytes
-IsFault TooLarge bytes = IsTooLarge bytes
-IsFault (LongName at) bytes = IsLongName bytes at
-IsFault Memory bytes = ⊥
+abbrev pub IsFault : Bool → BadExpr → List ℕ → Type 0
+IsFault inverses (Unexpected at) bytes = IsUnexpected inverses bytes at
+IsFault inverses Ended bytes = IsEnded inverses bytes
+IsFault inverses TooLarge bytes = IsTooLarge inverses bytes
+IsFault inverses (LongName at) bytes = IsLongName inverses bytes at
+IsFault inverses Memory bytes = ⊥
 
--- the outcome of reading the bytes: the expression that they are the text of, within the limits, or the fault that shows first
-pub data IsOutcome (bytes : List ℕ) : Result Expression BadExpr → Type 0 where
-  Whole : (e : Expression) → IsText bytes e → IsWithinLimits bytes → IsOutcome bytes (Ok e)
-  Faulty : (fault : BadExpr) → IsFault fault bytes → IsOutcome bytes (Err fault)
+-- the outcome of the bytes: the expression that they are the text of, within the limits, or the fault that shows first
+pub data IsOutcomeOf (inverses : Bool) (bytes : List ℕ) : Result Expression BadExpr → Type 0 where
+  Whole : (e : Expression) → IsAlternative inverses bytes e → IsWithinLimits inverses bytes → IsOutcomeOf inverses bytes (Ok e)
+  Faulty : (fault : BadExpr) → IsFault inverses fault bytes → IsOutcomeOf inverses bytes (Err fault)
+
+-- the outcome where no label is taken backwards
+abbrev pub IsOutcome : List ℕ → Result Expression BadExpr → Type 0
+IsOutcome = IsOutcomeOf one_way
 
 -- the fault is answered exactly where the bytes have it, unless memory runs out
 pub record Tells {T : Type 0} (result : Result T BadExpr) (fault : BadExpr) (has : Type 0) : Type 0 where

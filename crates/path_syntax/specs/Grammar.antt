@@ -1,5 +1,5 @@
 -- The grammar of expressions: which bytes are the text of which expression.
-use Rattle.std.specs.Prelude.{◌≢◌, ℕ, Bool, false, not, ◌&&◌, ◌||◌, ◌==◌, List, [], ◌∷◌, ◌++◌, IsTrue, codes, if◌then◌else◌}
+use Rattle.std.specs.Prelude.{◌≢◌, ℕ, Bool, true, false, not, ◌&&◌, ◌||◌, ◌==◌, List, [], ◌∷◌, ◌++◌, IsTrue, codes, if◌then◌else◌}
 use Rattle.std.specs.List.{flat_map, list_all, list_any}
 use Rattle.rpq_base.specs.Names.{is_name_byte}
 use Rattle.rpq_base.specs.declared.data.Label.{Label}
@@ -33,48 +33,65 @@ escaped byte = if byte == 34 || byte == 92 then 92 ∷ byte ∷ [] else byte ∷
 abbrev pub quoted : List ℕ → List ℕ
 quoted name = flat_map escaped name
 
+-- the label with this name, backwards or not
+abbrev pub label_with : List ℕ → Bool → Label
+label_with name back = record { name = name; back = back }
+
 -- the label with this name that points forwards
 abbrev pub label_named : List ℕ → Label
-label_named name = record { name = name; back = false }
+label_named name = label_with name false
+
+-- the label with this name that points backwards
+abbrev pub inverse_named : List ℕ → Label
+inverse_named name = label_with name true
 
 -- the text of a label of this name, which may have any length but 0: bare, or in quotes
 pub data IsLabel : List ℕ → List ℕ → Type 0 where
   Bare : (name : List ℕ) → name ≢ [] → IsBare name → IsLabel name name
   Quoted : (name : List ℕ) → name ≢ [] → AreNameBytes name → IsLabel (codes "\"" ++ quoted name ++ codes "\"") name
 
+-- In what follows `inverses` says whether a '^' before a label takes it backwards.
 mutual
   -- alternatives are sequences joined by '|', grouped to the left
-  pub data IsAlternative : List ℕ → Expression → Type 0 where
-    OneSequence : {text : List ℕ} {e : Expression} → IsSequence text e → IsAlternative text e
+  pub data IsAlternative (inverses : Bool) : List ℕ → Expression → Type 0 where
+    OneSequence : {text : List ℕ} {e : Expression} → IsSequence inverses text e → IsAlternative inverses text e
     Either : (left right : List ℕ) {e f : Expression} →
-        IsAlternative left e → IsSequence right f → IsAlternative (left ++ codes "|" ++ right) (Alt e f)
+        IsAlternative inverses left e → IsSequence inverses right f → IsAlternative inverses (left ++ codes "|" ++ right) (Alt e f)
 
   -- a sequence is elements joined by '/', grouped to the left
-  pub data IsSequence : List ℕ → Expression → Type 0 where
-    OneElement : {text : List ℕ} {e : Expression} → IsElement text e → IsSequence text e
+  pub data IsSequence (inverses : Bool) : List ℕ → Expression → Type 0 where
+    OneElement : {text : List ℕ} {e : Expression} → IsElement inverses text e → IsSequence inverses text e
     Then : (left right : List ℕ) {e f : Expression} →
-        IsSequence left e → IsElement right f → IsSequence (left ++ codes "/" ++ right) (Seq e f)
+        IsSequence inverses left e → IsElement inverses right f → IsSequence inverses (left ++ codes "/" ++ right) (Seq e f)
 
   -- an element is a primary with at most one sign of repetition, behind which blanks may stand
-  pub data IsElement : List ℕ → Expression → Type 0 where
-    Once : {text : List ℕ} {e : Expression} → IsPrimary text e → IsElement text e
-    Starred : (text after : List ℕ) {e : Expression} → IsPrimary text e → AreBlanks after → IsElement (text ++ codes "*" ++ after) (Star e)
-    Plussed : (text after : List ℕ) {e : Expression} → IsPrimary text e → AreBlanks after → IsElement (text ++ codes "+" ++ after) (Plus e)
-    Optional : (text after : List ℕ) {e : Expression} → IsPrimary text e → AreBlanks after → IsElement (text ++ codes "?" ++ after) (Opt e)
+  pub data IsElement (inverses : Bool) : List ℕ → Expression → Type 0 where
+    Once : {text : List ℕ} {e : Expression} → IsPrimary inverses text e → IsElement inverses text e
+    Starred : (text after : List ℕ) {e : Expression} → IsPrimary inverses text e → AreBlanks after → IsElement inverses (text ++ codes "*" ++ after) (Star e)
+    Plussed : (text after : List ℕ) {e : Expression} → IsPrimary inverses text e → AreBlanks after → IsElement inverses (text ++ codes "+" ++ after) (Plus e)
+    Optional : (text after : List ℕ) {e : Expression} → IsPrimary inverses text e → AreBlanks after → IsElement inverses (text ++ codes "?" ++ after) (Opt e)
 
-  -- a primary is a label or an alternative in parentheses, and blanks may stand before and behind it
-  pub data IsPrimary : List ℕ → Expression → Type 0 where
+  -- a primary is a label, one that a '^' takes backwards, or an alternative in parentheses, and blanks may stand before and behind
+  -- each part of it
+  pub data IsPrimary (inverses : Bool) : List ℕ → Expression → Type 0 where
     Named : (before text after : List ℕ) {name : List ℕ} →
-        AreBlanks before → IsLabel text name → AreBlanks after → IsPrimary (before ++ text ++ after) (Atom (label_named name))
+        AreBlanks before → IsLabel text name → AreBlanks after → IsPrimary inverses (before ++ text ++ after) (Atom (label_named name))
+    Inverse : (before between text after : List ℕ) {name : List ℕ} → IsTrue inverses →
+        AreBlanks before → AreBlanks between → IsLabel text name → AreBlanks after →
+        IsPrimary inverses (before ++ codes "^" ++ between ++ text ++ after) (Atom (inverse_named name))
     InParentheses : (before inside after : List ℕ) {e : Expression} →
-        AreBlanks before → IsAlternative inside e → AreBlanks after → IsPrimary (before ++ codes "(" ++ inside ++ codes ")" ++ after) e
+        AreBlanks before → IsAlternative inverses inside e → AreBlanks after → IsPrimary inverses (before ++ codes "(" ++ inside ++ codes ")" ++ after) e
 
--- the bytes are the text of the expression
+-- no label is taken backwards: what is read today
+abbrev pub one_way : Bool
+one_way = false
+
+-- the bytes are the text of the expression, whose labels point forwards
 abbrev pub IsText : List ℕ → Expression → Type 0
-IsText = IsAlternative
+IsText = IsAlternative one_way
 
 -- some text of an expression begins with these bytes
-pub record CanGoOn (front : List ℕ) : Type 0 where
+pub record CanGoOn (inverses : Bool) (front : List ℕ) : Type 0 where
   pub rest : List ℕ
   pub whole : Expression
-  pub text : IsText (front ++ rest) whole
+  pub text : IsAlternative inverses (front ++ rest) whole

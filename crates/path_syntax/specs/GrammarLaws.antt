@@ -1,8 +1,8 @@
 -- What the grammar of expressions and its faults are meant to be, as laws.
-use Rattle.std.specs.Prelude.{◌≡◌, ℕ, ◌≤◌, List, length, codes, Result}
+use Rattle.std.specs.Prelude.{◌≡◌, ℕ, ◌≤◌, List, ◌++◌, length, codes, replicate, Result}
 use Rattle.path_syntax.specs.declared.read.BadExpr.{BadExpr}
 use Rattle.path_syntax.specs.Expression.{Expression, Atom, Seq, Alt, Star, Plus, Opt}
-use Rattle.path_syntax.specs.Grammar.{label_named, IsText}
+use Rattle.path_syntax.specs.Grammar.{one_way, label_named, IsText}
 use Rattle.path_syntax.specs.Faults.{HasLongName, IsUnexpected, IsLongName, IsTooLarge, IsEnded, IsOutcome}
 
 -- bytes are the text of at most one expression
@@ -25,7 +25,7 @@ HasShortNames (Opt body) = HasShortNames body
 
 -- no text of such an expression has a long name
 abbrev pub ShortNamesAreShort : Type 0
-ShortNamesAreShort = (bytes : List ℕ) (e : Expression) → IsText bytes e → HasShortNames e → (at : ℕ) → HasLongName bytes at → ⊥
+ShortNamesAreShort = (bytes : List ℕ) (e : Expression) → IsText bytes e → HasShortNames e → (at : ℕ) → HasLongName one_way bytes at → ⊥
 
 -- the expression of one label
 abbrev pub named : List ℕ → Expression
@@ -41,7 +41,9 @@ pub record GrammarExamples : Type 0 where
 
 -- some bytes with their faults
 pub record FaultExamples : Type 0 where
-  pub two_stars : IsUnexpected (codes "a**") 3
-  pub empty_quotes : IsUnexpected (codes "\"\"") 2
-  pub wrong_escape : IsUnexpected (codes "\"a\\b\"") 4
-  pub no_operand : IsEnded (codes "a/")
+  pub two_stars : IsUnexpected one_way (codes "a**") 3
+  pub empty_quotes : IsUnexpected one_way (codes "\"\"") 2
+  pub wrong_escape : IsUnexpected one_way (codes "\"a\\b\"") 4
+  pub no_operand : IsEnded one_way (codes "a/")
+  pub long_name : IsLongName one_way (codes "a/" ++ replicate 256 97) 3
+  pub many_signs : IsTooLarge one_way (replicate 513 40)

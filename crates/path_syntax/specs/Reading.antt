@@ -4,9 +4,9 @@ use Rattle.rpq_base.specs.Names.{is_name_byte, IsName}
 use Rattle.path_syntax.specs.declared.read.BadExpr.{BadExpr}
 use Rattle.path_syntax.specs.declared.read.BadExpr.TheVariants.{Unexpected, Ended, TooLarge, LongName, Memory}
 use Rattle.path_syntax.specs.declared.byte_kind.Kind.{Kind}
-use Rattle.path_syntax.specs.declared.byte_kind.Kind.TheVariants.{Blank, Bare, Quote, Backslash, Slash, Bar, Asterisk, PlusSign, QuestionMark, Open, Close, Reserved, Strange}
+use Rattle.path_syntax.specs.declared.byte_kind.Kind.TheVariants.{Blank, Bare, Quote, Backslash, Slash, Bar, Asterisk, PlusSign, QuestionMark, Open, Close, Caret, Reserved, Strange}
 use Rattle.path_syntax.specs.Expression.{Expression, Atom, Seq, Alt, Star, Plus, Opt}
-use Rattle.path_syntax.specs.Grammar.{is_blank, is_bare_byte, label_named}
+use Rattle.path_syntax.specs.Grammar.{is_blank, is_bare_byte, label_with}
 use Rattle.path_syntax.specs.Faults.{is_sign}
 
 -- the kind of a byte with a meaning of its own
@@ -14,7 +14,7 @@ abbrev pub kind_of_sign : ℕ → Kind
 kind_of_sign byte =
     if byte == 34 then Quote else if byte == 92 then Backslash else if byte == 47 then Slash else if byte == 124 then Bar else
     if byte == 42 then Asterisk else if byte == 43 then PlusSign else if byte == 63 then QuestionMark else
-    if byte == 40 then Open else if byte == 41 then Close else Reserved
+    if byte == 40 then Open else if byte == 41 then Close else if byte == 94 then Caret else Reserved
 
 -- the kind of a byte
 unfoldable pub kind_of : ℕ → Kind
@@ -26,12 +26,12 @@ pub record FrameValue : Type 0 where
   pub alternatives : Option Expression
   pub sequence : Option Expression
 
--- what stands directly before the next byte
+-- what stands directly before the next byte; of a label the name so far, and whether it is taken backwards
 pub data ModeValue : Type 0 where
   Operand : ModeValue
-  BareLabel : List ℕ → ModeValue
-  QuotedLabel : List ℕ → ModeValue
-  Escape : List ℕ → ModeValue
+  BareLabel : List ℕ → Bool → ModeValue
+  QuotedLabel : List ℕ → Bool → ModeValue
+  Escape : List ℕ → Bool → ModeValue
   Primary : Expression → ModeValue
   Element : Expression → ModeValue
 
@@ -90,38 +90,38 @@ after_primary outer frame e kind = after_element outer frame e kind
 abbrev pub in_operand : List FrameValue → FrameValue → Kind → ℕ → Option StateValue
 in_operand outer frame Blank byte = Some (state_with outer frame Operand)
 in_operand outer frame Open byte = Some (state_with (frame ∷ outer) empty_frame Operand)
-in_operand outer frame Quote byte = Some (state_with outer frame (QuotedLabel []))
-in_operand outer frame Bare byte = Some (state_with outer frame (BareLabel (byte ∷ [])))
+in_operand outer frame Quote byte = Some (state_with outer frame (QuotedLabel [] false))
+in_operand outer frame Bare byte = Some (state_with outer frame (BareLabel (byte ∷ []) false))
 in_operand outer frame _ byte = None
 
 -- what may stand within quotes: any byte of a name; a quote ends the label, if it has a name
-abbrev pub ended_label : List FrameValue → FrameValue → List ℕ → Option StateValue
-ended_label outer frame [] = None
-ended_label outer frame (byte ∷ name) = Some (state_with outer frame (Primary (Atom (label_named (byte ∷ name)))))
+abbrev pub ended_label : List FrameValue → FrameValue → List ℕ → Bool → Option StateValue
+ended_label outer frame [] back = None
+ended_label outer frame (byte ∷ name) back = Some (state_with outer frame (Primary (Atom (label_with (byte ∷ name) back))))
 
-abbrev pub in_quotes : List FrameValue → FrameValue → List ℕ → Kind → ℕ → Option StateValue
-in_quotes outer frame name Blank byte = None
-in_quotes outer frame name Strange byte = None
-in_quotes outer frame name Quote byte = ended_label outer frame name
-in_quotes outer frame name Backslash byte = Some (state_with outer frame (Escape name))
-in_quotes outer frame name _ byte = Some (state_with outer frame (QuotedLabel (name ++ byte ∷ [])))
+abbrev pub in_quotes : List FrameValue → FrameValue → List ℕ → Bool → Kind → ℕ → Option StateValue
+in_quotes outer frame name back Blank byte = None
+in_quotes outer frame name back Strange byte = None
+in_quotes outer frame name back Quote byte = ended_label outer frame name back
+in_quotes outer frame name back Backslash byte = Some (state_with outer frame (Escape name back))
+in_quotes outer frame name back _ byte = Some (state_with outer frame (QuotedLabel (name ++ byte ∷ []) back))
 
 -- what may stand behind a backslash
-abbrev pub in_escape : List FrameValue → FrameValue → List ℕ → Kind → ℕ → Option StateValue
-in_escape outer frame name Quote byte = Some (state_with outer frame (QuotedLabel (name ++ byte ∷ [])))
-in_escape outer frame name Backslash byte = Some (state_with outer frame (QuotedLabel (name ++ byte ∷ [])))
-in_escape outer frame name _ byte = None
+abbrev pub in_escape : List FrameValue → FrameValue → List ℕ → Bool → Kind → ℕ → Option StateValue
+in_escape outer frame name back Quote byte = Some (state_with outer frame (QuotedLabel (name ++ byte ∷ []) back))
+in_escape outer frame name back Backslash byte = Some (state_with outer frame (QuotedLabel (name ++ byte ∷ []) back))
+in_escape outer frame name back _ byte = None
 
 -- what may stand behind the byte of a bare label
-abbrev pub in_bare : List FrameValue → FrameValue → List ℕ → Kind → ℕ → Option StateValue
-in_bare outer frame name Bare byte = Some (state_with outer frame (BareLabel (name ++ byte ∷ [])))
-in_bare outer frame name kind byte = after_primary outer frame (Atom (label_named name)) kind
+abbrev pub in_bare : List FrameValue → FrameValue → List ℕ → Bool → Kind → ℕ → Option StateValue
+in_bare outer frame name back Bare byte = Some (state_with outer frame (BareLabel (name ++ byte ∷ []) back))
+in_bare outer frame name back kind byte = after_primary outer frame (Atom (label_with name back)) kind
 
 abbrev pub step_by : List FrameValue → FrameValue → ModeValue → Kind → ℕ → Option StateValue
 step_by outer frame Operand kind byte = in_operand outer frame kind byte
-step_by outer frame (BareLabel name) kind byte = in_bare outer frame name kind byte
-step_by outer frame (QuotedLabel name) kind byte = in_quotes outer frame name kind byte
-step_by outer frame (Escape name) kind byte = in_escape outer frame name kind byte
+step_by outer frame (BareLabel name back) kind byte = in_bare outer frame name back kind byte
+step_by outer frame (QuotedLabel name back) kind byte = in_quotes outer frame name back kind byte
+step_by outer frame (Escape name back) kind byte = in_escape outer frame name back kind byte
 step_by outer frame (Primary e) kind byte = after_primary outer frame e kind
 step_by outer frame (Element e) kind byte = after_element outer frame e kind
 
@@ -132,9 +132,9 @@ step state byte = step_by state.outer state.frame state.mode (kind_of byte) byte
 -- the expression that ends here, if one does
 abbrev pub element_of : ModeValue → Option Expression
 element_of Operand = None
-element_of (BareLabel name) = Some (Atom (label_named name))
-element_of (QuotedLabel name) = None
-element_of (Escape name) = None
+element_of (BareLabel name back) = Some (Atom (label_with name back))
+element_of (QuotedLabel name back) = None
+element_of (Escape name back) = None
 element_of (Primary e) = Some e
 element_of (Element e) = Some e
 
@@ -148,18 +148,18 @@ whole_of state = whole_in state.outer state.frame state.mode
 -- how long the name is that stands directly before
 abbrev pub name_length : ModeValue → ℕ
 name_length Operand = 0
-name_length (BareLabel name) = length name
-name_length (QuotedLabel name) = length name
-name_length (Escape name) = length name
+name_length (BareLabel name back) = length name
+name_length (QuotedLabel name back) = length name
+name_length (Escape name back) = length name
 name_length (Primary e) = 0
 name_length (Element e) = 0
 
 -- the name that stands directly before is one as far as it goes
 abbrev pub IsReady : ModeValue → Type 0
 IsReady Operand = Unit {0}
-IsReady (BareLabel name) = IsName name
-IsReady (QuotedLabel name) = name ≢ [] → IsName name
-IsReady (Escape name) = name ≢ [] → IsName name
+IsReady (BareLabel name back) = IsName name
+IsReady (QuotedLabel name back) = name ≢ [] → IsName name
+IsReady (Escape name back) = name ≢ [] → IsName name
 IsReady (Primary e) = Unit {0}
 IsReady (Element e) = Unit {0}
 
@@ -170,23 +170,23 @@ takes_operand _ = false
 
 -- not within quotes
 abbrev pub is_outside : ModeValue → Bool
-is_outside (QuotedLabel name) = false
-is_outside (Escape name) = false
+is_outside (QuotedLabel name back) = false
+is_outside (Escape name back) = false
 is_outside _ = true
 
 -- the reader with its counts: the bytes and the signs so far, and the place of the last byte at which an operand was to come
 pub record ReaderValue : Type 0 where
   pub state : StateValue
-  pub operand : ℕ
+  pub label_place : ℕ
   pub signs : ℕ
   pub place : ℕ
 
 abbrev pub start : ReaderValue
-start = record { state = initial; operand = 0; signs = 0; place = 0 }
+start = record { state = initial; label_place = 0; signs = 0; place = 0 }
 
 -- the place of the label that may begin with the next byte
-abbrev pub operand_after : ReaderValue → ℕ
-operand_after reader = if takes_operand reader.state.mode then reader.place + 1 else reader.operand
+abbrev pub label_place_after : ReaderValue → ℕ
+label_place_after reader = if takes_operand reader.state.mode then reader.place + 1 else reader.label_place
 
 -- the signs with the next byte
 abbrev pub signs_after : ReaderValue → ℕ → ℕ
@@ -194,14 +194,14 @@ signs_after reader byte = if is_outside reader.state.mode && is_sign byte then r
 
 -- the limits, in their order
 abbrev pub within_limits : StateValue → ℕ → ℕ → ℕ → Result ReaderValue BadExpr
-within_limits state operand signs place =
-    if nat_lt 255 (name_length state.mode) then Err (LongName operand) else
-    if nat_lt 512 signs then Err TooLarge else Ok (record { state = state; operand = operand; signs = signs; place = place })
+within_limits state label_place signs place =
+    if nat_lt 255 (name_length state.mode) then Err (LongName label_place) else
+    if nat_lt 512 signs then Err TooLarge else Ok (record { state = state; label_place = label_place; signs = signs; place = place })
 
 -- the reader after the step, or the fault
 abbrev pub after_step : ReaderValue → ℕ → Option StateValue → Result ReaderValue BadExpr
 after_step reader byte None = Err (Unexpected (reader.place + 1))
-after_step reader byte (Some state) = within_limits state (operand_after reader) (signs_after reader byte) (reader.place + 1)
+after_step reader byte (Some state) = within_limits state (label_place_after reader) (signs_after reader byte) (reader.place + 1)
 
 -- the reader after a byte, or the fault that shows at it
 unfoldable pub read_byte : ReaderValue → ℕ → Result ReaderValue BadExpr

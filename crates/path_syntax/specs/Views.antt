@@ -21,9 +21,9 @@ frames_of frames = map frame_of (reverse frames)
 
 abbrev pub mode_of : Mode → ModeValue
 mode_of at.Operand = Operand
-mode_of (at.BareLabel name) = BareLabel name.items
-mode_of (at.QuotedLabel name) = QuotedLabel name.items
-mode_of (at.Escape name) = Escape name.items
+mode_of (at.BareLabel label) = BareLabel label.name.items label.back
+mode_of (at.QuotedLabel label) = QuotedLabel label.name.items label.back
+mode_of (at.Escape label) = Escape label.name.items label.back
 mode_of (at.Primary e) = Primary (expression e)
 mode_of (at.Element e) = Element (expression e)
 
@@ -31,4 +31,4 @@ abbrev pub state_of : State → StateValue
 state_of state = state_with (frames_of state.outer.items) (frame_of state.frame) (mode_of state.mode)
 
 abbrev pub reader_of : Reader → ReaderValue
-reader_of reader = record { state = state_of reader.state; operand = reader.operand; signs = reader.signs; place = reader.place }
+reader_of reader = record { state = state_of reader.state; label_place = reader.label_place; signs = reader.signs; place = reader.place }

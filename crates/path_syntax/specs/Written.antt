@@ -6,9 +6,18 @@ use Rattle.rpq_base.specs.declared.data.Label.{Label}
 use Rattle.path_syntax.specs.Expression.{Expression, Atom, Seq, Alt, Star, Plus, Opt}
 use Rattle.path_syntax.specs.Grammar.{is_bare_byte, quoted}
 
--- a label that points forwards: its name where all its bytes may stand without quotes, else its name in quotes
+-- a name: as it is where all its bytes may stand without quotes, else in quotes
+abbrev pub written_name : List ℕ → List ℕ
+written_name name = if list_all is_bare_byte name then name else codes "\"" ++ quoted name ++ codes "\""
+
+-- what stands before a label that is taken backwards, or isn't
+abbrev pub caret : Bool → List ℕ
+caret true = codes "^"
+caret false = []
+
+-- a label
 abbrev pub written_label : Label → List ℕ
-written_label label = if list_all is_bare_byte label.name then label.name else codes "\"" ++ quoted label.name ++ codes "\""
+written_label label = caret label.back ++ written_name label.name
 
 -- the expression is one label
 abbrev pub is_atom : Expression → Bool
@@ -29,7 +38,7 @@ is_alt _ = false
 abbrev pub grouped : Bool → List ℕ → List ℕ
 grouped wanted text = if wanted then codes "(" ++ text ++ codes ")" else text
 
--- an expression whose labels point forwards: in parentheses stand an alternative that is a side of a sequence or the right side of an alternative,
+-- an expression: in parentheses stand an alternative that is a side of a sequence or the right side of an alternative,
 -- a sequence that is the right side of a sequence, and what is repeated and is no label
 abbrev pub written_expression : Expression → List ℕ
 written_expression (Atom label) = written_label label
@@ -40,7 +49,7 @@ written_expression (Star body) = grouped (not (is_atom body)) (written_expressio
 written_expression (Plus body) = grouped (not (is_atom body)) (written_expression body) ++ codes "+"
 written_expression (Opt body) = grouped (not (is_atom body)) (written_expression body) ++ codes "?"
 
--- a word of such labels: they, joined by '/', and "()" for the empty word
+-- a word: its labels, joined by '/', and "()" for the empty word
 abbrev pub written_word : List Label → List ℕ
 written_word [] = codes "()"
 written_word (first ∷ rest) = join_with_byte 47 (map written_label (first ∷ rest))

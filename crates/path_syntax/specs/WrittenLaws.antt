@@ -2,7 +2,7 @@
 use Rattle.std.specs.Prelude.{◌≡◌, ℕ, ◌+◌, ◌≤◌, ◌^◌, not, ◌||◌, Bool, [], ◌∷◌, length, codes, if◌then◌else◌}
 use Rattle.path_syntax.specs.Expression.{Expression, Atom, Seq, Alt, Star, Plus, Opt}
 use Rattle.path_syntax.specs.Plain.{IsPlainExpression}
-use Rattle.path_syntax.specs.Grammar.{label_named, IsText}
+use Rattle.path_syntax.specs.Grammar.{one_way, label_named, IsText}
 use Rattle.path_syntax.specs.Faults.{signs, IsWithinLimits}
 use Rattle.path_syntax.specs.Written.{is_atom, is_seq, is_alt, written_expression, written_word, IsNamed}
 
@@ -49,7 +49,7 @@ WrittenHasSigns = (e : Expression) → signs (written_expression e) ≡ written_
 -- a written form that is short enough to be handed to the reader, and in which no limit is passed
 pub record IsReadable (e : Expression) : Type 0 where
   pub short : length (written_expression e) ≤ 2 ^ 24
-  pub limits : IsWithinLimits (written_expression e)
+  pub limits : IsWithinLimits one_way (written_expression e)
 
 -- with at most 512 signs it is so
 abbrev pub WrittenIsReadable : Type 0

@@ -4,6 +4,8 @@ ghost use Rattle.std.specs.Prelude.{◌≡◌};
 ghost use Rattle.path_syntax.specs.Grammar.{is_bare_byte};
 ghost use Rattle.path_syntax.specs.Reading.{kind_of};
 
+use rpq_base::Name;
+
 /// What a byte may do in the text of an expression.
 #[derive(Clone, Copy, Debug, PartialEq, Eq)]
 pub(crate) enum Kind {
@@ -20,6 +22,7 @@ pub(crate) enum Kind {
     QuestionMark,
     Open,
     Close,
+    Caret,
     /// A byte of names that has no meaning yet, and stands only within quotes.
     Reserved,
     /// A byte that stands nowhere.
@@ -30,7 +33,7 @@ pub(crate) enum Kind {
 pub(crate) fn is_bare_byte(byte: u8) -> bool
     ensures { result ≡ is_bare_byte byte }
 {
-    matches!(byte, 0x21..=0x7E | 0x80..) && !b"/|*+?()^!\"\\".contains(&byte)
+    Name::is_name_byte(byte) && !b"/|*+?()^!\"\\".contains(&byte)
 }
 
 #[tactic(auto, unfolding(crate::specs::Reading::kind_of))]
@@ -51,7 +54,8 @@ pub(crate) fn kind_of(byte: u8) -> Kind
         b'?' => Kind::QuestionMark,
         b'(' => Kind::Open,
         b')' => Kind::Close,
-        b'^' | b'!' => Kind::Reserved,
+        b'^' => Kind::Caret,
+        b'!' => Kind::Reserved,
         _ => Kind::Strange,
     }
 }

@@ -5,7 +5,7 @@ ghost use Rattle.std.specs.List.{list_all};
 ghost use Rattle.rpq_base.specs.Names.{IsName};
 ghost use Rattle.rpq_base.specs.Plain.{IsPlainLabel};
 ghost use Rattle.path_syntax.specs.Grammar.{is_bare_byte, quoted};
-ghost use Rattle.path_syntax.specs.Written.{written_label, written_word};
+ghost use Rattle.path_syntax.specs.Written.{written_name, written_label, written_word};
 
 use crate::byte_kind::is_bare_byte;
 use rpq_base::{Label, Memory};
@@ -34,7 +34,16 @@ pub(crate) fn push_label(text: &mut Vec<u8>, label: &Label) -> Result<(), Memory
     ensures text { OnOk result (text.new.items ≡ text.old.items ++ written_label label.now) }
     ensures named { OnOk result (IsName label.now.name) }
 {
-    let name = label.name.as_bytes();
+    if label.back {
+        text.push(b'^')?;
+    }
+    push_name(text, label.name.as_bytes())
+}
+
+/// Writes a name at the end of the text, in quotes where it needs them.
+fn push_name(text: &mut Vec<u8>, name: &[u8]) -> Result<(), Memory>
+    ensures { OnOk result (text.new.items ≡ text.old.items ++ written_name name.now) }
+{
     if is_bare(name) {
         text.extend_from_slice(name)?;
         return Ok(());

@@ -37,6 +37,4 @@ pub use size::occurrences;
 pub use write::write_expr;
 
 #[cfg(test)]
-mod read_tests;
-#[cfg(test)]
 mod tests;

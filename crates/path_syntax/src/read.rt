@@ -1,25 +1,22 @@
 //! Reading expressions.
 
 ghost use Rattle.std.specs.Prelude.{◌≡◌, ◌≢◌, ◌+◌, ◌^◌, ◌<◌, ◌≤◌, Ok, Err, Some, IfOk, OnOk, MatchResult, length};
-ghost use Rattle.path_syntax.specs.Reading.{IsReady, operand_after, signs_after, within_limits, read_byte, read_all, ended_by, whole_of, name_length, reading, start, Gives};
+ghost use Rattle.path_syntax.specs.Reading.{IsReady, label_place_after, signs_after, within_limits, read_byte, read_all, ended_by, whole_of, name_length, reading, start, Gives};
 ghost use Rattle.path_syntax.specs.declared.read.BadExpr.{BadExpr};
 ghost use Rattle.path_syntax.specs.Views.{state_of, mode_of, reader_of};
 ghost use Rattle.path_syntax.specs.Expression.{Expression, expression};
 ghost use Rattle.path_syntax.specs.Faults.{is_sign, IsWithinLimits, IsFault, IsOutcome, Tells};
 ghost use Rattle.path_syntax.specs.FaultTexts.{bad_expr_text};
-ghost use Rattle.path_syntax.specs.Grammar.{IsText};
+ghost use Rattle.path_syntax.specs.Grammar.{one_way, IsText};
 ghost use Rattle.path_syntax.specs.Plain.{IsPlainExpression};
 ghost use Rattle.path_syntax.specs.Size.{nodes};
 
 use crate::expr::Expr;
 use crate::state::State;
-use rpq_base::Memory;
+use rpq_base::{MAX_NAME, Memory};
 use std::alloc::Global;
 use std::error::Error;
 use std::fmt;
-
-/// The most bytes that the name of a label has.
-const MAX_NAME: usize = 255;
 
 /// The most signs that a text has.
 const MAX_SIGNS: u32 = 512;
@@ -68,7 +65,7 @@ impl Error for BadExpr {}
 struct Reader {
     state: State,
     /// The place of the last byte at which an operand was to come. Where a label stands directly before, it began there.
-    operand: u32,
+    label_place: u32,
     /// The signs so far.
     signs: u32,
     /// The bytes so far.
@@ -76,21 +73,21 @@ struct Reader {
 }
 
 /// The reader in this state, if it is within the limits.
-fn within_limits(state: State, operand: u32, signs: u32, place: u32) -> Result<Reader, BadExpr>
-    ensures exact { Gives reader_of result (within_limits (state_of state) operand signs place) }
+fn within_limits(state: State, label_place: u32, signs: u32, place: u32) -> Result<Reader, BadExpr>
+    ensures exact { Gives reader_of result (within_limits (state_of state) label_place signs place) }
     ensures signs { IfOk result (λ reader. reader.signs ≤ 512) }
     ensures place { IfOk result (λ reader. reader.place ≡ place) }
     ensures ready { (name_length (mode_of state.mode) ≤ 255 → IsReady (mode_of state.mode)) → IfOk result (λ reader. IsReady (mode_of reader.state.mode)) }
 {
     if state.name_length() > MAX_NAME {
-        return Err(BadExpr::LongName(operand));
+        return Err(BadExpr::LongName(label_place));
     }
     if signs > MAX_SIGNS {
         return Err(BadExpr::TooLarge);
     }
     Ok(Reader {
         state,
-        operand,
+        label_place,
         signs,
         place,
     })
@@ -109,21 +106,21 @@ impl Reader {
     {
         Reader {
             state: State::new(alloc),
-            operand: 0,
+            label_place: 0,
             signs: 0,
             place: 0,
         }
     }
 
     /// The place of the label that may begin with the next byte, or else that began last.
-    fn operand_after(&self) -> u32
+    fn label_place_after(&self) -> u32
         requires { self.now.place < 2 ^ 24 }
-        ensures { result ≡ operand_after (reader_of self.now) }
+        ensures { result ≡ label_place_after (reader_of self.now) }
     {
         if self.state.takes_operand() {
             self.place + 1
         } else {
-            self.operand
+            self.label_place
         }
     }
 
@@ -150,11 +147,11 @@ impl Reader {
         ensures place { IfOk result (λ reader. reader.place ≡ self.place + 1) }
         ensures signs { IfOk result (λ reader. reader.signs ≤ 512) }
     {
-        let operand = self.operand_after();
+        let label_place = self.label_place_after();
         let signs = self.signs_after(byte);
         let place = self.place + 1;
         match self.state.step(alloc, byte)? {
-            Some(state) => within_limits(state, operand, signs, place),
+            Some(state) => within_limits(state, label_place, signs, place),
             None => Err(BadExpr::Unexpected(place)),
         }
     }
@@ -204,15 +201,15 @@ pub fn read_expr(alloc: Global, bytes: &[u8]) -> Result<Expr, BadExpr>
         (λ fault. fault ≢ BadExpr.Memory → IsOutcome bytes.now (Err fault)) }
     // So what is read has this text, and no fault shows in it.
     ensures found { IfOk result (λ found. IsText bytes.now (expression found)) }
-    ensures within { OnOk result (IsWithinLimits bytes.now) }
+    ensures within { OnOk result (IsWithinLimits one_way bytes.now) }
     ensures plain { IfOk result (λ found. IsPlainExpression (expression found)) }
     ensures small { IfOk result (λ found. nodes (expression found) < 2 ^ 32) }
     // Each text of an expression that is within the limits is read, unless memory runs out.
-    ensures whole { (e : Expression) → IsText bytes.now e → IsWithinLimits bytes.now → MatchResult
+    ensures whole { (e : Expression) → IsText bytes.now e → IsWithinLimits one_way bytes.now → MatchResult
         result (λ found. expression found ≡ e) (λ fault. fault ≡ BadExpr.Memory) }
     // Each fault comes exactly where it shows first, unless memory runs out.
     ensures fault { (fault : BadExpr) → fault ≢ BadExpr.Memory →
-        Tells result fault (IsFault fault bytes.now) }
+        Tells result fault (IsFault one_way fault bytes.now) }
 {
     read(alloc, bytes)
 }

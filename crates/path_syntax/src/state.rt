@@ -1,9 +1,9 @@
 //! Where the reader of an expression stands, and the step that a byte makes.
 
-ghost use Rattle.std.specs.Prelude.{◌≡◌, ◌≢◌, List, [], ◌∷◌, ◌++◌, None, Some, IfOk, option_map};
+ghost use Rattle.std.specs.Prelude.{◌≡◌, ◌≢◌, false, List, [], ◌∷◌, ◌++◌, None, Some, IfOk, option_map};
 ghost use Rattle.rpq_base.specs.Names.{IsName};
 ghost use Rattle.path_syntax.specs.Expression.{expression, Atom};
-ghost use Rattle.path_syntax.specs.Grammar.{label_named};
+ghost use Rattle.path_syntax.specs.Grammar.{label_with};
 ghost use Rattle.path_syntax.specs.Reading.{in_sequence, in_alternatives, whole_with, after_element, after_primary, in_operand, in_bare, in_quotes, in_escape, ended_label, step, name_length, takes_operand, is_outside, closed, whole_of, initial, IsReady};
 ghost use Rattle.path_syntax.specs.Views.{frame_of, frames_of, state_of, mode_of, before_of};
 
@@ -21,17 +21,26 @@ pub(crate) struct Frame {
     pub sequence: Option<Expr>,
 }
 
+/// The beginning of a label.
+#[derive(Debug, Drop)]
+pub(crate) struct BegunLabel {
+    /// The bytes of its name so far.
+    pub name: Vec<u8>,
+    /// Whether it is taken backwards.
+    pub back: bool,
+}
+
 /// What stands directly before the byte that is read next.
 #[derive(Debug, Drop)]
 pub(crate) enum Mode {
     /// A sign behind which an operand is to come, or nothing.
     Operand,
     /// A bare label, which may go on.
-    BareLabel(Vec<u8>),
-    /// A quote and the name so far.
-    QuotedLabel(Vec<u8>),
+    BareLabel(BegunLabel),
+    /// A quote and the label so far.
+    QuotedLabel(BegunLabel),
     /// The same, and a backslash.
-    Escape(Vec<u8>),
+    Escape(BegunLabel),
     /// A primary, which may be repeated.
     Primary(Expr),
     /// An element that may not be repeated any more.
@@ -49,7 +58,8 @@ pub(crate) struct State {
 
 /// The sequence of what stands before and an element.
 fn in_sequence(alloc: Global, before: Option<Expr>, element: Expr) -> Result<Expr, Memory>
-    ensures { IfOk result (λ whole. expression whole ≡ in_sequence (before_of before) (expression element)) }
+    ensures { IfOk result (λ whole. expression whole ≡
+        in_sequence (before_of before) (expression element)) }
 {
     match before {
         None => Ok(element),
@@ -59,7 +69,8 @@ fn in_sequence(alloc: Global, before: Option<Expr>, element: Expr) -> Result<Exp
 
 /// The alternative of what stands before and a sequence.
 fn in_alternatives(alloc: Global, before: Option<Expr>, sequence: Expr) -> Result<Expr, Memory>
-    ensures { IfOk result (λ whole. expression whole ≡ in_alternatives (before_of before) (expression sequence)) }
+    ensures { IfOk result (λ whole. expression whole ≡
+        in_alternatives (before_of before) (expression sequence)) }
 {
     match before {
         None => Ok(sequence),
@@ -69,7 +80,8 @@ fn in_alternatives(alloc: Global, before: Option<Expr>, sequence: Expr) -> Resul
 
 /// The expression in the frame that ends with this element.
 fn whole_with(alloc: Global, frame: Frame, element: Expr) -> Result<Expr, Memory>
-    ensures { IfOk result (λ whole. expression whole ≡ whole_with (frame_of frame) (expression element)) }
+    ensures { IfOk result (λ whole. expression whole ≡
+        whole_with (frame_of frame) (expression element)) }
 {
     let sequence = in_sequence(alloc, frame.sequence, element)?;
     in_alternatives(alloc, frame.alternatives, sequence)
@@ -95,7 +107,8 @@ fn after_element(
     element: Expr,
     kind: Kind,
 ) -> Result<Option<State>, Memory>
-    ensures { IfOk result (λ next. option_map state_of next ≡ after_element (frames_of outer.items) (frame_of frame) (expression element) kind) }
+    ensures { IfOk result (λ next. option_map state_of next ≡
+        after_element (frames_of outer.items) (frame_of frame) (expression element) kind) }
 {
     let (frame, mode) = match kind {
         Kind::Blank => (frame, Mode::Element(element)),
@@ -109,7 +122,8 @@ fn after_element(
 
 /// The frame with one more element in its sequence.
 fn with_element(alloc: Global, frame: Frame, element: Expr) -> Result<Frame, Memory>
-    ensures { IfOk result (λ after. frame_of after ≡ record (frame_of frame) { sequence = Some (in_sequence (before_of frame.sequence) (expression element)) }) }
+    ensures { IfOk result (λ after. frame_of after ≡
+        record (frame_of frame) { sequence = Some (in_sequence (before_of frame.sequence) (expression element)) }) }
 {
     Ok(Frame {
         alternatives: frame.alternatives,
@@ -119,7 +133,8 @@ fn with_element(alloc: Global, frame: Frame, element: Expr) -> Result<Frame, Mem
 
 /// The frame with one more alternative, which ends with this element.
 fn with_sequence(alloc: Global, frame: Frame, element: Expr) -> Result<Frame, Memory>
-    ensures { IfOk result (λ after. frame_of after ≡ record { alternatives = Some (whole_with (frame_of frame) (expression element)); sequence = None }) }
+    ensures { IfOk result (λ after. frame_of after ≡
+        record { alternatives = Some (whole_with (frame_of frame) (expression element)); sequence = None }) }
 {
     Ok(Frame {
         alternatives: Some(whole_with(alloc, frame, element)?),
@@ -135,7 +150,8 @@ fn after_primary(
     primary: Expr,
     kind: Kind,
 ) -> Result<Option<State>, Memory>
-    ensures { IfOk result (λ next. option_map state_of next ≡ after_primary (frames_of outer.items) (frame_of frame) (expression primary) kind) }
+    ensures { IfOk result (λ next. option_map state_of next ≡
+        after_primary (frames_of outer.items) (frame_of frame) (expression primary) kind) }
 {
     let mode = match kind {
         Kind::Blank => Mode::Primary(primary),
@@ -155,12 +171,13 @@ fn in_operand(
     kind: Kind,
     byte: u8,
 ) -> Result<Option<State>, Memory>
-    ensures { IfOk result (λ next. option_map state_of next ≡ in_operand (frames_of outer.items) (frame_of frame) kind byte) }
+    ensures { IfOk result (λ next. option_map state_of next ≡
+        in_operand (frames_of outer.items) (frame_of frame) kind byte) }
 {
     let mode = match kind {
         Kind::Blank => Mode::Operand,
-        Kind::Quote => Mode::QuotedLabel(Vec::new(alloc)),
-        Kind::Bare => Mode::BareLabel(with_byte(Vec::new(alloc), byte)?),
+        Kind::Quote => Mode::QuotedLabel(BegunLabel::new(alloc)),
+        Kind::Bare => Mode::BareLabel(BegunLabel::new(alloc).with_byte(byte)?),
         Kind::Open => {
             outer.push(frame)?;
             return Ok(Some(State {
@@ -177,22 +194,40 @@ fn in_operand(
     Ok(Some(State { outer, frame, mode }))
 }
 
-/// The name with one more byte.
-fn with_byte(mut name: Vec<u8>, byte: u8) -> Result<Vec<u8>, Memory>
-    ensures { IfOk result (λ after. after.items ≡ name.items ++ byte ∷ []) }
-{
-    name.push(byte)?;
-    Ok(name)
-}
+impl BegunLabel {
+    /// No byte of a label that points forwards.
+    fn new(alloc: Global) -> BegunLabel
+        ensures name { result.name.items ≡ [] }
+        ensures back { result.back ≡ false }
+    {
+        BegunLabel {
+            name: Vec::new(alloc),
+            back: false,
+        }
+    }
 
-/// The label with this name that points forwards. Only memory can be wanting.
-fn atom(alloc: Global, name: &Vec<u8>) -> Result<Expr, Memory>
-    requires { IsName name.now.items }
-    ensures { IfOk result (λ atom. expression atom ≡ Atom (label_named name.now.items)) }
-{
-    match Name::new(alloc, name) {
-        Ok(name) => Ok(Expr::Atom(Label { name, back: false })),
-        Err(_) => Err(Memory),
+    /// The label with one more byte.
+    fn with_byte(mut self, byte: u8) -> Result<BegunLabel, Memory>
+        ensures name { IfOk result (λ after. after.name.items ≡ self.name.items ++ byte ∷ []) }
+        ensures back { IfOk result (λ after. after.back ≡ self.back) }
+    {
+        self.name.push(byte)?;
+        Ok(self)
+    }
+
+    /// The expression of the label. Only memory can be wanting.
+    fn atom(&self, alloc: Global) -> Result<Expr, Memory>
+        requires { IsName self.now.name.items }
+        ensures { IfOk result (λ atom. expression atom ≡
+            Atom (label_with self.now.name.items self.now.back)) }
+    {
+        match Name::new(alloc, &self.name) {
+            Ok(name) => Ok(Expr::Atom(Label {
+                name,
+                back: self.back,
+            })),
+            Err(_) => Err(Memory),
+        }
     }
 }
 
@@ -201,20 +236,21 @@ fn in_bare(
     alloc: Global,
     outer: Vec<Frame>,
     frame: Frame,
-    name: Vec<u8>,
+    label: BegunLabel,
     kind: Kind,
     byte: u8,
 ) -> Result<Option<State>, Memory>
-    requires { IsName name.items }
-    ensures { IfOk result (λ next. option_map state_of next ≡ in_bare (frames_of outer.items) (frame_of frame) name.items kind byte) }
+    requires { IsName label.name.items }
+    ensures { IfOk result (λ next. option_map state_of next ≡
+        in_bare (frames_of outer.items) (frame_of frame) label.name.items label.back kind byte) }
 {
     match kind {
         Kind::Bare => Ok(Some(State {
             outer,
             frame,
-            mode: Mode::BareLabel(with_byte(name, byte)?),
+            mode: Mode::BareLabel(label.with_byte(byte)?),
         })),
-        _ => after_primary(alloc, outer, frame, atom(alloc, &name)?, kind),
+        _ => after_primary(alloc, outer, frame, label.atom(alloc)?, kind),
     }
 }
 
@@ -223,18 +259,19 @@ fn ended_label(
     alloc: Global,
     outer: Vec<Frame>,
     frame: Frame,
-    name: Vec<u8>,
+    label: BegunLabel,
 ) -> Result<Option<State>, Memory>
-    requires { name.items ≢ [] → IsName name.items }
-    ensures { IfOk result (λ next. option_map state_of next ≡ ended_label (frames_of outer.items) (frame_of frame) name.items) }
+    requires { label.name.items ≢ [] → IsName label.name.items }
+    ensures { IfOk result (λ next. option_map state_of next ≡
+        ended_label (frames_of outer.items) (frame_of frame) label.name.items label.back) }
 {
-    if name.is_empty() {
+    if label.name.is_empty() {
         return Ok(None);
     }
     Ok(Some(State {
         outer,
         frame,
-        mode: Mode::Primary(atom(alloc, &name)?),
+        mode: Mode::Primary(label.atom(alloc)?),
     }))
 }
 
@@ -243,18 +280,19 @@ fn in_quotes(
     alloc: Global,
     outer: Vec<Frame>,
     frame: Frame,
-    name: Vec<u8>,
+    label: BegunLabel,
     kind: Kind,
     byte: u8,
 ) -> Result<Option<State>, Memory>
-    requires { name.items ≢ [] → IsName name.items }
-    ensures { IfOk result (λ next. option_map state_of next ≡ in_quotes (frames_of outer.items) (frame_of frame) name.items kind byte) }
+    requires { label.name.items ≢ [] → IsName label.name.items }
+    ensures { IfOk result (λ next. option_map state_of next ≡
+        in_quotes (frames_of outer.items) (frame_of frame) label.name.items label.back kind byte) }
 {
     let mode = match kind {
         Kind::Blank | Kind::Strange => return Ok(None),
-        Kind::Quote => return ended_label(alloc, outer, frame, name),
-        Kind::Backslash => Mode::Escape(name),
-        _ => Mode::QuotedLabel(with_byte(name, byte)?),
+        Kind::Quote => return ended_label(alloc, outer, frame, label),
+        Kind::Backslash => Mode::Escape(label),
+        _ => Mode::QuotedLabel(label.with_byte(byte)?),
     };
     Ok(Some(State { outer, frame, mode }))
 }
@@ -263,17 +301,18 @@ fn in_quotes(
 fn in_escape(
     outer: Vec<Frame>,
     frame: Frame,
-    name: Vec<u8>,
+    label: BegunLabel,
     kind: Kind,
     byte: u8,
 ) -> Result<Option<State>, Memory>
-    ensures { IfOk result (λ next. option_map state_of next ≡ in_escape (frames_of outer.items) (frame_of frame) name.items kind byte) }
+    ensures { IfOk result (λ next. option_map state_of next ≡
+        in_escape (frames_of outer.items) (frame_of frame) label.name.items label.back kind byte) }
 {
     match kind {
         Kind::Quote | Kind::Backslash => Ok(Some(State {
             outer,
             frame,
-            mode: Mode::QuotedLabel(with_byte(name, byte)?),
+            mode: Mode::QuotedLabel(label.with_byte(byte)?),
         })),
         _ => Ok(None),
     }
@@ -303,9 +342,9 @@ impl State {
         let kind = kind_of(byte);
         match mode {
             Mode::Operand => in_operand(alloc, outer, frame, kind, byte),
-            Mode::BareLabel(name) => in_bare(alloc, outer, frame, name, kind, byte),
-            Mode::QuotedLabel(name) => in_quotes(alloc, outer, frame, name, kind, byte),
-            Mode::Escape(name) => in_escape(outer, frame, name, kind, byte),
+            Mode::BareLabel(label) => in_bare(alloc, outer, frame, label, kind, byte),
+            Mode::QuotedLabel(label) => in_quotes(alloc, outer, frame, label, kind, byte),
+            Mode::Escape(label) => in_escape(outer, frame, label, kind, byte),
             Mode::Primary(primary) => after_primary(alloc, outer, frame, primary, kind),
             Mode::Element(element) => after_element(alloc, outer, frame, element, kind),
         }
@@ -316,7 +355,9 @@ impl State {
         ensures { result ≡ name_length (mode_of self.now.mode) }
     {
         match &self.mode {
-            Mode::BareLabel(name) | Mode::QuotedLabel(name) | Mode::Escape(name) => name.len(),
+            Mode::BareLabel(label) | Mode::QuotedLabel(label) | Mode::Escape(label) => {
+                label.name.len()
+            },
             _ => 0,
         }
     }
@@ -344,7 +385,7 @@ impl State {
             return Ok(None);
         }
         let element = match mode {
-            Mode::BareLabel(name) => atom(alloc, &name)?,
+            Mode::BareLabel(label) => label.atom(alloc)?,
             Mode::Primary(element) | Mode::Element(element) => element,
             _ => return Ok(None),
         };

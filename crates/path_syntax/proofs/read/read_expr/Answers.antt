@@ -1,7 +1,7 @@
 use Rattle.std.proofs.Common.{◌<◌, ◌≤◌, ◌^◌, length, arith}
 use Rattle.std.proofs.lemmas.Result.{IfOk-weaker}
 use Rattle.path_syntax.specs.Expression.{expression}
-use Rattle.path_syntax.specs.Grammar.{IsText}
+use Rattle.path_syntax.specs.Grammar.{one_way, IsText}
 use Rattle.path_syntax.specs.Faults.{IsWithinLimits}
 use Rattle.path_syntax.specs.Plain.{IsPlainExpression}
 use Rattle.path_syntax.specs.Size.{nodes}
@@ -15,7 +15,7 @@ returns-clause-found c =
 
 pub returns-clause-within : goal.returns-clause-within
 returns-clause-within c =
-    IfOk-weaker c.read.result (λ x. IsFound c.args.bytes.now (expression x)) (λ x. IsWithinLimits c.args.bytes.now) (λ x f. f.limits)
+    IfOk-weaker c.read.result (λ x. IsFound c.args.bytes.now (expression x)) (λ x. IsWithinLimits one_way c.args.bytes.now) (λ x f. f.limits)
     (found expression c.args.bytes.now c.read.result c.read.ensures)
 
 pub returns-clause-plain : goal.returns-clause-plain
