@@ -51,16 +51,16 @@ pub may_end_is : (e : Expression) (marks : List Bool) → IsTrue (may_end e mark
 may_end_is (Atom label) marks = (λ test. (test, refl), λ h. h.0)
 may_end_is (Seq left right) marks =
     let others = marks_behind left marks in (
-      λ test. elim (or_cases (may_end right others) (is_nullable right && may_end left marks) test) [
-        | inl b ↦ inr ((may_end_is right others).0 b)
-        | inr both ↦ (let parts = and_parts (is_nullable right) (may_end left marks) both in
+      λ test. elim (or_cases (is_nullable right && may_end left marks) (may_end right others) test) [
+        | inl both ↦ (let parts = and_parts (is_nullable right) (may_end left marks) both in
             inl (empty_joined (GoesOn left marks) (In right) ((may_end_is left marks).0 parts.1) ((nullable_is right).0 parts.0)))
+        | inr b ↦ inr ((may_end_is right others).0 b)
       ],
       λ word. elim word [
         | inl joined ↦ (let sides = empty_sides (GoesOn left marks) (In right) joined in
-            or_right (may_end right others) (is_nullable right && may_end left marks)
+            or_left (is_nullable right && may_end left marks) (may_end right others)
             (and_from (is_nullable right) (may_end left marks) ((nullable_is right).1 sides.1) ((may_end_is left marks).1 sides.0)))
-        | inr rest ↦ or_left (may_end right others) (is_nullable right && may_end left marks) ((may_end_is right others).1 rest)
+        | inr rest ↦ or_right (is_nullable right && may_end left marks) (may_end right others) ((may_end_is right others).1 rest)
       ],
     )
 may_end_is (Alt left right) marks =

@@ -3,7 +3,8 @@ use Rattle.rpq_base.specs.declared.data.Label.{Label}
 use Rattle.path_syntax.specs.declared.expr.Expr.{Expr}
 use Rattle.path_syntax.specs.declared.expr.Expr.TheVariants as at
 
--- one label; one side and then the other; one of two sides; a body repeated any number of times, at least once, or at most once
+-- one label; one side and then the other; one of two sides; a body repeated any number of times, at
+-- least once, or at most once
 pub data Expression : Type 0 where
   Atom : Label → Expression
   Seq : Expression → Expression → Expression

@@ -1,7 +1,8 @@
 -- Faults as they are told.
 use Rattle.std.specs.Prelude.{ℕ, List, ◌++◌, codes, decimal}
 use Rattle.path_syntax.specs.declared.read.BadExpr.{BadExpr}
-use Rattle.path_syntax.specs.declared.read.BadExpr.TheVariants.{Unexpected, Ended, TooLarge, LongName, Memory}
+use Rattle.path_syntax.specs.declared.read.BadExpr.TheVariants.{Unexpected, Ended, TooLarge}
+use Rattle.path_syntax.specs.declared.read.BadExpr.TheVariants.{LongName, Memory}
 
 -- a fault as it is told
 abbrev pub bad_expr_text : BadExpr → List ℕ

@@ -1,21 +1,27 @@
 -- The faults of a text that is read as an expression.
-use Rattle.std.specs.Prelude.{◌≡◌, ℕ, ◌+◌, ◌≤◌, Bool, ◌==◌, List, [], ◌∷◌, ◌++◌, length, codes, Result, Ok, Err, ◌⊎◌, if◌then◌else◌}
+use Rattle.std.specs.Prelude.{◌≡◌, ℕ, ◌+◌, ◌≤◌, Bool, ◌==◌, List, [], ◌∷◌, ◌++◌, length, codes}
+use Rattle.std.specs.Prelude.{Result, Ok, Err, ◌⊎◌, if◌then◌else◌}
 use Rattle.std.specs.List.{count_by, list_any}
 use Rattle.path_syntax.specs.declared.read.BadExpr.{BadExpr}
-use Rattle.path_syntax.specs.declared.read.BadExpr.TheVariants.{Unexpected, Ended, TooLarge, LongName, Memory}
+use Rattle.path_syntax.specs.declared.read.BadExpr.TheVariants.{Unexpected, Ended, TooLarge}
+use Rattle.path_syntax.specs.declared.read.BadExpr.TheVariants.{LongName, Memory}
 use Rattle.path_syntax.specs.Expression.{Expression}
-use Rattle.path_syntax.specs.Grammar.{IsBare, AreNameBytes, quoted, IsLabel, IsAlternative, CanGoOn, one_way}
+use Rattle.path_syntax.specs.Grammar.{IsBare, AreNameBytes, quoted, IsLabel, IsAlternative, CanGoOn}
+use Rattle.path_syntax.specs.Grammar.{one_way}
 
--- The bytes outside quoted labels; of those from a quote on; of those from behind a backslash within quotes on.
+-- The bytes outside quoted labels; of those from a quote on; of those from behind a backslash
+-- within quotes on.
 abbrev mutual
   pub outside_quotes : List ℕ → List ℕ
   outside_quotes [] = []
-  outside_quotes (byte ∷ bytes) = if byte == 34 then behind_quote bytes else byte ∷ outside_quotes bytes
+  outside_quotes (byte ∷ bytes) =
+      if byte == 34 then behind_quote bytes else byte ∷ outside_quotes bytes
 
   pub behind_quote : List ℕ → List ℕ
   behind_quote [] = []
   behind_quote (byte ∷ bytes) =
-      if byte == 34 then outside_quotes bytes else if byte == 92 then behind_backslash bytes else behind_quote bytes
+      if byte == 34 then outside_quotes bytes else if byte == 92 then behind_backslash bytes else
+          behind_quote bytes
 
   pub behind_backslash : List ℕ → List ℕ
   behind_backslash [] = []
@@ -36,7 +42,8 @@ pub data BeginsLabel : List ℕ → List ℕ → Type 0 where
 
 -- a label may stand here, whichever it is
 abbrev pub TakesLabel : Bool → List ℕ → Type 0
-TakesLabel inverses before = (text name : List ℕ) → IsLabel text name → CanGoOn inverses (before ++ text)
+TakesLabel inverses before =
+    (text name : List ℕ) → IsLabel text name → CanGoOn inverses (before ++ text)
 
 -- the label that begins at this place, from 1, has 256 bytes and perhaps more
 pub record HasLongName (inverses : Bool) (bytes : List ℕ) (at : ℕ) : Type 0 where
@@ -55,7 +62,8 @@ pub record IsWithinLimits (inverses : Bool) (bytes : List ℕ) : Type 0 where
   pub few : signs bytes ≤ 512
   pub short : (at : ℕ) → HasLongName inverses bytes at → ⊥
 
--- bytes that no fault shows in: some text of an expression begins with them, and they are within the limits
+-- bytes that no fault shows in: some text of an expression begins with them, and they are within
+-- the limits
 pub record IsTaken (inverses : Bool) (front : List ℕ) : Type 0 where
   pub goes_on : CanGoOn inverses front
   pub limits : IsWithinLimits inverses front
@@ -96,7 +104,8 @@ pub record IsEnded (inverses : Bool) (bytes : List ℕ) : Type 0 where
   pub taken : IsTaken inverses bytes
   pub incomplete : (e : Expression) → IsAlternative inverses bytes e → ⊥
 
--- the fault is the one that shows first from the left; that memory runs out is no fault of any bytes
+-- the fault is the one that shows first from the left; that memory runs out is no fault of any
+-- bytes
 abbrev pub IsFault : Bool → BadExpr → List ℕ → Type 0
 IsFault inverses (Unexpected at) bytes = IsUnexpected inverses bytes at
 IsFault inverses Ended bytes = IsEnded inverses bytes
@@ -104,9 +113,11 @@ IsFault inverses TooLarge bytes = IsTooLarge inverses bytes
 IsFault inverses (LongName at) bytes = IsLongName inverses bytes at
 IsFault inverses Memory bytes = ⊥
 
--- the outcome of the bytes: the expression that they are the text of, within the limits, or the fault that shows first
+-- the outcome of the bytes: the expression that they are the text of, within the limits, or the
+-- fault that shows first
 pub data IsOutcomeOf (inverses : Bool) (bytes : List ℕ) : Result Expression BadExpr → Type 0 where
-  Whole : (e : Expression) → IsAlternative inverses bytes e → IsWithinLimits inverses bytes → IsOutcomeOf inverses bytes (Ok e)
+  Whole : (e : Expression) → IsAlternative inverses bytes e → IsWithinLimits inverses bytes →
+      IsOutcomeOf inverses bytes (Ok e)
   Faulty : (fault : BadExpr) → IsFault inverses fault bytes → IsOutcomeOf inverses bytes (Err fault)
 
 -- the outcome where no label is taken backwards
@@ -114,6 +125,7 @@ abbrev pub IsOutcome : List ℕ → Result Expression BadExpr → Type 0
 IsOutcome = IsOutcomeOf one_way
 
 -- the fault is answered exactly where the bytes have it, unless memory runs out
-pub record Tells {T : Type 0} (result : Result T BadExpr) (fault : BadExpr) (has : Type 0) : Type 0 where
+pub record Tells {T : Type 0} (result : Result T BadExpr) (fault : BadExpr)
+    (has : Type 0) : Type 0 where
   pub sure : result ≡ Err fault → has
   pub told : has → (result ≡ Err fault) ⊎ (result ≡ Err Memory)

@@ -8,10 +8,11 @@ use Rattle.path_syntax.specs.Language.{Language, IsJoined, In}
 abbrev pub nonempty : Language → Language
 nonempty language = λ word. (word ≢ []) × language word
 
--- the words of a star, a plus and an optional: none, or a nonempty word of the body and then a word of the star; a word of the body and then
--- a word of the star; none, or a word of the body
+-- the words of a star, a plus and an optional: none, or a nonempty word of the body and then a word
+-- of the star; a word of the body and then a word of the star; none, or a word of the body
 pub record RepetitionsByCases (body : Expression) (word : List Label) : Type 0 where
-  pub star : In (Star body) word ↔ ((word ≡ []) ⊎ IsJoined (nonempty (In body)) (In (Star body)) word)
+  pub star : In (Star body) word ↔
+      ((word ≡ []) ⊎ IsJoined (nonempty (In body)) (In (Star body)) word)
   pub plus : In (Plus body) word ↔ In (Seq body (Star body)) word
   pub opt : In (Opt body) word ↔ ((word ≡ []) ⊎ In body word)
 

@@ -29,7 +29,7 @@ marks_behind (Opt body) marks = marks_behind body marks
 abbrev pub may_end : Expression → List Bool → Bool
 may_end (Atom label) marks = first_mark marks
 may_end (Seq left right) marks =
-    may_end right (marks_behind left marks) || (is_nullable right && may_end left marks)
+    (is_nullable right && may_end left marks) || may_end right (marks_behind left marks)
 may_end (Alt left right) marks = may_end left marks || may_end right (marks_behind left marks)
 may_end (Star body) marks = may_end body marks
 may_end (Plus body) marks = may_end body marks
@@ -40,9 +40,12 @@ abbrev pub marks_after : Expression → List Bool → Bool → Label → List Bo
 marks_after (Atom own) marks begins label = (begins && same_label own label) ∷ []
 marks_after (Seq left right) marks begins label =
     marks_after left marks begins label ++
-    marks_after right (marks_behind left marks) (may_end left marks || (begins && is_nullable left)) label
+    marks_after right (marks_behind left marks)
+        (may_end left marks || (begins && is_nullable left)) label
 marks_after (Alt left right) marks begins label =
     marks_after left marks begins label ++ marks_after right (marks_behind left marks) begins label
-marks_after (Star body) marks begins label = marks_after body marks (begins || may_end body marks) label
-marks_after (Plus body) marks begins label = marks_after body marks (begins || may_end body marks) label
+marks_after (Star body) marks begins label =
+    marks_after body marks (begins || may_end body marks) label
+marks_after (Plus body) marks begins label =
+    marks_after body marks (begins || may_end body marks) label
 marks_after (Opt body) marks begins label = marks_after body marks begins label

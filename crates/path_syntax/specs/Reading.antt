@@ -1,10 +1,17 @@
--- How the reader goes through the bytes, one by one: a step for each. No public contract cites this.
-use Rattle.std.specs.Prelude.{◌≡◌, ◌≢◌, ℕ, ◌+◌, Bool, true, false, ◌&&◌, ◌==◌, nat_lt, List, [], ◌∷◌, ◌++◌, length, Option, Some, None, option_map, Result, Ok, Err, if◌then◌else◌}
+-- How the reader goes through the bytes, one by one: a step for each. No public contract cites
+-- this.
+use Rattle.std.specs.Prelude.{◌≡◌, ◌≢◌, ℕ, ◌+◌, Bool, true, false, ◌&&◌, ◌==◌, nat_lt, List, []}
+use Rattle.std.specs.Prelude.{◌∷◌, ◌++◌, length, Option, Some, None, option_map, Result, Ok, Err}
+use Rattle.std.specs.Prelude.{if◌then◌else◌}
 use Rattle.rpq_base.specs.Names.{is_name_byte, IsName}
 use Rattle.path_syntax.specs.declared.read.BadExpr.{BadExpr}
-use Rattle.path_syntax.specs.declared.read.BadExpr.TheVariants.{Unexpected, Ended, TooLarge, LongName, Memory}
+use Rattle.path_syntax.specs.declared.read.BadExpr.TheVariants.{Unexpected, Ended, TooLarge}
+use Rattle.path_syntax.specs.declared.read.BadExpr.TheVariants.{LongName, Memory}
 use Rattle.path_syntax.specs.declared.byte_kind.Kind.{Kind}
-use Rattle.path_syntax.specs.declared.byte_kind.Kind.TheVariants.{Blank, Bare, Quote, Backslash, Slash, Bar, Asterisk, PlusSign, QuestionMark, Open, Close, Caret, Reserved, Strange}
+use Rattle.path_syntax.specs.declared.byte_kind.Kind.TheVariants.{Blank, Bare, Quote, Backslash}
+use Rattle.path_syntax.specs.declared.byte_kind.Kind.TheVariants.{Slash, Bar, Asterisk, PlusSign}
+use Rattle.path_syntax.specs.declared.byte_kind.Kind.TheVariants.{QuestionMark, Open, Close, Caret}
+use Rattle.path_syntax.specs.declared.byte_kind.Kind.TheVariants.{Reserved, Strange}
 use Rattle.path_syntax.specs.Expression.{Expression, Atom, Seq, Alt, Star, Plus, Opt}
 use Rattle.path_syntax.specs.Grammar.{is_blank, is_bare_byte, label_with}
 use Rattle.path_syntax.specs.Faults.{is_sign}
@@ -12,21 +19,26 @@ use Rattle.path_syntax.specs.Faults.{is_sign}
 -- the kind of a byte with a meaning of its own
 abbrev pub kind_of_sign : ℕ → Kind
 kind_of_sign byte =
-    if byte == 34 then Quote else if byte == 92 then Backslash else if byte == 47 then Slash else if byte == 124 then Bar else
-    if byte == 42 then Asterisk else if byte == 43 then PlusSign else if byte == 63 then QuestionMark else
-    if byte == 40 then Open else if byte == 41 then Close else if byte == 94 then Caret else Reserved
+    if byte == 34 then Quote else if byte == 92 then Backslash else
+    if byte == 47 then Slash else if byte == 124 then Bar else
+    if byte == 42 then Asterisk else if byte == 43 then PlusSign else
+    if byte == 63 then QuestionMark else if byte == 40 then Open else
+    if byte == 41 then Close else if byte == 94 then Caret else Reserved
 
 -- the kind of a byte
 unfoldable pub kind_of : ℕ → Kind
 kind_of byte =
-    if is_bare_byte byte then Bare else if is_blank byte then Blank else if is_name_byte byte then kind_of_sign byte else Strange
+    if is_bare_byte byte then Bare else if is_blank byte then Blank else
+        if is_name_byte byte then kind_of_sign byte else Strange
 
--- what stands before an element in its parentheses: the alternatives before its sequence, and the elements before it in that
+-- what stands before an element in its parentheses: the alternatives before its sequence, and the
+-- elements before it in that
 pub record FrameValue : Type 0 where
   pub alternatives : Option Expression
   pub sequence : Option Expression
 
--- what stands directly before the next byte; of a label the name so far, and whether it is taken backwards
+-- what stands directly before the next byte; of a label the name so far, and whether it is taken
+-- backwards
 pub data ModeValue : Type 0 where
   Operand : ModeValue
   BareLabel : List ℕ → Bool → ModeValue
@@ -73,8 +85,12 @@ closed (frame ∷ outer) e = Some (state_with outer frame (Primary e))
 -- what may stand behind an element
 abbrev pub after_element : List FrameValue → FrameValue → Expression → Kind → Option StateValue
 after_element outer frame e Blank = Some (state_with outer frame (Element e))
-after_element outer frame e Slash = Some (state_with outer (record frame { sequence = Some (in_sequence frame.sequence e) }) Operand)
-after_element outer frame e Bar = Some (state_with outer (record { alternatives = Some (whole_with frame e); sequence = None }) Operand)
+after_element outer frame e Slash =
+    Some (state_with outer
+        (record frame { sequence = Some (in_sequence frame.sequence e) }) Operand)
+after_element outer frame e Bar =
+    Some (state_with outer
+        (record { alternatives = Some (whole_with frame e); sequence = None }) Operand)
 after_element outer frame e Close = closed outer (whole_with frame e)
 after_element outer frame e _ = None
 
@@ -97,25 +113,31 @@ in_operand outer frame _ byte = None
 -- what may stand within quotes: any byte of a name; a quote ends the label, if it has a name
 abbrev pub ended_label : List FrameValue → FrameValue → List ℕ → Bool → Option StateValue
 ended_label outer frame [] back = None
-ended_label outer frame (byte ∷ name) back = Some (state_with outer frame (Primary (Atom (label_with (byte ∷ name) back))))
+ended_label outer frame (byte ∷ name) back =
+    Some (state_with outer frame (Primary (Atom (label_with (byte ∷ name) back))))
 
 abbrev pub in_quotes : List FrameValue → FrameValue → List ℕ → Bool → Kind → ℕ → Option StateValue
 in_quotes outer frame name back Blank byte = None
 in_quotes outer frame name back Strange byte = None
 in_quotes outer frame name back Quote byte = ended_label outer frame name back
 in_quotes outer frame name back Backslash byte = Some (state_with outer frame (Escape name back))
-in_quotes outer frame name back _ byte = Some (state_with outer frame (QuotedLabel (name ++ byte ∷ []) back))
+in_quotes outer frame name back _ byte =
+    Some (state_with outer frame (QuotedLabel (name ++ byte ∷ []) back))
 
 -- what may stand behind a backslash
 abbrev pub in_escape : List FrameValue → FrameValue → List ℕ → Bool → Kind → ℕ → Option StateValue
-in_escape outer frame name back Quote byte = Some (state_with outer frame (QuotedLabel (name ++ byte ∷ []) back))
-in_escape outer frame name back Backslash byte = Some (state_with outer frame (QuotedLabel (name ++ byte ∷ []) back))
+in_escape outer frame name back Quote byte =
+    Some (state_with outer frame (QuotedLabel (name ++ byte ∷ []) back))
+in_escape outer frame name back Backslash byte =
+    Some (state_with outer frame (QuotedLabel (name ++ byte ∷ []) back))
 in_escape outer frame name back _ byte = None
 
 -- what may stand behind the byte of a bare label
 abbrev pub in_bare : List FrameValue → FrameValue → List ℕ → Bool → Kind → ℕ → Option StateValue
-in_bare outer frame name back Bare byte = Some (state_with outer frame (BareLabel (name ++ byte ∷ []) back))
-in_bare outer frame name back kind byte = after_primary outer frame (Atom (label_with name back)) kind
+in_bare outer frame name back Bare byte =
+    Some (state_with outer frame (BareLabel (name ++ byte ∷ []) back))
+in_bare outer frame name back kind byte =
+    after_primary outer frame (Atom (label_with name back)) kind
 
 abbrev pub step_by : List FrameValue → FrameValue → ModeValue → Kind → ℕ → Option StateValue
 step_by outer frame Operand kind byte = in_operand outer frame kind byte
@@ -174,7 +196,8 @@ is_outside (QuotedLabel name back) = false
 is_outside (Escape name back) = false
 is_outside _ = true
 
--- the reader with its counts: the bytes and the signs so far, and the place of the last byte at which an operand was to come
+-- the reader with its counts: the bytes and the signs so far, and the place of the last byte at
+-- which an operand was to come
 pub record ReaderValue : Type 0 where
   pub state : StateValue
   pub label_place : ℕ
@@ -186,22 +209,26 @@ start = record { state = initial; label_place = 0; signs = 0; place = 0 }
 
 -- the place of the label that may begin with the next byte
 abbrev pub label_place_after : ReaderValue → ℕ
-label_place_after reader = if takes_operand reader.state.mode then reader.place + 1 else reader.label_place
+label_place_after reader =
+    if takes_operand reader.state.mode then reader.place + 1 else reader.label_place
 
 -- the signs with the next byte
 abbrev pub signs_after : ReaderValue → ℕ → ℕ
-signs_after reader byte = if is_outside reader.state.mode && is_sign byte then reader.signs + 1 else reader.signs
+signs_after reader byte =
+    if is_outside reader.state.mode && is_sign byte then reader.signs + 1 else reader.signs
 
 -- the limits, in their order
 abbrev pub within_limits : StateValue → ℕ → ℕ → ℕ → Result ReaderValue BadExpr
 within_limits state label_place signs place =
     if nat_lt 255 (name_length state.mode) then Err (LongName label_place) else
-    if nat_lt 512 signs then Err TooLarge else Ok (record { state = state; label_place = label_place; signs = signs; place = place })
+    if nat_lt 512 signs then Err TooLarge else
+    Ok (record { state = state; label_place = label_place; signs = signs; place = place })
 
 -- the reader after the step, or the fault
 abbrev pub after_step : ReaderValue → ℕ → Option StateValue → Result ReaderValue BadExpr
 after_step reader byte None = Err (Unexpected (reader.place + 1))
-after_step reader byte (Some state) = within_limits state (label_place_after reader) (signs_after reader byte) (reader.place + 1)
+after_step reader byte (Some state) =
+    within_limits state (label_place_after reader) (signs_after reader byte) (reader.place + 1)
 
 -- the reader after a byte, or the fault that shows at it
 unfoldable pub read_byte : ReaderValue → ℕ → Result ReaderValue BadExpr

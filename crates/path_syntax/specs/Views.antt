@@ -7,13 +7,15 @@ use Rattle.path_syntax.specs.declared.state.Mode.TheVariants as at
 use Rattle.path_syntax.specs.declared.state.State.{State}
 use Rattle.path_syntax.specs.declared.read.Reader.{Reader}
 use Rattle.path_syntax.specs.Expression.{Expression, expression}
-use Rattle.path_syntax.specs.Reading.{FrameValue, ModeValue, Operand, BareLabel, QuotedLabel, Escape, Primary, Element, StateValue, state_with, ReaderValue}
+use Rattle.path_syntax.specs.Reading.{FrameValue, ModeValue, Operand, BareLabel, QuotedLabel}
+use Rattle.path_syntax.specs.Reading.{Escape, Primary, Element, StateValue, state_with, ReaderValue}
 
 abbrev pub before_of : Option Expr → Option Expression
 before_of = option_map expression
 
 abbrev pub frame_of : Frame → FrameValue
-frame_of frame = record { alternatives = before_of frame.alternatives; sequence = before_of frame.sequence }
+frame_of frame =
+    record { alternatives = before_of frame.alternatives; sequence = before_of frame.sequence }
 
 -- the innermost frame, which the code has last, first
 abbrev pub frames_of : List Frame → List FrameValue
@@ -28,7 +30,14 @@ mode_of (at.Primary e) = Primary (expression e)
 mode_of (at.Element e) = Element (expression e)
 
 abbrev pub state_of : State → StateValue
-state_of state = state_with (frames_of state.outer.items) (frame_of state.frame) (mode_of state.mode)
+state_of state =
+    state_with (frames_of state.outer.items) (frame_of state.frame) (mode_of state.mode)
 
 abbrev pub reader_of : Reader → ReaderValue
-reader_of reader = record { state = state_of reader.state; label_place = reader.label_place; signs = reader.signs; place = reader.place }
+reader_of reader =
+    record {
+      state = state_of reader.state;
+      label_place = reader.label_place;
+      signs = reader.signs;
+      place = reader.place;
+    }

@@ -1,5 +1,7 @@
--- Expressions, labels and words as they are written: without blanks, and with quotes and parentheses only where they are needed.
-use Rattle.std.specs.Prelude.{ℕ, Bool, true, false, not, ◌||◌, List, [], ◌∷◌, ◌++◌, map, codes, if◌then◌else◌}
+-- Expressions, labels and words as they are written: without blanks, and with quotes and
+-- parentheses only where they are needed.
+use Rattle.std.specs.Prelude.{ℕ, Bool, true, false, not, ◌||◌, List, [], ◌∷◌, ◌++◌, map, codes}
+use Rattle.std.specs.Prelude.{if◌then◌else◌}
 use Rattle.std.specs.List.{list_all, join_with_byte}
 use Rattle.rpq_base.specs.Names.{IsName}
 use Rattle.rpq_base.specs.declared.data.Label.{Label}
@@ -8,7 +10,8 @@ use Rattle.path_syntax.specs.Grammar.{is_bare_byte, quoted}
 
 -- a name: as it is where all its bytes may stand without quotes, else in quotes
 abbrev pub written_name : List ℕ → List ℕ
-written_name name = if list_all is_bare_byte name then name else codes "\"" ++ quoted name ++ codes "\""
+written_name name =
+    if list_all is_bare_byte name then name else codes "\"" ++ quoted name ++ codes "\""
 
 -- what stands before a label that is taken backwards, or isn't
 abbrev pub caret : Bool → List ℕ
@@ -38,13 +41,16 @@ is_alt _ = false
 abbrev pub grouped : Bool → List ℕ → List ℕ
 grouped wanted text = if wanted then codes "(" ++ text ++ codes ")" else text
 
--- an expression: in parentheses stand an alternative that is a side of a sequence or the right side of an alternative,
--- a sequence that is the right side of a sequence, and what is repeated and is no label
+-- an expression: in parentheses stand an alternative that is a side of a sequence or the right side
+-- of an alternative, a sequence that is the right side of a sequence, and what is repeated and is
+-- no label
 abbrev pub written_expression : Expression → List ℕ
 written_expression (Atom label) = written_label label
 written_expression (Seq left right) =
-    grouped (is_alt left) (written_expression left) ++ codes "/" ++ grouped (is_alt right || is_seq right) (written_expression right)
-written_expression (Alt left right) = written_expression left ++ codes "|" ++ grouped (is_alt right) (written_expression right)
+    grouped (is_alt left) (written_expression left) ++ codes "/" ++
+        grouped (is_alt right || is_seq right) (written_expression right)
+written_expression (Alt left right) =
+    written_expression left ++ codes "|" ++ grouped (is_alt right) (written_expression right)
 written_expression (Star body) = grouped (not (is_atom body)) (written_expression body) ++ codes "*"
 written_expression (Plus body) = grouped (not (is_atom body)) (written_expression body) ++ codes "+"
 written_expression (Opt body) = grouped (not (is_atom body)) (written_expression body) ++ codes "?"

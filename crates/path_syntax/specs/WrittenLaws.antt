@@ -1,10 +1,13 @@
--- What the written forms are meant to be, as laws: worked values, and that what is written is read again.
-use Rattle.std.specs.Prelude.{◌≡◌, ℕ, ◌+◌, ◌≤◌, ◌^◌, not, ◌||◌, Bool, [], ◌∷◌, length, codes, if◌then◌else◌}
+-- What the written forms are meant to be, as laws: worked values, and that what is written is read
+-- again.
+use Rattle.std.specs.Prelude.{◌≡◌, ℕ, ◌+◌, ◌≤◌, ◌^◌, not, ◌||◌, Bool, [], ◌∷◌, length, codes}
+use Rattle.std.specs.Prelude.{if◌then◌else◌}
 use Rattle.path_syntax.specs.Expression.{Expression, Atom, Seq, Alt, Star, Plus, Opt}
 use Rattle.path_syntax.specs.Plain.{IsPlainExpression}
 use Rattle.path_syntax.specs.Grammar.{one_way, label_named, IsText}
 use Rattle.path_syntax.specs.Faults.{signs, IsWithinLimits}
-use Rattle.path_syntax.specs.Written.{is_atom, is_seq, is_alt, written_expression, written_word, IsNamed}
+use Rattle.path_syntax.specs.Written.{is_atom, is_seq, is_alt, written_expression, written_word}
+use Rattle.path_syntax.specs.Written.{IsNamed}
 
 -- the expressions of the labels a, b and c
 abbrev pub a : Expression
@@ -23,21 +26,27 @@ pub record WrittenExamples : Type 0 where
   pub to_the_right : written_expression (Alt a (Alt b (Seq a (Seq b c)))) ≡ codes "a|(b|a/(b/c))"
   pub repeated_twice : written_expression (Opt (Plus a)) ≡ codes "(a+)?"
   pub in_quotes : written_expression (Atom (label_named (codes "\"^\\"))) ≡ codes "\"\\\"^\\\\\""
-  pub of_a_word : written_word (label_named (codes "a") ∷ label_named (codes "x/y") ∷ []) ≡ codes "a/\"x/y\""
+  pub of_a_word : written_word (label_named (codes "a") ∷ label_named (codes "x/y") ∷ []) ≡
+      codes "a/\"x/y\""
 
 -- the written form of an expression whose labels are named and point forwards is a text of it
 abbrev pub WrittenIsSpelled : Type 0
-WrittenIsSpelled = (e : Expression) → IsPlainExpression e → IsNamed e → IsText (written_expression e) e
+WrittenIsSpelled =
+    (e : Expression) → IsPlainExpression e → IsNamed e → IsText (written_expression e) e
 
 -- one more for a parenthesis that is wanted
 abbrev pub grouped_signs : Bool → ℕ → ℕ
 grouped_signs wanted count = if wanted then count + 1 else count
 
--- how many of the signs '/', '|', '*', '+', '?' and '(' stand outside quoted labels in the written form of an expression
+-- how many of the signs '/', '|', '*', '+', '?' and '(' stand outside quoted labels in the written
+-- form of an expression
 abbrev pub written_signs : Expression → ℕ
 written_signs (Atom label) = 0
-written_signs (Seq left right) = grouped_signs (is_alt left) (written_signs left) + 1 + grouped_signs (is_alt right || is_seq right) (written_signs right)
-written_signs (Alt left right) = written_signs left + 1 + grouped_signs (is_alt right) (written_signs right)
+written_signs (Seq left right) =
+    grouped_signs (is_alt left) (written_signs left) + 1 +
+        grouped_signs (is_alt right || is_seq right) (written_signs right)
+written_signs (Alt left right) =
+    written_signs left + 1 + grouped_signs (is_alt right) (written_signs right)
 written_signs (Star body) = grouped_signs (not (is_atom body)) (written_signs body) + 1
 written_signs (Plus body) = grouped_signs (not (is_atom body)) (written_signs body) + 1
 written_signs (Opt body) = grouped_signs (not (is_atom body)) (written_signs body) + 1
@@ -53,4 +62,5 @@ pub record IsReadable (e : Expression) : Type 0 where
 
 -- with at most 512 signs it is so
 abbrev pub WrittenIsReadable : Type 0
-WrittenIsReadable = (e : Expression) → IsNamed e → IsPlainExpression e → written_signs e ≤ 512 → IsReadable e
+WrittenIsReadable =
+    (e : Expression) → IsNamed e → IsPlainExpression e → written_signs e ≤ 512 → IsReadable e

@@ -1,7 +1,8 @@
 //! Laws of the grammar of expressions. The functions do nothing: their contracts are the laws.
 
 ghost use Rattle.std.specs.Prelude.{ℕ, List};
-ghost use Rattle.path_syntax.specs.GrammarLaws.{OneExpression, OneOutcome, ShortNamesAreShort, GrammarExamples, FaultExamples};
+ghost use Rattle.path_syntax.specs.GrammarLaws.{OneExpression, OneOutcome, ShortNamesAreShort};
+ghost use Rattle.path_syntax.specs.GrammarLaws.{GrammarExamples, FaultExamples};
 
 /// Bytes are the text of at most one expression.
 pub fn one_expression()

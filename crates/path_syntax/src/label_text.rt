@@ -11,7 +11,8 @@ use crate::byte_kind::is_bare_byte;
 use rpq_base::{Label, Memory};
 use std::alloc::Global;
 
-/// The text of a word: its labels in their written form, joined by `/`, and `()` for the empty word.
+/// The text of a word: its labels in their written form, joined by `/`, and `()` for the empty
+/// word.
 pub fn write_word(alloc: Global, word: &[Label]) -> Result<Vec<u8>, Memory>
     requires { All IsPlainLabel word.now }
     ensures { IfOk result (λ text. text.items ≡ written_word word.now) }

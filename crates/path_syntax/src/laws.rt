@@ -4,7 +4,8 @@ ghost use Rattle.std.specs.Prelude.{List};
 ghost use Rattle.rpq_base.specs.declared.data.Label.{Label};
 ghost use Rattle.path_syntax.specs.Expression.{Expression};
 ghost use Rattle.path_syntax.specs.Laws.{RepetitionsByCases, NullableHasEmptyWord};
-ghost use Rattle.path_syntax.specs.WrittenLaws.{WrittenExamples, WrittenIsSpelled, WrittenHasSigns, WrittenIsReadable};
+ghost use Rattle.path_syntax.specs.WrittenLaws.{WrittenExamples, WrittenIsSpelled, WrittenHasSigns};
+ghost use Rattle.path_syntax.specs.WrittenLaws.{WrittenIsReadable};
 
 /// The words of a star, a plus and an optional are those that the textbook gives them by cases.
 pub fn repetitions_by_cases()
@@ -31,9 +32,11 @@ pub fn written_has_signs()
     ensures { WrittenHasSigns }
 {}
 
-/// The written form of an expression is within the limits of what is read, where it has at most 512 signs.
+/// The written form of an expression is within the limits of what is read, where it has at most 512
+/// signs.
 ///
-/// With [`written_is_spelled`], and with what `write_expr` and `read_expr` say, an expression that is written is read again.
+/// With [`written_is_spelled`], and with what `write_expr` and `read_expr` say, an expression that
+/// is written is read again.
 pub fn written_is_readable()
     ensures { WrittenIsReadable }
 {}

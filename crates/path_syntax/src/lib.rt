@@ -1,12 +1,15 @@
-//! The expressions of the query language: what they mean, as the textbook has it, and how they are read and written.
+//! The expressions of the query language: what they mean, as the textbook has it, and how they are
+//! read and written.
 //!
-//! An [`Expr`] is a regular expression over labels. Its language is defined in `specs/` by cases, without an automaton,
-//! and its texts by a grammar; the layers above rest on these two definitions. [`read_expr`] reads exactly the texts of
-//! the grammar that are within the limits, [`write_expr`] writes the one form of an expression without blanks, and
-//! [`accepts`] decides whether a word is in the language.
+//! An [`Expr`] is a regular expression over labels. Its language is defined in `specs/` by cases,
+//! without an automaton, and its texts by a grammar; the layers above rest on these two
+//! definitions. [`read_expr`] reads exactly the texts of the grammar that are within the limits,
+//! [`write_expr`] writes the one form of an expression without blanks, and [`accepts`] decides
+//! whether a word is in the language.
 //!
-//! A label that is taken backwards stands in the type, and none is read yet: the sign `^` is refused where an operand is to
-//! come. That place, [`read_expr`]'s step from an operand, is where it will be read.
+//! A label that is taken backwards stands in the type, and none is read yet: the sign `^` is
+//! refused where an operand is to come. That place, [`read_expr`]'s step from an operand, is where
+//! it will be read.
 #![tactic(auto)]
 
 mod byte_kind;

@@ -3,7 +3,8 @@
 ghost use Rattle.std.specs.Prelude.{◌≡◌, ◌++◌, ◌↔◌, IsTrue, IfOk, OnOk};
 ghost use Rattle.path_syntax.specs.Expression.{expression};
 ghost use Rattle.path_syntax.specs.Language.{In};
-ghost use Rattle.path_syntax.specs.Marks.{first_mark, other_marks, marks_behind, may_end, marks_after};
+ghost use Rattle.path_syntax.specs.Marks.{first_mark, other_marks, marks_behind, may_end};
+ghost use Rattle.path_syntax.specs.Marks.{marks_after};
 
 use crate::empty_word::has_empty_word;
 use crate::expr::Expr;
@@ -87,7 +88,8 @@ fn may_end(expr: &Expr, marks: &[bool]) -> bool
     match expr {
         Expr::Atom(_) => first_mark(marks),
         Expr::Seq(left, right) => {
-            may_end(right, marks_behind(left, marks)) || has_empty_word(right) && may_end(left, marks)
+            let here = has_empty_word(right) && may_end(left, marks);
+            here || may_end(right, marks_behind(left, marks))
         }
         Expr::Alt(left, right) => may_end(left, marks) || may_end(right, marks_behind(left, marks)),
         Expr::Star(body) | Expr::Plus(body) | Expr::Opt(body) => may_end(body, marks),

@@ -1,7 +1,10 @@
 //! Reading expressions.
 
-ghost use Rattle.std.specs.Prelude.{◌≡◌, ◌≢◌, ◌+◌, ◌^◌, ◌<◌, ◌≤◌, Ok, Err, Some, IfOk, OnOk, MatchResult, length};
-ghost use Rattle.path_syntax.specs.Reading.{IsReady, label_place_after, signs_after, within_limits, read_byte, read_all, ended_by, whole_of, name_length, reading, start, Gives};
+ghost use Rattle.std.specs.Prelude.{◌≡◌, ◌≢◌, ◌+◌, ◌^◌, ◌<◌, ◌≤◌, Ok, Err, Some, IfOk, OnOk};
+ghost use Rattle.std.specs.Prelude.{MatchResult, length};
+ghost use Rattle.path_syntax.specs.Reading.{IsReady, label_place_after, signs_after, within_limits};
+ghost use Rattle.path_syntax.specs.Reading.{read_byte, read_all, ended_by, whole_of, name_length};
+ghost use Rattle.path_syntax.specs.Reading.{reading, start, Gives};
 ghost use Rattle.path_syntax.specs.declared.read.BadExpr.{BadExpr};
 ghost use Rattle.path_syntax.specs.Views.{state_of, mode_of, reader_of};
 ghost use Rattle.path_syntax.specs.Expression.{Expression, expression};
@@ -64,7 +67,8 @@ impl Error for BadExpr {}
 #[derive(Debug, Drop)]
 struct Reader {
     state: State,
-    /// The place of the last byte at which an operand was to come. Where a label stands directly before, it began there.
+    /// The place of the last byte at which an operand was to come. Where a label stands directly
+    /// before, it began there.
     label_place: u32,
     /// The signs so far.
     signs: u32,
@@ -74,10 +78,12 @@ struct Reader {
 
 /// The reader in this state, if it is within the limits.
 fn within_limits(state: State, label_place: u32, signs: u32, place: u32) -> Result<Reader, BadExpr>
-    ensures exact { Gives reader_of result (within_limits (state_of state) label_place signs place) }
+    ensures exact { Gives reader_of result
+        (within_limits (state_of state) label_place signs place) }
     ensures signs { IfOk result (λ reader. reader.signs ≤ 512) }
     ensures place { IfOk result (λ reader. reader.place ≡ place) }
-    ensures ready { (name_length (mode_of state.mode) ≤ 255 → IsReady (mode_of state.mode)) → IfOk result (λ reader. IsReady (mode_of reader.state.mode)) }
+    ensures ready { (name_length (mode_of state.mode) ≤ 255 → IsReady (mode_of state.mode)) →
+        IfOk result (λ reader. IsReady (mode_of reader.state.mode)) }
 {
     if state.name_length() > MAX_NAME {
         return Err(BadExpr::LongName(label_place));
@@ -190,9 +196,11 @@ fn read(alloc: Global, bytes: &[u8]) -> Result<Expr, BadExpr>
     read_all(alloc, bytes)?.end(alloc)
 }
 
-/// The expression that these bytes are the text of, or the fault that shows first as they are read from left to right.
+/// The expression that these bytes are the text of, or the fault that shows first as they are read
+/// from left to right.
 ///
-/// It goes through the bytes once and keeps what stands before each open parenthesis, without recursion.
+/// It goes through the bytes once and keeps what stands before each open parenthesis, without
+/// recursion.
 pub fn read_expr(alloc: Global, bytes: &[u8]) -> Result<Expr, BadExpr>
     requires { length bytes.now < 2 ^ 24 + 1 }
     // The answer is the outcome of these bytes, unless memory runs out.
@@ -205,8 +213,8 @@ pub fn read_expr(alloc: Global, bytes: &[u8]) -> Result<Expr, BadExpr>
     ensures plain { IfOk result (λ found. IsPlainExpression (expression found)) }
     ensures small { IfOk result (λ found. nodes (expression found) < 2 ^ 32) }
     // Each text of an expression that is within the limits is read, unless memory runs out.
-    ensures whole { (e : Expression) → IsText bytes.now e → IsWithinLimits one_way bytes.now → MatchResult
-        result (λ found. expression found ≡ e) (λ fault. fault ≡ BadExpr.Memory) }
+    ensures whole { (e : Expression) → IsText bytes.now e → IsWithinLimits one_way bytes.now →
+        MatchResult result (λ found. expression found ≡ e) (λ fault. fault ≡ BadExpr.Memory) }
     // Each fault comes exactly where it shows first, unless memory runs out.
     ensures fault { (fault : BadExpr) → fault ≢ BadExpr.Memory →
         Tells result fault (IsFault one_way fault bytes.now) }

@@ -6,7 +6,8 @@ ghost use Rattle.path_syntax.specs.Size.{atoms, nodes};
 
 use crate::expr::Expr;
 
-/// How many times a label stands in the expression, each of its places counted. Goes over the expression once.
+/// How many times a label stands in the expression, each of its places counted. Goes over the
+/// expression once.
 #[tactic(auto, using(crate::proofs::Sizes::atoms_within_nodes))]
 pub fn occurrences(expr: &Expr) -> u64
     requires { nodes (expression expr.now) < 2 ^ 32 }

@@ -1,10 +1,15 @@
 //! Where the reader of an expression stands, and the step that a byte makes.
 
-ghost use Rattle.std.specs.Prelude.{◌≡◌, ◌≢◌, false, List, [], ◌∷◌, ◌++◌, None, Some, IfOk, option_map};
+ghost use Rattle.std.specs.Prelude.{◌≡◌, ◌≢◌, false, List, [], ◌∷◌, ◌++◌, None, Some, IfOk};
+ghost use Rattle.std.specs.Prelude.{option_map};
 ghost use Rattle.rpq_base.specs.Names.{IsName};
 ghost use Rattle.path_syntax.specs.Expression.{expression, Atom};
 ghost use Rattle.path_syntax.specs.Grammar.{label_with};
-ghost use Rattle.path_syntax.specs.Reading.{in_sequence, in_alternatives, whole_with, after_element, after_primary, in_operand, in_bare, in_quotes, in_escape, ended_label, step, name_length, takes_operand, is_outside, closed, whole_of, initial, IsReady};
+ghost use Rattle.path_syntax.specs.Reading.{in_sequence, in_alternatives, whole_with};
+ghost use Rattle.path_syntax.specs.Reading.{after_element, after_primary, in_operand, in_bare};
+ghost use Rattle.path_syntax.specs.Reading.{in_quotes, in_escape, ended_label, step, name_length};
+ghost use Rattle.path_syntax.specs.Reading.{takes_operand, is_outside, closed, whole_of, initial};
+ghost use Rattle.path_syntax.specs.Reading.{IsReady};
 ghost use Rattle.path_syntax.specs.Views.{frame_of, frames_of, state_of, mode_of, before_of};
 
 use crate::byte_kind::{Kind, kind_of};
@@ -123,7 +128,8 @@ fn after_element(
 /// The frame with one more element in its sequence.
 fn with_element(alloc: Global, frame: Frame, element: Expr) -> Result<Frame, Memory>
     ensures { IfOk result (λ after. frame_of after ≡
-        record (frame_of frame) { sequence = Some (in_sequence (before_of frame.sequence) (expression element)) }) }
+        record (frame_of frame) {
+            sequence = Some (in_sequence (before_of frame.sequence) (expression element)) }) }
 {
     Ok(Frame {
         alternatives: frame.alternatives,
@@ -134,7 +140,9 @@ fn with_element(alloc: Global, frame: Frame, element: Expr) -> Result<Frame, Mem
 /// The frame with one more alternative, which ends with this element.
 fn with_sequence(alloc: Global, frame: Frame, element: Expr) -> Result<Frame, Memory>
     ensures { IfOk result (λ after. frame_of after ≡
-        record { alternatives = Some (whole_with (frame_of frame) (expression element)); sequence = None }) }
+        record {
+            alternatives = Some (whole_with (frame_of frame) (expression element));
+            sequence = None }) }
 {
     Ok(Frame {
         alternatives: Some(whole_with(alloc, frame, element)?),
@@ -275,7 +283,8 @@ fn ended_label(
     }))
 }
 
-/// What may stand within quotes: any byte of a name. A quote ends the label, and a backslash stands before a quote or a backslash.
+/// What may stand within quotes: any byte of a name. A quote ends the label, and a backslash stands
+/// before a quote or a backslash.
 fn in_quotes(
     alloc: Global,
     outer: Vec<Frame>,

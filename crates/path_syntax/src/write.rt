@@ -3,15 +3,17 @@
 ghost use Rattle.std.specs.Prelude.{◌≡◌, ◌∷◌, [], ◌++◌, not, IfOk, OnOk};
 ghost use Rattle.path_syntax.specs.Expression.{expression};
 ghost use Rattle.path_syntax.specs.Plain.{IsPlainExpression};
-ghost use Rattle.path_syntax.specs.Written.{is_atom, is_seq, is_alt, grouped, written_expression, IsNamed};
+ghost use Rattle.path_syntax.specs.Written.{is_atom, is_seq, is_alt, grouped, written_expression};
+ghost use Rattle.path_syntax.specs.Written.{IsNamed};
 
 use crate::expr::Expr;
 use crate::label_text::push_label;
 use rpq_base::Memory;
 use std::alloc::Global;
 
-/// The written form of an expression: no blanks, quotes only round labels that need them, parentheses only where the
-/// operators wouldn't group so without them. Goes over the expression once.
+/// The written form of an expression: no blanks, quotes only round labels that need them,
+/// parentheses only where the operators wouldn't group so without them. Goes over the expression
+/// once.
 pub fn write_expr(alloc: Global, expr: &Expr) -> Result<Vec<u8>, Memory>
     requires { IsPlainExpression (expression expr.now) }
     ensures text { IfOk result (λ text. text.items ≡ written_expression (expression expr.now)) }
@@ -25,7 +27,8 @@ pub fn write_expr(alloc: Global, expr: &Expr) -> Result<Vec<u8>, Memory>
 /// Writes an expression at the end of the text.
 #[cycle(write)]
 fn push_expr(text: &mut Vec<u8>, expr: &Expr) -> Result<(), Memory>
-    ensures text { OnOk result (text.new.items ≡ text.old.items ++ written_expression (expression expr.now)) }
+    ensures text { OnOk result
+        (text.new.items ≡ text.old.items ++ written_expression (expression expr.now)) }
     ensures named { OnOk result (IsNamed (expression expr.now)) }
 {
     match expr {
@@ -49,7 +52,8 @@ fn push_expr(text: &mut Vec<u8>, expr: &Expr) -> Result<(), Memory>
 /// Writes a part of an expression, in parentheses where they are wanted.
 #[cycle(write)]
 fn push_part(text: &mut Vec<u8>, part: &Expr, parentheses: bool) -> Result<(), Memory>
-    ensures text { OnOk result (text.new.items ≡ text.old.items ++ grouped parentheses (written_expression (expression part.now))) }
+    ensures text { OnOk result (text.new.items ≡
+        text.old.items ++ grouped parentheses (written_expression (expression part.now))) }
     ensures named { OnOk result (IsNamed (expression part.now)) }
 {
     if !parentheses {
@@ -64,8 +68,9 @@ fn push_part(text: &mut Vec<u8>, part: &Expr, parentheses: bool) -> Result<(), M
 /// Writes what is repeated, and the sign behind it.
 #[cycle(write)]
 fn push_repeated(text: &mut Vec<u8>, body: &Expr, sign: u8) -> Result<(), Memory>
-    ensures text { OnOk result
-        (text.new.items ≡ text.old.items ++ (grouped (not (is_atom (expression body.now))) (written_expression (expression body.now)) ++ sign ∷ [])) }
+    ensures text { OnOk result (text.new.items ≡ text.old.items ++
+        (grouped (not (is_atom (expression body.now))) (written_expression (expression body.now)) ++
+        sign ∷ [])) }
     ensures named { OnOk result (IsNamed (expression body.now)) }
 {
     push_part(text, body, !is_atom(body))?;
