@@ -182,18 +182,18 @@ mutual
       let seconds = marks_after right others next label in
       elim on [
         | inl j ↦ (elim (forth left marks begins label (seconds ++ more) j.front (subst (λ (ms : List Bool). GoesOn left ms j.front) (append_assoc firsts seconds more) j.left)) [
-            | inl a ↦ inl (a.0, record { front = label ∷ j.front; rest = j.rest; split = ap (λ (w : List Label). label ∷ w) j.split; left = a.1; right = j.right })
-            | inr g ↦ inr (inl (record { front = label ∷ j.front; rest = j.rest; split = ap (λ (w : List Label). label ∷ w) j.split; left = g; right = j.right }))
-          ])
+          | inl a ↦ inl (a.0, record { front = label ∷ j.front; rest = j.rest; split = ap (λ (w : List Label). label ∷ w) j.split; left = a.1; right = j.right })
+          | inr g ↦ inr (inl (record { front = label ∷ j.front; rest = j.rest; split = ap (λ (w : List Label). label ∷ w) j.split; left = g; right = j.right }))
+        ])
         | inr g ↦ (elim (forth right others next label more word
             (subst (λ (ms : List Bool). GoesOn right ms word) (ap (marks_behind left) (append_assoc firsts seconds more) ∙ behind_after left marks begins label (seconds ++ more)) g)) [
-            | inl b ↦ (elim (or_cases (may_end left marks) (begins && is_nullable left) b.0) [
+              | inl b ↦ (elim (or_cases (may_end left marks) (begins && is_nullable left) b.0) [
                 | inl ends ↦ inr (inl (at_front (GoesOn left marks) (In right) (label ∷ word) ((may_end_is left marks).0 ends) b.1))
                 | inr both ↦ (let parts = and_parts begins (is_nullable left) both in
                     inl (parts.0, at_front (In left) (In right) (label ∷ word) ((nullable_is left).0 parts.1) b.1))
               ])
-            | inr h ↦ inr (inr h)
-          ])
+              | inr h ↦ inr (inr h)
+            ])
       ]
   forth (Alt left right) marks begins label more word on =
       let others = marks_behind left marks in
@@ -201,21 +201,24 @@ mutual
       let seconds = marks_after right others begins label in
       elim on [
         | inl g ↦ (elim (forth left marks begins label (seconds ++ more) word (subst (λ (ms : List Bool). GoesOn left ms word) (append_assoc firsts seconds more) g)) [
-            | inl a ↦ inl (a.0, inl a.1)
-            | inr h ↦ inr (inl h)
-          ])
+          | inl a ↦ inl (a.0, inl a.1)
+          | inr h ↦ inr (inl h)
+        ])
         | inr g ↦ (elim (forth right others begins label more word
             (subst (λ (ms : List Bool). GoesOn right ms word) (ap (marks_behind left) (append_assoc firsts seconds more) ∙ behind_after left marks begins label (seconds ++ more)) g)) [
-            | inl b ↦ inl (b.0, inr b.1)
-            | inr h ↦ inr (inr h)
-          ])
+              | inl b ↦ inl (b.0, inr b.1)
+              | inr h ↦ inr (inr h)
+            ])
       ]
   forth (Star body) marks begins label more word on =
       subst (λ (w : List Label). Begins (Star body) marks begins label w) (sym on.split)
       (star_begins body marks begins label on.front on.rest (forth body marks (begins || may_end body marks) label more on.front on.left) on.right
       (Begins (Star body) marks begins label (on.front ++ on.rest))
-      (λ started is. inl (started, repeated_more (In body) (label ∷ on.front ++ on.rest)
-      (record { front = label ∷ on.front; rest = on.rest; split = refl; left = ((λ h. cc), is); right = on.right })))
+      (λ started is. inl (
+        started,
+        repeated_more (In body) (label ∷ on.front ++ on.rest)
+            (record { front = label ∷ on.front; rest = on.rest; split = refl; left = ((λ h. cc), is); right = on.right }),
+      ))
       (λ later. inr later))
   forth (Plus body) marks begins label more word on =
       subst (λ (w : List Label). Begins (Plus body) marks begins label w) (sym on.split)
@@ -237,34 +240,34 @@ mutual
       let firsts = marks_after left marks begins label in
       let seconds = marks_after right others next label in
       let in_left : (front : List Label) → Begins left marks begins label front → GoesOn left ((firsts ++ seconds) ++ more) front =
-          λ front b. subst (λ (ms : List Bool). GoesOn left ms front) (sym (append_assoc firsts seconds more)) (back left marks begins label (seconds ++ more) front b) in
+      λ front b. subst (λ (ms : List Bool). GoesOn left ms front) (sym (append_assoc firsts seconds more)) (back left marks begins label (seconds ++ more) front b) in
       let in_right : Begins right others next label word → GoesOn right (marks_behind left ((firsts ++ seconds) ++ more)) word =
-          λ b. subst (λ (ms : List Bool). GoesOn right ms word)
-          (sym (ap (marks_behind left) (append_assoc firsts seconds more) ∙ behind_after left marks begins label (seconds ++ more)))
-          (back right others next label more word b) in
+      λ b. subst (λ (ms : List Bool). GoesOn right ms word)
+      (sym (ap (marks_behind left) (append_assoc firsts seconds more) ∙ behind_after left marks begins label (seconds ++ more)))
+      (back right others next label more word b) in
       elim is [
         | inl a ↦ (elim (cut (In left) (In right) label word a.1) [
-            | AtFront none rest ↦ inr (in_right (inl (or_right (may_end left marks) (begins && is_nullable left) (and_from begins (is_nullable left) a.0 ((nullable_is left).1 none)), rest)))
-            | Within j ↦ inl (record { front = j.front; rest = j.rest; split = j.split; left = in_left j.front (inl (a.0, j.left)); right = j.right })
-          ])
+          | AtFront none rest ↦ inr (in_right (inl (or_right (may_end left marks) (begins && is_nullable left) (and_from begins (is_nullable left) a.0 ((nullable_is left).1 none)), rest)))
+          | Within j ↦ inl (record { front = j.front; rest = j.rest; split = j.split; left = in_left j.front (inl (a.0, j.left)); right = j.right })
+        ])
         | inr on ↦ (elim on [
-            | inl joined ↦ (elim (cut (GoesOn left marks) (In right) label word joined) [
-                | AtFront none rest ↦ inr (in_right (inl (or_left (may_end left marks) (begins && is_nullable left) ((may_end_is left marks).1 none), rest)))
-                | Within j ↦ inl (record { front = j.front; rest = j.rest; split = j.split; left = in_left j.front (inr j.left); right = j.right })
-              ])
-            | inr h ↦ inr (in_right (inr h))
+          | inl joined ↦ (elim (cut (GoesOn left marks) (In right) label word joined) [
+            | AtFront none rest ↦ inr (in_right (inl (or_left (may_end left marks) (begins && is_nullable left) ((may_end_is left marks).1 none), rest)))
+            | Within j ↦ inl (record { front = j.front; rest = j.rest; split = j.split; left = in_left j.front (inr j.left); right = j.right })
           ])
+          | inr h ↦ inr (in_right (inr h))
+        ])
       ]
   back (Alt left right) marks begins label more word is =
       let others = marks_behind left marks in
       let firsts = marks_after left marks begins label in
       let seconds = marks_after right others begins label in
       let in_left : Begins left marks begins label word → GoesOn left ((firsts ++ seconds) ++ more) word =
-          λ b. subst (λ (ms : List Bool). GoesOn left ms word) (sym (append_assoc firsts seconds more)) (back left marks begins label (seconds ++ more) word b) in
+      λ b. subst (λ (ms : List Bool). GoesOn left ms word) (sym (append_assoc firsts seconds more)) (back left marks begins label (seconds ++ more) word b) in
       let in_right : Begins right others begins label word → GoesOn right (marks_behind left ((firsts ++ seconds) ++ more)) word =
-          λ b. subst (λ (ms : List Bool). GoesOn right ms word)
-          (sym (ap (marks_behind left) (append_assoc firsts seconds more) ∙ behind_after left marks begins label (seconds ++ more)))
-          (back right others begins label more word b) in
+      λ b. subst (λ (ms : List Bool). GoesOn right ms word)
+      (sym (ap (marks_behind left) (append_assoc firsts seconds more) ∙ behind_after left marks begins label (seconds ++ more)))
+      (back right others begins label more word b) in
       elim is [
         | inl a ↦ (elim a.1 [ inl first ↦ inl (in_left (inl (a.0, first))) | inr second ↦ inr (in_right (inl (a.0, second))) ])
         | inr on ↦ (elim on [ inl g ↦ inl (in_left (inr g)) | inr h ↦ inr (in_right (inr h)) ])
@@ -272,7 +275,7 @@ mutual
   back (Star body) marks begins label more word is =
       let after = marks_after body marks (begins || may_end body marks) label ++ more in
       let again : (front : List Label) → Begins body marks (begins || may_end body marks) label front → GoesOn body after front =
-          back body marks (begins || may_end body marks) label more in
+      back body marks (begins || may_end body marks) label more in
       elim is [
         | inl a ↦ star_more body marks begins label word after again (or_left begins (may_end body marks) a.0) a.1
         | inr on ↦ star_on body marks begins label word after again on
@@ -280,7 +283,7 @@ mutual
   back (Plus body) marks begins label more word is =
       let after = marks_after body marks (begins || may_end body marks) label ++ more in
       let again : (front : List Label) → Begins body marks (begins || may_end body marks) label front → GoesOn body after front =
-          back body marks (begins || may_end body marks) label more in
+      back body marks (begins || may_end body marks) label more in
       elim is [
         | inl a ↦ plus_more body marks begins label word after again (or_left begins (may_end body marks) a.0) a.1
         | inr on ↦ star_on body marks begins label word after again on

@@ -164,8 +164,11 @@ repeated_length byte bare text labels count h =
 
 pub written_length : (e : Expression) → IsNamed e → length (written_expression e) ≤ 513 * atoms e + 2 * written_signs e
 written_length (Atom label) named =
-    omega (arith, caret_length label.back (written_name label.name)
-    (label_length (list_all is_bare_byte label.name) label.name (short_name label.name named)))
+    omega (
+      arith,
+      caret_length label.back (written_name label.name)
+          (label_length (list_all is_bare_byte label.name) label.name (short_name label.name named)),
+    )
 written_length (Seq left right) named =
     let first = grouped_length (is_alt left) (written_expression left) (513 * atoms left) (written_signs left) (written_length left named.0) in
     let second = grouped_length (is_alt right || is_seq right) (written_expression right) (513 * atoms right) (written_signs right) (written_length right named.1) in

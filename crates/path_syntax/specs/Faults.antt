@@ -21,7 +21,7 @@ abbrev mutual
   behind_quote [] = []
   behind_quote (byte ∷ bytes) =
       if byte == 34 then outside_quotes bytes else if byte == 92 then behind_backslash bytes else
-          behind_quote bytes
+      behind_quote bytes
 
   pub behind_backslash : List ℕ → List ℕ
   behind_backslash [] = []

@@ -61,7 +61,7 @@ mutual
         IsAlternative inverses text e
     Either : (left right : List ℕ) {e f : Expression} →
         IsAlternative inverses left e → IsSequence inverses right f →
-            IsAlternative inverses (left ++ codes "|" ++ right) (Alt e f)
+        IsAlternative inverses (left ++ codes "|" ++ right) (Alt e f)
 
   -- a sequence is elements joined by '/', grouped to the left
   pub data IsSequence (inverses : Bool) : List ℕ → Expression → Type 0 where
@@ -69,7 +69,7 @@ mutual
         IsSequence inverses text e
     Then : (left right : List ℕ) {e f : Expression} →
         IsSequence inverses left e → IsElement inverses right f →
-            IsSequence inverses (left ++ codes "/" ++ right) (Seq e f)
+        IsSequence inverses (left ++ codes "/" ++ right) (Seq e f)
 
   -- an element is a primary with at most one sign of repetition, behind which blanks may stand
   pub data IsElement (inverses : Bool) : List ℕ → Expression → Type 0 where
@@ -86,14 +86,14 @@ mutual
   pub data IsPrimary (inverses : Bool) : List ℕ → Expression → Type 0 where
     Named : (before text after : List ℕ) {name : List ℕ} →
         AreBlanks before → IsLabel text name → AreBlanks after →
-            IsPrimary inverses (before ++ text ++ after) (Atom (label_named name))
+        IsPrimary inverses (before ++ text ++ after) (Atom (label_named name))
     Inverse : (before between text after : List ℕ) {name : List ℕ} → IsTrue inverses →
         AreBlanks before → AreBlanks between → IsLabel text name → AreBlanks after →
         IsPrimary inverses (before ++ codes "^" ++ between ++ text ++ after)
-            (Atom (inverse_named name))
+        (Atom (inverse_named name))
     InParentheses : (before inside after : List ℕ) {e : Expression} →
         AreBlanks before → IsAlternative inverses inside e → AreBlanks after →
-            IsPrimary inverses (before ++ codes "(" ++ inside ++ codes ")" ++ after) e
+        IsPrimary inverses (before ++ codes "(" ++ inside ++ codes ")" ++ after) e
 
 -- no label is taken backwards: what is read today
 abbrev pub one_way : Bool

@@ -10,7 +10,7 @@ use Rattle.path_syntax.specs.Faults.{IsOutcome}
 abbrev pub OneExpression : Type 0
 OneExpression =
     (bytes : List ℕ) (first second : Expression) → IsText bytes first → IsText bytes second →
-        first ≡ second
+    first ≡ second
 
 -- bytes have exactly one outcome: one expression within the limits, or one fault
 pub record OneOutcome (bytes : List ℕ) : Type 0 where
@@ -31,7 +31,7 @@ HasShortNames (Opt body) = HasShortNames body
 abbrev pub ShortNamesAreShort : Type 0
 ShortNamesAreShort =
     (bytes : List ℕ) (e : Expression) → IsText bytes e → HasShortNames e → (at : ℕ) →
-        HasLongName one_way bytes at → ⊥
+    HasLongName one_way bytes at → ⊥
 
 -- the expression of one label
 abbrev pub named : List ℕ → Expression

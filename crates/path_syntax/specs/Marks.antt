@@ -41,7 +41,7 @@ marks_after (Atom own) marks begins label = (begins && same_label own label) ∷
 marks_after (Seq left right) marks begins label =
     marks_after left marks begins label ++
     marks_after right (marks_behind left marks)
-        (may_end left marks || (begins && is_nullable left)) label
+    (may_end left marks || (begins && is_nullable left)) label
 marks_after (Alt left right) marks begins label =
     marks_after left marks begins label ++ marks_after right (marks_behind left marks) begins label
 marks_after (Star body) marks begins label =

@@ -29,7 +29,7 @@ kind_of_sign byte =
 unfoldable pub kind_of : ℕ → Kind
 kind_of byte =
     if is_bare_byte byte then Bare else if is_blank byte then Blank else
-        if is_name_byte byte then kind_of_sign byte else Strange
+    if is_name_byte byte then kind_of_sign byte else Strange
 
 -- what stands before an element in its parentheses: the alternatives before its sequence, and the
 -- elements before it in that
@@ -87,10 +87,10 @@ abbrev pub after_element : List FrameValue → FrameValue → Expression → Kin
 after_element outer frame e Blank = Some (state_with outer frame (Element e))
 after_element outer frame e Slash =
     Some (state_with outer
-        (record frame { sequence = Some (in_sequence frame.sequence e) }) Operand)
+    (record frame { sequence = Some (in_sequence frame.sequence e) }) Operand)
 after_element outer frame e Bar =
     Some (state_with outer
-        (record { alternatives = Some (whole_with frame e); sequence = None }) Operand)
+    (record { alternatives = Some (whole_with frame e); sequence = None }) Operand)
 after_element outer frame e Close = closed outer (whole_with frame e)
 after_element outer frame e _ = None
 

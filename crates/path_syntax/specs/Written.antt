@@ -48,7 +48,7 @@ abbrev pub written_expression : Expression → List ℕ
 written_expression (Atom label) = written_label label
 written_expression (Seq left right) =
     grouped (is_alt left) (written_expression left) ++ codes "/" ++
-        grouped (is_alt right || is_seq right) (written_expression right)
+    grouped (is_alt right || is_seq right) (written_expression right)
 written_expression (Alt left right) =
     written_expression left ++ codes "|" ++ grouped (is_alt right) (written_expression right)
 written_expression (Star body) = grouped (not (is_atom body)) (written_expression body) ++ codes "*"

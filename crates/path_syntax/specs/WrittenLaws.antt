@@ -44,7 +44,7 @@ abbrev pub written_signs : Expression → ℕ
 written_signs (Atom label) = 0
 written_signs (Seq left right) =
     grouped_signs (is_alt left) (written_signs left) + 1 +
-        grouped_signs (is_alt right || is_seq right) (written_signs right)
+    grouped_signs (is_alt right || is_seq right) (written_signs right)
 written_signs (Alt left right) =
     written_signs left + 1 + grouped_signs (is_alt right) (written_signs right)
 written_signs (Star body) = grouped_signs (not (is_atom body)) (written_signs body) + 1

@@ -129,7 +129,8 @@ fn after_element(
 fn with_element(alloc: Global, frame: Frame, element: Expr) -> Result<Frame, Memory>
     ensures { IfOk result (λ after. frame_of after ≡
         record (frame_of frame) {
-            sequence = Some (in_sequence (before_of frame.sequence) (expression element)) }) }
+          sequence = Some (in_sequence (before_of frame.sequence) (expression element));
+        }) }
 {
     Ok(Frame {
         alternatives: frame.alternatives,
@@ -141,8 +142,9 @@ fn with_element(alloc: Global, frame: Frame, element: Expr) -> Result<Frame, Mem
 fn with_sequence(alloc: Global, frame: Frame, element: Expr) -> Result<Frame, Memory>
     ensures { IfOk result (λ after. frame_of after ≡
         record {
-            alternatives = Some (whole_with (frame_of frame) (expression element));
-            sequence = None }) }
+          alternatives = Some (whole_with (frame_of frame) (expression element));
+          sequence = None;
+        }) }
 {
     Ok(Frame {
         alternatives: Some(whole_with(alloc, frame, element)?),
