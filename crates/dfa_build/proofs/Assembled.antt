@@ -7,7 +7,8 @@ use Rattle.std.proofs.lemmas.List.{get_or_past}
 use Rattle.std.proofs.lemmas.List.Elements.{All-from_get_or}
 use Rattle.std.proofs.lemmas.Option.{none-some, same_Some}
 use Rattle.rpq_base.specs.declared.data.Label.{Label}
-use Rattle.dfa_table.specs.DfaValue.{IsDfa, label_cmp}
+use Rattle.rpq_base.specs.Order.{label_cmp}
+use Rattle.dfa_table.specs.DfaValue.{IsDfa}
 use Rattle.dfa_build.specs.declared.position_set.PositionSet.{PositionSet}
 use Rattle.dfa_build.specs.PositionSet.{has}
 use Rattle.dfa_build.specs.Positions.{PositionsValue, ArePositions}

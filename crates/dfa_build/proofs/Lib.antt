@@ -1,15 +1,13 @@
 pub mod Accepting
 pub mod Assembled
 pub mod Counting
-pub mod Faults
 pub mod Filling
 pub mod Growth
-pub mod Labels
 pub mod Local
 pub mod Meanings
 pub mod Members
 pub mod Moves
-pub mod Order
+pub mod OneAutomaton
 pub mod Paths
 pub mod Ranges
 pub mod ReachedWords

@@ -4,7 +4,8 @@ use Rattle.std.proofs.lemmas.Bool.{eqb-true, eq-eqb, or_cases, or_left, or_right
 use Rattle.std.proofs.lemmas.List.Elements.{All-nil, All-cons, All-head, All-tail, All-weaker}
 use Rattle.path_syntax.specs.Expression.{Expression, Atom, Seq, Alt, Star, Plus, Opt}
 use Rattle.path_syntax.specs.Size.{atoms}
-use Rattle.dfa_build.specs.Construction.{is_nullable, is_first, is_last, is_next}
+use Rattle.path_syntax.specs.Laws.{is_nullable}
+use Rattle.dfa_build.specs.Construction.{is_first, is_last, is_next}
 use Rattle.dfa_build.specs.Marked.{InMarked}
 use Rattle.dfa_build.proofs.Paths.{Runs, IsPath, runs_wider, runs_joined, runs_append_nil}
 use Rattle.dfa_build.proofs.Ranges.{InRange, first_range, last_range, next_range}

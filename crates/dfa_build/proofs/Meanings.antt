@@ -5,7 +5,8 @@ use Rattle.std.proofs.lemmas.List.{append-nil}
 use Rattle.std.proofs.lemmas.List.Elements.{All-nil, All-cons}
 use Rattle.path_syntax.specs.Expression.{Expression, Atom, Seq, Alt, Star, Plus, Opt}
 use Rattle.path_syntax.specs.Size.{atoms}
-use Rattle.dfa_build.specs.Construction.{is_nullable, is_first, is_last, is_next}
+use Rattle.path_syntax.specs.Laws.{is_nullable}
+use Rattle.dfa_build.specs.Construction.{is_first, is_last, is_next}
 use Rattle.dfa_build.specs.Marked.{IsRepeatedTrace, InMarked, BeginsAWord, EndsAWord, AreNeighbours}
 use Rattle.dfa_build.proofs.Paths.{runs_end, runs_neighbours}
 use Rattle.dfa_build.proofs.Local.{marked_is_local, local_is_marked}

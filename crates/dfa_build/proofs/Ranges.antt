@@ -3,7 +3,8 @@ use Rattle.std.proofs.Common.{◌≡◌, ℕ, ◌+◌, ◌<◌, ◌≤◌, true,
 use Rattle.std.proofs.lemmas.Bool.{eqb-true, or_cases, and_parts, false≢true}
 use Rattle.path_syntax.specs.Expression.{Expression, Atom, Seq, Alt, Star, Plus, Opt}
 use Rattle.path_syntax.specs.Size.{atoms}
-use Rattle.dfa_build.specs.Construction.{is_nullable, is_first, is_last, is_next}
+use Rattle.path_syntax.specs.Laws.{is_nullable}
+use Rattle.dfa_build.specs.Construction.{is_first, is_last, is_next}
 
 pub record InRange (e : Expression) (from p : ℕ) : Type 0 where
   pub low : from ≤ p

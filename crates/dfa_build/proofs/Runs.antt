@@ -14,7 +14,7 @@ use Rattle.dfa_build.specs.PositionSet.{has}
 use Rattle.dfa_build.specs.Positions.{PositionsValue, ArePositions}
 use Rattle.dfa_build.specs.StateSets.{set_at, IsStepTo, AreRows}
 use Rattle.dfa_build.specs.Subset.{ReachesSome}
-use Rattle.dfa_build.proofs.Labels.{label_at_place, no_place}
+use Rattle.rpq_base.proofs.Places.{label_got_at_place, no_place}
 use Rattle.dfa_build.proofs.ReachedWords.{one_label_more, front_reaches}
 use Rattle.dfa_build.proofs.Moves.{AreMoves, IsSetOf, IsEntry, cut_is_set, after_is_entry}
 
@@ -77,7 +77,7 @@ step_with_fits None positions first last follow masks sets dfa is state word lab
     let both = (one_label_more positions word label some.0 is.moves.are).0 some.1 in
     no_place dfa.labels label none ((is.moves.sets.labels_of_atoms label).1 (some.0, slice_get_within positions.atoms some.0 label both.0, get_or_from_slice_get positions.atoms some.0 label label both.0))
 step_with_fits (Some place) positions first last follow masks sets dfa is state word label state_of found =
-    let here = label_at_place dfa.labels label place found in
+    let here = label_got_at_place dfa.labels label place found in
     step_is_right state word positions first last follow masks sets dfa is state_of place label here.0 here.1
 
 -- where a word with a label and then a word reaches something, so does the word with the label

@@ -7,10 +7,10 @@ use Rattle.std.proofs.lemmas.List.{append-nil, get_or_append_left, get_or_push, 
 use Rattle.std.proofs.lemmas.List.Concat.{flat_map-append}
 use Rattle.std.proofs.lemmas.List.Elements.{All-get_or, All-from_get_or, All-push}
 use Rattle.dfa_build.specs.declared.position_set.PositionSet.{PositionSet}
-use Rattle.dfa_build.specs.Order.{IsInOrder, greatest_of}
+use Rattle.dfa_table.specs.Order.{IsInOrder, greatest_of}
 use Rattle.dfa_build.specs.StateSets.{set_at, IsAfter, IsRow, IsOneCut, Grows, IsFull, IsFound, FromStart, FromSet, IsRowOf, AreRows, HasTooMany}
 use Rattle.dfa_build.proofs.Growth.{row_kept, apart_more}
-use Rattle.dfa_build.proofs.Order.{order_joined, greatest_joined}
+use Rattle.dfa_table.proofs.Order.{order_joined, greatest_joined}
 
 -- new sets are found where their cuts are
 pub found_more : (follow masks : List PositionSet) (first reach : PositionSet) (before after : List PositionSet) → All (IsFound follow masks first) before →

@@ -1,10 +1,11 @@
 -- What the automaton of the sets is: its words, and its states.
-use Rattle.std.proofs.Common.{◌≡◌, ◌≢◌, ℕ, zero, suc, ◌<◌, Bool, true, false, List, [], ◌∷◌, length, Option, Some, None, refl, sym, ap, ◌∙◌, subst, ⊎_elim, arith}
-use Rattle.std.specs.Prelude.{◌↔◌, IsTrue, Contains}
+use Rattle.std.proofs.Common.{◌≡◌, ◌≢◌, ℕ, zero, suc, ◌<◌, List, [], ◌∷◌, length, Option, Some, None, refl, sym, ap, ◌∙◌, subst, ⊎_elim, arith}
+use Rattle.std.specs.Prelude.{◌↔◌, IsTrue, IsSome, Contains, is_some}
 use Rattle.std.specs.List.{AllPairs}
 use Rattle.std.proofs.lemmas.Bool.{false≢true, cases_order}
 use Rattle.std.proofs.lemmas.List.Elements.{All-get_or}
 use Rattle.std.proofs.lemmas.Option.{same_Some}
+use Rattle.rpq_base.proofs.Equality.{same_tests}
 use Rattle.rpq_base.specs.declared.data.Label.{Label}
 use Rattle.dfa_table.specs.DfaValue.{DfaValue, is_final}
 use Rattle.dfa_table.specs.Runs.{run_from, Accepts, IsReached}
@@ -100,11 +101,6 @@ accepts_same positions first last follow masks sets dfa is word = (
 
 -- ---- states and sets
 
-same_tests : (first second : Bool) → IsTrue first ↔ IsTrue second → first ≡ second
-same_tests true second e = sym (e.0 refl)
-same_tests false true e = e.1 refl
-same_tests false false e = refl
-
 -- places with sets that are equal are one
 pub one_place : (sets : List PositionSet) (a b : ℕ) → AllPairs ◌≢◌ sets → a < length sets → b < length sets → set_at sets a ≡ set_at sets b → a ≡ b
 one_place sets a b apart below_a below_b same = ⊎_elim
@@ -131,12 +127,19 @@ led_reaches (suc place) positions first last follow masks sets dfa is label word
     let some = (set_has_word positions first last follow masks sets dfa is place state_of.0).some in
     (some.0, (state_of.1 some.0).0 some.1)
 
+led_somewhere : (found : Option ℕ) → IsSome found → (state : ℕ) × (found ≡ Some state)
+led_somewhere None some = absurd (false≢true some)
+led_somewhere (Some state) some = (state, refl)
+
 leads_iff : (word : List Label) (positions : PositionsValue) (first last : PositionSet) (follow masks sets : List PositionSet) (dfa : DfaValue) → IsSubsetDfa positions first last follow masks sets dfa →
-    word ≢ [] → ((state : ℕ) × (run_from dfa 0 word ≡ Some state)) ↔ ReachesSome positions word
+    word ≢ [] → IsSome (run_from dfa 0 word) ↔ ReachesSome positions word
 leads_iff [] positions first last follow masks sets dfa is nonempty = absurd (nonempty refl)
 leads_iff (label ∷ word) positions first last follow masks sets dfa is nonempty = (
-  (λ leads. led_reaches leads.0 positions first last follow masks sets dfa is label word (led_state positions first last follow masks sets dfa is label word leads.0 leads.1)),
-  (λ some. let state = state_of_word positions first last follow masks sets dfa is label word some in (suc state.place, state.leads)),
+  (λ somewhere.
+      let leads = led_somewhere (run_from dfa 0 (label ∷ word)) somewhere in
+      led_reaches leads.0 positions first last follow masks sets dfa is label word
+      (led_state positions first last follow masks sets dfa is label word leads.0 leads.1)),
+  (λ some. ap is_some (state_of_word positions first last follow masks sets dfa is label word some).leads),
 )
 
 -- words that lead to one state reach the same

@@ -8,7 +8,8 @@ use Rattle.rpq_base.specs.declared.data.Label.{Label}
 use Rattle.path_syntax.specs.Expression.{Expression, Atom, Seq, Alt, Star, Plus, Opt}
 use Rattle.path_syntax.specs.Language.{IsRepeated, In}
 use Rattle.path_syntax.specs.Size.{atoms}
-use Rattle.dfa_build.specs.Marked.{labels_of, IsRepeatedTrace, InMarked, MarkedSpellsWords}
+use Rattle.dfa_build.specs.Laws.{MarkedSpellsWords}
+use Rattle.dfa_build.specs.Marked.{labels_of, IsRepeatedTrace, InMarked}
 use Rattle.dfa_build.specs.Positions.{spelled}
 use Rattle.dfa_build.proofs.Ranges.{InRange, first_range}
 use Rattle.dfa_build.proofs.Local.{marked_is_local}

@@ -1,7 +1,10 @@
-pub mod Construction
-pub mod Marked
-pub mod Order
-pub mod PositionSet
+-- what public contracts cite
 pub mod Positions
-pub mod StateSets
+pub mod Marked
 pub mod Subset
+pub mod FaultTexts
+pub mod Laws
+-- what the construction keeps inside
+pub mod Construction
+pub mod PositionSet
+pub mod StateSets

@@ -1,11 +1,10 @@
 -- The marked expression: each atom replaced by its position. Its words are traces.
-use Rattle.std.specs.Prelude.{◌≡◌, ◌≢◌, ℕ, ◌+◌, List, [], ◌∷◌, ◌++◌, ◌⊎◌, ◌↔◌, All}
+use Rattle.std.specs.Prelude.{◌≡◌, ◌≢◌, ℕ, ◌+◌, List, [], ◌∷◌, ◌++◌, ◌⊎◌, ◌↔◌, All, Contains}
 use Rattle.std.specs.List.{flat_map}
 use Rattle.rpq_base.specs.declared.data.Label.{Label}
 use Rattle.path_syntax.specs.Expression.{Expression, Atom, Seq, Alt, Star, Plus, Opt}
-use Rattle.path_syntax.specs.Language.{In}
 use Rattle.path_syntax.specs.Size.{atoms}
-use Rattle.dfa_build.specs.Positions.{spelled}
+use Rattle.dfa_build.specs.Positions.{PositionsValue, next_of, spelled}
 
 -- the labels of the atoms, from left to right
 abbrev pub labels_of : Expression → List Label
@@ -38,10 +37,13 @@ pub record IsRepeatedTrace (traces : Traces) (trace : List ℕ) : Type 0 where
 -- the trace is a word of the marked expression whose positions are numbered from `from`
 abbrev pub InMarked : Expression → ℕ → List ℕ → Type 0
 InMarked (Atom label) from trace = trace ≡ from ∷ []
-InMarked (Seq left right) from trace = IsJoinedTrace (InMarked left from) (InMarked right (from + atoms left)) trace
-InMarked (Alt left right) from trace = InMarked left from trace ⊎ InMarked right (from + atoms left) trace
+InMarked (Seq left right) from trace =
+    IsJoinedTrace (InMarked left from) (InMarked right (from + atoms left)) trace
+InMarked (Alt left right) from trace =
+    InMarked left from trace ⊎ InMarked right (from + atoms left) trace
 InMarked (Star body) from trace = IsRepeatedTrace (InMarked body from) trace
-InMarked (Plus body) from trace = IsJoinedTrace (InMarked body from) (IsRepeatedTrace (InMarked body from)) trace
+InMarked (Plus body) from trace =
+    IsJoinedTrace (InMarked body from) (IsRepeatedTrace (InMarked body from)) trace
 InMarked (Opt body) from trace = (trace ≡ []) ⊎ InMarked body from trace
 
 -- some word of the marked expression begins with the position
@@ -58,8 +60,13 @@ AreNeighbours e p q = (front : List ℕ) × (rest : List ℕ) × InMarked e 0 (f
 
 -- a word of the marked expression spells the word
 abbrev pub IsSpelledByMarked : Expression → List Label → Type 0
-IsSpelledByMarked e word = (trace : List ℕ) × InMarked e 0 trace × (word ≡ spelled (labels_of e) trace)
+IsSpelledByMarked e word =
+    (trace : List ℕ) × InMarked e 0 trace × (word ≡ spelled (labels_of e) trace)
 
--- the words of an expression are those that the words of its marked expression spell
-abbrev pub MarkedSpellsWords : Type 0
-MarkedSpellsWords = (e : Expression) (word : List Label) → In e word ↔ IsSpelledByMarked e word
+-- the labels are those of the atoms; the lists have the positions where a word may begin and end,
+-- and for each position those that may stand right after it
+pub record ArePositionsOf (e : Expression) (positions : PositionsValue) : Type 0 where
+  pub labels : positions.atoms ≡ labels_of e
+  pub first : (p : ℕ) → Contains positions.first p ↔ BeginsAWord e p
+  pub last : (p : ℕ) → Contains positions.last p ↔ EndsAWord e p
+  pub follow : (p q : ℕ) → Contains (next_of positions p) q ↔ AreNeighbours e p q

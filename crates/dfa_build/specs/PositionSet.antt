@@ -1,4 +1,4 @@
--- Sets of positions, as the construction keeps them.
+-- Sets of positions, as the construction keeps them. No public contract cites this file.
 use Rattle.std.specs.Prelude.{ℕ, Bool, ◌==◌, List, slice_index_or, filter}
 use Rattle.std.specs.Int.{bit_at}
 use Rattle.std.specs.List.{range_with_len}

@@ -1,10 +1,12 @@
--- The position automaton, as contracts see it: its states are a start and the positions, which are the numbers of the atoms from 0.
+-- The position automaton, as contracts see it: its states are a start and the positions, which
+-- are the numbers of the atoms from 0.
 use Rattle.std.specs.Prelude.{◌≡◌, ℕ, ◌<◌, ◌≤◌, List, [], ◌∷◌, length, slice_index_or, All, Contains}
 use Rattle.std.specs.List.{flat_map, slice_get, AllPairs}
 use Rattle.std.specs.Option.{option_to_list}
 use Rattle.rpq_base.specs.declared.data.Label.{Label}
 
--- the label of each position; the positions where a word may begin; where it may end; and for each position those that may stand right after it
+-- the label of each position; the positions where a word may begin; where it may end; and for
+-- each position those that may stand right after it
 pub record PositionsValue : Type 0 where
   pub atoms : List Label
   pub first : List ℕ
@@ -18,7 +20,8 @@ next_of positions position = slice_index_or positions.follow position []
 -- after the position the trace goes on by follow
 abbrev pub GoesOn : PositionsValue → ℕ → List ℕ → Type 0
 GoesOn positions position [] = Unit {0}
-GoesOn positions position (next ∷ trace) = Contains (next_of positions position) next × GoesOn positions next trace
+GoesOn positions position (next ∷ trace) =
+    Contains (next_of positions position) next × GoesOn positions next trace
 
 -- where the trace from the position ends
 abbrev pub end_of : ℕ → List ℕ → ℕ
@@ -28,12 +31,14 @@ end_of position (next ∷ trace) = end_of next trace
 -- the position automaton can go along the trace: it begins in first, and goes on by follow
 abbrev pub IsFront : PositionsValue → List ℕ → Type 0
 IsFront positions [] = ⊥
-IsFront positions (position ∷ trace) = Contains positions.first position × GoesOn positions position trace
+IsFront positions (position ∷ trace) =
+    Contains positions.first position × GoesOn positions position trace
 
 -- a nonempty trace that begins in first, goes on by follow, and ends in last
 abbrev pub IsTrace : PositionsValue → List ℕ → Type 0
 IsTrace positions [] = ⊥
-IsTrace positions (position ∷ trace) = IsFront positions (position ∷ trace) × Contains positions.last (end_of position trace)
+IsTrace positions (position ∷ trace) =
+    IsFront positions (position ∷ trace) × Contains positions.last (end_of position trace)
 
 -- the labels that stand at the positions of the trace
 abbrev pub spelled : List Label → List ℕ → List Label
@@ -45,7 +50,8 @@ spells positions trace = spelled positions.atoms trace
 
 -- the position automaton accepts the word: a trace spells it
 abbrev pub AcceptsByPositions : PositionsValue → List Label → Type 0
-AcceptsByPositions positions word = (trace : List ℕ) × IsTrace positions trace × (word ≡ spells positions trace)
+AcceptsByPositions positions word =
+    (trace : List ℕ) × IsTrace positions trace × (word ≡ spells positions trace)
 
 -- every member of the list is a position
 abbrev pub ArePlaces : PositionsValue → List ℕ → Type 0

@@ -1,11 +1,12 @@
--- The sets of positions that are states, as the construction keeps them: the state of number n + 1 is the set at place n.
+-- The sets of positions that are states, as the construction keeps them: the state of number n + 1
+-- is the set at place n. No public contract cites this file.
 use Rattle.std.specs.Prelude.{◌≡◌, ◌≢◌, ℕ, zero, suc, ◌<◌, ◌≤◌, ◌↔◌, ◌&&◌, false, List, [], length, slice_index_or, All, IsTrue, Option, Some, None, Contains}
-use Rattle.std.specs.List.{AllPairs, flat_map, slice_get}
+use Rattle.std.specs.List.{AllPairs, slice_get}
 use Rattle.rpq_base.specs.declared.data.Label.{Label}
 use Rattle.dfa_build.specs.declared.position_set.PositionSet.{PositionSet}
 use Rattle.dfa_build.specs.PositionSet.{has}
 use Rattle.dfa_build.specs.Positions.{PositionsValue, next_of}
-use Rattle.dfa_build.specs.Order.{IsInOrder, greatest_of}
+use Rattle.dfa_table.specs.Order.{IsInOrder, greatest_of, all_steps}
 
 -- the set at the place
 abbrev pub set_at : List PositionSet → ℕ → PositionSet
@@ -21,15 +22,23 @@ IsCut reach mask set = (position : ℕ) → has set position ≡ (has reach posi
 
 -- the positions that some member of the set leads to
 abbrev pub IsAfter : List PositionSet → PositionSet → PositionSet → Type 0
-IsAfter follow set reach = (next : ℕ) → IsTrue (has reach next) ↔ ((position : ℕ) × (position < length follow) × IsTrue (has set position) × IsTrue (has (set_at follow position) next))
+IsAfter follow set reach = (next : ℕ) →
+    IsTrue (has reach next)
+    ↔ ((position : ℕ) × (position < length follow) × IsTrue (has set position)
+    × IsTrue (has (set_at follow position) next))
 
--- the sets that the construction works with: for each label the positions with it, for each position those that may stand right after it, the first ones and the last ones
-pub record AreSetsOf (positions : PositionsValue) (labels : List Label) (first last : PositionSet) (follow masks : List PositionSet) : Type 0 where
+-- the sets that the construction works with: for each label the positions with it, for each
+-- position those that may stand right after it, the first ones and the last ones
+pub record AreSetsOf (positions : PositionsValue) (labels : List Label)
+    (first last : PositionSet) (follow masks : List PositionSet) : Type 0 where
   pub labels_of_atoms : (label : Label) → Contains labels label ↔ Contains positions.atoms label
   pub as_many_masks : length masks ≡ length labels
-  pub mask : (place position : ℕ) → place < length labels → IsTrue (has (set_at masks place) position) ↔ (slice_get positions.atoms position ≡ slice_get labels place)
+  pub mask : (place position : ℕ) → place < length labels →
+      IsTrue (has (set_at masks place) position)
+      ↔ (slice_get positions.atoms position ≡ slice_get labels place)
   pub as_many_rows : length follow ≡ length positions.follow
-  pub follows : (place position : ℕ) → place < length positions.follow → IsTrue (has (set_at follow place) position) ↔ Contains (next_of positions place) position
+  pub follows : (place position : ℕ) → place < length positions.follow →
+      IsTrue (has (set_at follow place) position) ↔ Contains (next_of positions place) position
   pub starts : (position : ℕ) → IsTrue (has first position) ↔ Contains positions.first position
   pub ends : (position : ℕ) → IsTrue (has last position) ↔ Contains positions.last position
 
@@ -42,57 +51,71 @@ IsNumberOf sets set (suc place) = (place < length sets) × (set_at sets place �
 abbrev pub IsStepTo : List PositionSet → PositionSet → PositionSet → Option ℕ → Type 0
 IsStepTo sets reach mask None = (position : ℕ) → (has reach position && has mask position) ≡ false
 IsStepTo sets reach mask (Some zero) = ⊥
-IsStepTo sets reach mask (Some (suc place)) = (place < length sets) × IsCut reach mask (set_at sets place)
+IsStepTo sets reach mask (Some (suc place)) =
+    (place < length sets) × IsCut reach mask (set_at sets place)
 
 -- the row of a state: for each mask the step to its cut
-pub record IsRow (sets : List PositionSet) (reach : PositionSet) (masks : List PositionSet) (row : List (Option ℕ)) : Type 0 where
+pub record IsRow (sets : List PositionSet) (reach : PositionSet) (masks : List PositionSet)
+    (row : List (Option ℕ)) : Type 0 where
   pub even : length row ≡ length masks
-  pub steps : (place : ℕ) → place < length masks → IsStepTo sets reach (set_at masks place) (slice_index_or row place None)
+  pub steps : (place : ℕ) → place < length masks →
+      IsStepTo sets reach (set_at masks place) (slice_index_or row place None)
 
 -- a nonempty cut by one of the masks
-pub record IsOneCut (reach : PositionSet) (masks : List PositionSet) (set : PositionSet) : Type 0 where
+pub record IsOneCut (reach : PositionSet) (masks : List PositionSet) (set : PositionSet)
+    : Type 0 where
   pub some : HasSome set
   pub place : ℕ
   pub within : place < length masks
   pub cut : IsCut reach (set_at masks place) set
 
--- the sets after a part of a row was made: those before it, and new ones, which are cuts; all distinct, and at most 512
-pub record Grows (reach : PositionSet) (masks : List PositionSet) (before after : List PositionSet) : Type 0 where
+-- the sets after a part of a row was made: those before it, and new ones, which are cuts; all
+-- distinct, and at most 512
+pub record Grows (reach : PositionSet) (masks : List PositionSet)
+    (before after : List PositionSet) : Type 0 where
   pub longer : length before ≤ length after
   pub few : length after ≤ 512
   pub kept : (place : ℕ) → place < length before → set_at after place ≡ set_at before place
-  pub cuts : (place : ℕ) → length before ≤ place → place < length after → IsOneCut reach masks (set_at after place)
+  pub cuts : (place : ℕ) → length before ≤ place → place < length after →
+      IsOneCut reach masks (set_at after place)
   pub apart : AllPairs ◌≢◌ after
 
 -- 512 sets are there, and one cut isn't among them
-pub record IsFull (reach : PositionSet) (masks : List PositionSet) (sets : List PositionSet) : Type 0 where
+pub record IsFull (reach : PositionSet) (masks : List PositionSet) (sets : List PositionSet)
+    : Type 0 where
   pub full : length sets ≡ 512
   pub further : PositionSet
   pub cut : IsOneCut reach masks further
   pub new : Contains sets further → ⊥
 
--- the sets that the construction finds: the cuts of the first positions, and the cuts of what a found set leads to
-pub data IsFound (follow masks : List PositionSet) (first : PositionSet) : PositionSet → Type 0 where
+-- the sets that the construction finds: the cuts of the first positions, and the cuts of what a
+-- found set leads to
+pub data IsFound (follow masks : List PositionSet) (first : PositionSet)
+    : PositionSet → Type 0 where
   FromStart : (set : PositionSet) → IsOneCut first masks set → IsFound follow masks first set
-  FromSet : (before reach set : PositionSet) → IsFound follow masks first before → IsAfter follow before reach → IsOneCut reach masks set → IsFound follow masks first set
+  FromSet : (before reach set : PositionSet) → IsFound follow masks first before →
+      IsAfter follow before reach → IsOneCut reach masks set → IsFound follow masks first set
 
 -- the row of the set at the place
-pub record IsRowOf (follow masks sets : List PositionSet) (set : PositionSet) (row : List (Option ℕ)) : Type 0 where
+pub record IsRowOf (follow masks sets : List PositionSet) (set : PositionSet)
+    (row : List (Option ℕ)) : Type 0 where
   pub reach : PositionSet
   pub after : IsAfter follow set reach
   pub is : IsRow sets reach masks row
 
--- the rows of the start and of the sets before a place; the sets are found, distinct, and at most 512
-pub record AreRows (follow masks : List PositionSet) (first : PositionSet) (sets : List PositionSet) (rows : List (List (Option ℕ))) (done : ℕ) : Type 0 where
+-- the rows of the start and of the sets before a place; the sets are found, distinct, at most 512
+pub record AreRows (follow masks : List PositionSet) (first : PositionSet)
+    (sets : List PositionSet) (rows : List (List (Option ℕ))) (done : ℕ) : Type 0 where
   pub as_many : length rows ≡ suc done
   pub within : done ≤ length sets
   pub few : length sets ≤ 512
   pub apart : AllPairs ◌≢◌ sets
   pub found : All (IsFound follow masks first) sets
   pub start : IsRow sets first masks (slice_index_or rows 0 [])
-  pub others : (place : ℕ) → place < done → IsRowOf follow masks sets (set_at sets place) (slice_index_or rows (suc place) [])
-  pub order : IsInOrder 0 (flat_map (λ row. row) rows)
-  pub greatest : greatest_of 0 (flat_map (λ row. row) rows) ≡ length sets
+  pub others : (place : ℕ) → place < done →
+      IsRowOf follow masks sets (set_at sets place) (slice_index_or rows (suc place) [])
+  pub order : IsInOrder 0 (all_steps rows)
+  pub greatest : greatest_of 0 (all_steps rows) ≡ length sets
 
 -- 513 distinct sets are found
 pub record HasTooMany (follow masks : List PositionSet) (first : PositionSet) : Type 0 where

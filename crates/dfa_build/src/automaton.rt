@@ -5,8 +5,9 @@ use std::marker::Model;
 
 /// The position automaton of an expression.
 ///
-/// Its states are a start and the positions: the atoms of the expression, numbered from 0 from left to right. Each list of
-/// positions is strictly rising. Contracts see it as the record of its fields.
+/// Its states are a start and the positions: the atoms of the expression, numbered from 0 from
+/// left to right. Each list of positions is strictly rising. Contracts see it as the record of
+/// its fields.
 #[derive(Debug, Drop)]
 pub struct Positions {
     /// The label of each position.

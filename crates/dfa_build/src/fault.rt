@@ -1,5 +1,9 @@
 //! Why no automaton is built.
 
+ghost use Rattle.std.specs.Prelude.{◌≡◌, Some};
+ghost use Rattle.dfa_build.specs.FaultTexts.{build_fault_text};
+ghost use Rattle.dfa_build.specs.declared.fault.BuildFault.{BuildFault};
+
 use rpq_base::Memory;
 use std::alloc::{AllocError, AllocFailed};
 use std::error::Error;
@@ -17,44 +21,37 @@ pub enum BuildFault {
 }
 
 impl From<Memory> for BuildFault {
-    ghost use Rattle.std.specs.Prelude.{◌≡◌};
-    ghost use Rattle.dfa_build.specs.declared.fault.BuildFault.TheVariants.{Memory};
+    ghost from_gives = { λ _ fault. fault ≡ BuildFault.Memory };
 
-    ghost from_gives = { λ _ fault. fault ≡ Memory };
-
-    fn from(_error: Memory) -> BuildFault {
-        BuildFault::Memory
+    fn from(_: Memory) -> Self {
+        Self::Memory
     }
 }
 
 impl From<AllocError> for BuildFault {
-    ghost use Rattle.std.specs.Prelude.{◌≡◌};
-    ghost use Rattle.dfa_build.specs.declared.fault.BuildFault.TheVariants.{Memory};
+    ghost from_gives = { λ _ fault. fault ≡ BuildFault.Memory };
 
-    ghost from_gives = { λ _ fault. fault ≡ Memory };
-
-    fn from(_error: AllocError) -> BuildFault {
-        BuildFault::Memory
+    fn from(_: AllocError) -> Self {
+        Self::Memory
     }
 }
 
 impl<T: Drop> From<AllocFailed<T>> for BuildFault {
-    ghost use Rattle.std.specs.Prelude.{◌≡◌};
-    ghost use Rattle.dfa_build.specs.declared.fault.BuildFault.TheVariants.{Memory};
+    ghost from_gives = { λ _ fault. fault ≡ BuildFault.Memory };
 
-    ghost from_gives = { λ _ fault. fault ≡ Memory };
-
-    fn from(_error: AllocFailed<T>) -> BuildFault {
-        BuildFault::Memory
+    fn from(_: AllocFailed<T>) -> Self {
+        Self::Memory
     }
 }
 
 impl fmt::Display for BuildFault {
+    ghost output = { λ fault. Some (build_fault_text fault) };
+
     fn fmt<W: fmt::Write>(&self, f: &mut fmt::Formatter<W>) -> fmt::Result {
         match self {
-            BuildFault::TooManyLabels(count) => write!(f, "{count} labels, more than 64"),
-            BuildFault::TooManyStates => f.write_str("more than 513 states"),
-            BuildFault::Memory => f.write_str("out of memory"),
+            Self::TooManyLabels(count) => write!(f, "{count} labels, more than 64"),
+            Self::TooManyStates => f.write_str("more than 513 states"),
+            Self::Memory => f.write_str("out of memory"),
         }
     }
 }

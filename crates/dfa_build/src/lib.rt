@@ -1,10 +1,11 @@
-//! Automata from expressions: the position automaton of an expression, and the deterministic one that the subset
-//! construction makes of it.
+//! Automata from expressions: the position automaton of an expression, and the deterministic one
+//! that the subset construction makes of it.
 //!
-//! The contract for the layers above: [`positions`] answers Glushkov's automaton, which accepts exactly the nonempty words of
-//! an expression's language, and [`subset`] a deterministic automaton that accepts the words that such a one accepts. So
-//! both together accept the nonempty words of the expression. An expression of more than 64 labels and one whose words reach more than
-//! 512 nonempty sets of positions are refused, each by its name.
+//! The contract for the layers above: [`positions`] answers Glushkov's automaton, which accepts
+//! exactly the nonempty words of an expression's language, and [`subset`] a deterministic
+//! automaton that accepts the words that such a one accepts. So both together accept the nonempty
+//! words of the expression. An expression of more than 64 labels and one whose words reach more
+//! than 512 nonempty sets of positions are refused, each by its name.
 #![tactic(auto)]
 
 mod automaton;
@@ -19,10 +20,8 @@ mod transitions;
 pub use automaton::Positions;
 pub use construction::positions;
 pub use fault::BuildFault;
-pub use laws::marked_spells_words;
+pub use laws::{marked_spells_words, one_automaton, one_position_automaton};
 pub use subset_construction::subset;
 
-#[cfg(test)]
-mod subset_tests;
 #[cfg(test)]
 mod tests;

@@ -2,7 +2,7 @@
 
 ghost use Rattle.std.specs.Prelude.{◌≡◌, ◌≢◌, ℕ, ◌+◌, ◌<◌, ◌≤◌, ◌↔◌, ◌∷◌, ◌++◌, ◌⊎◌, [], length, map, max, false, Contains, IsTrue, slice_index_or, IfOk, IfSome, IfNone};
 ghost use Rattle.std.specs.List.{AllPairs};
-ghost use Rattle.dfa_build.specs.Order.{IsInOrder, greatest_of};
+ghost use Rattle.dfa_table.specs.Order.{IsInOrder, greatest_of};
 ghost use Rattle.dfa_build.specs.PositionSet.{has};
 ghost use Rattle.dfa_build.specs.StateSets.{set_at, IsAfter, IsNumberOf, IsStepTo, IsRow, Grows, IsFull, AreRows, HasTooMany};
 
@@ -28,7 +28,8 @@ fn after(follow: &[PositionSet], set: PositionSet) -> PositionSet
 
 /// The place of the set.
 fn find(sets: &[PositionSet], set: PositionSet) -> Option<usize>
-    ensures found { IfSome result (λ place. (place < length sets.now) × (set_at sets.now place ≡ set)) }
+    ensures found { IfSome result (λ place.
+        (place < length sets.now) × (set_at sets.now place ≡ set)) }
     ensures none { IfNone result (Contains sets.now set → ⊥) }
 {
     sets.iter().position(|each| *each == set)
@@ -37,10 +38,15 @@ fn find(sets: &[PositionSet], set: PositionSet) -> Option<usize>
 /// The number of the state of the set, which comes at the end of the list where it isn't there.
 fn number(sets: &mut Vec<PositionSet>, set: PositionSet) -> Result<u32, BuildFault>
     requires { length sets.old.items ≤ 512 }
-    ensures sets { (sets.new.items ≡ sets.old.items) ⊎ ((sets.new.items ≡ sets.old.items ++ set ∷ []) × (length sets.old.items < 512) × (Contains sets.old.items set → ⊥)) }
+    ensures sets { (sets.new.items ≡ sets.old.items)
+        ⊎ ((sets.new.items ≡ sets.old.items ++ set ∷ [])
+        × (length sets.old.items < 512) × (Contains sets.old.items set → ⊥)) }
     ensures number { IfOk result (IsNumberOf sets.new.items set) }
-    ensures order { IfOk result (λ number. (number ≤ length sets.old.items + 1) × (max (length sets.old.items) number ≡ length sets.new.items)) }
-    ensures full { result ≡ Err BuildFault.TooManyStates → (length sets.new.items ≡ 512) × (Contains sets.new.items set → ⊥) }
+    ensures order { IfOk result (λ number.
+        (number ≤ length sets.old.items + 1)
+        × (max (length sets.old.items) number ≡ length sets.new.items)) }
+    ensures full { result ≡ Err BuildFault.TooManyStates →
+        (length sets.new.items ≡ 512) × (Contains sets.new.items set → ⊥) }
     ensures labels { (n : ℕ) → result ≢ Err (BuildFault.TooManyLabels n) }
 {
     if let Some(place) = find(sets, set) {
@@ -64,7 +70,8 @@ fn step(
     ensures sets { Grows reach (mask ∷ []) sets.old.items sets.new.items }
     ensures step { IfOk result (IsStepTo sets.new.items reach mask) }
     ensures order { IfOk result (λ step. IsInOrder (length sets.old.items) (step ∷ [])) }
-    ensures greatest { IfOk result (λ step. greatest_of (length sets.old.items) (step ∷ []) ≡ length sets.new.items) }
+    ensures greatest { IfOk result (λ step.
+        greatest_of (length sets.old.items) (step ∷ []) ≡ length sets.new.items) }
     ensures full { result ≡ Err BuildFault.TooManyStates → IsFull reach (mask ∷ []) sets.new.items }
     ensures labels { (n : ℕ) → result ≢ Err (BuildFault.TooManyLabels n) }
 {
@@ -75,7 +82,8 @@ fn step(
     Ok(Some(number(sets, target)?))
 }
 
-/// The row of a state after which these positions may stand: for each label the step to those that have it.
+/// The row of a state after which these positions may stand: for each label the step to those
+/// that have it.
 fn row(
     alloc: Global,
     sets: &mut Vec<PositionSet>,
@@ -87,7 +95,8 @@ fn row(
     ensures sets { Grows reach masks.now sets.old.items sets.new.items }
     ensures row { IfOk result (λ row. IsRow sets.new.items reach masks.now row.items) }
     ensures order { IfOk result (λ row. IsInOrder (length sets.old.items) row.items) }
-    ensures greatest { IfOk result (λ row. greatest_of (length sets.old.items) row.items ≡ length sets.new.items) }
+    ensures greatest { IfOk result (λ row.
+        greatest_of (length sets.old.items) row.items ≡ length sets.new.items) }
     ensures full { result ≡ Err BuildFault.TooManyStates → IsFull reach masks.now sets.new.items }
     ensures labels { (n : ℕ) → result ≢ Err (BuildFault.TooManyLabels n) }
 {
@@ -113,23 +122,28 @@ pub fn find_states(
     masks: &[PositionSet],
 ) -> Result<States, BuildFault>
     requires { length follow.now ≤ 64 }
-    ensures states { IfOk result (λ states. AreRows follow.now masks.now first states.sets.items (map (λ row. row.items) states.rows.items) (length states.sets.items)) }
+    ensures states { IfOk result (λ states.
+        AreRows follow.now masks.now first states.sets.items
+        (map (λ row. row.items) states.rows.items) (length states.sets.items)) }
     ensures full { result ≡ Err BuildFault.TooManyStates → HasTooMany follow.now masks.now first }
     ensures labels { (n : ℕ) → result ≢ Err (BuildFault.TooManyLabels n) }
 {
     let mut sets = Vec::new(alloc);
     let mut rows = Vec::new(alloc);
     rows.push(row(alloc, &mut sets, first, masks)?)?;
-    'states: while rows.len() <= sets.len() {
-        let reach = after(follow, sets[rows.len() - 1]);
+    let mut done = 0;
+    'states: while done < sets.len() {
+        let reach = after(follow, sets[done]);
         rows.push(row(alloc, &mut sets, reach, masks)?)?;
+        done += 1;
     }
     Ok(States { sets, rows })
 }
 
 /// Whether the sets share a member.
 fn meets(set: PositionSet, other: PositionSet) -> bool
-    ensures { IsTrue result ↔ ((position : ℕ) × IsTrue (has set position) × IsTrue (has other position)) }
+    ensures { IsTrue result
+        ↔ ((position : ℕ) × IsTrue (has set position) × IsTrue (has other position)) }
 {
     !set.intersection(other).is_empty()
 }
@@ -143,7 +157,9 @@ pub fn finals_of(
     ensures length { IfOk result (λ finals. length finals.items ≡ length sets.now + 1) }
     ensures start { IfOk result (λ finals. slice_index_or finals.items 0 false ≡ false) }
     ensures sets { IfOk result (λ finals. (place : ℕ) → place < length sets.now →
-        IsTrue (slice_index_or finals.items (place + 1) false) ↔ ((position : ℕ) × IsTrue (has (set_at sets.now place) position) × IsTrue (has last position))) }
+        IsTrue (slice_index_or finals.items (place + 1) false)
+        ↔ ((position : ℕ)
+        × IsTrue (has (set_at sets.now place) position) × IsTrue (has last position))) }
 {
     let mut finals = Vec::with_capacity(alloc, sets.len() + 1)?;
     finals.push(false)?;

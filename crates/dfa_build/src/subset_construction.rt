@@ -1,12 +1,9 @@
 //! The subset construction.
 
-ghost use Rattle.std.specs.Prelude.{◌≡◌, ◌≢◌, ℕ, ◌+◌, ◌↔◌, List, length, Contains, IfOk, OnOk};
+ghost use Rattle.std.specs.Prelude.{◌≡◌, ◌≢◌, ℕ, ◌+◌, List, length, IfOk, OnOk};
 ghost use Rattle.rpq_base.specs.declared.data.Label.{Label};
-ghost use Rattle.dfa_table.specs.DfaValue.{IsDfa};
-ghost use Rattle.dfa_table.specs.Runs.{Accepts};
-ghost use Rattle.dfa_build.specs.Order.{IsInDiscoveryOrder};
-ghost use Rattle.dfa_build.specs.Positions.{ArePositions, AcceptsByPositions};
-ghost use Rattle.dfa_build.specs.Subset.{ReachAll, HasManySets, HasStatePerSet};
+ghost use Rattle.dfa_build.specs.Positions.{ArePositions};
+ghost use Rattle.dfa_build.specs.Subset.{ReachAll, HasManySets, IsAutomatonOf};
 
 use crate::automaton::Positions;
 use crate::fault::BuildFault;
@@ -17,19 +14,18 @@ use std::alloc::Global;
 
 /// The deterministic automaton that accepts the words that the position automaton accepts.
 ///
-/// Its states are a start and one for each nonempty set of positions that nonempty words reach. The start is state 0; the
-/// sets are numbered in the order in which they are found, by rising state and, within a state, by rising label. The
-/// start isn't final. For each of at most 512 sets the construction goes once through the positions and once through
-/// the labels, and looks each set that it meets up among those that it has, one after another.
-/// Source: M. O. Rabin and D. Scott, Finite automata and their decision problems, 1959.
+/// Its states are a start and one for each nonempty set of positions that nonempty words reach.
+/// The start is state 0; the sets are numbered in the order in which they are found, by rising
+/// state and, within a state, by rising label. The start isn't final. For each of at most 512
+/// sets the construction goes once through the positions and once through the labels, and looks
+/// each set that it meets up among those that it has, one after another. Source: M. O. Rabin and
+/// D. Scott, Finite automata and their decision problems, 1959.
 pub fn subset(alloc: Global, positions: &Positions) -> Result<Dfa, BuildFault>
     requires { ArePositions positions.now }
-    ensures accepts { IfOk result (λ dfa. (word : List Label) → Accepts dfa word ↔ AcceptsByPositions positions.now word) }
-    ensures sets { IfOk result (HasStatePerSet positions.now) }
-    ensures states { IfOk result (λ dfa. (words : List (List Label)) × ReachAll positions.now words × (length dfa.rows ≡ length words + 1)) }
-    ensures labels { IfOk result (λ dfa. (label : Label) → Contains dfa.labels label ↔ Contains positions.now.atoms label) }
-    ensures order { IfOk result IsInDiscoveryOrder }
-    ensures valid { IfOk result IsDfa }
+    ensures automaton { IfOk result (IsAutomatonOf positions.now) }
+    ensures states { IfOk result (λ dfa.
+        (words : List (List Label)) × ReachAll positions.now words
+        × (length dfa.rows ≡ length words + 1)) }
     ensures many { result ≡ Err BuildFault.TooManyStates → HasManySets positions.now }
     ensures few { OnOk result (HasManySets positions.now → ⊥) }
     ensures atoms { (n : ℕ) → result ≢ Err (BuildFault.TooManyLabels n) }

@@ -1,10 +1,11 @@
-//! What the subset construction reads off a position automaton: its labels, and sets of positions.
+//! What the subset construction reads off a position automaton: its labels, and sets of
+//! positions.
 
 ghost use Rattle.std.specs.Prelude.{◌≡◌, ℕ, ◌<◌, ◌≤◌, ◌↔◌, [], length, map, All, Contains, IsTrue, Some, slice_index_or, IfOk};
 ghost use Rattle.std.specs.List.{slice_get};
 ghost use Rattle.std.specs.List.Sorted.{IsStrictlySortedBy};
 ghost use Rattle.rpq_base.specs.declared.data.Label.{Label};
-ghost use Rattle.dfa_table.specs.DfaValue.{label_cmp};
+ghost use Rattle.rpq_base.specs.Order.{label_cmp};
 ghost use Rattle.dfa_build.specs.PositionSet.{has};
 ghost use Rattle.dfa_build.specs.Positions.{ArePositions};
 ghost use Rattle.dfa_build.specs.StateSets.{set_at, AreSetsOf};
@@ -32,7 +33,9 @@ impl PositionSets {
     /// The sets of the position automaton.
     pub fn of(alloc: Global, positions: &Positions) -> Result<PositionSets, Memory>
         requires { ArePositions positions.now }
-        ensures sets { IfOk result (λ sets. AreSetsOf positions.now sets.labels.items sets.first sets.last sets.follow.items sets.masks.items) }
+        ensures sets { IfOk result (λ sets.
+            AreSetsOf positions.now sets.labels.items sets.first sets.last
+            sets.follow.items sets.masks.items) }
         ensures sorted { IfOk result (λ sets. IsStrictlySortedBy label_cmp sets.labels.items) }
         ensures few { IfOk result (λ sets. length sets.labels.items ≤ length positions.now.atoms) }
     {
@@ -51,7 +54,8 @@ impl PositionSets {
 /// The labels, sorted, each once.
 fn distinct(alloc: Global, labels: &[Label]) -> Result<Vec<Label>, Memory>
     ensures sorted { IfOk result (λ distinct. IsStrictlySortedBy label_cmp distinct.items) }
-    ensures members { IfOk result (λ distinct. (label : Label) → Contains distinct.items label ↔ Contains labels.now label) }
+    ensures members { IfOk result (λ distinct. (label : Label) →
+        Contains distinct.items label ↔ Contains labels.now label) }
     ensures few { IfOk result (λ distinct. length distinct.items ≤ length labels.now) }
 {
     let mut found = BTreeSet::new(alloc);
@@ -86,7 +90,8 @@ fn sets_of(alloc: Global, rows: &[Vec<u32>]) -> Result<Vec<PositionSet>, Memory>
     requires { All (λ row. All (λ place. place < 64) row) (map (λ row. row.items) rows.now) }
     ensures length { IfOk result (λ sets. length sets.items ≡ length rows.now) }
     ensures members { IfOk result (λ sets. (place position : ℕ) → place < length rows.now →
-        IsTrue (has (set_at sets.items place) position) ↔ Contains (slice_index_or (map (λ row. row.items) rows.now) place []) position) }
+        IsTrue (has (set_at sets.items place) position)
+        ↔ Contains (slice_index_or (map (λ row. row.items) rows.now) place []) position) }
 {
     let mut sets = Vec::with_capacity(alloc, rows.len())?;
     for row in rows {
@@ -98,7 +103,8 @@ fn sets_of(alloc: Global, rows: &[Vec<u32>]) -> Result<Vec<PositionSet>, Memory>
 /// The positions with this label.
 fn positions_of(atoms: &[Label], label: &Label) -> PositionSet
     requires { length atoms.now ≤ 64 }
-    ensures { (position : ℕ) → IsTrue (has result position) ↔ (slice_get atoms.now position ≡ Some label.now) }
+    ensures { (position : ℕ) →
+        IsTrue (has result position) ↔ (slice_get atoms.now position ≡ Some label.now) }
 {
     let mut set = PositionSet::empty();
     for (place, atom) in atoms.iter().enumerate() {
@@ -112,7 +118,8 @@ fn masks_of(alloc: Global, atoms: &[Label], labels: &[Label]) -> Result<Vec<Posi
     requires { length atoms.now ≤ 64 }
     ensures length { IfOk result (λ masks. length masks.items ≡ length labels.now) }
     ensures members { IfOk result (λ masks. (place position : ℕ) → place < length labels.now →
-        IsTrue (has (set_at masks.items place) position) ↔ (slice_get atoms.now position ≡ slice_get labels.now place)) }
+        IsTrue (has (set_at masks.items place) position)
+        ↔ (slice_get atoms.now position ≡ slice_get labels.now place)) }
 {
     let mut masks = Vec::with_capacity(alloc, labels.len())?;
     for label in labels {

@@ -1,8 +1,8 @@
 use Rattle.std.proofs.Common.{ℕ, [], ◌∷◌, length, take, refl, ap, subst, sym, ◌∙◌}
-use Rattle.dfa_build.specs.Order.{IsInOrder, greatest_of}
+use Rattle.dfa_table.specs.Order.{IsInOrder, greatest_of}
 use Rattle.dfa_build.specs.StateSets.{set_at}
 use Rattle.dfa_build.proofs.Growth.{grows_twice, grows_wider, row_kept, row_more}
-use Rattle.dfa_build.proofs.Order.{order_joined, greatest_joined}
+use Rattle.dfa_table.proofs.Order.{order_joined, greatest_joined}
 use Rattle.dfa_build.proofs.state_sets.row.Goals as goal
 
 pub returns-in_err-step-clause-sets : goal.returns-in_err-step-clause-sets

@@ -1,5 +1,5 @@
 use Rattle.std.proofs.Common.{◌≡◌, length, take}
-use Rattle.dfa_build.specs.Order.{IsInOrder, greatest_of}
+use Rattle.dfa_table.specs.Order.{IsInOrder, greatest_of}
 use Rattle.dfa_build.specs.StateSets.{Grows, IsRow}
 use Rattle.dfa_build.proofs.state_sets.row.Given as goal
 

@@ -2,10 +2,11 @@ use Rattle.std.proofs.Common.{ℕ, List, length, map, Option, Vec, Global, Err, 
 use Rattle.dfa_table.specs.DfaValue.{IsDfa}
 use Rattle.dfa_build.specs.StateSets.{HasTooMany}
 use Rattle.dfa_build.specs.declared.fault.BuildFault.{BuildFault}
+use Rattle.dfa_build.specs.declared.fault.BuildFault.TheVariants.{TooManyStates}
 use Rattle.dfa_build.specs.declared.position_set.PositionSet.{PositionSet}
 use Rattle.dfa_build.proofs.Assembled.{table_is_dfa, passed_on}
 use Rattle.dfa_build.proofs.Counting.{many_sets, all_sets, few_sets}
-use Rattle.dfa_build.proofs.Faults.{handed_on}
+use Rattle.rpq_base.proofs.Outcomes.{handed_on}
 use Rattle.dfa_build.proofs.Runs.{IsSubsetDfa}
 use Rattle.dfa_build.proofs.Theorem.{accepts_same, state_per_set}
 use Rattle.dfa_build.proofs.subset_construction.subset.Goals as goal
@@ -13,7 +14,7 @@ use Rattle.dfa_build.proofs.subset_construction.subset.Goals as goal
 pub returns-in_err-states-clause-many : goal.returns-in_err-states-clause-many
 returns-in_err-states-clause-many c = λ is.
     let sets = c.in_ok-of_positions.of_positions in
-    let fault = handed_on c.from_residual-in_err-states.result c.in_err-states.field-0.0 c.from_residual-in_err-states.ensures.1 is in
+    let fault = handed_on c.from_residual-in_err-states.result c.in_err-states.field-0.0 TooManyStates c.from_residual-in_err-states.ensures.1 is in
     let many = c.in_err-states.ensures.full (ap (λ (e : BuildFault). Err e) fault) in
     many_sets c.args.positions.now sets.labels.items sets.first sets.last sets.follow.items sets.masks.items
     (record { are = c.requires; sets = c.in_ok-of_positions.ensures.sets })
@@ -45,18 +46,20 @@ returns c =
     c.deref.result.now c.deref-2.result.now c.deref-3.result.now (map items states.rows.items) c.requires c.in_ok-of_positions.ensures.sets
     c.deref.ensures.value c.deref-2.ensures.value c.deref-3.ensures.value c.in_ok-states.ensures.states c.in_ok-finals.ensures.start c.in_ok-finals.ensures.sets) in
     record {
-      accepts = accepts_same positions sets.first sets.last sets.follow.items sets.masks.items states.sets.items dfa whole;
-      sets = state_per_set positions sets.first sets.last sets.follow.items sets.masks.items states.sets.items dfa whole;
+      automaton = record {
+        accepts = accepts_same positions sets.first sets.last sets.follow.items sets.masks.items states.sets.items dfa whole;
+        sets = state_per_set positions sets.first sets.last sets.follow.items sets.masks.items states.sets.items dfa whole;
+        labels = whole.moves.sets.labels_of_atoms;
+        order = whole.rows.order;
+        valid = subst IsDfa (sym c.in_ok-new.ensures)
+            (table_is_dfa sets.labels.items c.in_ok-finals.finals.items c.deref.result.now c.deref-2.result.now sets.first states.sets.items (map items states.rows.items)
+            c.in_ok-states.ensures.states c.in_ok-of_positions.ensures.sorted
+            (omega (arith, c.in_ok-of_positions.ensures.few, c.requires.few))
+            (ap length c.deref-2.ensures.value ∙ c.in_ok-of_positions.ensures.sets.as_many_masks)
+            (omega (arith, c.in_ok-finals.ensures.length, ap length c.deref-3.ensures.value))
+            c.in_ok-finals.ensures.start);
+      };
       states = all_sets positions sets.first sets.last sets.follow.items sets.masks.items states.sets.items dfa whole;
-      labels = whole.moves.sets.labels_of_atoms;
-      order = whole.rows.order;
-      valid = subst IsDfa (sym c.in_ok-new.ensures)
-          (table_is_dfa sets.labels.items c.in_ok-finals.finals.items c.deref.result.now c.deref-2.result.now sets.first states.sets.items (map items states.rows.items)
-          c.in_ok-states.ensures.states c.in_ok-of_positions.ensures.sorted
-          (omega (arith, c.in_ok-of_positions.ensures.few, c.requires.few))
-          (ap length c.deref-2.ensures.value ∙ c.in_ok-of_positions.ensures.sets.as_many_masks)
-          (omega (arith, c.in_ok-finals.ensures.length, ap length c.deref-3.ensures.value))
-          c.in_ok-finals.ensures.start);
       many = λ e. cc;
       few = few_sets positions sets.first sets.last sets.follow.items sets.masks.items states.sets.items dfa whole;
       atoms = λ n e. cc;

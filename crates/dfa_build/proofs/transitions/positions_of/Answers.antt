@@ -1,5 +1,5 @@
 use Rattle.dfa_build.proofs.Filling.{have_label_more}
-use Rattle.dfa_build.proofs.Labels.{label_test}
+use Rattle.rpq_base.proofs.Equality.{label_test}
 use Rattle.dfa_build.proofs.transitions.positions_of.Goals as goal
 
 pub loop-place-preserved : goal.loop-place-preserved
