@@ -42,7 +42,8 @@ same_members test list same small p = (
   λ h. subst (λ (l : List ℕ). Contains l p) (sym same) (numbers_contain test p (small p h) h),
 )
 
-next_members : (e : Expression) (positions : PositionsValue) → IsConstructed e positions → atoms e ≤ 64 → (p q : ℕ) → Contains (next_of positions p) q ↔ (is_next e 0 p q ≡ true)
+next_members : (e : Expression) (positions : PositionsValue) → IsConstructed e positions → atoms e ≤ 64 → (p q : ℕ) →
+    Contains (next_of positions p) q ↔ (is_next e 0 p q ≡ true)
 next_members e positions built few p q =
     elim (cases_lt p (atoms e)) [
       | inl small ↦ same_members (is_next e 0 p) (next_of positions p) (row_of e positions built p small) (λ r h. let range = (next_range e 0 p r h).after in omega arith) q
@@ -61,7 +62,8 @@ tells e positions built few =
     }
 
 -- the traces of the position automaton are the paths
-to_run : (e : Expression) (positions : PositionsValue) → Tells e positions → (trace : List ℕ) (p : ℕ) → GoesOn positions p trace → Contains positions.last (end_of p trace) → RunsIn e 0 p trace
+to_run : (e : Expression) (positions : PositionsValue) → Tells e positions → (trace : List ℕ) (p : ℕ) → GoesOn positions p trace →
+    Contains positions.last (end_of p trace) → RunsIn e 0 p trace
 to_run e positions told [] p goes ends = (told.last p).0 ends
 to_run e positions told (q ∷ trace) p goes ends = ((told.next p q).0 goes.0, to_run e positions told trace q goes.1 ends)
 
@@ -69,17 +71,20 @@ goes_on : (e : Expression) (positions : PositionsValue) → Tells e positions �
 goes_on e positions told [] p run = tt
 goes_on e positions told (q ∷ trace) p run = ((told.next p q).1 run.0, goes_on e positions told trace q run.1)
 
-ends_in_last : (e : Expression) (positions : PositionsValue) → Tells e positions → (trace : List ℕ) (p : ℕ) → RunsIn e 0 p trace → Contains positions.last (end_of p trace)
+ends_in_last : (e : Expression) (positions : PositionsValue) → Tells e positions → (trace : List ℕ) (p : ℕ) → RunsIn e 0 p trace →
+    Contains positions.last (end_of p trace)
 ends_in_last e positions told [] p run = (told.last p).1 run
 ends_in_last e positions told (q ∷ trace) p run = ends_in_last e positions told trace q run.1
 
-trace_of_path : (e : Expression) (positions : PositionsValue) → Tells e positions → (trace : List ℕ) → trace ≢ [] → IsLocal e 0 trace → IsTrace positions trace
+trace_of_path : (e : Expression) (positions : PositionsValue) → Tells e positions → (trace : List ℕ) → trace ≢ [] → IsLocal e 0 trace →
+    IsTrace positions trace
 trace_of_path e positions told [] some path = absurd (some refl)
 trace_of_path e positions told (p ∷ trace) some path =
     (((told.first p).1 path.0, goes_on e positions told trace p path.1), ends_in_last e positions told trace p path.1)
 
 -- a nonempty trace of the automaton spells a nonempty word of the language
-accepted_is_word : (e : Expression) (positions : PositionsValue) → IsConstructed e positions → Tells e positions → (word : List Label) (trace : List ℕ) → IsTrace positions trace → word ≡ spells positions trace → (word ≢ []) × In e word
+accepted_is_word : (e : Expression) (positions : PositionsValue) → IsConstructed e positions → Tells e positions →
+    (word : List Label) (trace : List ℕ) → IsTrace positions trace → word ≡ spells positions trace → (word ≢ []) × In e word
 accepted_is_word e positions built told word [] accepts same = absurd accepts
 accepted_is_word e positions built told word (p ∷ trace) accepts same =
     let path : IsLocal e 0 (p ∷ trace) = ((told.first p).0 accepts.0.0, to_run e positions told trace p accepts.0.1 accepts.1) in
@@ -90,7 +95,8 @@ accepted_is_word e positions built told word (p ∷ trace) accepts same =
       subst (λ (w : List Label). In e w) (sym shown) (marked_spells_word e (labels_of e) 0 labelled (p ∷ trace) marked),
     )
 
-word_is_accepted : (e : Expression) (positions : PositionsValue) → IsConstructed e positions → Tells e positions → (word : List Label) → word ≢ [] → In e word → AcceptsByPositions positions word
+word_is_accepted : (e : Expression) (positions : PositionsValue) → IsConstructed e positions → Tells e positions → (word : List Label) →
+    word ≢ [] → In e word → AcceptsByPositions positions word
 word_is_accepted e positions built told word some h =
     let found = word_is_spelled e (labels_of e) 0 (are_labelled_all e) word h in (
       found.trace,
@@ -98,13 +104,15 @@ word_is_accepted e positions built told word some h =
       found.spells ∙ ap (λ (labels : List Label). spelled labels found.trace) (sym built.labels),
     )
 
-pub accepts : (e : Expression) (positions : PositionsValue) → IsConstructed e positions → atoms e ≤ 64 → (word : List Label) → AcceptsByPositions positions word ↔ ((word ≢ []) × In e word)
+pub accepts : (e : Expression) (positions : PositionsValue) → IsConstructed e positions → atoms e ≤ 64 → (word : List Label) →
+    AcceptsByPositions positions word ↔ ((word ≢ []) × In e word)
 accepts e positions built few word =
     let told = tells e positions built few in
     (λ h. accepted_is_word e positions built told word h.0 h.1 h.2, λ h. word_is_accepted e positions built told word h.0 h.1)
 
 -- what the members of the lists mean
-pub first_is : (e : Expression) (positions : PositionsValue) → IsConstructed e positions → atoms e ≤ 64 → (p : ℕ) → Contains positions.first p ↔ BeginsAWord e p
+pub first_is : (e : Expression) (positions : PositionsValue) → IsConstructed e positions → atoms e ≤ 64 → (p : ℕ) →
+    Contains positions.first p ↔ BeginsAWord e p
 first_is e positions built few p =
     let told = (tells e positions built few).first p in
     let means = first_means e p in
@@ -116,7 +124,8 @@ last_is e positions built few p =
     let means = last_means e p in
     (λ h. means.0 (told.0 h), λ h. told.1 (means.1 h))
 
-pub next_is : (e : Expression) (positions : PositionsValue) → IsConstructed e positions → atoms e ≤ 64 → (p q : ℕ) → Contains (next_of positions p) q ↔ AreNeighbours e p q
+pub next_is : (e : Expression) (positions : PositionsValue) → IsConstructed e positions → atoms e ≤ 64 → (p q : ℕ) →
+    Contains (next_of positions p) q ↔ AreNeighbours e p q
 next_is e positions built few p q =
     let told = (tells e positions built few).next p q in
     let means = next_means e p q in
@@ -129,7 +138,8 @@ length-follow e positions built = ap (λ (rows : List (List ℕ)). length rows) 
 size_of : (e : Expression) (positions : PositionsValue) → IsConstructed e positions → length positions.atoms ≡ atoms e
 size_of e positions built = ap (λ (labels : List Label). length labels) built.labels ∙ length-labels_of e
 
-each_row : (e : Expression) (positions : PositionsValue) → IsConstructed e positions → (P : List ℕ → Type 0) → ((p : ℕ) → P (numbers (is_next e 0 p))) → All P positions.follow
+each_row : (e : Expression) (positions : PositionsValue) → IsConstructed e positions → (P : List ℕ → Type 0) →
+    ((p : ℕ) → P (numbers (is_next e 0 p))) → All P positions.follow
 each_row e positions built P each =
     All-from_get_or P positions.follow [] (λ p h. subst P (sym (row_of e positions built p (omega (arith, length-follow e positions built)))) (each p))
 

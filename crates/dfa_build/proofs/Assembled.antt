@@ -18,7 +18,8 @@ use Rattle.dfa_build.proofs.Runs.{IsSubsetDfa}
 
 -- ---- the conditions on a table
 
-step_target : (step : Option ℕ) (sets : List PositionSet) (reach mask : PositionSet) (target : ℕ) → IsStepTo sets reach mask step → step ≡ Some target → (0 < target) × (target ≤ length sets)
+step_target : (step : Option ℕ) (sets : List PositionSet) (reach mask : PositionSet) (target : ℕ) → IsStepTo sets reach mask step →
+    step ≡ Some target → (0 < target) × (target ≤ length sets)
 step_target None sets reach mask target right is = absurd (none-some target is)
 step_target (Some zero) sets reach mask target right is = absurd right
 step_target (Some (suc place)) sets reach mask target right is =
@@ -26,7 +27,8 @@ step_target (Some (suc place)) sets reach mask target right is =
     let below = right.0 in
     (omega arith, omega arith)
 
-row_target : (sets masks : List PositionSet) (reach : PositionSet) (row : List (Option ℕ)) (place target : ℕ) → IsRow sets reach masks row → get_or row place None ≡ Some target → (0 < target) × (target ≤ length sets)
+row_target : (sets masks : List PositionSet) (reach : PositionSet) (row : List (Option ℕ)) (place target : ℕ) → IsRow sets reach masks row →
+    get_or row place None ≡ Some target → (0 < target) × (target ≤ length sets)
 row_target sets masks reach row place target right is = ⊎_elim
     (λ below. step_target (get_or row place None) sets reach (set_at masks place) target (right.steps place (omega (arith, below, right.even))) is)
     (λ past. absurd (none-some target (sym (get_or_past row place None past) ∙ is)))
@@ -42,7 +44,8 @@ state_target (suc at) follow masks first sets rows are place target is = ⊎_eli
     absurd (none-some target (ap (λ (row : List (Option ℕ)). get_or row place None) (sym none) ∙ is)))
     (cases_lt at (length sets))
 
-row_length : (state : ℕ) (follow masks : List PositionSet) (first : PositionSet) (sets : List PositionSet) (rows : List (List (Option ℕ))) → AreRows follow masks first sets rows (length sets) →
+row_length : (state : ℕ) (follow masks : List PositionSet) (first : PositionSet) (sets : List PositionSet) (rows : List (List (Option ℕ))) →
+    AreRows follow masks first sets rows (length sets) →
     state < length rows → length (get_or rows state []) ≡ length masks
 row_length zero follow masks first sets rows are below = are.start.even
 row_length (suc at) follow masks first sets rows are below = (are.others at (omega (arith, below, are.as_many))).is.even
@@ -81,7 +84,8 @@ subset_dfa positions labels finals first last follow masks sets rows moves are s
 -- the same from lists that are passed on
 pub passed_on : (positions : PositionsValue) (labels : List Label) (finals : List Bool) (first last : PositionSet) (follow masks sets follow_passed masks_passed sets_passed : List PositionSet)
     (rows : List (List (Option ℕ))) → ArePositions positions → AreSetsOf positions labels first last follow masks →
-    follow_passed ≡ follow → masks_passed ≡ masks → sets_passed ≡ sets → AreRows follow_passed masks_passed first sets rows (length sets) → get_or finals 0 false ≡ false →
+    follow_passed ≡ follow → masks_passed ≡ masks → sets_passed ≡ sets → AreRows follow_passed masks_passed first sets rows (length sets) →
+    get_or finals 0 false ≡ false →
     ((place : ℕ) → place < length sets_passed → IsTrue (get_or finals (place + 1) false) ↔ ((position : ℕ) × IsTrue (has (set_at sets_passed place) position) × IsTrue (has last position))) →
     IsSubsetDfa positions first last follow masks sets (record { labels = labels; rows = rows; finals = finals })
 passed_on positions labels finals first last follow masks sets follow_passed masks_passed sets_passed rows are of_positions same_follow same_masks same_sets states start final =

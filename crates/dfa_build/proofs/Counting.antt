@@ -37,7 +37,8 @@ one_word_more : (place : ℕ) (positions : PositionsValue) (word : List Label) (
 one_word_more zero positions word words set sets here are below = here
 one_word_more (suc place) positions word words set sets here are below = are.each place (omega arith)
 
-words_of : (sets : List PositionSet) (positions : PositionsValue) → All (HasWord positions) sets → (words : List (List Label)) × AreWordsOf positions words sets
+words_of : (sets : List PositionSet) (positions : PositionsValue) → All (HasWord positions) sets →
+    (words : List (List Label)) × AreWordsOf positions words sets
 words_of [] positions have = ([], record { as_many = refl; each = λ place below. absurd (omega arith) })
 words_of (set ∷ sets) positions have =
     let here = All-head (HasWord positions) set sets have in
@@ -51,7 +52,8 @@ words_of (set ∷ sets) positions have =
     )
 
 -- words of distinct sets reach sets that are apart
-reach_apart : (positions : PositionsValue) (words : List (List Label)) (sets : List PositionSet) → AreWordsOf positions words sets → AllPairs ◌≢◌ sets → ReachApart positions words
+reach_apart : (positions : PositionsValue) (words : List (List Label)) (sets : List PositionSet) → AreWordsOf positions words sets →
+    AllPairs ◌≢◌ sets → ReachApart positions words
 reach_apart positions words sets are apart = record {
   some = All-from_get_or (ReachesSome positions) words [] (λ place below. (are.each place (omega (arith, below, are.as_many))).some);
   apart = λ i j d before below same.
@@ -65,7 +67,8 @@ reach_apart positions words sets are apart = record {
 }
 
 -- more than 512 found sets are more than 512 sets that words reach
-pub many_sets : (positions : PositionsValue) (labels : List Label) (first last : PositionSet) (follow masks : List PositionSet) → AreMoves positions labels first last follow masks →
+pub many_sets : (positions : PositionsValue) (labels : List Label) (first last : PositionSet) (follow masks : List PositionSet) →
+    AreMoves positions labels first last follow masks →
     HasTooMany follow masks first → HasManySets positions
 many_sets positions labels first last follow masks moves many =
     let none : PositionSet = record { bits = 0 } in
@@ -76,7 +79,8 @@ many_sets positions labels first last follow masks moves many =
     (words.0, reach_apart positions words.0 many.sets words.1 many.apart, words.1.as_many ∙ many.many)
 
 -- words that reach one set reach the same
-same_reach : (positions : PositionsValue) (first second : List Label) (set : PositionSet) → IsSetOf positions first set → IsSetOf positions second set → ReachSame positions first second
+same_reach : (positions : PositionsValue) (first second : List Label) (set : PositionSet) → IsSetOf positions first set →
+    IsSetOf positions second set → ReachSame positions first second
 same_reach positions first second set is_first is_second position = (
   (λ reaches. (is_second position).0 ((is_first position).1 reaches)),
   (λ reaches. (is_first position).0 ((is_second position).1 reaches)),
@@ -97,7 +101,8 @@ one_of_words (label ∷ word) positions first last follow masks sets dfa is word
     )
 
 -- there are as many states as sets that words reach, and the start
-pub all_sets : (positions : PositionsValue) (first last : PositionSet) (follow masks sets : List PositionSet) (dfa : DfaValue) → IsSubsetDfa positions first last follow masks sets dfa →
+pub all_sets : (positions : PositionsValue) (first last : PositionSet) (follow masks sets : List PositionSet) (dfa : DfaValue) →
+    IsSubsetDfa positions first last follow masks sets dfa →
     (words : List (List Label)) × ReachAll positions words × (length dfa.rows ≡ length words + 1)
 all_sets positions first last follow masks sets dfa is =
     let have : All (HasWord positions) sets = All-from_get_or (HasWord positions) sets (record { bits = 0 }) (set_has_word positions first last follow masks sets dfa is) in
@@ -134,7 +139,8 @@ has_place (label ∷ word) positions first last follow masks sets dfa is some =
     }
 
 -- where there is the automaton, there aren't more than 512 sets
-pub few_sets : (positions : PositionsValue) (first last : PositionSet) (follow masks sets : List PositionSet) (dfa : DfaValue) → IsSubsetDfa positions first last follow masks sets dfa → HasManySets positions → ⊥
+pub few_sets : (positions : PositionsValue) (first last : PositionSet) (follow masks sets : List PositionSet) (dfa : DfaValue) →
+    IsSubsetDfa positions first last follow masks sets dfa → HasManySets positions → ⊥
 few_sets positions first last follow masks sets dfa is many =
     let words = many.0 in
     let places = map (place_of_word dfa) words in

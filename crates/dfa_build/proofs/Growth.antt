@@ -44,7 +44,8 @@ grows_by_one reach mask set sets cut some apart new few =
     }
 
 -- the list stayed, or a new cut was added
-pub grows_at_most_one : (reach mask set : PositionSet) (sets after : List PositionSet) → IsCut reach mask set → HasSome set → length sets ≤ 512 → AllPairs ◌≢◌ sets →
+pub grows_at_most_one : (reach mask set : PositionSet) (sets after : List PositionSet) → IsCut reach mask set → HasSome set →
+    length sets ≤ 512 → AllPairs ◌≢◌ sets →
     (after ≡ sets) ⊎ ((after ≡ sets ++ set ∷ []) × (length sets < 512) × (Contains sets set → ⊥)) → Grows reach (mask ∷ []) sets after
 grows_at_most_one reach mask set sets after cut some few apart either =
     let P : List PositionSet → Type 0 = λ all. Grows reach (mask ∷ []) sets all in
@@ -54,7 +55,8 @@ grows_at_most_one reach mask set sets after cut some few apart either =
     either
 
 -- and again
-pub grows_twice : (reach : PositionSet) (masks first second third : List PositionSet) → Grows reach masks first second → Grows reach masks second third → Grows reach masks first third
+pub grows_twice : (reach : PositionSet) (masks first second third : List PositionSet) → Grows reach masks first second →
+    Grows reach masks second third → Grows reach masks first third
 grows_twice reach masks first second third before after = record {
   longer = omega (arith, before.longer, after.longer);
   few = after.few;
@@ -81,7 +83,8 @@ cut_wider : (masks : List PositionSet) (reach mask : PositionSet) (place : ℕ) 
     (set : PositionSet) → IsOneCut reach (mask ∷ []) set → IsOneCut reach masks set
 cut_wider masks reach mask place below is set one = cut_at masks reach mask set place one.place below is one.some one.within one.cut
 
-pub grows_wider : (masks : List PositionSet) (reach mask : PositionSet) (place : ℕ) (before after : List PositionSet) → place < length masks → set_at masks place ≡ mask →
+pub grows_wider : (masks : List PositionSet) (reach mask : PositionSet) (place : ℕ) (before after : List PositionSet) →
+    place < length masks → set_at masks place ≡ mask →
     Grows reach (mask ∷ []) before after → Grows reach masks before after
 grows_wider masks reach mask place before after below is grows = record {
   longer = grows.longer;
@@ -91,7 +94,8 @@ grows_wider masks reach mask place before after below is grows = record {
   apart = grows.apart;
 }
 
-pub full_wider : (masks : List PositionSet) (reach mask : PositionSet) (place : ℕ) (sets : List PositionSet) → place < length masks → set_at masks place ≡ mask →
+pub full_wider : (masks : List PositionSet) (reach mask : PositionSet) (place : ℕ) (sets : List PositionSet) → place < length masks →
+    set_at masks place ≡ mask →
     IsFull reach (mask ∷ []) sets → IsFull reach masks sets
 full_wider masks reach mask place sets below is full = record {
   full = full.full;
@@ -101,7 +105,8 @@ full_wider masks reach mask place sets below is full = record {
 }
 
 -- 512 sets are there, and the cut isn't among them
-pub full_by_one : (reach mask set : PositionSet) (sets : List PositionSet) → IsCut reach mask set → HasSome set → length sets ≡ 512 → (Contains sets set → ⊥) → IsFull reach (mask ∷ []) sets
+pub full_by_one : (reach mask set : PositionSet) (sets : List PositionSet) → IsCut reach mask set → HasSome set → length sets ≡ 512 →
+    (Contains sets set → ⊥) → IsFull reach (mask ∷ []) sets
 full_by_one reach mask set sets cut some full new = record { full = full; further = set; cut = cut_by_one reach mask set cut some; new = new }
 
 -- ---- rows
@@ -127,7 +132,8 @@ row_none sets masks reach = record { even = refl; steps = λ place below. absurd
 
 -- a row with one step more
 pub row_more : (row after : List (Option ℕ)) (step : Option ℕ) (reach : PositionSet) (masks sets : List PositionSet) (index : ℕ) → index < length masks →
-    after ≡ row ++ step ∷ [] → IsRow sets reach (take index masks) row → IsStepTo sets reach (set_at masks index) step → IsRow sets reach (take (index + 1) masks) after
+    after ≡ row ++ step ∷ [] → IsRow sets reach (take index masks) row → IsStepTo sets reach (set_at masks index) step →
+    IsRow sets reach (take (index + 1) masks) after
 row_more row after step reach masks sets index below pushed right here =
     let as_many : length (take index masks) ≡ index = length-take-le index masks (omega arith) in
     let more : length (take (index + 1) masks) ≡ index + 1 = length-take-le (index + 1) masks (omega arith) in

@@ -19,7 +19,8 @@ abbrev pub RunsIn : Expression → ℕ → ℕ → List ℕ → Type 0
 RunsIn e from p trace = Runs (is_next e from) (is_last e from) p trace
 
 -- a word of a sequence is a path
-seq_path : (left right : Expression) (from : ℕ) (front rest : List ℕ) → IsLocal left from front → IsLocal right (from + atoms left) rest → IsLocal (Seq left right) from (front ++ rest)
+seq_path : (left right : Expression) (from : ℕ) (front rest : List ℕ) → IsLocal left from front → IsLocal right (from + atoms left) rest →
+    IsLocal (Seq left right) from (front ++ rest)
 seq_path left right from [] [] a b = and_from (is_nullable left) (is_nullable right) a b
 seq_path left right from [] (q ∷ rest) a b =
     let middle = from + atoms left in (
@@ -79,7 +80,8 @@ alt_right_path left right from (p ∷ trace) b =
 abbrev IsRepeatedPath : Bool → Expression → ℕ → List ℕ → Type 0
 IsRepeatedPath nullable body from trace = IsPath nullable (is_first (Star body) from) (is_next (Star body) from) (is_last (Star body) from) trace
 
-star_more : (body : Expression) (from : ℕ) (front rest : List ℕ) → IsLocal body from front → IsLocal (Star body) from rest → IsRepeatedPath (is_nullable body) body from (front ++ rest)
+star_more : (body : Expression) (from : ℕ) (front rest : List ℕ) → IsLocal body from front → IsLocal (Star body) from rest →
+    IsRepeatedPath (is_nullable body) body from (front ++ rest)
 star_more body from [] [] a b = a
 star_more body from [] (q ∷ rest) a b = b
 star_more body from (p ∷ front) [] a b = (
@@ -103,7 +105,8 @@ as_star : (nullable : Bool) (body : Expression) (from : ℕ) (trace : List ℕ) 
 as_star nullable body from [] h = refl
 as_star nullable body from (p ∷ trace) h = h
 
-star_path : (body : Expression) (from : ℕ) (parts : List (List ℕ)) → ((part : List ℕ) → InMarked body from part → IsLocal body from part) → All (InMarked body from) parts → IsLocal (Star body) from (flat_map (λ part. part) parts)
+star_path : (body : Expression) (from : ℕ) (parts : List (List ℕ)) → ((part : List ℕ) → InMarked body from part → IsLocal body from part) →
+    All (InMarked body from) parts → IsLocal (Star body) from (flat_map (λ part. part) parts)
 star_path body from [] local within = refl
 star_path body from (part ∷ parts) local within =
     let rest = flat_map (λ (p : List ℕ). p) parts in
@@ -139,7 +142,8 @@ marked_is_local (Opt body) from trace h =
     ]
 
 -- runs that begin in the positions of one side stay there
-alt_stays_left : (left right : Expression) (from : ℕ) (trace : List ℕ) (p : ℕ) → InRange left from p → RunsIn (Alt left right) from p trace → RunsIn left from p trace
+alt_stays_left : (left right : Expression) (from : ℕ) (trace : List ℕ) (p : ℕ) → InRange left from p →
+    RunsIn (Alt left right) from p trace → RunsIn left from p trace
 alt_stays_left left right from [] p range h =
     elim (or_cases (is_last left from p) (is_last right (from + atoms left) p) h) [
       | inl l ↦ l
@@ -152,7 +156,8 @@ alt_stays_left left right from (q ∷ trace) p range h =
       | inr r ↦ (let other = (next_range right middle p q r).before in absurd (omega arith))
     ]
 
-alt_stays_right : (left right : Expression) (from : ℕ) (trace : List ℕ) (p : ℕ) → InRange right (from + atoms left) p → RunsIn (Alt left right) from p trace → RunsIn right (from + atoms left) p trace
+alt_stays_right : (left right : Expression) (from : ℕ) (trace : List ℕ) (p : ℕ) → InRange right (from + atoms left) p →
+    RunsIn (Alt left right) from p trace → RunsIn right (from + atoms left) p trace
 alt_stays_right left right from [] p range h =
     elim (or_cases (is_last left from p) (is_last right (from + atoms left) p) h) [
       | inl l ↦ (let other = last_range left from p l in absurd (omega arith))
@@ -166,7 +171,8 @@ alt_stays_right left right from (q ∷ trace) p range h =
     ]
 
 -- in a sequence a run that begins on the right stays there
-seq_stays_right : (left right : Expression) (from : ℕ) (trace : List ℕ) (p : ℕ) → InRange right (from + atoms left) p → RunsIn (Seq left right) from p trace → RunsIn right (from + atoms left) p trace
+seq_stays_right : (left right : Expression) (from : ℕ) (trace : List ℕ) (p : ℕ) → InRange right (from + atoms left) p →
+    RunsIn (Seq left right) from p trace → RunsIn right (from + atoms left) p trace
 seq_stays_right left right from [] p range h =
     elim (or_cases (is_last right (from + atoms left) p) (is_nullable right && is_last left from p) h) [
       | inl r ↦ r
@@ -190,7 +196,8 @@ record SplitsRun (left right : Expression) (from p : ℕ) (trace : List ℕ) : T
   on_left : RunsIn left from p front
   on_right : IsLocal right (from + atoms left) rest
 
-seq_splits : (left right : Expression) (from : ℕ) (trace : List ℕ) (p : ℕ) → InRange left from p → RunsIn (Seq left right) from p trace → SplitsRun left right from p trace
+seq_splits : (left right : Expression) (from : ℕ) (trace : List ℕ) (p : ℕ) → InRange left from p → RunsIn (Seq left right) from p trace →
+    SplitsRun left right from p trace
 seq_splits left right from [] p range h =
     elim (or_cases (is_last right (from + atoms left) p) (is_nullable right && is_last left from p) h) [
       | inl r ↦ (let other = last_range right (from + atoms left) p r in absurd (omega arith))

@@ -24,7 +24,8 @@ repeated_one body from part some h =
       within = All-cons (InMarked body from) part [] h (All-nil (InMarked body from));
     }
 
-repeated_two : (body : Expression) (from : ℕ) (part next : List ℕ) → part ≢ [] → next ≢ [] → InMarked body from part → InMarked body from next → IsRepeatedTrace (InMarked body from) (part ++ next)
+repeated_two : (body : Expression) (from : ℕ) (part next : List ℕ) → part ≢ [] → next ≢ [] → InMarked body from part →
+    InMarked body from next → IsRepeatedTrace (InMarked body from) (part ++ next)
 unfolding repeated_one
 repeated_two body from part next some more h k =
     let rest = repeated_one body from next more k in

@@ -26,7 +26,8 @@ abbrev pub IsEntry : PositionsValue → List Label → PositionSet → Type 0
 IsEntry positions word reach = (position : ℕ) → IsTrue (has reach position) ↔ Enters positions word position
 
 -- a cut of what may stand after a word has what the word with one label more reaches
-pub cut_is_set : (positions : PositionsValue) (labels : List Label) (first last : PositionSet) (follow masks : List PositionSet) → AreMoves positions labels first last follow masks →
+pub cut_is_set : (positions : PositionsValue) (labels : List Label) (first last : PositionSet) (follow masks : List PositionSet) →
+    AreMoves positions labels first last follow masks →
     (word : List Label) (label : Label) (place : ℕ) (reach set : PositionSet) → place < length labels → slice_get labels place ≡ Some label →
     IsEntry positions word reach → IsCut reach (set_at masks place) set → IsSetOf positions (word ++ label ∷ []) set
 cut_is_set positions labels first last follow masks moves word label place reach set below is entry cut position =
@@ -41,8 +42,10 @@ cut_is_set positions labels first last follow masks moves word label place reach
     )
 
 -- what a set leads to may stand after its words
-pub after_is_entry : (positions : PositionsValue) (labels : List Label) (first last : PositionSet) (follow masks : List PositionSet) → AreMoves positions labels first last follow masks →
-    (label : Label) (word : List Label) (set reach : PositionSet) → IsSetOf positions (label ∷ word) set → IsAfter follow set reach → IsEntry positions (label ∷ word) reach
+pub after_is_entry : (positions : PositionsValue) (labels : List Label) (first last : PositionSet) (follow masks : List PositionSet) →
+    AreMoves positions labels first last follow masks →
+    (label : Label) (word : List Label) (set reach : PositionSet) → IsSetOf positions (label ∷ word) set → IsAfter follow set reach →
+    IsEntry positions (label ∷ word) reach
 after_is_entry positions labels first last follow masks moves label word set reach is leads next = (
   (λ member.
       let from = (leads next).0 member in
@@ -68,7 +71,8 @@ label_at labels place below = ⊎_elim
     (slice_get_cases labels place).1
 
 -- a found set has a word
-pub found_has_word : (positions : PositionsValue) (labels : List Label) (first last : PositionSet) (follow masks : List PositionSet) → AreMoves positions labels first last follow masks →
+pub found_has_word : (positions : PositionsValue) (labels : List Label) (first last : PositionSet) (follow masks : List PositionSet) →
+    AreMoves positions labels first last follow masks →
     (set : PositionSet) → IsFound follow masks first set → HasWord positions set
 found_has_word positions labels first last follow masks moves _ (FromStart set cut) =
     let below : cut.place < length labels = omega (arith, cut.within, moves.sets.as_many_masks) in

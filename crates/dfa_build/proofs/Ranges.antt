@@ -55,7 +55,8 @@ pub record BothInRange (e : Expression) (from p q : ℕ) : Type 0 where
 both_left : (left right e : Expression) (from p q : ℕ) → atoms e ≡ atoms left + atoms right → BothInRange left from p q → BothInRange e from p q
 both_left left right e from p q size h = record { before = in_left left right e from p size h.before; after = in_left left right e from q size h.after }
 
-both_right : (left right e : Expression) (from p q : ℕ) → atoms e ≡ atoms left + atoms right → BothInRange right (from + atoms left) p q → BothInRange e from p q
+both_right : (left right e : Expression) (from p q : ℕ) → atoms e ≡ atoms left + atoms right → BothInRange right (from + atoms left) p q →
+    BothInRange e from p q
 both_right left right e from p q size h = record { before = in_right left right e from p size h.before; after = in_right left right e from q size h.after }
 
 -- a step from a last to a first position of one body

@@ -15,14 +15,16 @@ use Rattle.dfa_build.specs.Subset.{Reaches, ReachesSome}
 -- ---- places
 
 -- a position has a label
-pub has_label : (positions : PositionsValue) (position : ℕ) → position < length positions.atoms → (label : Label) × (slice_get positions.atoms position ≡ Some label)
+pub has_label : (positions : PositionsValue) (position : ℕ) → position < length positions.atoms →
+    (label : Label) × (slice_get positions.atoms position ≡ Some label)
 has_label positions position below = ⊎_elim
     (λ found. (found.0, found.2))
     (λ past. absurd (omega (arith, past.0)))
     (slice_get_cases positions.atoms position).1
 
 -- what may stand after a position is a position
-next_is_place : (positions : PositionsValue) (position next : ℕ) → ArePositions positions → Contains (next_of positions position) next → next < length positions.atoms
+next_is_place : (positions : PositionsValue) (position next : ℕ) → ArePositions positions → Contains (next_of positions position) next →
+    next < length positions.atoms
 next_is_place positions position next are member =
     let few : ℕ → Type 0 = λ place. place < length positions.atoms in
     ⊎_elim
@@ -34,7 +36,8 @@ next_is_place positions position next are member =
     (cases_lt position (length positions.follow))
 
 -- a trace from a position ends in one
-end_is_place : (rest : List ℕ) (positions : PositionsValue) (position : ℕ) → ArePositions positions → position < length positions.atoms → GoesOn positions position rest → end_of position rest < length positions.atoms
+end_is_place : (rest : List ℕ) (positions : PositionsValue) (position : ℕ) → ArePositions positions → position < length positions.atoms →
+    GoesOn positions position rest → end_of position rest < length positions.atoms
 end_is_place [] positions position are below goes = below
 end_is_place (next ∷ rest) positions position are below goes = end_is_place rest positions next are (next_is_place positions position next are goes.0) goes.1
 
@@ -42,14 +45,16 @@ first_is_place : (positions : PositionsValue) (first : ℕ) → ArePositions pos
 first_is_place positions first are member = let few : ℕ → Type 0 = λ place. place < length positions.atoms in All-contains few positions.first first are.first member
 
 -- what a word reaches is a position
-pub reached_is_place : (positions : PositionsValue) (word : List Label) (position : ℕ) → ArePositions positions → Reaches positions word position → position < length positions.atoms
+pub reached_is_place : (positions : PositionsValue) (word : List Label) (position : ℕ) → ArePositions positions →
+    Reaches positions word position → position < length positions.atoms
 reached_is_place positions word position are reaches =
     let few : ℕ → Type 0 = λ place. place < length positions.atoms in
     subst few reaches.ends (end_is_place reaches.rest positions reaches.first are (first_is_place positions reaches.first are reaches.front.0) reaches.front.1)
 
 -- ---- traces with one position more
 
-goes_on_more : (rest : List ℕ) (positions : PositionsValue) (position next : ℕ) → GoesOn positions position rest → Contains (next_of positions (end_of position rest)) next →
+goes_on_more : (rest : List ℕ) (positions : PositionsValue) (position next : ℕ) → GoesOn positions position rest →
+    Contains (next_of positions (end_of position rest)) next →
     GoesOn positions position (rest ++ next ∷ [])
 goes_on_more [] positions position next goes member = (member, tt)
 goes_on_more (second ∷ rest) positions position next goes member = (goes.0, goes_on_more rest positions second next goes.1 member)
@@ -64,7 +69,8 @@ end_of_more [] position next = refl
 end_of_more (second ∷ rest) position next = end_of_more rest second next
 
 -- a position with a label spells that label
-spells_one : (positions : PositionsValue) (position : ℕ) (label : Label) → slice_get positions.atoms position ≡ Some label → spells positions (position ∷ []) ≡ label ∷ []
+spells_one : (positions : PositionsValue) (position : ℕ) (label : Label) → slice_get positions.atoms position ≡ Some label →
+    spells positions (position ∷ []) ≡ label ∷ []
 spells_one positions position label is = ap (λ (o : Option Label). option_to_list o ++ []) is
 
 spells_more : (positions : PositionsValue) (trace : List ℕ) (position : ℕ) (label : Label) → slice_get positions.atoms position ≡ Some label →
@@ -94,7 +100,8 @@ last_or_none {X} (x ∷ xs) = ⊎_elim
     (last_or_none xs)
 
 -- what a nonempty word leads on to
-enters_from : (positions : PositionsValue) (word spelled : List Label) (label : Label) (position next : ℕ) → spelled ≡ label ∷ word → Reaches positions spelled position → Contains (next_of positions position) next → Enters positions spelled next
+enters_from : (positions : PositionsValue) (word spelled : List Label) (label : Label) (position next : ℕ) → spelled ≡ label ∷ word →
+    Reaches positions spelled position → Contains (next_of positions position) next → Enters positions spelled next
 enters_from positions word spelled label position next is reaches member =
     let P : List Label → Type 0 = λ w. Enters positions w next in
     let Q : List Label → Type 0 = λ w. Reaches positions w position in
@@ -102,7 +109,8 @@ enters_from positions word spelled label position next is reaches member =
 
 reaches_from_more : (positions : PositionsValue) (word : List Label) (label : Label) (position first : ℕ) (rest : List ℕ) → ArePositions positions →
     Contains positions.first first → GoesOn positions first rest → end_of first rest ≡ position → word ++ label ∷ [] ≡ spells positions (first ∷ rest) →
-    (rest ≡ []) ⊎ ((front : List ℕ) × (last : ℕ) × (rest ≡ front ++ last ∷ [])) → (slice_get positions.atoms position ≡ Some label) × Enters positions word position
+    (rest ≡ []) ⊎ ((front : List ℕ) × (last : ℕ) × (rest ≡ front ++ last ∷ [])) →
+    (slice_get positions.atoms position ≡ Some label) × Enters positions word position
 reaches_from_more positions word label position first rest are begins goes ends spelled either = ⊎_elim
     (λ none.
     let here = has_label positions first (first_is_place positions first are begins) in
@@ -127,7 +135,8 @@ reaches_from_more positions word label position first rest are begins goes ends 
     ))
     either
 
-reaches_more : (word : List Label) (positions : PositionsValue) (label : Label) (position : ℕ) → slice_get positions.atoms position ≡ Some label → Enters positions word position → Reaches positions (word ++ label ∷ []) position
+reaches_more : (word : List Label) (positions : PositionsValue) (label : Label) (position : ℕ) →
+    slice_get positions.atoms position ≡ Some label → Enters positions word position → Reaches positions (word ++ label ∷ []) position
 reaches_more [] positions label position has enters = record {
   first = position;
   rest = [];
@@ -160,7 +169,8 @@ empty_reaches_nothing positions position are reaches =
     cc
 
 -- where a word goes on, its front reaches something
-pub front_reaches : (rest : List Label) (positions : PositionsValue) (label : Label) (word : List Label) → ArePositions positions → ReachesSome positions ((label ∷ word) ++ rest) → ReachesSome positions (label ∷ word)
+pub front_reaches : (rest : List Label) (positions : PositionsValue) (label : Label) (word : List Label) → ArePositions positions →
+    ReachesSome positions ((label ∷ word) ++ rest) → ReachesSome positions (label ∷ word)
 front_reaches [] positions label word are some = subst (ReachesSome positions) (append-nil (label ∷ word)) some
 front_reaches (next ∷ rest) positions label word are some =
     let longer : ReachesSome positions (label ∷ (word ++ next ∷ [])) =

@@ -21,7 +21,8 @@ numbers_agree f g same = filter_agree f g same (range_with_len 0 64)
 abbrev list : PositionSet → List ℕ
 list set' = numbers (has set')
 
-row_is : (e : Expression) (rows : List PositionSet) (n : ℕ) → n ≤ length rows → ((p q : ℕ) → p < n → row_has rows p q ≡ is_next e 0 p q) → (k : ℕ) → k < n → get_or (map list (take n rows)) k [] ≡ numbers (is_next e 0 k)
+row_is : (e : Expression) (rows : List PositionSet) (n : ℕ) → n ≤ length rows → ((p q : ℕ) → p < n → row_has rows p q ≡ is_next e 0 p q) →
+    (k : ℕ) → k < n → get_or (map list (take n rows)) k [] ≡ numbers (is_next e 0 k)
 row_is e rows n within each k h =
     let none : PositionSet = record { bits = 0 } in
     let front = length-take-le n rows within in
@@ -29,6 +30,8 @@ row_is e rows n within each k h =
     ∙ ap list (get_or-take n rows k none h)
     ∙ numbers_agree (has (get_or rows k none)) (is_next e 0 k) (λ q. sym (row_has-read rows k q) ∙ each k q h)
 
-pub rows_are : (e : Expression) (rows : List PositionSet) (n : ℕ) → n ≤ length rows → ((p q : ℕ) → p < n → row_has rows p q ≡ is_next e 0 p q) → map (λ set. numbers (has set)) (take n rows) ≡ map (λ p. numbers (is_next e 0 p)) (range_with_len 0 n)
+pub rows_are : (e : Expression) (rows : List PositionSet) (n : ℕ) → n ≤ length rows →
+    ((p q : ℕ) → p < n → row_has rows p q ≡ is_next e 0 p q) →
+    map (λ set. numbers (has set)) (take n rows) ≡ map (λ p. numbers (is_next e 0 p)) (range_with_len 0 n)
 rows_are e rows n within each =
     fill_by_all (λ p. numbers (is_next e 0 p)) (map list (take n rows)) n [] (length-map (take n rows) list ∙ length-take-le n rows within) (row_is e rows n within each)

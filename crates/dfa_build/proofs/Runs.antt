@@ -43,7 +43,8 @@ state_of_longer [] positions sets label place below is = (below, is)
 state_of_longer (first ∷ word) positions sets label place below is = (below, is)
 
 step_fits : (step : Option ℕ) (positions : PositionsValue) (labels : List Label) (first last : PositionSet) (follow masks : List PositionSet) → AreMoves positions labels first last follow masks →
-    (sets : List PositionSet) (word : List Label) (label : Label) (place : ℕ) (reach : PositionSet) → place < length labels → slice_get labels place ≡ Some label →
+    (sets : List PositionSet) (word : List Label) (label : Label) (place : ℕ) (reach : PositionSet) → place < length labels →
+    slice_get labels place ≡ Some label →
     IsEntry positions word reach → IsStepTo sets reach (set_at masks place) step → StepFits positions sets (word ++ label ∷ []) step
 step_fits None positions labels first last follow masks moves sets word label place reach below is entry none = λ some.
     let both = (one_label_more positions word label some.0 moves.are).0 some.1 in
@@ -54,7 +55,8 @@ step_fits (Some (suc next)) positions labels first last follow masks moves sets 
 
 -- the step of a state with the label at a place
 pub step_is_right : (state : ℕ) (word : List Label) (positions : PositionsValue) (first last : PositionSet) (follow masks sets : List PositionSet) (dfa : DfaValue) →
-    IsSubsetDfa positions first last follow masks sets dfa → IsStateOf positions sets state word → (place : ℕ) (label : Label) → place < length dfa.labels → slice_get dfa.labels place ≡ Some label →
+    IsSubsetDfa positions first last follow masks sets dfa → IsStateOf positions sets state word → (place : ℕ) (label : Label) →
+    place < length dfa.labels → slice_get dfa.labels place ≡ Some label →
     StepFits positions sets (word ++ label ∷ []) (step_of dfa state place)
 step_is_right zero [] positions first last follow masks sets dfa is state_of place label below has_label =
     step_fits (step_of dfa 0 place) positions dfa.labels first last follow masks is.moves sets [] label place first below has_label is.moves.sets.starts
@@ -71,7 +73,8 @@ step_is_right (suc at) (next ∷ word) positions first last follow masks sets df
 
 -- the step with a label, by its place
 step_with_fits : (place : Option ℕ) (positions : PositionsValue) (first last : PositionSet) (follow masks sets : List PositionSet) (dfa : DfaValue) →
-    IsSubsetDfa positions first last follow masks sets dfa → (state : ℕ) (word : List Label) (label : Label) → IsStateOf positions sets state word → place_of dfa label ≡ place →
+    IsSubsetDfa positions first last follow masks sets dfa → (state : ℕ) (word : List Label) (label : Label) →
+    IsStateOf positions sets state word → place_of dfa label ≡ place →
     StepFits positions sets (word ++ label ∷ []) (option_and_then (λ at. step_of dfa state at) place)
 step_with_fits None positions first last follow masks sets dfa is state word label state_of none = λ some.
     let both = (one_label_more positions word label some.0 is.moves.are).0 some.1 in
@@ -81,7 +84,8 @@ step_with_fits (Some place) positions first last follow masks sets dfa is state 
     step_is_right state word positions first last follow masks sets dfa is state_of place label here.0 here.1
 
 -- where a word with a label and then a word reaches something, so does the word with the label
-some_front : (before : List Label) (positions : PositionsValue) (label : Label) (word : List Label) → ArePositions positions → ReachesSome positions (before ++ label ∷ word) → ReachesSome positions (before ++ label ∷ [])
+some_front : (before : List Label) (positions : PositionsValue) (label : Label) (word : List Label) → ArePositions positions →
+    ReachesSome positions (before ++ label ∷ word) → ReachesSome positions (before ++ label ∷ [])
 some_front [] positions label word are some = front_reaches word positions label [] are some
 some_front (first ∷ before) positions label word are some =
     front_reaches word positions first (before ++ label ∷ []) are (subst (ReachesSome positions) (sym (append_assoc (first ∷ before) (label ∷ []) word)) some)

@@ -14,7 +14,8 @@ use Rattle.dfa_table.proofs.Order.{order_joined, greatest_joined}
 
 -- new sets are found where their cuts are
 pub found_more : (follow masks : List PositionSet) (first reach : PositionSet) (before after : List PositionSet) → All (IsFound follow masks first) before →
-    Grows reach masks before after → ((set : PositionSet) → IsOneCut reach masks set → IsFound follow masks first set) → All (IsFound follow masks first) after
+    Grows reach masks before after → ((set : PositionSet) → IsOneCut reach masks set → IsFound follow masks first set) →
+    All (IsFound follow masks first) after
 found_more follow masks first reach before after found grows finds =
     let none : PositionSet = record { bits = 0 } in
     All-from_get_or (IsFound follow masks first) after none (λ place within. ⊎_elim
@@ -23,7 +24,8 @@ found_more follow masks first reach before after found grows finds =
     (cases_lt place (length before)))
 
 -- with 512 sets and one more there are too many
-pub too_many : (follow masks : List PositionSet) (first reach : PositionSet) (sets : List PositionSet) → All (IsFound follow masks first) sets → AllPairs ◌≢◌ sets →
+pub too_many : (follow masks : List PositionSet) (first reach : PositionSet) (sets : List PositionSet) →
+    All (IsFound follow masks first) sets → AllPairs ◌≢◌ sets →
     ((set : PositionSet) → IsOneCut reach masks set → IsFound follow masks first set) → IsFull reach masks sets → HasTooMany follow masks first
 too_many follow masks first reach sets found apart finds full = record {
   sets = sets ++ full.further ∷ [];
@@ -51,14 +53,16 @@ first_row follow masks first sets row grows is ordered greatest = record {
 }
 
 -- what was found before a set leads to cuts that are found
-pub finds_from : (follow masks : List PositionSet) (first reach : PositionSet) (sets : List PositionSet) (place : ℕ) → All (IsFound follow masks first) sets → place < length sets →
+pub finds_from : (follow masks : List PositionSet) (first reach : PositionSet) (sets : List PositionSet) (place : ℕ) →
+    All (IsFound follow masks first) sets → place < length sets →
     IsAfter follow (set_at sets place) reach → (set : PositionSet) → IsOneCut reach masks set → IsFound follow masks first set
 finds_from follow masks first reach sets place found within leads set cut =
     FromSet (set_at sets place) reach set (All-get_or (IsFound follow masks first) sets place (record { bits = 0 }) within found) leads cut
 
 -- a row stays that of its set
 row_of_kept : (follow masks before after : List PositionSet) (set next : PositionSet) (row : List (Option ℕ)) → length before ≤ length after →
-    ((place : ℕ) → place < length before → set_at after place ≡ set_at before place) → next ≡ set → IsRowOf follow masks before set row → IsRowOf follow masks after next row
+    ((place : ℕ) → place < length before → set_at after place ≡ set_at before place) → next ≡ set → IsRowOf follow masks before set row →
+    IsRowOf follow masks after next row
 row_of_kept follow masks before after set next row longer kept same is = record {
   reach = is.reach;
   after = subst (λ (s : PositionSet). IsAfter follow s is.reach) (sym same) is.after;
@@ -68,7 +72,8 @@ row_of_kept follow masks before after set next row longer kept same is = record 
 -- the row of one more set
 pub next_row : (follow masks : List PositionSet) (first reach : PositionSet) (before after : List PositionSet) (rows : List (List (Option ℕ))) (row : List (Option ℕ)) (done : ℕ) →
     AreRows follow masks first before rows done → done < length before → IsAfter follow (set_at before done) reach → Grows reach masks before after →
-    IsRow after reach masks row → IsInOrder (length before) row → greatest_of (length before) row ≡ length after → AreRows follow masks first after (rows ++ row ∷ []) (suc done)
+    IsRow after reach masks row → IsInOrder (length before) row → greatest_of (length before) row ≡ length after →
+    AreRows follow masks first after (rows ++ row ∷ []) (suc done)
 next_row follow masks first reach before after rows row done are below leads grows is ordered greatest =
     let all = flat_map (λ (each : List (Option ℕ)). each) rows in
     let joined : flat_map (λ (each : List (Option ℕ)). each) (rows ++ row ∷ []) ≡ all ++ row = flat_map-append (λ (each : List (Option ℕ)). each) rows (row ∷ []) ∙ ap (λ (last : List (Option ℕ)). all ++ last) (one_row row) in
@@ -96,6 +101,7 @@ next_row follow masks first reach before after rows row done are below leads gro
     }
 
 -- a set that was read is that at the place
-pub read_leads : (follow sets : List PositionSet) (reach set : PositionSet) (place : ℕ) → place < length sets → set ≡ get_or sets place set → IsAfter follow set reach → IsAfter follow (set_at sets place) reach
+pub read_leads : (follow sets : List PositionSet) (reach set : PositionSet) (place : ℕ) → place < length sets →
+    set ≡ get_or sets place set → IsAfter follow set reach → IsAfter follow (set_at sets place) reach
 read_leads follow sets reach set place below read leads =
     subst (λ (s : PositionSet). IsAfter follow s reach) (get_or_read sets place set below read (record { bits = 0 })) leads

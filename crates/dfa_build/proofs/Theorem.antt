@@ -28,30 +28,35 @@ pub record HasState (positions : PositionsValue) (sets : List PositionSet) (word
   pub within : place < length sets
   pub is : IsSetOf positions word (set_at sets place)
 
-has_state : (run : Option ℕ) (positions : PositionsValue) (sets : List PositionSet) (label : Label) (word : List Label) → StepFits positions sets (label ∷ word) run →
+has_state : (run : Option ℕ) (positions : PositionsValue) (sets : List PositionSet) (label : Label) (word : List Label) →
+    StepFits positions sets (label ∷ word) run →
     ReachesSome positions (label ∷ word) → HasState positions sets (label ∷ word) run
 has_state None positions sets label word fits some = absurd (fits some)
 has_state (Some zero) positions sets label word fits some = absurd fits
 has_state (Some (suc place)) positions sets label word fits some = record { place = place; leads = refl; within = fits.0; is = fits.1 }
 
 -- the automaton leads a nonempty word to its state
-pub word_fits : (positions : PositionsValue) (first last : PositionSet) (follow masks sets : List PositionSet) (dfa : DfaValue) → IsSubsetDfa positions first last follow masks sets dfa →
+pub word_fits : (positions : PositionsValue) (first last : PositionSet) (follow masks sets : List PositionSet) (dfa : DfaValue) →
+    IsSubsetDfa positions first last follow masks sets dfa →
     (label : Label) (word : List Label) → StepFits positions sets (label ∷ word) (run_from dfa 0 (label ∷ word))
 word_fits positions first last follow masks sets dfa is label word = run_fits (label ∷ word) positions first last follow masks sets dfa is 0 [] tt
 
-pub state_of_word : (positions : PositionsValue) (first last : PositionSet) (follow masks sets : List PositionSet) (dfa : DfaValue) → IsSubsetDfa positions first last follow masks sets dfa →
+pub state_of_word : (positions : PositionsValue) (first last : PositionSet) (follow masks sets : List PositionSet) (dfa : DfaValue) →
+    IsSubsetDfa positions first last follow masks sets dfa →
     (label : Label) (word : List Label) → ReachesSome positions (label ∷ word) → HasState positions sets (label ∷ word) (run_from dfa 0 (label ∷ word))
 state_of_word positions first last follow masks sets dfa is label word some =
     has_state (run_from dfa 0 (label ∷ word)) positions sets label word (word_fits positions first last follow masks sets dfa is label word) some
 
 -- the state that a nonempty word leads to
-led_state : (positions : PositionsValue) (first last : PositionSet) (follow masks sets : List PositionSet) (dfa : DfaValue) → IsSubsetDfa positions first last follow masks sets dfa →
+led_state : (positions : PositionsValue) (first last : PositionSet) (follow masks sets : List PositionSet) (dfa : DfaValue) →
+    IsSubsetDfa positions first last follow masks sets dfa →
     (label : Label) (word : List Label) (state : ℕ) → run_from dfa 0 (label ∷ word) ≡ Some state → IsStateOf positions sets state (label ∷ word)
 led_state positions first last follow masks sets dfa is label word state leads =
     subst (StepFits positions sets (label ∷ word)) leads (word_fits positions first last follow masks sets dfa is label word)
 
 -- a set that was found has a word
-pub set_has_word : (positions : PositionsValue) (first last : PositionSet) (follow masks sets : List PositionSet) (dfa : DfaValue) → IsSubsetDfa positions first last follow masks sets dfa →
+pub set_has_word : (positions : PositionsValue) (first last : PositionSet) (follow masks sets : List PositionSet) (dfa : DfaValue) →
+    IsSubsetDfa positions first last follow masks sets dfa →
     (place : ℕ) → place < length sets → HasWord positions (set_at sets place)
 set_has_word positions first last follow masks sets dfa is place below =
     found_has_word positions dfa.labels first last follow masks is.moves (set_at sets place)
@@ -60,7 +65,8 @@ set_has_word positions first last follow masks sets dfa is place below =
 -- ---- accepted words
 
 accepted_state : (state : ℕ) (positions : PositionsValue) (first last : PositionSet) (follow masks sets : List PositionSet) (dfa : DfaValue) → IsSubsetDfa positions first last follow masks sets dfa →
-    (label : Label) (word : List Label) → IsStateOf positions sets state (label ∷ word) → IsTrue (is_final dfa state) → AcceptsByPositions positions (label ∷ word)
+    (label : Label) (word : List Label) → IsStateOf positions sets state (label ∷ word) → IsTrue (is_final dfa state) →
+    AcceptsByPositions positions (label ∷ word)
 accepted_state zero positions first last follow masks sets dfa is label word state_of final = absurd state_of
 accepted_state (suc place) positions first last follow masks sets dfa is label word state_of final =
     let shared = (is.finals place state_of.0).0 final in
@@ -92,7 +98,8 @@ accepts_from (begin ∷ rest) word positions first last follow masks sets dfa is
     (record { first = begin; rest = rest; front = is_trace.0; ends = refl; spelled = spelled }) is_trace.1
 
 -- the automaton accepts the words that the position automaton accepts
-pub accepts_same : (positions : PositionsValue) (first last : PositionSet) (follow masks sets : List PositionSet) (dfa : DfaValue) → IsSubsetDfa positions first last follow masks sets dfa →
+pub accepts_same : (positions : PositionsValue) (first last : PositionSet) (follow masks sets : List PositionSet) (dfa : DfaValue) →
+    IsSubsetDfa positions first last follow masks sets dfa →
     (word : List Label) → Accepts dfa word ↔ AcceptsByPositions positions word
 accepts_same positions first last follow masks sets dfa is word = (
   (λ accepts. accepts_to word positions first last follow masks sets dfa is accepts),
@@ -112,7 +119,8 @@ one_place sets a b apart below_a below_b same = ⊎_elim
     (cases_order a b)
 
 -- sets of words that reach the same are equal
-pub equal_sets : (positions : PositionsValue) (first second : List Label) (a b : PositionSet) → IsSetOf positions first a → IsSetOf positions second b → ReachSame positions first second → a ≡ b
+pub equal_sets : (positions : PositionsValue) (first second : List Label) (a b : PositionSet) → IsSetOf positions first a →
+    IsSetOf positions second b → ReachSame positions first second → a ≡ b
 equal_sets positions first second a b is_a is_b same =
     same_set a b (λ p. same_tests (has a p) (has b p) (
       (λ member. (is_b p).1 ((same p).0 ((is_a p).0 member))),
@@ -120,7 +128,8 @@ equal_sets positions first second a b is_a is_b same =
     ))
 
 -- a word that leads to a state reaches something
-led_reaches : (state : ℕ) (positions : PositionsValue) (first last : PositionSet) (follow masks sets : List PositionSet) (dfa : DfaValue) → IsSubsetDfa positions first last follow masks sets dfa →
+led_reaches : (state : ℕ) (positions : PositionsValue) (first last : PositionSet) (follow masks sets : List PositionSet) (dfa : DfaValue) →
+    IsSubsetDfa positions first last follow masks sets dfa →
     (label : Label) (word : List Label) → IsStateOf positions sets state (label ∷ word) → ReachesSome positions (label ∷ word)
 led_reaches zero positions first last follow masks sets dfa is label word state_of = absurd state_of
 led_reaches (suc place) positions first last follow masks sets dfa is label word state_of =
@@ -143,8 +152,10 @@ leads_iff (label ∷ word) positions first last follow masks sets dfa is nonempt
 )
 
 -- words that lead to one state reach the same
-same_run_reaches : (positions : PositionsValue) (first last : PositionSet) (follow masks sets : List PositionSet) (dfa : DfaValue) → IsSubsetDfa positions first last follow masks sets dfa →
-    (l : Label) (v : List Label) (m : Label) (w : List Label) → run_from dfa 0 (l ∷ v) ≡ run_from dfa 0 (m ∷ w) → (position : ℕ) → Reaches positions (l ∷ v) position → Reaches positions (m ∷ w) position
+same_run_reaches : (positions : PositionsValue) (first last : PositionSet) (follow masks sets : List PositionSet) (dfa : DfaValue) →
+    IsSubsetDfa positions first last follow masks sets dfa →
+    (l : Label) (v : List Label) (m : Label) (w : List Label) → run_from dfa 0 (l ∷ v) ≡ run_from dfa 0 (m ∷ w) → (position : ℕ) →
+    Reaches positions (l ∷ v) position → Reaches positions (m ∷ w) position
 same_run_reaches positions first last follow masks sets dfa is l v m w same position reaches =
     let state = state_of_word positions first last follow masks sets dfa is l v (position, reaches) in
     let other = led_state positions first last follow masks sets dfa is m w (suc state.place) (sym same ∙ state.leads) in
@@ -152,7 +163,8 @@ same_run_reaches positions first last follow masks sets dfa is l v m w same posi
 
 -- runs of words that reach the same are equal
 same_runs : (run other : Option ℕ) (positions : PositionsValue) (first last : PositionSet) (follow masks sets : List PositionSet) (dfa : DfaValue) → IsSubsetDfa positions first last follow masks sets dfa →
-    (l : Label) (v : List Label) (m : Label) (w : List Label) → StepFits positions sets (l ∷ v) run → StepFits positions sets (m ∷ w) other → ReachSame positions (l ∷ v) (m ∷ w) → run ≡ other
+    (l : Label) (v : List Label) (m : Label) (w : List Label) → StepFits positions sets (l ∷ v) run →
+    StepFits positions sets (m ∷ w) other → ReachSame positions (l ∷ v) (m ∷ w) → run ≡ other
 same_runs None None positions first last follow masks sets dfa is l v m w fits fits_other same = refl
 same_runs None (Some state) positions first last follow masks sets dfa is l v m w fits fits_other same =
     let some = led_reaches state positions first last follow masks sets dfa is m w fits_other in absurd (fits (some.0, (same some.0).1 some.1))
@@ -174,7 +186,8 @@ same_iff (l ∷ v) (m ∷ w) positions first last follow masks sets dfa is some_
       (word_fits positions first last follow masks sets dfa is l v) (word_fits positions first last follow masks sets dfa is m w) same),
 )
 
-reached : (state : ℕ) (positions : PositionsValue) (first last : PositionSet) (follow masks sets : List PositionSet) (dfa : DfaValue) → IsSubsetDfa positions first last follow masks sets dfa →
+reached : (state : ℕ) (positions : PositionsValue) (first last : PositionSet) (follow masks sets : List PositionSet) (dfa : DfaValue) →
+    IsSubsetDfa positions first last follow masks sets dfa →
     state < length dfa.rows → IsReached dfa state
 reached zero positions first last follow masks sets dfa is below = ([], refl)
 reached (suc place) positions first last follow masks sets dfa is below =
@@ -186,7 +199,8 @@ reached (suc place) positions first last follow masks sets dfa is below =
     (word.label ∷ word.word, state.leads ∙ ap (λ (n : ℕ). Some (suc n)) (one_place sets state.place place is.rows.apart state.within within sets_equal))
 
 -- the automaton has a state for each set
-pub state_per_set : (positions : PositionsValue) (first last : PositionSet) (follow masks sets : List PositionSet) (dfa : DfaValue) → IsSubsetDfa positions first last follow masks sets dfa → HasStatePerSet positions dfa
+pub state_per_set : (positions : PositionsValue) (first last : PositionSet) (follow masks sets : List PositionSet) (dfa : DfaValue) →
+    IsSubsetDfa positions first last follow masks sets dfa → HasStatePerSet positions dfa
 state_per_set positions first last follow masks sets dfa is = record {
   leads = λ word nonempty. leads_iff word positions first last follow masks sets dfa is nonempty;
   same = λ v w some_v some_w. same_iff v w positions first last follow masks sets dfa is some_v some_w;

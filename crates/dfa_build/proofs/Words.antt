@@ -62,7 +62,8 @@ pub are_labelled_all : (e : Expression) → AreLabelled (labels_of e) e 0
 are_labelled_all e = subst (λ (labels : List Label). AreLabelled labels e 0) (append-nil (labels_of e)) (are_labelled e [] [] 0 refl)
 
 -- a position of the expression has a label
-has_label : (e : Expression) (labels : List Label) (from p : ℕ) → AreLabelled labels e from → InRange e from p → (label : Label) × (slice_get labels p ≡ Some label)
+has_label : (e : Expression) (labels : List Label) (from p : ℕ) → AreLabelled labels e from → InRange e from p →
+    (label : Label) × (slice_get labels p ≡ Some label)
 has_label (Atom label) labels from p labelled range =
     let same : p ≡ from = omega arith in
     (label, ap (λ (n : ℕ). slice_get labels n) same ∙ labelled)
@@ -81,7 +82,8 @@ has_label (Plus body) labels from p labelled range = has_label body labels from 
 has_label (Opt body) labels from p labelled range = has_label body labels from p labelled (record { low = range.low; high = range.high })
 
 -- a nonempty trace spells a nonempty word
-pub spelled-nonempty : (e : Expression) (labels : List Label) (from : ℕ) → AreLabelled labels e from → (trace : List ℕ) → InMarked e from trace → trace ≢ [] → spelled labels trace ≢ []
+pub spelled-nonempty : (e : Expression) (labels : List Label) (from : ℕ) → AreLabelled labels e from → (trace : List ℕ) →
+    InMarked e from trace → trace ≢ [] → spelled labels trace ≢ []
 spelled-nonempty e labels from labelled [] marked some none = some refl
 spelled-nonempty e labels from labelled (p ∷ trace) marked some none =
     let range = first_range e from p (marked_is_local e from (p ∷ trace) marked).0 in
@@ -97,7 +99,9 @@ record SpellsParts (body : Expression) (labels : List Label) (parts : List (List
   nonempty : All (λ part. part ≢ []) words
   within : All (In body) words
 
-spells_parts : (body : Expression) (labels : List Label) (from : ℕ) → AreLabelled labels body from → ((trace : List ℕ) → InMarked body from trace → In body (spelled labels trace)) → (parts : List (List ℕ)) → All (λ part. part ≢ []) parts → All (InMarked body from) parts → SpellsParts body labels parts
+spells_parts : (body : Expression) (labels : List Label) (from : ℕ) → AreLabelled labels body from →
+    ((trace : List ℕ) → InMarked body from trace → In body (spelled labels trace)) → (parts : List (List ℕ)) →
+    All (λ part. part ≢ []) parts → All (InMarked body from) parts → SpellsParts body labels parts
 spells_parts body labels from labelled spells [] nonempty within =
     record { words = []; joined = refl; nonempty = All-nil (λ (word : List Label). word ≢ []); within = All-nil (In body) }
 spells_parts body labels from labelled spells (part ∷ parts) nonempty within =
@@ -111,13 +115,16 @@ spells_parts body labels from labelled spells (part ∷ parts) nonempty within =
       within = All-cons (In body) (spelled labels part) rest.words (spells part marked) rest.within;
     }
 
-spells_repeated : (body : Expression) (labels : List Label) (from : ℕ) → AreLabelled labels body from → ((trace : List ℕ) → InMarked body from trace → In body (spelled labels trace)) → (trace : List ℕ) → IsRepeatedTrace (InMarked body from) trace → IsRepeated (In body) (spelled labels trace)
+spells_repeated : (body : Expression) (labels : List Label) (from : ℕ) → AreLabelled labels body from →
+    ((trace : List ℕ) → InMarked body from trace → In body (spelled labels trace)) → (trace : List ℕ) →
+    IsRepeatedTrace (InMarked body from) trace → IsRepeated (In body) (spelled labels trace)
 spells_repeated body labels from labelled spells trace h =
     let parts = spells_parts body labels from labelled spells h.parts h.nonempty h.within in
     record { parts = parts.words; joined = ap (spelled labels) h.joined ∙ parts.joined; nonempty = parts.nonempty; within = parts.within }
 
 -- a word of the marked expression spells a word of the expression
-pub marked_spells_word : (e : Expression) (labels : List Label) (from : ℕ) → AreLabelled labels e from → (trace : List ℕ) → InMarked e from trace → In e (spelled labels trace)
+pub marked_spells_word : (e : Expression) (labels : List Label) (from : ℕ) → AreLabelled labels e from → (trace : List ℕ) →
+    InMarked e from trace → In e (spelled labels trace)
 marked_spells_word (Atom label) labels from labelled trace h =
     ap (spelled labels) h ∙ ap (λ (found : Option Label). option_to_list found ++ []) labelled
 marked_spells_word (Seq left right) labels from labelled trace h =
@@ -162,7 +169,9 @@ record ArePartsSpelled (body : Expression) (labels : List Label) (from : ℕ) (w
   within : All (InMarked body from) parts
   joined : flat_map (λ part. part) words ≡ spelled labels (flat_map (λ part. part) parts)
 
-parts_spelled : (body : Expression) (labels : List Label) (from : ℕ) → ((word : List Label) → In body word → IsSpelled body labels from word) → (words : List (List Label)) → All (λ word. word ≢ []) words → All (In body) words → ArePartsSpelled body labels from words
+parts_spelled : (body : Expression) (labels : List Label) (from : ℕ) →
+    ((word : List Label) → In body word → IsSpelled body labels from word) → (words : List (List Label)) → All (λ word. word ≢ []) words →
+    All (In body) words → ArePartsSpelled body labels from words
 parts_spelled body labels from spells [] nonempty within =
     record { parts = []; nonempty = All-nil (λ (t : List ℕ). t ≢ []); within = All-nil (InMarked body from); joined = refl }
 parts_spelled body labels from spells (word ∷ words) nonempty within =
@@ -184,7 +193,9 @@ record IsRepetitionSpelled (body : Expression) (labels : List Label) (from : ℕ
   marked : IsRepeatedTrace (InMarked body from) trace
   spells : word ≡ spelled labels trace
 
-repetition_spelled : (body : Expression) (labels : List Label) (from : ℕ) → ((word : List Label) → In body word → IsSpelled body labels from word) → (word : List Label) → IsRepeated (In body) word → IsRepetitionSpelled body labels from word
+repetition_spelled : (body : Expression) (labels : List Label) (from : ℕ) →
+    ((word : List Label) → In body word → IsSpelled body labels from word) → (word : List Label) → IsRepeated (In body) word →
+    IsRepetitionSpelled body labels from word
 repetition_spelled body labels from spells word h =
     let parts = parts_spelled body labels from spells h.parts h.nonempty h.within in
     record {
@@ -194,7 +205,8 @@ repetition_spelled body labels from spells word h =
     }
 
 -- every word of the expression is spelled by a word of the marked expression
-pub word_is_spelled : (e : Expression) (labels : List Label) (from : ℕ) → AreLabelled labels e from → (word : List Label) → In e word → IsSpelled e labels from word
+pub word_is_spelled : (e : Expression) (labels : List Label) (from : ℕ) → AreLabelled labels e from → (word : List Label) → In e word →
+    IsSpelled e labels from word
 word_is_spelled (Atom label) labels from labelled word h =
     record {
       trace = from ∷ [];
