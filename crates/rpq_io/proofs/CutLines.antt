@@ -1,5 +1,5 @@
 -- A line is cut only where one can be given.
-use Rattle.std.proofs.Common.{◌≡◌, ◌≢◌, ℕ, suc, ◌+◌, ◌⊎◌, inl, inr, true, List, [], ◌∷◌, ◌++◌, length, sym, ap, ◌∙◌, arith, length-append}
+use Rattle.std.proofs.Common.{◌≡◌, ◌≢◌, suc, ◌+◌, ◌⊎◌, inl, inr, true, [], ◌∷◌, ◌++◌, length, sym, ap, ◌∙◌, arith, length-append}
 use Rattle.text_parts.specs.Lines.{line_length}
 use Rattle.text_parts.proofs.LineLengths.{line_length-line, line_length-ended}
 use Rattle.rpq_io.specs.Outcomes.{AllowsLine, CutsOnlyLines}

@@ -1,5 +1,5 @@
 -- A text whose first line is longer than may be.
-use Rattle.std.proofs.Common.{◌≡◌, ℕ, ◌+◌, ◌<◌, ◌≤◌, List, [], ◌++◌, length, take, drop, ◌⊎◌, inl, inr, ap, ◌∙◌, subst, arith, length-take-le}
+use Rattle.std.proofs.Common.{ℕ, ◌+◌, ◌<◌, ◌≤◌, List, [], ◌++◌, length, take, drop, ◌⊎◌, inl, inr, ap, ◌∙◌, subst, arith, length-take-le}
 use Rattle.std.proofs.lemmas.Bool.{cases_lt}
 use Rattle.std.proofs.lemmas.List.{take_all}
 use Rattle.text_parts.specs.Lines.{IsLine, raw_lines, line_length}

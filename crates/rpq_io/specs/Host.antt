@@ -1,5 +1,5 @@
 -- Sources, sinks and files of the host.
-use Rattle.std.specs.Prelude.{◌≡◌, ℕ, Bool, ◌||◌, List, [], ◌∷◌, ◌++◌, Result, Ok, Err}
+use Rattle.std.specs.Prelude.{ℕ, Bool, ◌||◌, List, [], ◌∷◌, ◌++◌, Result, Ok, Err}
 use Rattle.rpq_io.specs.Names.{is_noted}
 use Rattle.rpq_io.specs.declared.fault.OpenFault.{OpenFault}
 use Rattle.rpq_io.specs.declared.fault.OpenFault.TheVariants.{Failed, Memory}

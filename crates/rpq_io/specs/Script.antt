@@ -1,5 +1,5 @@
 -- The calls of an object in memory, and which of them fail.
-use Rattle.std.specs.Prelude.{◌≡◌, ℕ, ◌==◌, Bool, List}
+use Rattle.std.specs.Prelude.{ℕ, ◌==◌, Bool, List}
 use Rattle.std.specs.List.{list_any}
 use Rattle.rpq_io.specs.Counts.{raised}
 

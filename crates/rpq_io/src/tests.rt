@@ -224,7 +224,7 @@ fn fails_by<S: Source>(reader: &mut LineReader<S>, fault: LineFault) -> bool {
 }
 
 /// Whether the limit is reached, and these bytes are left in the source.
-fn leaves<S: Source>(alloc: Global, reader: LineReader<S>, rest: &[u8]) -> bool {
+fn leaves<S: Source + Drop>(alloc: Global, reader: LineReader<S>, rest: &[u8]) -> bool {
     let mut reader = reader;
     match reader.next_line() {
         Err(LineFault::LongStream) => {

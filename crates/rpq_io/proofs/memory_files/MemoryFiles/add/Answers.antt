@@ -1,4 +1,4 @@
-use Rattle.std.proofs.Common.{rules, ◌≡◌, [], ◌∷◌, ◌++◌, refl, sym, ap, ◌∙◌, Some}
+use Rattle.std.proofs.Common.{rules, ◌≡◌, [], ◌∷◌, ◌++◌, refl}
 use Rattle.rpq_io.specs.Memory.{FileBytes}
 use Rattle.rpq_io.proofs.Finding.{file_added, file_others}
 use Rattle.rpq_io.proofs.memory_files.MemoryFiles.add.Goals as goal
