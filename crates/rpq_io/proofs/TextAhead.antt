@@ -1,16 +1,20 @@
 -- The text that is still to be given as lines, after a call.
-use Rattle.std.proofs.Common.{◌≡◌, ◌≢◌, ℕ, ◌<◌, ◌⊎◌, inl, inr, Bool, true, List, [], ◌∷◌, ◌++◌, Option, Some, None, IfSome, length, refl, arith, sym, ap, ◌∙◌, subst, append_assoc, append-nil}
+use Rattle.std.proofs.Common.{◌≡◌, ◌≢◌, ℕ, ◌<◌, ◌⊎◌, inl, inr, Bool, true, List, [], ◌∷◌, ◌++◌}
+use Rattle.std.proofs.Common.{Option, Some, None, IfSome, length, refl, arith, sym, ap, ◌∙◌, subst}
+use Rattle.std.proofs.Common.{append_assoc, append-nil}
 use Rattle.std.specs.Option.{IsSomeAnd}
 use Rattle.std.specs.Io.KnownBytes.{prepend_known}
 use Rattle.text_parts.specs.Lines.{raw_lines, line_length}
 use Rattle.rpq_io.specs.Held.{GivesHeld}
-use Rattle.rpq_io.specs.Reader.{ReaderState, text_ahead, Had, CutsLine, TakesNothing, StaysSound, GivesLine, IsFirstLine, HasLongLine}
+use Rattle.rpq_io.specs.Reader.{ReaderState, text_ahead, Had, CutsLine, TakesNothing, StaysSound}
+use Rattle.rpq_io.specs.Reader.{GivesLine, IsFirstLine, HasLongLine}
 use Rattle.rpq_io.proofs.Bytes.{prepend_known-prepend}
 use Rattle.text_parts.proofs.Cuts.{raw_lines_nil, raw_lines_first, raw_lines_only}
 use Rattle.rpq_io.proofs.LongLines.{long_line}
 
 -- the text ahead of a call is the bytes that it had, and then what is left after it
-pub text_had : {S : Type 0} (left : S → Option (List ℕ)) (old new : ReaderState S) (bytes : List ℕ) → Had left old new bytes
+pub text_had : {S : Type 0} (left : S → Option (List ℕ)) (old new : ReaderState S)
+    (bytes : List ℕ) → Had left old new bytes
     → text_ahead left old ≡ prepend_known bytes (left new.source)
 text_had left old new bytes had =
     ap (prepend_known old.held_bytes) had.moved
@@ -23,11 +27,13 @@ has_byte [] some = absurd (some refl)
 has_byte (byte ∷ bytes) some = omega arith
 
 -- where bytes are cut, the text that begins with them is
-cut_text : (line_limit : ℕ) (is_at_end : Bool) (bytes rest line after : List ℕ) → CutsLine line_limit is_at_end bytes rest line
+cut_text : (line_limit : ℕ) (is_at_end : Bool) (bytes rest line after : List ℕ)
+    → CutsLine line_limit is_at_end bytes rest line
     → (is_at_end ≡ true → after ≡ []) → IsFirstLine line_limit line (bytes ++ after) (rest ++ after)
 cut_text line_limit is_at_end bytes rest line after cuts over = by cuts.cut
   where
-    by : (bytes ≡ cuts.raw ++ 10 ∷ rest) ⊎ ((is_at_end ≡ true) × (cuts.raw ≢ []) × (bytes ≡ cuts.raw) × (rest ≡ []))
+    by : (bytes ≡ cuts.raw ++ 10 ∷ rest)
+        ⊎ ((is_at_end ≡ true) × (cuts.raw ≢ []) × (bytes ≡ cuts.raw) × (rest ≡ []))
         → IsFirstLine line_limit line (bytes ++ after) (rest ++ after)
     by (inl cut) = record {
       raw = cuts.raw;
@@ -41,35 +47,48 @@ cut_text line_limit is_at_end bytes rest line after cuts over = by cuts.cut
       fits = cuts.fits;
       dropped = cuts.dropped;
       first =
-          ap (λ behind. raw_lines (bytes ++ behind)) (over cut.0) ∙ ap raw_lines (append-nil bytes) ∙ ap raw_lines cut.2
+          ap (λ behind. raw_lines (bytes ++ behind))
+          (over cut.0) ∙ ap raw_lines (append-nil bytes) ∙ ap raw_lines cut.2
           ∙ raw_lines_only cuts.raw cuts.whole (has_byte cuts.raw cut.1)
           ∙ ap (λ others. cuts.raw ∷ others)
-          (sym (ap (λ behind. raw_lines (rest ++ behind)) (over cut.0) ∙ ap raw_lines (append-nil rest) ∙ ap raw_lines cut.3 ∙ raw_lines_nil));
+          (sym (ap (λ behind. raw_lines (rest ++ behind))
+          (over cut.0) ∙ ap raw_lines (append-nil rest) ∙ ap raw_lines cut.3 ∙ raw_lines_nil));
     }
 
--- steps that lost nothing, and then a line of the bytes that they left, gave the first line of the text ahead
-line_of_text : {S : Type 0} (left : S → Option (List ℕ)) (has_told_end : S → Bool) (old middle new : ReaderState S) (line : List ℕ)
-    → Had left old middle middle.held_bytes → middle.line_limit ≡ old.line_limit → TakesNothing middle new
+-- steps that lost nothing, and then a line of the bytes that they left, gave the first line of the
+-- text ahead
+line_of_text : {S : Type 0} (left : S → Option (List ℕ)) (has_told_end : S → Bool)
+    (old middle new : ReaderState S) (line : List ℕ)
+    → Had left old middle middle.held_bytes → middle.line_limit ≡ old.line_limit
+    → TakesNothing middle new
     → StaysSound left has_told_end middle new
     → CutsLine middle.line_limit middle.is_at_end middle.held_bytes new.held_bytes line
-    → IfSome (text_ahead left old) (λ text. IsSomeAnd (text_ahead left new) (λ rest. IsFirstLine old.line_limit line text rest))
+    → IfSome (text_ahead left old)
+    (λ text. IsSomeAnd (text_ahead left new)
+    (λ rest. IsFirstLine old.line_limit line text rest))
 line_of_text left has_told_end old middle new line had limit same sound cuts =
-    subst (λ ahead. IfSome ahead (λ text. IsSomeAnd (text_ahead left new) (λ rest. IsFirstLine old.line_limit line text rest)))
+    subst (λ ahead. IfSome ahead (λ text. IsSomeAnd (text_ahead left new)
+    (λ rest. IsFirstLine old.line_limit line text rest)))
     (sym (text_had left old middle middle.held_bytes had ∙ ap (λ source. prepend_known middle.held_bytes (left source)) (sym same.source)))
     (by (left new.source) sound.over)
   where
     by : (after : Option (List ℕ)) → (new.is_at_end ≡ true → IfSome after (λ rest. rest ≡ []))
         → IfSome (prepend_known middle.held_bytes after)
-        (λ text. IsSomeAnd (prepend_known new.held_bytes after) (λ rest. IsFirstLine old.line_limit line text rest))
+        (λ text. IsSomeAnd (prepend_known new.held_bytes after)
+        (λ rest. IsFirstLine old.line_limit line text rest))
     by None over = tt
     by (Some after) over =
-        subst (λ most. IsFirstLine most line (middle.held_bytes ++ after) (new.held_bytes ++ after)) limit
+        subst (λ most. IsFirstLine most line (middle.held_bytes ++ after)
+        (new.held_bytes ++ after)) limit
         (cut_text middle.line_limit middle.is_at_end middle.held_bytes new.held_bytes line after cuts (λ told. over (same.end ∙ told)))
 
 -- the same, with what else a call says that gave it
-pub gives_line : {S : Type 0} (left : S → Option (List ℕ)) (has_told_end : S → Bool) (old middle new : ReaderState S) (line : List ℕ)
-    → Had left old middle middle.held_bytes → middle.line_limit ≡ old.line_limit → middle.line_count ≡ old.line_count
-    → TakesNothing middle new → StaysSound left has_told_end middle new → GivesHeld middle new line → GivesLine left old new line
+pub gives_line : {S : Type 0} (left : S → Option (List ℕ)) (has_told_end : S → Bool)
+    (old middle new : ReaderState S) (line : List ℕ)
+    → Had left old middle middle.held_bytes → middle.line_limit ≡ old.line_limit
+    → middle.line_count ≡ old.line_count
+    → TakesNothing middle new → StaysSound left has_told_end middle new
+    → GivesHeld middle new line → GivesLine left old new line
 gives_line left has_told_end old middle new line had limit count same sound gives = record {
   bytes = middle.held_bytes;
   had = record {
@@ -79,19 +98,23 @@ gives_line left has_told_end old middle new line had limit count same sound give
     counted = same.count ∙ had.counted;
   };
   cut = subst (λ most. CutsLine most new.is_at_end middle.held_bytes new.held_bytes line) limit
-      (subst (λ told. CutsLine middle.line_limit told middle.held_bytes new.held_bytes line) (sym same.end) gives.cut);
+      (subst (λ told. CutsLine middle.line_limit told middle.held_bytes new.held_bytes line)
+      (sym same.end) gives.cut);
   counted = omega (arith, gives.counted);
   text = line_of_text left has_told_end old middle new line had limit same sound gives.cut;
 }
 
 -- steps that lost nothing and hold a line longer than may be found it first in the text ahead
-pub long_line_of_text : {S : Type 0} (left : S → Option (List ℕ)) (old middle : ReaderState S) (line_limit : ℕ)
+pub long_line_of_text : {S : Type 0} (left : S → Option (List ℕ)) (old middle : ReaderState S)
+    (line_limit : ℕ)
     → Had left old middle middle.held_bytes → line_limit < line_length middle.held_bytes
     → IfSome (text_ahead left old) (λ text. HasLongLine line_limit text)
 long_line_of_text left old middle line_limit had long =
-    subst (λ ahead. IfSome ahead (λ text. HasLongLine line_limit text)) (sym (text_had left old middle middle.held_bytes had))
+    subst (λ ahead. IfSome ahead (λ text. HasLongLine line_limit text))
+    (sym (text_had left old middle middle.held_bytes had))
     (by (left middle.source))
   where
-    by : (after : Option (List ℕ)) → IfSome (prepend_known middle.held_bytes after) (λ text. HasLongLine line_limit text)
+    by : (after : Option (List ℕ))
+        → IfSome (prepend_known middle.held_bytes after) (λ text. HasLongLine line_limit text)
     by None = tt
     by (Some after) = long_line middle.held_bytes after line_limit long

@@ -5,7 +5,8 @@ use Rattle.rpq_io.proofs.whole.put_all.Goals as goal
 
 pub returns-in_err-done-clause-err : goal.returns-in_err-done-clause-err
 returns-in_err-done-clause-err g c =
-    let part : WritesProperPrefix c.args.bytes.now (g.S.Sink.written c.args.sink.now) (g.S.Sink.written c.write.new.self) = record {
+    let part : WritesProperPrefix c.args.bytes.now (g.S.Sink.written c.args.sink.now)
+    (g.S.Sink.written c.write.new.self) = record {
       front = take c.loop-done.done c.args.bytes.now;
       rest = drop c.loop-done.done c.args.bytes.now;
       cut = sym (take-append-drop c.loop-done.done c.args.bytes.now);

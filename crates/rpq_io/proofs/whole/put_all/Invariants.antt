@@ -6,7 +6,8 @@ use Rattle.rpq_io.proofs.whole.put_all.Given as goal
 abbrev pub invariant-loop-done : goal.invariant-loop-done
 invariant-loop-done g l = record {
   within : l.done ≤ length l.bytes;
-  written : g.S.Sink.written l.sink ≡ append_known (g.S.Sink.written l.initial.sink) (take l.done l.bytes);
+  written : g.S.Sink.written l.sink ≡ append_known (g.S.Sink.written l.initial.sink)
+      (take l.done l.bytes);
   quiet : g.S.Sink.faults l.sink ≡ g.S.Sink.faults l.initial.sink;
 }
 

@@ -2,7 +2,8 @@ use Rattle.std.proofs.Common.{◌≡◌, ◌≤◌, ◌-◌, false, length, vec_
 use Rattle.std.specs.Io.KnownBytes.{prepend_known}
 use Rattle.rpq_io.proofs.whole.read_all.Given as goal
 
--- the bytes so far are those that the source gave, and no more than may be; no read failed, and none told the end
+-- the bytes so far are those that the source gave, and no more than may be; no read failed, and
+-- none told the end
 abbrev pub invariant-loop-buffer : goal.invariant-loop-buffer
 invariant-loop-buffer g l = record {
   within : length l.bytes.items ≤ l.byte_limit;

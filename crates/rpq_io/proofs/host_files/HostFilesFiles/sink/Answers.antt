@@ -4,10 +4,12 @@ use Rattle.rpq_io.proofs.host_files.HostFilesFiles.sink.Goals as goal
 
 pub returns-then-was_opened-clause-faults : goal.returns-then-was_opened-clause-faults
 returns-then-was_opened-clause-faults g c =
-    let noted : c.note.new.self.names ≡ c.args.self.now.unmade_names ++ c.args.name.now ∷ [] = search rules in
+    let noted : c.note.new.self.names ≡ c.args.self.now.unmade_names ++ c.args.name.now ∷ [] =
+    search rules in
     counts_noted _ _ _ _ refl noted
 
 pub returns-in_err-file-clause-faults : goal.returns-in_err-file-clause-faults
 returns-in_err-file-clause-faults g c =
-    let noted : c.create.new.failed.names ≡ c.args.self.now.unmade_names ++ c.args.name.now ∷ [] = search rules in
+    let noted : c.create.new.failed.names ≡ c.args.self.now.unmade_names ++ c.args.name.now ∷ [] =
+    search rules in
     counts_noted _ _ _ _ (search rules) noted

@@ -5,14 +5,16 @@ use Rattle.text_parts.proofs.LineLengths.{line_length_within}
 use Rattle.rpq_io.proofs.ReaderSteps.{cut_at_feed, cut_at_end, long_stream}
 use Rattle.rpq_io.proofs.line_reader.LineReader.give.Goals as goal
 
-pub give_line-requires-else-line-eq0-clause-within : goal.give_line-requires-else-line-eq0-clause-within
+pub give_line-requires-else-line-eq0-clause-within :
+    goal.give_line-requires-else-line-eq0-clause-within
 give_line-requires-else-line-eq0-clause-within g c =
     omega (arith, c.line_length-line.ensures, ap (λ reader. length reader.held_bytes) c.self.view_is, line_length_within c.self.inside.buffer.bytes)
 
 pub returns-in_ok-give_line-clause-line : goal.returns-in_ok-give_line-clause-line
 returns-in_ok-give_line-clause-line g c = record {
   cut = cut_at_feed _ _ _ _ _ c.line_length-line.result (c.line_length-line.ensures ∙ ap (λ reader. line_length reader.held_bytes) c.self.view_is)
-      (omega (arith, ap (λ reader. length reader.held_bytes) c.self.view_is)) (omega (arith, ap (λ reader. reader.line_limit) c.self.view_is))
+      (omega (arith, ap (λ reader. length reader.held_bytes) c.self.view_is))
+      (omega (arith, ap (λ reader. reader.line_limit) c.self.view_is))
       c.in_ok-give_line.ensures.line c.in_ok-give_line.ensures.held;
   counted = c.in_ok-give_line.ensures.counted;
 }
@@ -25,7 +27,8 @@ returns-then-not-self-clause-long_stream g c = λ _.
 pub returns-in_ok-give_line-2-clause-line : goal.returns-in_ok-give_line-2-clause-line
 returns-in_ok-give_line-2-clause-line g c = record {
   cut = cut_at_end _ _ _ _ _ c.line_length-line.result (c.line_length-line.ensures ∙ ap (λ reader. line_length reader.held_bytes) c.self.view_is)
-      (omega (arith, ap (λ reader. length reader.held_bytes) c.self.view_is)) (omega arith) (omega (arith, ap (λ reader. reader.line_limit) c.self.view_is))
+      (omega (arith, ap (λ reader. length reader.held_bytes) c.self.view_is)) (omega arith)
+      (omega (arith, ap (λ reader. reader.line_limit) c.self.view_is))
       (sym (ap (λ reader. reader.is_at_end) c.self.view_is) ∙ c.if-not-self.false)
       c.in_ok-give_line-2.ensures.line c.in_ok-give_line-2.ensures.held;
   counted = c.in_ok-give_line-2.ensures.counted;

@@ -5,7 +5,8 @@ use Rattle.rpq_io.proofs.TextAhead.{gives_line, long_line_of_text}
 use Rattle.rpq_io.proofs.line_reader.LineReader.next_line.Goals as goal
 
 -- a fact of the value, where another leads to it
-if_some : {X : Type 0} (answer : Option X) (P Q : X → Type 0) → ((value : X) → P value → Q value) → IfSome answer P → IfSome answer Q
+if_some : {X : Type 0} (answer : Option X) (P Q : X → Type 0) → ((value : X) → P value → Q value)
+    → IfSome answer P → IfSome answer Q
 if_some None P Q leads fact = tt
 if_some (Some value) P Q leads fact = leads value fact
 
@@ -21,6 +22,7 @@ returns-clause-long_line g c = λ long.
     let same = rw long at c.give.ensures.err in
     let first = subst (λ most. most < line_length c.loop-self.self.held_bytes) c.loop-self.invariant.line_limit (c.give.ensures.long_line long) in
     record {
-      long = subst (λ reader. c.args.self.now.line_limit < line_length reader.held_bytes) (sym same) first;
+      long = subst (λ reader. c.args.self.now.line_limit < line_length reader.held_bytes)
+          (sym same) first;
       text = long_line_of_text g.S.Source.left c.args.self.now c.loop-self.self _ c.loop-self.invariant.had first;
     }

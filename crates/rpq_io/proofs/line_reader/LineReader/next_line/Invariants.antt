@@ -3,7 +3,8 @@ use Rattle.rpq_io.specs.Held.{reads_left}
 use Rattle.rpq_io.specs.Reader.{Had, HoldsNoAnswer}
 use Rattle.rpq_io.proofs.line_reader.LineReader.next_line.Given as goal
 
--- what was taken so far is held behind what was held before, nothing is taken where an answer was held, and no read failed
+-- what was taken so far is held behind what was held before, nothing is taken where an answer was
+-- held, and no read failed
 abbrev pub invariant-loop-self : goal.invariant-loop-self
 invariant-loop-self g l = record {
   had : Had g.S.Source.left l.initial.self l.self l.self.held_bytes;

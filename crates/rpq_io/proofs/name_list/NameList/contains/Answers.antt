@@ -8,5 +8,6 @@ pub returns : goal.returns
 returns c =
     c.is_among.ensures
     ∙ ap (λ names. list_any (λ noted. bytes_eq (string_bytes noted) c.args.name.now) names) c.as_slice.ensures.value
-    ∙ sym (list_any-map (λ noted. bytes_eq noted c.args.name.now) (λ noted. string_bytes noted) c.self.inside.names.items)
+    ∙ sym (list_any-map (λ noted. bytes_eq noted c.args.name.now)
+    (λ noted. string_bytes noted) c.self.inside.names.items)
     ∙ ap (λ (list : NameRoom). list_any (λ noted. bytes_eq noted c.args.name.now) list.names) c.self.view_is
