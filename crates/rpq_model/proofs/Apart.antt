@@ -5,17 +5,20 @@ use Rattle.std.specs.declared.cmp.Ordering.TheVariants.{Less, Equal}
 use Rattle.std.specs.List.Sorted.{IsStrictlySortedBy}
 use Rattle.std.proofs.lemmas.Bool.{true≢false, false≢true, not-true}
 use Rattle.std.proofs.lemmas.Cmp.{tied_itself}
-use Rattle.std.proofs.lemmas.List.Elements.{All-from_recursion, All-map, All-append, All-weaker, All-filter, All-head, All-tail, All-contains_itself, filter_passes}
+use Rattle.std.proofs.lemmas.List.Elements.{All-from_recursion, All-map, All-append, All-weaker, All-filter, All-head, All-tail, All-contains_itself}
+use Rattle.std.proofs.lemmas.List.Elements.{filter_passes}
 use Rattle.std.proofs.lemmas.List.Kept.{AllPairs-cons, IsStrictlySortedBy-filter}
 use Rattle.std.proofs.lemmas.Map.Keys.{sorted_head, sorted_tail}
 use Rattle.rpq_base.specs.Order.{pair_cmp}
 use Rattle.rpq_base.specs.Laws.{SameIsEqual}
-use Rattle.rpq_base.specs.declared.data.Label.{Label}
+use Rattle.rpq_base.specs.declared.data.Entry.{Entry}
 use Rattle.rpq_base.specs.declared.data.Pair.{Pair}
 use Rattle.rpq_base.specs.declared.data.Event.{Event}
-use Rattle.rpq_model.specs.Events.{event, without}
-use Rattle.rpq_model.specs.Laws.{IsApart, EventsAreApart}
-use Rattle.rpq_model.proofs.Pairs.{pair_cmp_total, has, has_members}
+use Rattle.rpq_model.specs.Events.{event, without, AreEvents}
+use Rattle.rpq_model.specs.Answers.{PathQuery}
+use Rattle.rpq_model.specs.EventLaws.{IsApart}
+use Rattle.rpq_base.proofs.Orders.{pair_cmp_total}
+use Rattle.rpq_model.proofs.Pairs.{has, has_members}
 
 -- a pair isn't before itself
 apart_from_less : (first second : Pair) → pair_cmp first second ≡ Less → first ≢ second
@@ -44,7 +47,8 @@ before_alike : (query : ℕ) (added : Bool) (first : Pair) (pairs : List Pair) �
     All (IsApart (event query added first)) (map (event query added) pairs)
 before_alike query added first pairs sorted =
     All-map (IsApart (event query added first)) (event query added) pairs
-    (All-weaker (λ pair. pair_cmp first pair ≡ Less) (λ pair. IsApart (event query added first) (event query added pair)) (λ pair. alike query added first pair) pairs
+    (All-weaker (λ pair. pair_cmp first pair ≡ Less) (λ pair. IsApart (event query added first) (event query added pair))
+    (λ pair. alike query added first pair) pairs
     (All-from_recursion (λ pair. pair_cmp first pair ≡ Less) pairs (sorted_head pair_cmp first pairs sorted)))
 
 -- the gains
@@ -83,12 +87,13 @@ lost_from_gained same old new =
     (without old new) (filter_passes (λ (pair : Pair). not (has new pair)) old)
 
 -- events from one history to another are apart
-pub events_are_apart : SameIsEqual → (language : List Label → Type 0) → EventsAreApart language
-events_are_apart same language mode size slide query before after events events_are =
+pub events_are_apart : SameIsEqual → (query : PathQuery) (number : ℕ) (before after : List Entry) (events : List Event) →
+    AreEvents query number before after events → AllPairs IsApart events
+events_are_apart same query number before after events events_are =
     let old = events_are.0 in
     let new = events_are.1 in
     subst (λ (all : List Event). AllPairs IsApart all) (sym events_are.4)
-    (losses_apart (without old new) (without new old) query
+    (losses_apart (without old new) (without new old) number
     (IsStrictlySortedBy-filter pair_cmp (λ (pair : Pair). not (has new pair)) old events_are.2.sorted)
     (IsStrictlySortedBy-filter pair_cmp (λ (pair : Pair). not (has old pair)) new events_are.3.sorted)
     (lost_from_gained same old new))

@@ -1,19 +1,23 @@
 -- What the loops over pairs find: unions and compositions.
-use Rattle.std.proofs.Common.{◌≡◌, ℕ, ◌+◌, ◌<◌, Bool, true, false, List, [], ◌∷◌, ◌++◌, length, get_or, take, map, fold, refl, sym, ap, subst, ◌∙◌, ◌⊎◌, inl, inr, ⊎_elim, Result, Ok, Err, arith}
+use Rattle.std.proofs.Common.{◌≡◌, ℕ, ◌+◌, ◌<◌, Bool, true, false, List, [], ◌∷◌, ◌++◌, length}
+use Rattle.std.proofs.Common.{get_or, take, map, fold, refl, sym, ap, subst, ◌∙◌, ◌⊎◌, inl, inr}
+use Rattle.std.proofs.Common.{⊎_elim, Result, Ok, Err, arith}
 use Rattle.std.specs.Prelude.{◌↔◌, Contains, IfOk, if◌then◌else◌}
 use Rattle.std.specs.BTreeSet.{insert_key}
 use Rattle.std.specs.List.Sorted.{IsStrictlySortedBy}
 use Rattle.std.proofs.lemmas.Bool.{both_ways}
 use Rattle.std.proofs.lemmas.List.{take_more, map_more}
-use Rattle.std.proofs.lemmas.List.Elements.{Contains-push, Contains-push_cases, Contains-append_left}
+use Rattle.std.proofs.lemmas.List.Elements.{Contains-push, Contains-push_cases}
+use Rattle.std.proofs.lemmas.List.Elements.{Contains-append_left}
 use Rattle.rpq_base.specs.Order.{pair_cmp}
 use Rattle.rpq_base.specs.Same.{same_name, same_label}
 use Rattle.rpq_base.specs.declared.data.Label.{Label}
 use Rattle.rpq_base.specs.declared.data.Edge.{Edge}
 use Rattle.rpq_base.specs.declared.data.Pair.{Pair}
 use Rattle.rpq_model.specs.Relations.{between, AreExactly, IsLedOn, IsComposed}
-use Rattle.rpq_model.proofs.Equality.{names}
-use Rattle.rpq_model.proofs.Members.{IsGiven, fold_members}
+use Rattle.rpq_base.proofs.Equality.{names}
+use Rattle.rpq_base.proofs.Orders.{pair_cmp_exact}
+use Rattle.rpq_base.proofs.Members.{none_in, HasOneMore, IsGiven, fold_members}
 
 -- the pairs found, and the ends of the edge if it has the label
 abbrev pub with_edge : Label → List Pair → Edge → List Pair
@@ -27,26 +31,24 @@ with_one found pair = insert_key pair_cmp found pair
 abbrev pub with_longer : Pair → List Pair → Pair → List Pair
 with_longer first found pair = if same_name pair.from first.to then insert_key pair_cmp found (between first.from pair.to) else found
 
--- a fact of a value from two others
-pub ok_from_both : {X Y : Type 0} (r : Result X Y) (P Q G : X → Type 0) → ((x : X) → P x → Q x → G x) → IfOk r P → IfOk r Q → IfOk r G
-ok_from_both (Ok x) P Q G gives p q = gives x p q
-ok_from_both (Err e) P Q G gives p q = tt
+-- one equivalence after another
+pub in_turn : {A B C : Type 0} → A ↔ B → B ↔ C → A ↔ C
+in_turn first second = ((λ a. second.0 (first.0 a)), (λ c. first.1 (second.1 c)))
 
 -- ---- sets of pairs
 
--- no pair is in the empty set
-pub none_in : (pair : Pair) → Contains {X = Pair} [] pair → ⊥
-none_in pair member = absurd (omega (arith, member.1))
-
 -- the same pairs for an equivalent relation
-pub exactly_same : (relation other : Pair → Type 0) (pairs : List Pair) → ((pair : Pair) → relation pair ↔ other pair) → AreExactly relation pairs → AreExactly other pairs
+pub exactly_same : (relation other : Pair → Type 0) (pairs : List Pair) →
+    ((pair : Pair) → relation pair ↔ other pair) → AreExactly relation pairs →
+    AreExactly other pairs
 exactly_same relation other pairs same are = record {
   sorted = are.sorted;
   exact = λ pair. ((λ member. (same pair).0 ((are.exact pair).0 member)), (λ holds. (are.exact pair).1 ((same pair).1 holds)));
 }
 
 -- pairs that are those of a set with these members
-pub exactly_from_set : (relation : Pair → Type 0) (found pairs : List Pair) → ((pair : Pair) → Contains found pair ↔ relation pair) →
+pub exactly_from_set : (relation : Pair → Type 0) (found pairs : List Pair) →
+    ((pair : Pair) → Contains found pair ↔ relation pair) →
     pairs ≡ found → IsStrictlySortedBy pair_cmp pairs → AreExactly relation pairs
 exactly_from_set relation found pairs members is sorted = record {
   sorted = sorted;
@@ -57,10 +59,11 @@ exactly_from_set relation found pairs members is sorted = record {
 }
 
 -- going through the pairs adds them
-pub all_added : (pairs : List Pair) (before found : List Pair) → found ≡ fold with_one before pairs →
+pub all_added : (pairs : List Pair) (before found : List Pair) →
+    found ≡ fold with_one before pairs →
     (pair : Pair) → Contains found pair ↔ (Contains before pair ⊎ Contains pairs pair)
 all_added pairs before found is pair =
-    let members = fold_members pairs (λ (each : Pair). true) (λ (each : Pair). each) before pair in (
+    let members = fold_members pair_cmp_exact pairs (λ (each : Pair). true) (λ (each : Pair). each) before pair in (
       (λ member. ⊎_elim
           (λ there. inl there)
           (λ given. inr (subst (Contains pairs) given.is given.member))
@@ -91,10 +94,12 @@ given_from_led_on pairs first pair led = record {
 }
 
 -- going through the pairs adds those that the first and one of them lead to
-pub longer_added : (pairs : List Pair) (first : Pair) (before found : List Pair) → found ≡ fold (with_longer first) before pairs →
+pub longer_added : (pairs : List Pair) (first : Pair) (before found : List Pair) →
+    found ≡ fold (with_longer first) before pairs →
     (pair : Pair) → Contains found pair ↔ (Contains before pair ⊎ IsLedOn first pairs pair)
 longer_added pairs first before found is pair =
-    let members = fold_members pairs (λ (each : Pair). same_name each.from first.to) (λ (each : Pair). between first.from each.to) before pair in (
+    let members = fold_members pair_cmp_exact pairs (λ (each : Pair). same_name each.from first.to)
+    (λ (each : Pair). between first.from each.to) before pair in (
       (λ member. ⊎_elim
           (λ there. inl there)
           (λ given. inr (led_on_from_given pairs first pair given))
@@ -103,43 +108,17 @@ longer_added pairs first before found is pair =
           (members.1 (⊎_elim (λ there. inl there) (λ led. inr (given_from_led_on pairs first pair led)) either))),
     )
 
--- ---- one more element
-
--- the second list is the first with one more element
-pub record HasOneMore {X : Type 0} (before : List X) (one : X) (after : List X) : Type 0 where
-  pub cases : (each : X) → Contains after each → Contains before each ⊎ (one ≡ each)
-  pub still : (each : X) → Contains before each → Contains after each
-  pub here : Contains after one
-
-pub one_more : {X : Type 0} (before : List X) (one : X) → HasOneMore before one (before ++ one ∷ [])
-one_more before one = record { cases = Contains-push_cases before one; still = Contains-append_left before (one ∷ []); here = Contains-push before one }
-
--- the elements up to the next
-pub next_one : {X : Type 0} (elements : List X) (index : ℕ) (one : X) → index < length elements → one ≡ get_or elements index one →
-    HasOneMore (take index elements) one (take (index + 1) elements)
-next_one elements index one below is =
-    let before = take index elements in
-    let after : before ++ one ∷ [] ≡ take (index + 1) elements = ap (λ each. before ++ each ∷ []) is ∙ sym (take_more elements index one below) in
-    subst (HasOneMore before one) after (one_more before one)
-
--- what the elements up to the next give
-pub next_given : {X Y : Type 0} (give : X → Y) (elements : List X) (index : ℕ) (one : X) → index < length elements → one ≡ get_or elements index one →
-    HasOneMore (map give (take index elements)) (give one) (map give (take (index + 1) elements))
-next_given give elements index one below is =
-    let before = map give (take index elements) in
-    subst (HasOneMore before (give one))
-    (ap (λ each. before ++ give each ∷ []) is ∙ sym (map_more give elements index one below))
-    (one_more before (give one))
-
 -- ---- compositions
 
 -- the first of a composition ends where the second begins
-pub composed_from_led_on : (firsts : List Pair) (first : Pair) (seconds : List Pair) (pair : Pair) → Contains firsts first → IsLedOn first seconds pair → IsComposed firsts seconds pair
+pub composed_from_led_on : (firsts : List Pair) (first : Pair) (seconds : List Pair) (pair : Pair) →
+    Contains firsts first → IsLedOn first seconds pair → IsComposed firsts seconds pair
 composed_from_led_on firsts first seconds pair member led =
     (first.to, subst (Contains firsts) (λ i. record { from = sym led.0 i; to = first.to }) member, led.1)
 
 -- one more first pair adds what it and a second lead to
-pub composed_more : (before : List Pair) (first : Pair) (after seconds old found more : List Pair) → HasOneMore before first after →
+pub composed_more : (before : List Pair) (first : Pair) (after seconds old found more : List Pair) →
+    HasOneMore before first after →
     ((pair : Pair) → Contains found pair ↔ (Contains old pair ⊎ IsComposed before seconds pair)) →
     ((pair : Pair) → Contains more pair ↔ (Contains found pair ⊎ IsLedOn first seconds pair)) →
     (pair : Pair) → Contains more pair ↔ (Contains old pair ⊎ IsComposed after seconds pair)
@@ -163,69 +142,6 @@ composed_more before first after seconds old found more one_more members adds pa
       either)),
 )
 
--- ---- compositions over one vertex
-
--- the pairs so far, with those over the vertex whose first is one of these
-abbrev pub OverSoFar : List Pair → List ℕ → List Pair → Pair → Type 0
-OverSoFar pairs vertex firsts pair = Contains pairs pair ⊎ (Contains firsts (between pair.from vertex) × Contains pairs (between vertex pair.to))
-
--- before the first, the pairs alone
-pub over_none : (pairs found : List Pair) (vertex : List ℕ) → ((pair : Pair) → Contains found pair ↔ Contains pairs pair) →
-    (pair : Pair) → Contains found pair ↔ OverSoFar pairs vertex [] pair
-over_none pairs found vertex members pair = (
-  (λ member. inl ((members pair).0 member)),
-  (λ either. (members pair).1 (⊎_elim (λ there. there) (λ both. absurd (none_in (between pair.from vertex) both.0)) either)),
-)
-
--- one more first pair that leads to the vertex adds what it and a second lead to
-pub over_more : (pairs : List Pair) (vertex : List ℕ) (before : List Pair) (first : Pair) (after found more : List Pair) → HasOneMore before first after →
-    same_name first.to vertex ≡ true →
-    ((pair : Pair) → Contains found pair ↔ OverSoFar pairs vertex before pair) →
-    ((pair : Pair) → Contains more pair ↔ (Contains found pair ⊎ IsLedOn first pairs pair)) →
-    (pair : Pair) → Contains more pair ↔ OverSoFar pairs vertex after pair
-over_more pairs vertex before first after found more one_more ends members adds pair =
-    let end : first.to ≡ vertex = (names first.to vertex).0 ends in (
-      (λ member. ⊎_elim
-          (λ there. ⊎_elim
-          (λ was. inl was)
-          (λ both. inr (one_more.still (between pair.from vertex) both.0, both.1))
-          ((members pair).0 there))
-          (λ led. inr (
-            subst (Contains after) (λ i. record { from = sym led.0 i; to = end i }) one_more.here,
-            subst (λ (middle : List ℕ). Contains pairs (between middle pair.to)) end led.1,
-          ))
-          ((adds pair).0 member)),
-      (λ either. (adds pair).1 (⊎_elim
-          (λ was. inl ((members pair).1 (inl was)))
-          (λ both. ⊎_elim
-          (λ there. inl ((members pair).1 (inr (there, both.1))))
-          (λ is. inr (
-            ap (λ (each : Pair). each.from) (sym is),
-            subst (λ (middle : List ℕ). Contains pairs (between middle pair.to)) (sym end) both.1,
-          ))
-          (one_more.cases (between pair.from vertex) both.0))
-          either)),
-    )
-
--- one that leads elsewhere adds nothing
-pub over_same : (pairs : List Pair) (vertex : List ℕ) (before : List Pair) (first : Pair) (after found : List Pair) → HasOneMore before first after →
-    same_name first.to vertex ≡ false →
-    ((pair : Pair) → Contains found pair ↔ OverSoFar pairs vertex before pair) →
-    (pair : Pair) → Contains found pair ↔ OverSoFar pairs vertex after pair
-over_same pairs vertex before first after found one_more ends members pair = (
-  (λ member. ⊎_elim
-      (λ was. inl was)
-      (λ both. inr (one_more.still (between pair.from vertex) both.0, both.1))
-      ((members pair).0 member)),
-  (λ either. (members pair).1 (⊎_elim
-      (λ was. inl was)
-      (λ both. ⊎_elim
-      (λ there. inr (there, both.1))
-      (λ is. absurd (both_ways (same_name first.to vertex) ends ((names first.to vertex).1 (ap (λ (each : Pair). each.to) is))))
-      (one_more.cases (between pair.from vertex) both.0))
-      either)),
-)
-
 -- ---- sets that are filled in steps
 
 -- added where they are wanted
@@ -238,7 +154,8 @@ added_if wanted pairs before found is_wanted members pair = (
 )
 
 -- what is added to the empty set is all
-pub first_added : (relation : Pair → Type 0) (before found : List Pair) → before ≡ [] → ((pair : Pair) → Contains found pair ↔ (Contains before pair ⊎ relation pair)) →
+pub first_added : (relation : Pair → Type 0) (before found : List Pair) → before ≡ [] →
+    ((pair : Pair) → Contains found pair ↔ (Contains before pair ⊎ relation pair)) →
     (pair : Pair) → Contains found pair ↔ relation pair
 first_added relation before found empty members pair = (
   (λ member. ⊎_elim
@@ -249,7 +166,8 @@ first_added relation before found empty members pair = (
 )
 
 -- and a relation after another
-pub then_added : (relation other : Pair → Type 0) (before found : List Pair) → ((pair : Pair) → Contains before pair ↔ relation pair) →
+pub then_added : (relation other : Pair → Type 0) (before found : List Pair) →
+    ((pair : Pair) → Contains before pair ↔ relation pair) →
     ((pair : Pair) → Contains found pair ↔ (Contains before pair ⊎ other pair)) →
     (pair : Pair) → Contains found pair ↔ (relation pair ⊎ other pair)
 then_added relation other before found was members pair = (

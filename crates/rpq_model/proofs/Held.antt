@@ -7,17 +7,15 @@ use Rattle.std.proofs.lemmas.List.{append_assoc, append-nil}
 use Rattle.std.proofs.lemmas.Map.Views.{any-filter_same}
 use Rattle.rpq_base.specs.Same.{same_pair}
 use Rattle.rpq_base.specs.Laws.{SameIsEqual}
-use Rattle.rpq_base.specs.declared.data.Label.{Label}
 use Rattle.rpq_base.specs.declared.data.Edge.{Edge}
 use Rattle.rpq_base.specs.declared.data.Entry.{Entry}
 use Rattle.rpq_base.specs.declared.data.Pair.{Pair}
 use Rattle.rpq_base.specs.declared.data.Event.{Event}
-use Rattle.rpq_model.specs.declared.mode.Mode.{Mode}
-use Rattle.rpq_model.specs.Window.{live_entries}
-use Rattle.rpq_model.specs.Answers.{IsAnswer}
-use Rattle.rpq_model.specs.Events.{event, without, changes, AreEventsFrom, held_from}
-use Rattle.rpq_model.specs.Laws.{HeldIsAnswers}
-use Rattle.rpq_model.proofs.Pairs.{same_tests, has, has_members, any_same}
+use Rattle.rpq_model.specs.Window.{live_from}
+use Rattle.rpq_model.specs.Answers.{PathQuery, IsAnswer}
+use Rattle.rpq_model.specs.Events.{event, without, changes, AreEvents, AreEachFrom, AreEventsOf, IsHeld, held_from}
+use Rattle.rpq_base.proofs.Equality.{same_tests}
+use Rattle.rpq_model.proofs.Pairs.{has, has_members, any_same}
 
 -- a pair is kept where it is among the first and not among the second
 any_without : SameIsEqual → (pairs others : List Pair) (pair : Pair) →
@@ -47,7 +45,8 @@ held_alike : (pairs : List Pair) (before added : Bool) (query : ℕ) (pair : Pai
 held_alike [] before added query pair = refl
 held_alike (first ∷ pairs) before added query pair =
     held_alike pairs (if query == query && same_pair first pair then added else before) added query pair
-    ∙ (ap (λ (this : Bool). if list_any (λ (each : Pair). same_pair each pair) pairs then added else (if this && same_pair first pair then added else before)) (eq-eqb query query refl)
+    ∙ (ap (λ (this : Bool). if list_any (λ (each : Pair). same_pair each pair) pairs then added else (if this && same_pair first pair then added else before))
+    (eq-eqb query query refl)
     ∙ either (same_pair first pair) (list_any (λ (each : Pair). same_pair each pair) pairs) added before)
 
 -- losses and then gains leave what is new
@@ -63,7 +62,8 @@ pub held_changes : SameIsEqual → (old new : List Pair) (before : Bool) (query 
 held_changes same old new before query pair is_before =
     held_after (map (event query false) (without old new)) (map (event query true) (without new old)) before query pair
     ∙ (held_alike (without new old) (held_from before query pair (map (event query false) (without old new))) true query pair
-    ∙ (ap (λ (held : Bool). if list_any (λ (each : Pair). same_pair each pair) (without new old) then true else held) (held_alike (without old new) before false query pair)
+    ∙ (ap (λ (held : Bool). if list_any (λ (each : Pair). same_pair each pair) (without new old) then true else held)
+    (held_alike (without old new) before false query pair)
     ∙ rw (any_without same new old pair, any_without same old new pair, is_before) (lost_then_gained (has old pair) (has new pair))))
 
 -- no pair is an answer over the empty history
@@ -71,40 +71,46 @@ no_answer : (path : List Edge) → All (Contains {X = Edge} []) path → path �
 no_answer [] members = refl
 no_answer (edge ∷ path) members = absurd (omega (arith, (members 0 edge (omega arith)).1))
 
-pub none_at_first : (language : List Label → Type 0) (mode : Mode) (size slide : ℕ) (pair : Pair) → IsAnswer language mode size slide [] pair → ⊥
-unfolding live_entries
-none_at_first language mode size slide pair answer = answer.1.leads.some (no_answer answer.0 answer.1.leads.members)
+pub none_at_first : (query : PathQuery) (pair : Pair) → IsAnswer query [] pair → ⊥
+unfolding live_from
+none_at_first query pair answer = answer.1.leads.some (no_answer answer.0 answer.1.leads.members)
+
+-- a query's events from one history to another carry what is held from the answers over the one to those over the other
+pub held_step : SameIsEqual → (query : PathQuery) (number : ℕ) (before after : List Entry) (events : List Event) (held : Bool) (pair : Pair) →
+    AreEvents query number before after events →
+    IsTrue held ↔ IsAnswer query before pair → IsTrue (held_from held number pair events) ↔ IsAnswer query after pair
+held_step same query number before after events held pair are holds =
+    let old = are.0 in
+    let new = are.1 in
+    let was : held ≡ has old pair = same_tests held (has old pair) (
+      (λ e. (has_members same old pair).1 ((are.2.exact pair).1 (holds.0 e))),
+      (λ e. holds.1 ((are.2.exact pair).0 ((has_members same old pair).0 e))),
+    ) in
+    let is : held_from held number pair events ≡ has new pair = ap (held_from held number pair) are.4 ∙ held_changes same old new held number pair was in (
+      (λ e. (are.3.exact pair).0 ((has_members same new pair).0 (sym is ∙ e))),
+      (λ answer. is ∙ (has_members same new pair).1 ((are.3.exact pair).1 answer)),
+    )
 
 -- going through the events of the entries that follow a history leaves the answers, if the answers there were held
-held_following : (entries before : List Entry) (language : List Label → Type 0) (mode : Mode) (size slide query : ℕ) (pair : Pair) (held : Bool) (events : List (List Event)) →
+held_following : (entries before : List Entry) (query : PathQuery) (number : ℕ) (pair : Pair) (held : Bool) (events : List (List Event)) →
     SameIsEqual →
-    AreEventsFrom language mode size slide query before entries events →
-    IsTrue held ↔ IsAnswer language mode size slide before pair →
-    IsTrue (held_from held query pair (flat_map (λ block. block) events)) ↔ IsAnswer language mode size slide (before ++ entries) pair
-held_following [] before language mode size slide query pair held [] same events_are holds =
-    subst (λ (history : List Entry). IsTrue held ↔ IsAnswer language mode size slide history pair) (sym (append-nil before)) holds
-held_following [] before language mode size slide query pair held (block ∷ events) same events_are holds = absurd events_are
-held_following (entry ∷ later) before language mode size slide query pair held [] same events_are holds = absurd events_are
-held_following (entry ∷ later) before language mode size slide query pair held (block ∷ events) same events_are holds =
-    let here = events_are.0 in
-    let old = here.0 in
-    let new = here.1 in
-    let was : held ≡ has old pair = same_tests held (has old pair) (
-      (λ e. (has_members same old pair).1 ((here.2.exact pair).1 (holds.0 e))),
-      (λ e. holds.1 ((here.2.exact pair).0 ((has_members same old pair).0 e))),
-    ) in
-    let is : held_from held query pair block ≡ has new pair = ap (held_from held query pair) here.4 ∙ held_changes same old new held query pair was in
-    let holds_now : IsTrue (held_from held query pair block) ↔ IsAnswer language mode size slide (before ++ entry ∷ []) pair = (
-      (λ e. (here.3.exact pair).0 ((has_members same new pair).0 (sym is ∙ e))),
-      (λ e. is ∙ (has_members same new pair).1 ((here.3.exact pair).1 e)),
-    ) in
-    let further = held_following later (before ++ entry ∷ []) language mode size slide query pair (held_from held query pair block) events same events_are.1 holds_now in
-    rw (held_after block (flat_map (λ block. block) events) held query pair, ← append_assoc before (entry ∷ []) later) further
+    AreEachFrom (AreEvents query number) before entries events →
+    IsTrue held ↔ IsAnswer query before pair →
+    IsTrue (held_from held number pair (flat_map (λ block. block) events)) ↔ IsAnswer query (before ++ entries) pair
+held_following [] before query number pair held [] same events_are holds =
+    subst (λ (history : List Entry). IsTrue held ↔ IsAnswer query history pair) (sym (append-nil before)) holds
+held_following [] before query number pair held (block ∷ events) same events_are holds = absurd events_are
+held_following (entry ∷ later) before query number pair held [] same events_are holds = absurd events_are
+held_following (entry ∷ later) before query number pair held (block ∷ events) same events_are holds =
+    let holds_now = held_step same query number before (before ++ entry ∷ []) block held pair events_are.0 holds in
+    let further = held_following later (before ++ entry ∷ []) query number pair (held_from held number pair block) events same events_are.1 holds_now in
+    rw (held_after block (flat_map (λ block. block) events) held number pair, ← append_assoc before (entry ∷ []) later) further
 
 -- going through the events of all entries of a history leaves its answers
-pub held_is_answers : SameIsEqual → (language : List Label → Type 0) → HeldIsAnswers language
-held_is_answers same language mode size slide query history events events_are pair =
-    held_following history [] language mode size slide query pair false events same events_are (
+pub held_is_answers : SameIsEqual → (query : PathQuery) (number : ℕ) (history : List Entry) (events : List (List Event)) →
+    AreEventsOf query number history events → (pair : Pair) → IsHeld number (flat_map (λ list. list) events) pair ↔ IsAnswer query history pair
+held_is_answers same query number history events events_are pair =
+    held_following history [] query number pair false events same events_are (
       (λ e. absurd (false≢true e)),
-      (λ answer. absurd (none_at_first language mode size slide pair answer)),
+      (λ answer. absurd (none_at_first query pair answer)),
     )

@@ -1,20 +1,25 @@
 mod Apart
-mod Held
-mod Live
-mod OneAnswer
+pub mod Held
+pub mod LiveEdges
+pub mod OneAnswer
 pub mod Pairs
-mod Places
-pub mod Members
-pub mod Equality
-mod Composing
-mod Paths
+pub mod Places
+pub mod Composing
+pub mod Paths
+pub mod Deadlines
+pub mod OneMore
+pub mod Ends
+pub mod EachEntry
+pub mod ByMembers
 mod ByLabel
-mod Closing
+pub mod Closing
+mod Merging
+pub mod EachOnce
 mod Sequences
 mod ByCases
 mod Onwards
 mod Answered
-mod Ticks
+pub mod Ticks
 mod Queries
-mod AllEvents
+pub mod AllEvents
 mod Existence

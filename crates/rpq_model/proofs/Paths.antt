@@ -1,14 +1,14 @@
 -- Paths, cut and joined.
 use Rattle.std.proofs.Common.{◌≡◌, ◌≢◌, ℕ, List, [], ◌∷◌, ◌++◌, refl, sym, ap, subst, ◌∙◌}
 use Rattle.std.specs.Prelude.{All, Contains}
-use Rattle.std.proofs.lemmas.List.Elements.{All-cons, All-nil, All-head, All-tail, All-append}
+use Rattle.std.proofs.lemmas.List.Elements.{All-cons, All-nil, All-head, All-tail, All-append, All-weaker}
 use Rattle.rpq_base.specs.declared.data.Label.{Label}
 use Rattle.rpq_base.specs.declared.data.Edge.{Edge}
 use Rattle.rpq_base.specs.declared.data.Pair.{Pair}
 use Rattle.rpq_model.specs.declared.mode.Mode.{Mode}
 use Rattle.rpq_model.specs.declared.mode.Mode.TheVariants.{Arbitrary}
 use Rattle.rpq_model.specs.Path.{Leads, IsPath, word_of}
-use Rattle.rpq_model.specs.Answers.{Joins, IsJoined}
+use Rattle.rpq_model.specs.Answers.{Joins, IsJoinedBy}
 use Rattle.rpq_model.specs.Relations.{between}
 
 -- ---- one edge
@@ -26,13 +26,14 @@ one_edge (edge ∷ second ∷ path) edges label pair joins =
     absurd (cc)
 
 -- one label joins the ends of the edges that have it
-pub one_label_joins : (edges : List Edge) (label : Label) (pair : Pair) → IsJoined edges (λ word. word ≡ label ∷ []) Arbitrary pair →
+pub one_label_joins : (edges : List Edge) (label : Label) (pair : Pair) → IsJoinedBy edges (λ word. word ≡ label ∷ []) Arbitrary pair →
     (edge : Edge) × Contains edges edge × (edge.label ≡ label) × (between edge.from edge.to ≡ pair)
 one_label_joins edges label pair joined = one_edge joined.0 edges label pair joined.1
 
 -- and the other way round
-pub joined_by_edge : (edges : List Edge) (label : Label) (pair : Pair) (edge : Edge) → Contains edges edge → edge.label ≡ label → between edge.from edge.to ≡ pair →
-    IsJoined edges (λ word. word ≡ label ∷ []) Arbitrary pair
+pub joined_by_edge : (edges : List Edge) (label : Label) (pair : Pair) (edge : Edge) → Contains edges edge → edge.label ≡ label →
+    between edge.from edge.to ≡ pair →
+    IsJoinedBy edges (λ word. word ≡ label ∷ []) Arbitrary pair
 joined_by_edge edges label pair edge member has_label is = (
   edge ∷ [],
   record {
@@ -49,7 +50,7 @@ joined_by_edge edges label pair edge member has_label is = (
 -- ---- two paths, one after another
 
 -- edges that lead on
-leads_on : (path : List Edge) (more : List Edge) (from middle to : List ℕ) → Leads from path middle → Leads middle more to → Leads from (path ++ more) to
+pub leads_on : (path : List Edge) (more : List Edge) (from middle to : List ℕ) → Leads from path middle → Leads middle more to → Leads from (path ++ more) to
 leads_on [] more from middle to first second = subst (λ (start : List ℕ). Leads start more to) (sym first) second
 leads_on (edge ∷ path) more from middle to first second = (first.0, leads_on path more edge.to middle to first.1 second)
 
@@ -63,7 +64,8 @@ some_on [] more some = absurd (some refl)
 some_on (edge ∷ path) more some = λ e. cc
 
 -- two paths, one after another, are a path
-pub path_on : (edges : List Edge) (from middle to : List ℕ) (path more : List Edge) → IsPath edges from path middle → IsPath edges middle more to → IsPath edges from (path ++ more) to
+pub path_on : (edges : List Edge) (from middle to : List ℕ) (path more : List Edge) → IsPath edges from path middle → IsPath edges middle more to →
+    IsPath edges from (path ++ more) to
 path_on edges from middle to path more first second = record {
   some = some_on path more first.some;
   members = All-append (Contains edges) path more first.members second.members;
@@ -126,14 +128,16 @@ pub some_word : (path : List Edge) → path ≢ [] → word_of path ≢ []
 some_word path some empty = some (no_word path empty)
 
 -- a cut with a word in front is a path there
-pub front_path : (edges : List Edge) (from to : List ℕ) (first second : List Label) (parts : IsCut edges from to first second) → first ≢ [] → IsPath edges from parts.front parts.middle
+pub front_path : (edges : List Edge) (from to : List ℕ) (first second : List Label) (parts : IsCut edges from to first second) → first ≢ [] →
+    IsPath edges from parts.front parts.middle
 front_path edges from to first second parts some = record {
   some = λ empty. some (sym parts.front_word ∙ ap word_of empty);
   members = parts.front_members;
   leads = parts.front_leads;
 }
 
-pub rest_path : (edges : List Edge) (from to : List ℕ) (first second : List Label) (parts : IsCut edges from to first second) → second ≢ [] → IsPath edges parts.middle parts.rest to
+pub rest_path : (edges : List Edge) (from to : List ℕ) (first second : List Label) (parts : IsCut edges from to first second) → second ≢ [] →
+    IsPath edges parts.middle parts.rest to
 rest_path edges from to first second parts some = record {
   some = λ empty. some (sym parts.rest_word ∙ ap word_of empty);
   members = parts.rest_members;
@@ -142,12 +146,30 @@ rest_path edges from to first second parts some = record {
 
 -- a path is joined by a language that has its word
 pub joined_by : (edges : List Edge) (language : List Label → Type 0) (from to : List ℕ) (path : List Edge) (word : List Label) →
-    IsPath edges from path to → word_of path ≡ word → language word → IsJoined edges language Arbitrary (between from to)
+    IsPath edges from path to → word_of path ≡ word → language word → IsJoinedBy edges language Arbitrary (between from to)
 joined_by edges language from to path word leads is within = (path, record { leads = leads; word = subst language (sym is) within; taken = tt })
 
 -- the paths whose words are in the one language, where their words are in the other
 pub joined_same : (edges : List Edge) (mode : Mode) (language other : List Label → Type 0) → ((word : List Label) → word ≢ [] → language word → other word) →
-    (pair : Pair) → IsJoined edges language mode pair → IsJoined edges other mode pair
+    (pair : Pair) → IsJoinedBy edges language mode pair → IsJoinedBy edges other mode pair
 joined_same edges mode language other gives pair joined =
     let joins = joined.1 in
     (joined.0, record { leads = joins.leads; word = gives (word_of joined.0) (some_word joined.0 joins.leads.some) joins.word; taken = joins.taken })
+
+-- more edges join more
+pub more_edges : (edges others : List Edge) (language : List Label → Type 0) (mode : Mode) (pair : Pair) →
+    ((edge : Edge) → Contains edges edge → Contains others edge) →
+    IsJoinedBy edges language mode pair → IsJoinedBy others language mode pair
+more_edges edges others language mode pair are joined =
+    let joins = joined.1 in (
+      joined.0,
+      record {
+        leads = record {
+          some = joins.leads.some;
+          members = All-weaker (Contains edges) (Contains others) are joined.0 joins.leads.members;
+          leads = joins.leads.leads;
+        };
+        word = joins.word;
+        taken = joins.taken;
+      },
+    )

@@ -1,25 +1,22 @@
 -- The edges of the window are those of the entries that are live by their places.
-use Rattle.std.proofs.Common.{◌≡◌, ℕ, zero, suc, ◌<◌, Bool, true, false, not, ◌&&◌, List, [], ◌∷◌, length, Option, Some, None, refl, sym, ap, subst, ◌∙◌, ◌⊎◌, inl, inr, ⊎_elim, arith}
-use Rattle.std.specs.Prelude.{Contains, slice_get, slice_index_or, if◌then◌else◌}
+use Rattle.std.proofs.Common.{◌≡◌, ℕ, zero, suc, ◌+◌, ◌<◌, ◌≤◌, Bool, true, false, not, ◌&&◌, List, [], ◌∷◌, length, Option, Some, None, refl, sym, ap, subst}
+use Rattle.std.proofs.Common.{◌∙◌, ◌⊎◌, inl, inr, ⊎_elim, arith}
+use Rattle.std.specs.Prelude.{◌↔◌, All, AllPairs, Contains, slice_get, slice_index_or, if◌then◌else◌}
 use Rattle.std.specs.List.{cons_option}
 use Rattle.std.proofs.lemmas.Bool.{false≢true, both_ways, and_parts, or_cases, not-true, false_from_ne_true}
+use Rattle.std.proofs.lemmas.List.Elements.{All-cons, All-nil, All-weaker}
+use Rattle.std.proofs.lemmas.List.Kept.{AllPairs-cons}
 use Rattle.std.proofs.lemmas.Map.Keys.{any_passes_from_place}
 use Rattle.rpq_base.specs.Laws.{SameIsEqual}
 use Rattle.rpq_base.specs.declared.data.Edge.{Edge}
 use Rattle.rpq_base.specs.declared.data.Act.{Act}
 use Rattle.rpq_base.specs.declared.data.Act.TheVariants.{Insert, Delete, Tick}
 use Rattle.rpq_base.specs.declared.data.Entry.{Entry}
-use Rattle.rpq_model.specs.Window.{clock, is_in_window, inserted, deletes, is_deleted, is_live_act, is_live, live_entries, edges_at}
-use Rattle.rpq_model.specs.Laws.{WindowByPlaces}
-use Rattle.rpq_model.proofs.Live.{first_live}
-
--- an entry that is live by its place, at any clock
-record IsLiveBy (size slide now : ℕ) (history : List Entry) (edge : Edge) (place : ℕ) : Type 0 where
-  pub entry : Entry
-  pub there : slice_get history place ≡ Some entry
-  pub inserts : entry.tuple.act ≡ Insert edge
-  pub seen : is_in_window size slide now entry.tuple.time ≡ true
-  pub stays : (later : ℕ) (other : Entry) → place < later → slice_get history later ≡ Some other → other.tuple.act ≡ Delete edge → ⊥
+use Rattle.rpq_model.specs.Window.{WindowValue, Placed, is_in_window, inserted_edge, deletes, is_deleted, is_live_act, is_live, live_from, edges_at}
+use Rattle.rpq_model.specs.WindowLaws.{IsLiveAt, LiveByPlaces, LiveInOrder, EdgesByPlaces, LiveBelowDeadline, LaterSeesLess}
+use Rattle.rpq_model.proofs.LiveEdges.{at_place, first_live}
+use Rattle.rpq_model.proofs.Deadlines.{seen_below_deadline, seen_before}
+use Rattle.rpq_base.proofs.Members.{cons_members}
 
 -- ---- deletes
 
@@ -43,7 +40,8 @@ deleted_place (entry ∷ later) edge same e =
 no_delete : (later : List Entry) (edge : Edge) → SameIsEqual → is_deleted later edge ≡ false →
     (place : ℕ) (other : Entry) → slice_get later place ≡ Some other → other.tuple.act ≡ Delete edge → ⊥
 no_delete later edge same kept place other there deletes_here =
-    let found = any_passes_from_place (λ (entry : Entry). deletes edge entry.tuple.act) later place other there (ap (deletes edge) deletes_here ∙ (same.edges edge edge).1 refl) in
+    let found = any_passes_from_place (λ (entry : Entry). deletes edge entry.tuple.act) later place other there
+    (ap (deletes edge) deletes_here ∙ (same.edges edge edge).1 refl) in
     both_ways (is_deleted later edge) kept found
 
 -- ---- the first entry
@@ -54,22 +52,22 @@ chosen true other edge e = (refl, cc)
 chosen false other edge e = cc
 
 -- an act that is live inserts an edge that is in the window and stays
-pub live_act : (act : Act) (size slide now time : ℕ) (later : List Entry) (edge : Edge) →
-    (if is_live_act size slide now time act later then inserted act else None) ≡ Some edge →
-    (act ≡ Insert edge) × (is_in_window size slide now time ≡ true) × (is_deleted later edge ≡ false)
-live_act (Insert other) size slide now time later edge e =
-    let seen = is_in_window size slide now time in
+pub live_act : (act : Act) (window : WindowValue) (now time : ℕ) (later : List Entry) (edge : Edge) →
+    (if is_live_act window now time act later then inserted_edge act else None) ≡ Some edge →
+    (act ≡ Insert edge) × (is_in_window window now time ≡ true) × (is_deleted later edge ≡ false)
+live_act (Insert other) window now time later edge e =
+    let seen = is_in_window window now time in
     let here = chosen (seen && not (is_deleted later other)) other edge e in
     let parts = and_parts seen (not (is_deleted later other)) here.0 in
     (ap Insert here.1, parts.0, ap (is_deleted later) (sym here.1) ∙ not-true (is_deleted later other) parts.1)
-live_act (Delete other) size slide now time later edge e = cc
-live_act Tick size slide now time later edge e = cc
+live_act (Delete other) window now time later edge e = cc
+live_act Tick window now time later edge e = cc
 
 -- an act that inserts an edge that is in the window and stays is live
-pub act_is_live : (act : Act) (size slide now time : ℕ) (later : List Entry) (edge : Edge) →
-    act ≡ Insert edge → is_in_window size slide now time ≡ true → is_deleted later edge ≡ false →
-    (if is_live_act size slide now time act later then inserted act else None) ≡ Some edge
-act_is_live act size slide now time later edge inserts seen stays = rw inserts (rw (seen, stays))
+pub act_is_live : (act : Act) (window : WindowValue) (now time : ℕ) (later : List Entry) (edge : Edge) →
+    act ≡ Insert edge → is_in_window window now time ≡ true → is_deleted later edge ≡ false →
+    (if is_live_act window now time act later then inserted_edge act else None) ≡ Some edge
+act_is_live act window now time later edge inserts seen stays = rw inserts (rw (seen, stays))
 
 -- ---- members, entry by entry
 
@@ -79,7 +77,8 @@ first_or_later zero first edges edge below is = inl is
 first_or_later (suc place) first edges edge below is = inr (place, omega arith, is)
 
 -- a member of a list that may have one more element is that element or a member without it
-pub found_or_later : (found : Option Edge) (edges : List Edge) (edge : Edge) → Contains (cons_option found edges) edge → (found ≡ Some edge) ⊎ Contains edges edge
+pub found_or_later : (found : Option Edge) (edges : List Edge) (edge : Edge) → Contains (cons_option found edges) edge →
+    (found ≡ Some edge) ⊎ Contains edges edge
 found_or_later None edges edge member = inr member
 found_or_later (Some first) edges edge member =
     ⊎_elim (λ here. inl (ap (λ (one : Edge). Some one) here)) (λ later. inr later) (first_or_later member.0 first edges edge member.1 member.2)
@@ -108,75 +107,222 @@ stays_later zero entry later edge other live stays after there = absurd (omega a
 stays_later (suc place) entry later edge other live stays after there = stays place other (omega arith) there
 
 -- one entry more before a live one
-one_before : (place : ℕ) (entry : Entry) (later : List Entry) (size slide now : ℕ) (edge : Edge) →
-    IsLiveBy size slide now later edge place → IsLiveBy size slide now (entry ∷ later) edge (suc place)
-one_before place entry later size slide now edge live = record {
-  entry = live.entry;
-  there = live.there;
-  inserts = live.inserts;
-  seen = live.seen;
-  stays = λ at other after there. stays_later at entry later edge other place live.stays after there;
+one_before : (place : ℕ) (entry live : Entry) (later : List Entry) (window : WindowValue) (now : ℕ) (edge : Edge) →
+    IsLiveAt window now later edge place live → IsLiveAt window now (entry ∷ later) edge (suc place) live
+one_before place entry live later window now edge is = record {
+  undeleted = record {
+    there = is.undeleted.there;
+    inserts = is.undeleted.inserts;
+    stays = λ at other after there. stays_later at entry later edge other place is.undeleted.stays after there;
+  };
+  seen = is.seen;
+}
+
+-- and without the first entry
+after_first : (place : ℕ) (entry live : Entry) (later : List Entry) (window : WindowValue) (now : ℕ) (edge : Edge) →
+    IsLiveAt window now (entry ∷ later) edge (suc place) live → IsLiveAt window now later edge place live
+after_first place entry live later window now edge is = record {
+  undeleted = record {
+    there = is.undeleted.there;
+    inserts = is.undeleted.inserts;
+    stays = λ at other after there. is.undeleted.stays (suc at) other (omega arith) there;
+  };
+  seen = is.seen;
 }
 
 -- an edge of a live entry is live at some place
-to_place : (history : List Entry) (size slide now : ℕ) (edge : Edge) → SameIsEqual →
-    Contains (edges_at size slide now history) edge → (place : ℕ) × IsLiveBy size slide now history edge place
-unfolding live_entries
-to_place [] size slide now edge same member = absurd (omega (arith, member.1))
-to_place (entry ∷ later) size slide now edge same member =
-    let rest = edges_at size slide now later in
-    let found = if is_live size slide now entry later then inserted entry.tuple.act else None in
+pub to_place : (history : List Entry) (window : WindowValue) (now : ℕ) (edge : Edge) → SameIsEqual →
+    Contains (edges_at window now history) edge → (place : ℕ) × (entry : Entry) × IsLiveAt window now history edge place entry
+unfolding live_from
+to_place [] window now edge same member = absurd (omega (arith, member.1))
+to_place (entry ∷ later) window now edge same member =
+    let rest = edges_at window now later in
+    let found = if is_live window now entry later then inserted_edge entry.tuple.act else None in
     ⊎_elim
     (λ here.
-    let parts = live_act entry.tuple.act size slide now entry.tuple.time later edge here in (
+    let parts = live_act entry.tuple.act window now entry.tuple.time later edge here in (
       0,
+      entry,
       record {
-        entry = entry;
-        there = refl;
-        inserts = parts.0;
+        undeleted = record {
+          there = refl;
+          inserts = parts.0;
+          stays = λ place other after there. stays_first place entry later edge other same parts.2 after there;
+        };
         seen = parts.1;
-        stays = λ place other after there. stays_first place entry later edge other same parts.2 after there;
       },
     ))
     (λ there.
-    let further = to_place later size slide now edge same there in
-    (suc further.0, one_before further.0 entry later size slide now edge further.1))
-    (found_or_later found rest edge (subst (λ (edges : List Edge). Contains edges edge) (first_live size slide now entry later) member))
+    let further = to_place later window now edge same there in
+    (suc further.0, further.1, one_before further.0 entry further.1 later window now edge further.2))
+    (found_or_later found rest edge (subst (λ (edges : List Edge). Contains edges edge) (first_live window now entry later) member))
 
 -- an edge that is live at a place is one of a live entry
-from_place : (history : List Entry) (place size slide now : ℕ) (edge : Edge) → SameIsEqual →
-    IsLiveBy size slide now history edge place → Contains (edges_at size slide now history) edge
-from_place [] place size slide now edge same live = let there = live.there in cc
-from_place (entry ∷ later) zero size slide now edge same live =
-    let is : entry ≡ live.entry = let there = live.there in cc in
-    let inserts = ap (λ (each : Entry). each.tuple.act) is ∙ live.inserts in
-    let seen = ap (λ (each : Entry). is_in_window size slide now each.tuple.time) is ∙ live.seen in
+pub from_place : (history : List Entry) (place : ℕ) (live : Entry) (window : WindowValue) (now : ℕ) (edge : Edge) → SameIsEqual →
+    IsLiveAt window now history edge place live → Contains (edges_at window now history) edge
+from_place [] place live window now edge same is = let there = is.undeleted.there in cc
+from_place (entry ∷ later) zero live window now edge same is =
+    let same_entry : entry ≡ live = let there = is.undeleted.there in cc in
+    let inserts = ap (λ (each : Entry). each.tuple.act) same_entry ∙ is.undeleted.inserts in
+    let seen = ap (λ (each : Entry). is_in_window window now each.tuple.time) same_entry ∙ is.seen in
     let kept = false_from_ne_true (is_deleted later edge) (λ e.
     let found = deleted_place later edge same e in
-    live.stays (suc found.0) found.1 (omega arith) found.2 found.3) in
-    let here = act_is_live entry.tuple.act size slide now entry.tuple.time later edge inserts seen kept in
-    let found = if is_live size slide now entry later then inserted entry.tuple.act else None in
-    subst (λ (edges : List Edge). Contains edges edge) (sym (first_live size slide now entry later))
-    (from_found found (edges_at size slide now later) edge here)
-from_place (entry ∷ later) (suc place) size slide now edge same live =
-    let live_later : IsLiveBy size slide now later edge place = record {
-      entry = live.entry;
-      there = live.there;
-      inserts = live.inserts;
-      seen = live.seen;
-      stays = λ at other after there. live.stays (suc at) other (omega arith) there;
-    } in
-    let found = if is_live size slide now entry later then inserted entry.tuple.act else None in
-    subst (λ (edges : List Edge). Contains edges edge) (sym (first_live size slide now entry later))
-    (from_later found (edges_at size slide now later) edge (from_place later place size slide now edge same live_later))
+    is.undeleted.stays (suc found.0) found.1 (omega arith) found.2 found.3) in
+    let here = act_is_live entry.tuple.act window now entry.tuple.time later edge inserts seen kept in
+    let found = if is_live window now entry later then inserted_edge entry.tuple.act else None in
+    subst (λ (edges : List Edge). Contains edges edge) (sym (first_live window now entry later))
+    (from_found found (edges_at window now later) edge here)
+from_place (entry ∷ later) (suc place) live window now edge same is =
+    let live_later : IsLiveAt window now later edge place live = after_first place entry live later window now edge is in
+    let found = if is_live window now entry later then inserted_edge entry.tuple.act else None in
+    subst (λ (edges : List Edge). Contains edges edge) (sym (first_live window now entry later))
+    (from_later found (edges_at window now later) edge (from_place later place live window now edge same live_later))
 
--- the edges of the window are those with an entry that is live at its place
-pub window_by_places : SameIsEqual → WindowByPlaces
-window_by_places same size slide history edge = (
-  (λ member.
-      let found = to_place history size slide (clock history) edge same member in
-      (found.0, record { entry = found.1.entry; there = found.1.there; inserts = found.1.inserts; seen = found.1.seen; stays = found.1.stays })),
-  (λ live.
-      from_place history live.0 size slide (clock history) edge same
-      (record { entry = live.1.entry; there = live.1.there; inserts = live.1.inserts; seen = live.1.seen; stays = live.1.stays })),
+-- the live edges are those with an entry that is live at its place
+pub edges_by_places : SameIsEqual → EdgesByPlaces
+edges_by_places same window now entries edge = (
+  to_place entries window now edge same,
+  (λ live. from_place entries live.0 live.1 window now edge same live.2),
 )
+
+-- ---- the live entries themselves
+
+-- what a list with a first element that may be left out has
+choice_members : (test : Bool) (first : Placed) (rest : List Placed) (live : Placed) →
+    Contains (if test then first ∷ rest else rest) live ↔ (((test ≡ true) × (first ≡ live)) ⊎ Contains rest live)
+choice_members true first rest live = (
+  (λ member. ⊎_elim (λ here. inl (refl, here)) (λ later. inr later) ((cons_members first rest live).0 member)),
+  (λ either. (cons_members first rest live).1 (⊎_elim (λ here. inl here.1) (λ later. inr later) either)),
+)
+choice_members false first rest live = (
+  (λ member. inr member),
+  (λ either. ⊎_elim (λ here. absurd (false≢true here.0)) (λ later. later) either),
+)
+
+-- an act that is live inserts an edge
+live_inserts : (act : Act) (window : WindowValue) (now time : ℕ) (later : List Entry) → is_live_act window now time act later ≡ true →
+    (edge : Edge) × (act ≡ Insert edge) × (is_in_window window now time ≡ true) × (is_deleted later edge ≡ false)
+live_inserts (Insert edge) window now time later e =
+    let parts = and_parts (is_in_window window now time) (not (is_deleted later edge)) e in
+    (edge, refl, parts.0, not-true (is_deleted later edge) parts.1)
+live_inserts (Delete edge) window now time later e = absurd (false≢true e)
+live_inserts Tick window now time later e = absurd (false≢true e)
+
+inserts_live : (act : Act) (window : WindowValue) (now time : ℕ) (later : List Entry) (edge : Edge) → act ≡ Insert edge →
+    is_in_window window now time ≡ true → is_deleted later edge ≡ false → is_live_act window now time act later ≡ true
+inserts_live act window now time later edge inserts seen stays = rw inserts (rw (seen, stays) refl)
+
+-- a live entry, by its distance from the first
+pub to_live : (entries : List Entry) (window : WindowValue) (now first : ℕ) (live : Placed) → SameIsEqual → Contains (live_from window now first entries) live →
+    (distance : ℕ) × (edge : Edge) × (live.place ≡ first + distance) × IsLiveAt window now entries edge distance live.entry
+unfolding live_from
+to_live [] window now first live same member = absurd (omega (arith, member.1))
+to_live (entry ∷ later) window now first live same member =
+    ⊎_elim
+    (λ here.
+    let parts = live_inserts entry.tuple.act window now entry.tuple.time later here.0 in
+    let is : entry ≡ live.entry = ap (λ (each : Placed). each.entry) here.1 in (
+      0,
+      parts.0,
+      sym (ap (λ (each : Placed). each.place) here.1) ∙ omega arith,
+      subst (λ (each : Entry). IsLiveAt window now (entry ∷ later) parts.0 0 each) is (record {
+        undeleted = record {
+          there = refl;
+          inserts = parts.1;
+          stays = λ place other after there. stays_first place entry later parts.0 other same parts.3 after there;
+        };
+        seen = parts.2;
+      }),
+    ))
+    (λ there.
+    let further = to_live later window now (suc first) live same there in
+    (suc further.0, further.1, further.2 ∙ omega arith, one_before further.0 entry live.entry later window now further.1 further.3))
+    ((choice_members (is_live window now entry later) (at_place first entry) (live_from window now (suc first) later) live).0 member)
+
+-- and the other way round
+pub from_live : (entries : List Entry) (distance : ℕ) (window : WindowValue) (now first : ℕ) (edge : Edge) (live : Placed) → SameIsEqual →
+    live.place ≡ first + distance → IsLiveAt window now entries edge distance live.entry → Contains (live_from window now first entries) live
+unfolding live_from
+from_live [] distance window now first edge live same at is = let there = is.undeleted.there in cc
+from_live (entry ∷ later) zero window now first edge live same at is =
+    let same_entry : entry ≡ live.entry = let there = is.undeleted.there in cc in
+    let inserts = ap (λ (each : Entry). each.tuple.act) same_entry ∙ is.undeleted.inserts in
+    let seen = ap (λ (each : Entry). is_in_window window now each.tuple.time) same_entry ∙ is.seen in
+    let kept = false_from_ne_true (is_deleted later edge) (λ e.
+    let found = deleted_place later edge same e in
+    is.undeleted.stays (suc found.0) found.1 (omega arith) found.2 found.3) in
+    let place : first ≡ live.place = omega (arith, at) in
+    let here : at_place first entry ≡ live = λ i. record { place = place i; entry = same_entry i } in
+    (choice_members (is_live window now entry later) (at_place first entry) (live_from window now (suc first) later) live).1
+    (inl (inserts_live entry.tuple.act window now entry.tuple.time later edge inserts seen kept, here))
+from_live (entry ∷ later) (suc distance) window now first edge live same at is =
+    (choice_members (is_live window now entry later) (at_place first entry) (live_from window now (suc first) later) live).1
+    (inr (from_live later distance window now (suc first) edge live same (omega (arith, at)) (after_first distance entry live.entry later window now edge is)))
+
+-- the live entries are those that are live at their places
+pub live_by_places : SameIsEqual → LiveByPlaces
+live_by_places same window now entries live = (
+  (λ member.
+      let found = to_live entries window now 0 live same member in
+      let place : found.0 ≡ live.place = omega (arith, found.2) in
+      (found.1, subst (λ (at : ℕ). IsLiveAt window now entries found.1 at live.entry) place found.3)),
+  (λ is. from_live entries live.place window now 0 is.0 live same (omega arith) is.1),
+)
+
+-- an insert that no later entry deletes is live below its deadline
+pub live_below_deadline : SameIsEqual → LiveBelowDeadline
+live_below_deadline same window now entries edge live deadline some undeleted is =
+    let below = seen_below_deadline window now live.entry.tuple.time deadline some is in (
+      (λ member. below.0 ((live_by_places same window now entries live).0 member).1.seen),
+      (λ less. (live_by_places same window now entries live).1 (edge, record { undeleted = undeleted; seen = below.1 less })),
+    )
+
+-- a later clock sees less
+pub later_sees_less : SameIsEqual → LaterSeesLess
+later_sees_less same window now later entries live some le member =
+    let found = (live_by_places same window later entries live).0 member in
+    (live_by_places same window now entries live).1
+    (found.0, record { undeleted = found.1.undeleted; seen = seen_before window now later live.entry.tuple.time some le found.1.seen })
+
+pub edges_before : SameIsEqual → (entries : List Entry) (window : WindowValue) (now later : ℕ) (edge : Edge) → 0 < window.slide → now ≤ later →
+    Contains (edges_at window later entries) edge → Contains (edges_at window now entries) edge
+edges_before same entries window now later edge some le member =
+    let found = to_place entries window later edge same member in
+    from_place entries found.0 found.1 window now edge same
+    (record { undeleted = found.2.undeleted; seen = seen_before window now later found.1.tuple.time some le found.2.seen })
+
+-- ---- their order
+
+-- each live entry is at a place from the first on
+from_first_on : (entries : List Entry) (window : WindowValue) (now first : ℕ) → All (λ live. first ≤ live.place) (live_from window now first entries)
+unfolding live_from
+from_first_on [] window now first = All-nil (λ live. first ≤ live.place)
+from_first_on (entry ∷ later) window now first =
+    let rest : All (λ live. first ≤ live.place) (live_from window now (suc first) later) =
+    All-weaker (λ live. suc first ≤ live.place) (λ live. first ≤ live.place) (λ live le. omega (arith, le)) (live_from window now (suc first) later)
+    (from_first_on later window now (suc first)) in
+    first_chosen (is_live window now entry later) first entry (live_from window now (suc first) later) rest
+  where
+    first_chosen : (test : Bool) (first : ℕ) (entry : Entry) (rest : List Placed) → All (λ live. first ≤ live.place) rest →
+        All (λ live. first ≤ live.place) (if test then at_place first entry ∷ rest else rest)
+    first_chosen true first entry rest all = All-cons (λ live. first ≤ live.place) (at_place first entry) rest (omega arith) all
+    first_chosen false first entry rest all = all
+
+in_order_from : (entries : List Entry) (window : WindowValue) (now first : ℕ) →
+    AllPairs (λ earlier later. earlier.place < later.place) (live_from window now first entries)
+unfolding live_from
+in_order_from [] window now first = λ i j d below within. absurd (omega arith)
+in_order_from (entry ∷ later) window now first =
+    ordered (is_live window now entry later) first entry (live_from window now (suc first) later) (from_first_on later window now (suc first))
+    (in_order_from later window now (suc first))
+  where
+    ordered : (test : Bool) (first : ℕ) (entry : Entry) (rest : List Placed) → All (λ live. suc first ≤ live.place) rest →
+        AllPairs (λ earlier later. earlier.place < later.place) rest → AllPairs (λ earlier later. earlier.place < later.place)
+        (if test then at_place first entry ∷ rest else rest)
+    ordered true first entry rest after pairs =
+        AllPairs-cons (λ earlier later. earlier.place < later.place) (at_place first entry) rest
+        (All-weaker (λ live. suc first ≤ live.place) (λ live. first < live.place) (λ live le. omega (arith, le)) rest after) pairs
+    ordered false first entry rest after pairs = pairs
+
+pub live_in_order : LiveInOrder
+live_in_order window now entries = in_order_from entries window now 0

@@ -3,33 +3,23 @@ use Rattle.std.proofs.Common.{◌≡◌, ◌≢◌, ℕ, List, [], ◌∷◌, re
 use Rattle.std.specs.Prelude.{All}
 use Rattle.std.proofs.lemmas.Bool.{cases_order}
 use Rattle.std.proofs.lemmas.List.Elements.{All-head, All-tail}
-use Rattle.rpq_base.specs.Laws.{SameIsEqual}
 use Rattle.rpq_base.specs.declared.data.Label.{Label}
 use Rattle.rpq_base.specs.declared.data.Edge.{Edge}
+use Rattle.rpq_base.specs.declared.data.Entry.{Entry}
 use Rattle.rpq_base.specs.declared.data.Pair.{Pair}
 use Rattle.rpq_model.specs.declared.mode.Mode.{Mode}
 use Rattle.rpq_model.specs.declared.mode.Mode.TheVariants.{Simple}
 use Rattle.rpq_model.specs.Path.{Leads}
-use Rattle.rpq_model.specs.Answers.{Joins}
 use Rattle.rpq_model.specs.Window.{edges_at}
-use Rattle.rpq_model.specs.Query.{language_of}
-use Rattle.rpq_model.specs.QueryLaws.{QueryAnswersAreOne, QueryEventsAreOne, QueryHeldIsAnswers, UntilIsOne, EmptyWordBringsNoPair, SimpleAnswersAreApart, with_expression}
-use Rattle.rpq_model.proofs.Held.{held_is_answers}
-use Rattle.rpq_model.proofs.OneAnswer.{answers_are_one, all_events_are_one}
+use Rattle.rpq_model.specs.Answers.{PathQuery, Joins}
+use Rattle.rpq_model.specs.Ends.{IsUntil}
+use Rattle.rpq_model.specs.AnswerLaws.{EmptyWordBringsNoPair, SimpleAnswersAreApart}
 use Rattle.rpq_model.specs.Onwards.{targets_of}
 use Rattle.rpq_model.proofs.Onwards.{apart_first}
 use Rattle.rpq_model.proofs.Paths.{joined_same}
 
-pub query_answers_are_one : QueryAnswersAreOne
-query_answers_are_one query history pairs others = answers_are_one (language_of query) query.mode query.window query.slide history pairs others
-
-pub query_events_are_one : QueryEventsAreOne
-query_events_are_one query number history events others = all_events_are_one (language_of query) query.mode query.window query.slide number history events others
-
-pub query_held_is_answers : SameIsEqual → QueryHeldIsAnswers
-query_held_is_answers same query number history events = held_is_answers same (language_of query) query.mode query.window query.slide number history events
-
-pub until_is_one : UntilIsOne
+pub until_is_one : (query : PathQuery) (history : List Entry) (pair : Pair) (until other : ℕ) →
+    IsUntil query history pair until → IsUntil query history pair other → until ≡ other
 until_is_one query history pair until other first second = ⊎_elim
     (λ same. same)
     (λ differ. absurd (⊎_elim
@@ -38,13 +28,11 @@ until_is_one query history pair until other first second = ⊎_elim
     differ))
     (cases_order until other)
 
-pub empty_word_brings_no_pair : EmptyWordBringsNoPair
-empty_word_brings_no_pair query expr now entries pair same =
-    let edges = edges_at query.window query.slide now entries in
-    let other = language_of (with_expression query expr) in (
-      joined_same edges query.mode (language_of query) other (λ word some. (same word some).0) pair,
-      joined_same edges query.mode other (language_of query) (λ word some. (same word some).1) pair,
-    )
+pub empty_word_brings_no_pair : (language other : List Label → Type 0) → EmptyWordBringsNoPair language other
+empty_word_brings_no_pair language other same mode window now entries pair = (
+  joined_same (edges_at window now entries) mode language other (λ word some. (same word some).0) pair,
+  joined_same (edges_at window now entries) mode other language (λ word some. (same word some).1) pair,
+)
 
 -- what differs from all targets of a path differs from its end
 end_differs : (path : List Edge) (vertex from to : List ℕ) → path ≢ [] → Leads from path to → All (λ later. vertex ≢ later) (targets_of path) → vertex ≢ to
@@ -54,11 +42,12 @@ end_differs (edge ∷ next ∷ path) vertex from to some leads differ =
     end_differs (next ∷ path) vertex edge.to to (λ e. cc) leads.1 (All-tail (λ later. vertex ≢ later) edge.to (targets_of (next ∷ path)) differ)
 
 -- a simple path has two ends
-ends_differ : (path : List Edge) (edges : List Edge) (language : List Label → Type 0) (mode : Mode) (pair : Pair) → mode ≡ Simple → Joins edges language mode pair path → pair.from ≢ pair.to
+ends_differ : (path : List Edge) (edges : List Edge) (language : List Label → Type 0) (mode : Mode) (pair : Pair) → mode ≡ Simple →
+    Joins edges language mode pair path → pair.from ≢ pair.to
 ends_differ path edges language mode pair is joins =
     let simple = subst (λ (each : Mode). Joins edges language each pair path) is joins in
     end_differs path pair.from pair.from pair.to simple.leads.some simple.leads.leads (apart_first pair.from (targets_of path) simple.taken)
 
-pub simple_answers_are_apart : SimpleAnswersAreApart
-simple_answers_are_apart query now entries pair is answer =
-    ends_differ answer.0 (edges_at query.window query.slide now entries) (language_of query) query.mode pair is answer.1
+pub simple_answers_are_apart : (language : List Label → Type 0) → SimpleAnswersAreApart language
+simple_answers_are_apart language window now entries pair answer =
+    ends_differ answer.0 (edges_at window now entries) language Simple pair refl answer.1

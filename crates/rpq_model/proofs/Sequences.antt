@@ -10,7 +10,7 @@ use Rattle.rpq_base.specs.declared.data.Pair.{Pair}
 use Rattle.path_syntax.specs.Language.{IsRepeated, IsJoined as IsOneThenOther}
 use Rattle.rpq_model.specs.declared.mode.Mode.TheVariants.{Arbitrary}
 use Rattle.rpq_model.specs.Path.{IsPath, word_of}
-use Rattle.rpq_model.specs.Answers.{IsJoined}
+use Rattle.rpq_model.specs.Answers.{IsJoinedBy}
 use Rattle.rpq_model.specs.Relations.{between, LeadsOver, IsReached}
 use Rattle.rpq_model.proofs.Paths.{word_on, path_on, cut, some_word, front_path, rest_path, joined_by, joined_same}
 
@@ -43,7 +43,8 @@ empty_repeated language = record { parts = []; joined = refl; nonempty = All-nil
 
 -- two paths join what their vertices do
 pub joined_on : (edges : List Edge) (left right : List Label → Type 0) (from middle to : List ℕ) →
-    IsJoined edges left Arbitrary (between from middle) → IsJoined edges right Arbitrary (between middle to) → IsJoined edges (IsOneThenOther left right) Arbitrary (between from to)
+    IsJoinedBy edges left Arbitrary (between from middle) → IsJoinedBy edges right Arbitrary (between middle to) → IsJoinedBy edges
+    (IsOneThenOther left right) Arbitrary (between from to)
 joined_on edges left right from middle to first second =
     let path = first.0 in
     let more = second.0 in (
@@ -58,9 +59,9 @@ joined_on edges left right from middle to first second =
 -- the pair is joined by a path of each side, or by a path of one where the other may be left out
 abbrev pub IsInSequence : List Edge → (List Label → Type 0) → (List Label → Type 0) → List ℕ → List ℕ → Type 0
 IsInSequence edges left right from to =
-    (((middle : List ℕ) × IsJoined edges left Arbitrary (between from middle) × IsJoined edges right Arbitrary (between middle to))
-    ⊎ (right [] × IsJoined edges left Arbitrary (between from to)))
-    ⊎ (left [] × IsJoined edges right Arbitrary (between from to))
+    (((middle : List ℕ) × IsJoinedBy edges left Arbitrary (between from middle) × IsJoinedBy edges right Arbitrary (between middle to))
+    ⊎ (right [] × IsJoinedBy edges left Arbitrary (between from to)))
+    ⊎ (left [] × IsJoinedBy edges right Arbitrary (between from to))
 
 -- a path whose word is cut
 cut_cases : (edges : List Edge) (left right : List Label → Type 0) (from to : List ℕ) (path : List Edge) (leads : IsPath edges from path to)
@@ -89,7 +90,7 @@ cut_cases edges left right from to path leads joined =
 
 -- what a sequence joins
 pub sequence_joins : (edges : List Edge) (left right : List Label → Type 0) (pair : Pair) →
-    IsJoined edges (IsOneThenOther left right) Arbitrary pair ↔ IsInSequence edges left right pair.from pair.to
+    IsJoinedBy edges (IsOneThenOther left right) Arbitrary pair ↔ IsInSequence edges left right pair.from pair.to
 sequence_joins edges left right pair = (
   (λ joined. cut_cases edges left right pair.from pair.to joined.0 joined.1.leads joined.1.word),
   (λ either. ⊎_elim
@@ -106,7 +107,8 @@ sequence_joins edges left right pair = (
 -- ---- one or more paths
 
 -- one word more in front of a repetition
-pub one_more_part : (language : List Label → Type 0) (first rest : List Label) → first ≢ [] → language first → IsRepeated language rest → IsRepeated language (first ++ rest)
+pub one_more_part : (language : List Label → Type 0) (first rest : List Label) → first ≢ [] → language first → IsRepeated language rest →
+    IsRepeated language (first ++ rest)
 one_more_part language first rest some within repeated = record {
   parts = first ∷ repeated.parts;
   joined = ap (λ (word : List Label). first ++ word) repeated.joined;
@@ -120,7 +122,8 @@ one_part language word some within = subst (IsRepeated language) (append-nil wor
 
 -- a chain of pairs that the language joins is joined by a repetition
 repeated_from_chain : (vertices : List (List ℕ)) (edges : List Edge) (language : List Label → Type 0) (pairs : List Pair) (from to : List ℕ) →
-    ((pair : Pair) → Contains pairs pair → IsJoined edges language Arbitrary pair) → LeadsOver pairs from vertices to → IsJoined edges (IsRepeated language) Arbitrary (between from to)
+    ((pair : Pair) → Contains pairs pair → IsJoinedBy edges language Arbitrary pair) → LeadsOver pairs from vertices to → IsJoinedBy edges
+    (IsRepeated language) Arbitrary (between from to)
 repeated_from_chain [] edges language pairs from to joins leads =
     joined_same edges Arbitrary language (IsRepeated language) (one_part language) (between from to) (joins (between from to) leads)
 repeated_from_chain (vertex ∷ vertices) edges language pairs from to joins leads =
@@ -139,7 +142,8 @@ repeated_from_chain (vertex ∷ vertices) edges language pairs from to joins lea
 
 -- a path whose word is a repetition goes along a chain
 chain_from_parts : (parts : List (List Label)) (edges : List Edge) (language : List Label → Type 0) (pairs : List Pair) (from to : List ℕ) (path : List Edge) →
-    ((pair : Pair) → IsJoined edges language Arbitrary pair → Contains pairs pair) → IsPath edges from path to → word_of path ≡ flat_map (λ part. part) parts →
+    ((pair : Pair) → IsJoinedBy edges language Arbitrary pair → Contains pairs pair) → IsPath edges from path to → word_of path ≡ flat_map
+    (λ part. part) parts →
     All (λ part. part ≢ []) parts → All language parts → (vertices : List (List ℕ)) × LeadsOver pairs from vertices to
 chain_from_parts [] edges language pairs from to path among leads word some within = absurd (some_word path leads.some word)
 chain_from_parts (first ∷ parts) edges language pairs from to path among leads word some within =
@@ -157,18 +161,24 @@ chain_from_parts (first ∷ parts) edges language pairs from to path among leads
     let further = chain_from_parts parts edges language pairs two.middle to two.rest among (rest_path edges from to first rest two some_rest) two.rest_word
     (All-tail (λ (part : List Label). part ≢ []) first parts some) (All-tail language first parts within) in (
       two.middle ∷ further.0,
-      (among (between from two.middle) (joined_by edges language from two.middle two.front first (front_path edges from to first rest two some_first) two.front_word in_first), further.1),
+      (
+        among (between from two.middle)
+            (joined_by edges language from two.middle two.front first (front_path edges from to first rest two some_first) two.front_word in_first),
+        further.1,
+      ),
     ))
     (empty_or_some rest)
 
 -- what a star joins is what is reached
-pub star_joins : (edges : List Edge) (language : List Label → Type 0) (pairs : List Pair) → ((pair : Pair) → Contains pairs pair ↔ IsJoined edges language Arbitrary pair) →
-    (pair : Pair) → IsReached pairs pair ↔ IsJoined edges (IsRepeated language) Arbitrary pair
+pub star_joins : (edges : List Edge) (language : List Label → Type 0) (pairs : List Pair) →
+    ((pair : Pair) → Contains pairs pair ↔ IsJoinedBy edges language Arbitrary pair) →
+    (pair : Pair) → IsReached pairs pair ↔ IsJoinedBy edges (IsRepeated language) Arbitrary pair
 star_joins edges language pairs exact pair = (
   (λ reached. repeated_from_chain reached.0 edges language pairs pair.from pair.to (λ each. (exact each).0) reached.1),
   (λ joined.
       let repeated = joined.1.word in
-      chain_from_parts repeated.parts edges language pairs pair.from pair.to joined.0 (λ each. (exact each).1) joined.1.leads repeated.joined repeated.nonempty repeated.within),
+      chain_from_parts repeated.parts edges language pairs pair.from pair.to joined.0
+      (λ each. (exact each).1) joined.1.leads repeated.joined repeated.nonempty repeated.within),
 )
 
 -- a nonempty word of a star begins with a word of the body
@@ -197,16 +207,17 @@ plus_in_star language word joined = subst (IsRepeated language) (sym joined.spli
 
 -- so a plus joins what the star does
 pub plus_joins : (edges : List Edge) (language : List Label → Type 0) (pair : Pair) →
-    IsJoined edges (IsRepeated language) Arbitrary pair ↔ IsJoined edges (IsOneThenOther language (IsRepeated language)) Arbitrary pair
+    IsJoinedBy edges (IsRepeated language) Arbitrary pair ↔ IsJoinedBy edges (IsOneThenOther language (IsRepeated language)) Arbitrary pair
 plus_joins edges language pair = (
   joined_same edges Arbitrary (IsRepeated language) (IsOneThenOther language (IsRepeated language))
       (λ word some repeated. first_part repeated.parts language word some repeated.joined repeated.nonempty repeated.within) pair,
-  joined_same edges Arbitrary (IsOneThenOther language (IsRepeated language)) (IsRepeated language) (λ word some joined. plus_in_star language word joined) pair,
+  joined_same edges Arbitrary (IsOneThenOther language (IsRepeated language)) (IsRepeated language)
+      (λ word some joined. plus_in_star language word joined) pair,
 )
 
 -- an optional joins what its body does
 pub optional_joins : (edges : List Edge) (language : List Label → Type 0) (pair : Pair) →
-    IsJoined edges language Arbitrary pair ↔ IsJoined edges (λ word. (word ≡ []) ⊎ language word) Arbitrary pair
+    IsJoinedBy edges language Arbitrary pair ↔ IsJoinedBy edges (λ word. (word ≡ []) ⊎ language word) Arbitrary pair
 optional_joins edges language pair = (
   joined_same edges Arbitrary language (λ word. (word ≡ []) ⊎ language word) (λ word some within. inr within) pair,
   joined_same edges Arbitrary (λ word. (word ≡ []) ⊎ language word) language (λ word some either. ⊎_elim (λ e. absurd (some e)) (λ within. within) either) pair,
@@ -214,7 +225,7 @@ optional_joins edges language pair = (
 
 -- an alternative joins what its sides do
 pub alternative_joins : (edges : List Edge) (left right : List Label → Type 0) (pair : Pair) →
-    (IsJoined edges left Arbitrary pair ⊎ IsJoined edges right Arbitrary pair) ↔ IsJoined edges (λ word. left word ⊎ right word) Arbitrary pair
+    (IsJoinedBy edges left Arbitrary pair ⊎ IsJoinedBy edges right Arbitrary pair) ↔ IsJoinedBy edges (λ word. left word ⊎ right word) Arbitrary pair
 alternative_joins edges left right pair = (
   ⊎_elim
       (joined_same edges Arbitrary left (λ word. left word ⊎ right word) (λ word some within. inl within) pair)

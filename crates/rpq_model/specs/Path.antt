@@ -8,8 +8,10 @@ abbrev pub Leads : List ℕ → List Edge → List ℕ → Type 0
 Leads from [] to = from ≡ to
 Leads from (edge ∷ edges) to = (edge.from ≡ from) × Leads edge.to edges to
 
--- a path from one vertex to another: a nonempty list of the given edges, each as often as one likes, that leads from the one to the other
-pub record IsPath (edges : List Edge) (from : List ℕ) (path : List Edge) (to : List ℕ) : Type 0 where
+-- a path from one vertex to another: a nonempty list of the given edges, each as often as one
+-- likes, that leads from the one to the other
+pub record IsPath (edges : List Edge) (from : List ℕ) (path : List Edge)
+    (to : List ℕ) : Type 0 where
   pub some : path ≢ []
   pub members : All (Contains edges) path
   pub leads : Leads from path to

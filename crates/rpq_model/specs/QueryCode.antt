@@ -1,15 +1,20 @@
--- How the logic stores query definitions: an expression is stored as its labels and operators, each operator after its sides.
-use Rattle.std.specs.Prelude.{◌≡◌, ℕ, Bool, true, false, List, [], ◌∷◌, ◌++◌, ◌⊎◌, Option, Some, None, fold, refl}
+-- How the logic stores query definitions, which no contract cites: an expression is stored as its
+-- labels and operators, each operator after its sides.
+use Rattle.std.specs.Prelude.{◌≡◌, ℕ, Bool, true, false, List, [], ◌∷◌, ◌++◌, ◌⊎◌, Option, Some}
+use Rattle.std.specs.Prelude.{None, fold, refl}
 use Rattle.std.proofs.Common.{inl, inr, ap, ◌∙◌}
 use Rattle.std.proofs.lemmas.List.Sums.{fold-append}
-use Rattle.std.specs.Coded.{Coded, code_by, coded×, coded⊎, coded_ℕ, coded_bool, coded_list, coded_option}
+use Rattle.std.specs.Coded.{Coded, code_by, coded×, coded⊎, coded_ℕ, coded_bool, coded_list}
+use Rattle.std.specs.Coded.{coded_option}
 use Rattle.rpq_base.specs.declared.data.Label.{Label}
 use Rattle.path_syntax.specs.Expression.{Expression, Atom, Seq, Alt, Star, Plus, Opt}
 use Rattle.rpq_model.specs.declared.mode.Mode.{Mode}
 use Rattle.rpq_model.specs.declared.mode.Mode.TheVariants.{Arbitrary, Simple}
+use Rattle.rpq_model.specs.Window.{WindowValue}
 use Rattle.rpq_model.specs.Query.{Query}
 
--- a label; or an operator of two sides, a sequence or an alternative; or one of one, a star, a plus or an optional
+-- a label; or an operator of two sides, a sequence or an alternative; or one of one, a star, a plus
+-- or an optional
 abbrev pub Sign : Type 0
 Sign = Label ⊎ (Bool ⊎ Option Bool)
 
@@ -52,24 +57,31 @@ abbrev pub of_signs : List Sign → Expression
 of_signs all = last_of (fold put [] all)
 
 -- an expression's labels and operators leave it waiting
-pub signs_read : (expression : Expression) (waiting : List Expression) → fold put waiting (signs expression) ≡ expression ∷ waiting
+pub signs_read : (expression : Expression) (waiting : List Expression) →
+    fold put waiting (signs expression) ≡ expression ∷ waiting
 signs_read (Atom label) waiting = refl
 signs_read (Seq left right) waiting =
     fold-append put waiting (signs left) (signs right ++ inr (inl true) ∷ [])
-    ∙ (ap (λ (now : List Expression). fold put now (signs right ++ inr (inl true) ∷ [])) (signs_read left waiting)
+    ∙ (ap (λ (now : List Expression). fold put now (signs right ++ inr (inl true) ∷ []))
+    (signs_read left waiting)
     ∙ (fold-append put (left ∷ waiting) (signs right) (inr (inl true) ∷ [])
-    ∙ ap (λ (now : List Expression). fold put now (inr (inl true) ∷ [])) (signs_read right (left ∷ waiting))))
+    ∙ ap (λ (now : List Expression). fold put now (inr (inl true) ∷ []))
+    (signs_read right (left ∷ waiting))))
 signs_read (Alt left right) waiting =
     fold-append put waiting (signs left) (signs right ++ inr (inl false) ∷ [])
-    ∙ (ap (λ (now : List Expression). fold put now (signs right ++ inr (inl false) ∷ [])) (signs_read left waiting)
+    ∙ (ap (λ (now : List Expression). fold put now (signs right ++ inr (inl false) ∷ []))
+    (signs_read left waiting)
     ∙ (fold-append put (left ∷ waiting) (signs right) (inr (inl false) ∷ [])
-    ∙ ap (λ (now : List Expression). fold put now (inr (inl false) ∷ [])) (signs_read right (left ∷ waiting))))
+    ∙ ap (λ (now : List Expression). fold put now (inr (inl false) ∷ []))
+    (signs_read right (left ∷ waiting))))
 signs_read (Star body) waiting =
     fold-append put waiting (signs body) (inr (inr (Some true)) ∷ [])
-    ∙ ap (λ (now : List Expression). fold put now (inr (inr (Some true)) ∷ [])) (signs_read body waiting)
+    ∙ ap (λ (now : List Expression). fold put now (inr (inr (Some true)) ∷ []))
+    (signs_read body waiting)
 signs_read (Plus body) waiting =
     fold-append put waiting (signs body) (inr (inr (Some false)) ∷ [])
-    ∙ ap (λ (now : List Expression). fold put now (inr (inr (Some false)) ∷ [])) (signs_read body waiting)
+    ∙ ap (λ (now : List Expression). fold put now (inr (inr (Some false)) ∷ []))
+    (signs_read body waiting)
 signs_read (Opt body) waiting =
     fold-append put waiting (signs body) (inr (inr None) ∷ [])
     ∙ ap (λ (now : List Expression). fold put now (inr (inr None) ∷ [])) (signs_read body waiting)
@@ -78,7 +90,8 @@ signs_read (Opt body) waiting =
 abbrev pub label_code : Coded Label
 label_code =
     code_by (List ℕ × Bool) (coded× (coded_list coded_ℕ) coded_bool)
-    (λ label. (label.name, label.back)) (λ fields. record { name = fields.0; back = fields.1 }) (λ _. refl)
+    (λ label. (label.name, label.back)) (λ fields. record { name = fields.0; back = fields.1 })
+    (λ _. refl)
 
 -- an expression as its labels and operators
 abbrev pub expression_code : Coded Expression
@@ -102,11 +115,23 @@ mode_of_is_simple Simple = refl
 abbrev pub mode_code : Coded Mode
 mode_code = code_by Bool coded_bool is_simple mode_of mode_of_is_simple
 
+-- a window as the pair of its size and its slide
+abbrev pub window_code : Coded WindowValue
+window_code =
+    code_by (ℕ × ℕ) (coded× coded_ℕ coded_ℕ)
+    (λ window. (window.size, window.slide)) (λ fields. record { size = fields.0; slide = fields.1 })
+    (λ _. refl)
+
 -- a query definition as the tuple of its fields
 abbrev pub query_code : Coded Query
 query_code =
-    code_by (List ℕ × (ℕ × (ℕ × (Mode × Expression))))
-    (coded× (coded_list coded_ℕ) (coded× coded_ℕ (coded× coded_ℕ (coded× mode_code expression_code))))
-    (λ query. (query.name, (query.window, (query.slide, (query.mode, query.expr)))))
-    (λ fields. record { name = fields.0; window = fields.1.0; slide = fields.1.1.0; mode = fields.1.1.1.0; expr = fields.1.1.1.1 })
+    code_by (List ℕ × (WindowValue × (Mode × Expression)))
+    (coded× (coded_list coded_ℕ) (coded× window_code (coded× mode_code expression_code)))
+    (λ query. (query.name, (query.window, (query.mode, query.expr))))
+    (λ fields. record {
+      name = fields.0;
+      window = fields.1.0;
+      mode = fields.1.1.0;
+      expr = fields.1.1.1;
+    })
     (λ _. refl)

@@ -1,26 +1,43 @@
--- The clock of a history, and its window: the entries that a query sees.
--- Source: the time-based sliding windows of Pacaci, Bonifati and Özsu, SIGMOD 2020, here with late tuples, ticks and deletes by position.
-use Rattle.std.specs.Prelude.{ℕ, ◌+◌, ◌*◌, ◌/◌, max, Bool, false, not, ◌&&◌, nat_lt, List, [], ◌∷◌, Option, Some, None, map, fold, if◌then◌else◌}
+-- Windows, the clock of a history, and the entries that a query sees: those that are live at a
+-- clock.
+-- Source: the time-based sliding windows of Pacaci, Bonifati and Özsu, SIGMOD 2020, here with late
+-- tuples, ticks and deletes by position.
+use Rattle.std.specs.Prelude.{ℕ, suc, ◌+◌, ◌*◌, ◌/◌, ◌≤◌, max, Bool, false, not, ◌&&◌, nat_lt, List}
+use Rattle.std.specs.Prelude.{[], ◌∷◌, Option, Some, None, map, fold, if◌then◌else◌}
 use Rattle.std.specs.List.{list_any, filter_map}
 use Rattle.rpq_base.specs.Same.{same_edge}
+use Rattle.rpq_base.specs.declared.data.TheConstants.{MAX_TIME}
 use Rattle.rpq_base.specs.declared.data.Edge.{Edge}
 use Rattle.rpq_base.specs.declared.data.Act.{Act}
 use Rattle.rpq_base.specs.declared.data.Act.TheVariants.{Insert, Delete, Tick}
 use Rattle.rpq_base.specs.declared.data.Entry.{Entry}
 
+-- how long a window is, and at the multiples of which number it moves
+pub record WindowValue : Type 0 where
+  pub size : ℕ
+  pub slide : ℕ
+
+-- the size and the slide of a window are from 1 to the greatest time
+pub record HasBounds (window : WindowValue) : Type 0 where
+  pub size_from : 1 ≤ window.size
+  pub size_to : window.size ≤ MAX_TIME
+  pub slide_from : 1 ≤ window.slide
+  pub slide_to : window.slide ≤ MAX_TIME
+
 -- the greatest time so far, and 0 before any
 abbrev pub clock : List Entry → ℕ
 clock history = fold max 0 (map (λ entry. entry.tuple.time) history)
 
--- whether an edge of this time is still seen at a clock: the window slides at the multiples of its slide
-abbrev pub is_in_window : ℕ → ℕ → ℕ → ℕ → Bool
-is_in_window size slide now time = nat_lt (now / slide * slide) (time + size)
+-- whether an edge of this time is still seen at a clock: the window slides at the multiples of its
+-- slide
+abbrev pub is_in_window : WindowValue → ℕ → ℕ → Bool
+is_in_window window now time = nat_lt (now / window.slide * window.slide) (time + window.size)
 
 -- the edge that an act inserts
-abbrev pub inserted : Act → Option Edge
-inserted (Insert edge) = Some edge
-inserted (Delete edge) = None
-inserted Tick = None
+abbrev pub inserted_edge : Act → Option Edge
+inserted_edge (Insert edge) = Some edge
+inserted_edge (Delete edge) = None
+inserted_edge Tick = None
 
 -- whether an act deletes the edge
 abbrev pub deletes : Edge → Act → Bool
@@ -32,32 +49,39 @@ deletes edge Tick = false
 abbrev pub is_deleted : List Entry → Edge → Bool
 is_deleted entries edge = list_any (λ entry. deletes edge entry.tuple.act) entries
 
--- whether an act of this time is live at a clock, before these later entries: it inserts an edge that is still seen and that none of them deletes
-abbrev pub is_live_act : ℕ → ℕ → ℕ → ℕ → Act → List Entry → Bool
-is_live_act size slide now time (Insert edge) later = is_in_window size slide now time && not (is_deleted later edge)
-is_live_act size slide now time (Delete edge) later = false
-is_live_act size slide now time Tick later = false
+-- whether an act of this time is live at a clock, before these later entries: it inserts an edge
+-- that is still seen and that none of them deletes
+abbrev pub is_live_act : WindowValue → ℕ → ℕ → Act → List Entry → Bool
+is_live_act window now time (Insert edge) later =
+    is_in_window window now time && not (is_deleted later edge)
+is_live_act window now time (Delete edge) later = false
+is_live_act window now time Tick later = false
 
 -- whether an entry is live at a clock, before these later entries
-abbrev pub is_live : ℕ → ℕ → ℕ → Entry → List Entry → Bool
-is_live size slide now entry later = is_live_act size slide now entry.tuple.time entry.tuple.act later
+abbrev pub is_live : WindowValue → ℕ → Entry → List Entry → Bool
+is_live window now entry later = is_live_act window now entry.tuple.time entry.tuple.act later
 
--- the entries that are live at a clock, in order of position
-unfoldable pub live_entries : ℕ → ℕ → ℕ → List Entry → List Entry
-live_entries size slide now [] = []
-live_entries size slide now (entry ∷ later) =
-    if is_live size slide now entry later
-    then entry ∷ live_entries size slide now later
-    else live_entries size slide now later
+-- an entry and its place in a history, from 0
+pub record Placed : Type 0 where
+  pub place : ℕ
+  pub entry : Entry
 
--- the entries of a history that are live at its clock
-abbrev pub window : ℕ → ℕ → List Entry → List Entry
-window size slide history = live_entries size slide (clock history) history
+-- the entries that are live at a clock, in order, where the first of these entries has this place
+unfoldable pub live_from : WindowValue → ℕ → ℕ → List Entry → List Placed
+live_from window now place [] = []
+live_from window now place (entry ∷ later) =
+    if is_live window now entry later
+    then record { place = place; entry = entry } ∷ live_from window now (suc place) later
+    else live_from window now (suc place) later
 
--- the edges of the entries that are live at a clock, in order of position
-abbrev pub edges_at : ℕ → ℕ → ℕ → List Entry → List Edge
-edges_at size slide now entries = filter_map (λ entry. inserted entry.tuple.act) (live_entries size slide now entries)
+-- the entries of a history that are live at a clock, which may be any number, in order of place
+abbrev pub live_entries : WindowValue → ℕ → List Entry → List Placed
+live_entries window now entries = live_from window now 0 entries
 
--- the edges of the window, in order of position
-abbrev pub window_edges : ℕ → ℕ → List Entry → List Edge
-window_edges size slide history = edges_at size slide (clock history) history
+-- the edges that these entries insert
+abbrev pub inserted_edges : List Placed → List Edge
+inserted_edges live = filter_map (λ each. inserted_edge each.entry.tuple.act) live
+
+-- the edges of the entries that are live at a clock, in order of place
+abbrev pub edges_at : WindowValue → ℕ → List Entry → List Edge
+edges_at window now entries = inserted_edges (live_entries window now entries)

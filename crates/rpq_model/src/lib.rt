@@ -1,39 +1,51 @@
-//! What the answers and the events of a path query are, as definitions and laws, and the evaluation of a query from
-//! scratch.
+//! What the answers and the events of a path query are, as definitions and laws, and the evaluation
+//! of a query from scratch.
 //!
-//! The definitions in `specs/` are stated once, over a language given as a predicate on words, the paths that a
-//! query takes, and the two numbers of its window, and then over query definitions, whose language is that of their
-//! expression. The layer above uses them, and the laws here. [`plain_answers`] computes the answers of any query with no
-//! automaton: in polynomial time where it takes all paths, and in exponential time where it takes the simple ones. Of the parts
-//! that evaluations share, [`clock`] reads the whole history, [`live_edges`] compares each insert in the window with the
-//! entries that follow it, and [`changes`] compares each pair of one list with those of the other.
+//! The definitions in `specs/` are stated once, over path queries: a language given as a predicate
+//! on words, the paths that a query takes, and its window. A query definition means the path query
+//! whose language is that of its expression. The layer above uses them, and the laws here.
+//! [`plain_answers`] computes the answers of any query with no automaton: in polynomial time where
+//! it takes all paths, and in exponential time where it takes the simple ones. Of the parts that
+//! evaluations share, [`clock`] and [`live_entries`] read the whole history, and [`changes`]
+//! compares two lists of answers.
 #![tactic(auto)]
 
+mod answer_laws;
 mod closure;
+mod distinct;
+mod event_laws;
 mod events;
-mod laws;
+mod language;
+mod live;
 mod mode;
 mod plain;
 mod query;
-mod query_laws;
 mod relation;
 mod simple;
 mod window;
+mod window_laws;
 
-pub use events::changes;
-pub use laws::{
-    Language, all_events_are_one, answers_are_one, events_are_apart, events_are_one,
-    held_is_answers, window_by_places,
+pub use answer_laws::{
+    answers_are_one, empty_word_brings_no_pair, histories_have_answers, lasts_below_its_end,
+    later_answers_less, modes_are_told_apart, more_edges_join_more, simple_answers_are_apart,
+    tick_moves_the_clock, until_is_one,
 };
+pub use event_laws::{
+    all_events_are_one, each_has_one_list, each_held_is_answers, entry_events_are_one,
+    events_are_apart, events_are_changes, events_are_one, events_grow, events_have_fronts,
+    held_is_answers, held_step,
+};
+pub use events::changes;
+pub use language::Language;
+pub use live::{Live, live_entries};
 pub use mode::Mode;
 pub use plain::plain_answers;
 pub use query::QueryDef;
-pub use query_laws::{
-    delete_takes_all_before, each_held_is_answers, empty_word_brings_no_pair,
-    histories_have_answers, last_insert_is_seen, query_answers_are_one, query_events_are_one,
-    query_held_is_answers, simple_answers_are_apart, tick_moves_the_clock, until_is_one,
+pub use window::{Window, clock};
+pub use window_laws::{
+    delete_takes_all_before, edges_by_places, last_insert_is_seen, later_sees_less,
+    live_below_deadline, live_by_places, live_in_order, one_entry_more, times_have_deadlines,
 };
-pub use window::{clock, live_edges};
 
 #[cfg(test)]
 mod plain_tests;

@@ -1,40 +1,30 @@
 //! The answers of a query from scratch, by cases on its expression.
 
-ghost use Rattle.std.specs.Prelude.{◌↔◌, List, [], IsTrue, IfOk};
+ghost use Rattle.std.specs.Prelude.{IfOk};
 ghost use Rattle.path_syntax.specs.Expression.{expression};
 ghost use Rattle.path_syntax.specs.Language.{In};
 ghost use Rattle.rpq_model.specs.declared.mode.Mode.TheVariants.{Arbitrary};
-ghost use Rattle.rpq_model.specs.Answers.{IsJoined};
+ghost use Rattle.rpq_model.specs.Answers.{IsJoinedBy, AreAnswers};
 ghost use Rattle.rpq_model.specs.Relations.{values, AreExactly};
-ghost use Rattle.rpq_model.specs.Query.{AreQueryAnswers};
+ghost use Rattle.rpq_model.specs.Query.{path_query};
 
 use crate::closure::closure;
+use crate::distinct::distinct_edges;
+use crate::live::live_edges;
 use crate::mode::Mode;
 use crate::query::QueryDef;
 use crate::relation::{composed, joined_by_label, united};
 use crate::simple::joined_simply;
-use crate::window::live_edges;
-use path_syntax::Expr;
+use crate::window::clock;
+use path_syntax::{Expr, has_empty_word};
 use rpq_base::{Edge, Entry, Memory, Pair};
 use std::alloc::Global;
 
-/// Whether the empty word is in the language.
-fn has_empty_word(expr: &Expr) -> bool
-    ensures { IsTrue result ↔ In (expression expr.now) [] }
-{
-    match expr {
-        Expr::Atom(_) => false,
-        Expr::Seq(left, right) => has_empty_word(left) && has_empty_word(right),
-        Expr::Alt(left, right) => has_empty_word(left) || has_empty_word(right),
-        Expr::Star(_) | Expr::Opt(_) => true,
-        Expr::Plus(body) => has_empty_word(body),
-    }
-}
-
-/// The pairs that a path of the edges joins whose word is in the language of the expression. A path has at least one edge, so the
-/// empty word joins no pair.
+/// The pairs that a path of the edges joins whose word is in the language of the expression. A path
+/// has at least one edge, so the empty word joins no pair.
 pub(crate) fn joined(alloc: Global, expr: &Expr, edges: &[&Edge]) -> Result<Vec<Pair>, Memory>
-    ensures { IfOk result (λ pairs. AreExactly (IsJoined (values edges.now) (In (expression expr.now)) Arbitrary) pairs.items) }
+    ensures { IfOk result (λ pairs. AreExactly
+        (IsJoinedBy (values edges.now) (In (expression expr.now)) Arbitrary) pairs.items) }
 {
     match expr {
         Expr::Atom(label) => joined_by_label(alloc, label, edges),
@@ -56,21 +46,23 @@ pub(crate) fn joined(alloc: Global, expr: &Expr, edges: &[&Edge]) -> Result<Vec<
     }
 }
 
-/// The answers of the query over the history of these entries, from scratch: sorted by source and then target, each once. The only
-/// error is [`Memory`].
+/// The answers of the query over the history of these entries, from scratch: sorted by source and
+/// then target, each once. The only error is [`Memory`].
 ///
-/// Each insert in the window is compared with the entries that follow it. For an arbitrary query the time is polynomial: the live edges
-/// are gone through for each label of the expression, each sequence compares the pairs of its two sides, and each star takes
-/// the closure of its body's pairs. For a simple query all simple paths are gone through, and that is exponential in the
-/// number of live edges.
+/// Edges that are live more than once count once. For an arbitrary query the time is polynomial:
+/// the edges are gone through for each label of the expression, each sequence compares the pairs of
+/// its two sides, and each star takes the closure of its body's pairs, in the cube of the number of
+/// vertices. For a simple query all simple paths are gone through, which is exponential in the
+/// number of edges, and by calls as deep as the longest of them.
 pub fn plain_answers(
     alloc: Global,
     query: &QueryDef,
     entries: &[Entry],
 ) -> Result<Vec<Pair>, Memory>
-    ensures { IfOk result (λ pairs. AreQueryAnswers query.now entries.now pairs.items) }
+    ensures { IfOk result (λ pairs. AreAnswers (path_query query.now) entries.now pairs.items) }
 {
-    let edges = live_edges(alloc, query.window, query.slide, entries)?;
+    let live = live_edges(alloc, query.window, clock(entries), entries)?;
+    let edges = distinct_edges(alloc, &live)?;
     match query.mode {
         Mode::Arbitrary => joined(alloc, &query.expr, &edges),
         Mode::Simple => joined_simply(alloc, &query.expr, &edges),

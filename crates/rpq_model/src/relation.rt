@@ -6,8 +6,8 @@ ghost use Rattle.rpq_base.specs.Order.{pair_cmp};
 ghost use Rattle.rpq_base.specs.declared.data.Label.{Label};
 ghost use Rattle.rpq_base.specs.declared.data.Pair.{Pair};
 ghost use Rattle.rpq_model.specs.declared.mode.Mode.TheVariants.{Arbitrary};
-ghost use Rattle.rpq_model.specs.Answers.{IsJoined};
-ghost use Rattle.rpq_model.specs.Relations.{values, AreExactly, IsLedOn, IsComposed};
+ghost use Rattle.rpq_model.specs.Answers.{IsJoinedBy};
+ghost use Rattle.rpq_model.specs.Relations.{values, between, Adds, AreExactly, IsLedOn, IsComposed};
 
 use rpq_base::{Copied, Edge, Label, Memory, Name, Pair};
 use std::alloc::Global;
@@ -15,7 +15,7 @@ use std::collections::BTreeSet;
 
 /// The pair of copies of these names.
 pub(crate) fn pair_of(from: &Name, to: &Name) -> Result<Pair, Memory>
-    ensures { IfOk result (λ pair. pair ≡ record { from = from.now; to = to.now }) }
+    ensures { IfOk result (λ pair. pair ≡ between from.now to.now) }
 {
     Ok(Pair {
         from: from.copy()?,
@@ -37,7 +37,9 @@ pub(crate) fn joined_by_label(
     label: &Label,
     edges: &[&Edge],
 ) -> Result<Vec<Pair>, Memory>
-    ensures { IfOk result (λ pairs. AreExactly (IsJoined (values edges.now) (λ word. word ≡ label.now ∷ []) Arbitrary) pairs.items) }
+    ensures { IfOk result (λ pairs. AreExactly
+        (IsJoinedBy (values edges.now) (λ word. word ≡ label.now ∷ []) Arbitrary)
+        pairs.items) }
 {
     let mut found = BTreeSet::new(alloc);
     for edge in edges {
@@ -50,7 +52,7 @@ pub(crate) fn joined_by_label(
 
 /// Adds copies of the pairs.
 pub(crate) fn add_all(found: &mut BTreeSet<Pair>, pairs: &[Pair]) -> Result<(), Memory>
-    ensures { OnOk result ((pair : Pair) → Contains found.new.keys pair ↔ (Contains found.old.keys pair ⊎ Contains pairs.now pair)) }
+    ensures { OnOk result (Adds found.old.keys found.new.keys (Contains pairs.now)) }
 {
     for pair in pairs {
         found.insert(pair.copy()?)?;
@@ -60,7 +62,8 @@ pub(crate) fn add_all(found: &mut BTreeSet<Pair>, pairs: &[Pair]) -> Result<(), 
 
 /// Adds copies of the pairs, if they are wanted.
 fn add_if(found: &mut BTreeSet<Pair>, wanted: bool, pairs: &[Pair]) -> Result<(), Memory>
-    ensures { OnOk result ((pair : Pair) → Contains found.new.keys pair ↔ (Contains found.old.keys pair ⊎ ((wanted ≡ true) × Contains pairs.now pair))) }
+    ensures { OnOk result (Adds found.old.keys found.new.keys (λ pair.
+        (wanted ≡ true) × Contains pairs.now pair)) }
 {
     if wanted {
         add_all(found, pairs)
@@ -70,12 +73,8 @@ fn add_if(found: &mut BTreeSet<Pair>, wanted: bool, pairs: &[Pair]) -> Result<()
 }
 
 /// Adds the pairs that the first and, after it, one of the others lead to.
-pub(crate) fn add_longer(
-    found: &mut BTreeSet<Pair>,
-    first: &Pair,
-    pairs: &[Pair],
-) -> Result<(), Memory>
-    ensures { OnOk result ((pair : Pair) → Contains found.new.keys pair ↔ (Contains found.old.keys pair ⊎ IsLedOn first.now pairs.now pair)) }
+fn add_longer(found: &mut BTreeSet<Pair>, first: &Pair, pairs: &[Pair]) -> Result<(), Memory>
+    ensures { OnOk result (Adds found.old.keys found.new.keys (IsLedOn first.now pairs.now)) }
 {
     for pair in pairs {
         if pair.from == first.to {
@@ -86,8 +85,12 @@ pub(crate) fn add_longer(
 }
 
 /// Adds the pairs that one of the first pairs and, after it, one of the second lead to.
-fn add_composed(found: &mut BTreeSet<Pair>, firsts: &[Pair], seconds: &[Pair]) -> Result<(), Memory>
-    ensures { OnOk result ((pair : Pair) → Contains found.new.keys pair ↔ (Contains found.old.keys pair ⊎ IsComposed firsts.now seconds.now pair)) }
+pub(crate) fn add_composed(
+    found: &mut BTreeSet<Pair>,
+    firsts: &[Pair],
+    seconds: &[Pair],
+) -> Result<(), Memory>
+    ensures { OnOk result (Adds found.old.keys found.new.keys (IsComposed firsts.now seconds.now)) }
 {
     for first in firsts {
         add_longer(found, first, seconds)?;
@@ -97,7 +100,8 @@ fn add_composed(found: &mut BTreeSet<Pair>, firsts: &[Pair], seconds: &[Pair]) -
 
 /// The pairs of both lists.
 pub(crate) fn united(alloc: Global, pairs: &[Pair], others: &[Pair]) -> Result<Vec<Pair>, Memory>
-    ensures { IfOk result (λ all. AreExactly (λ pair. Contains pairs.now pair ⊎ Contains others.now pair) all.items) }
+    ensures { IfOk result (λ all.
+        AreExactly (λ pair. Contains pairs.now pair ⊎ Contains others.now pair) all.items) }
 {
     let mut found = BTreeSet::new(alloc);
     add_all(&mut found, pairs)?;
@@ -105,8 +109,8 @@ pub(crate) fn united(alloc: Global, pairs: &[Pair], others: &[Pair]) -> Result<V
     in_order(alloc, found)
 }
 
-/// The pairs that one of the first pairs and, after it, one of the second lead to, with the first alone where the second may be left
-/// out, and the second alone where the first may.
+/// The pairs that one of the first pairs and, after it, one of the second lead to, with the first
+/// alone where the second may be left out, and the second alone where the first may.
 pub(crate) fn composed(
     alloc: Global,
     firsts: &[Pair],
@@ -114,9 +118,9 @@ pub(crate) fn composed(
     no_first: bool,
     no_second: bool,
 ) -> Result<Vec<Pair>, Memory>
-    ensures { IfOk result (λ all. AreExactly
-        (λ pair. (IsComposed firsts.now seconds.now pair ⊎ ((no_second ≡ true) × Contains firsts.now pair)) ⊎ ((no_first ≡ true) × Contains seconds.now pair))
-        all.items) }
+    ensures { IfOk result (λ all. AreExactly (λ pair.
+        (IsComposed firsts.now seconds.now pair ⊎ ((no_second ≡ true) × Contains firsts.now pair))
+        ⊎ ((no_first ≡ true) × Contains seconds.now pair)) all.items) }
 {
     let mut found = BTreeSet::new(alloc);
     add_composed(&mut found, firsts, seconds)?;

@@ -5,9 +5,11 @@ use Rattle.rpq_base.specs.declared.data.Pair.{Pair}
 use Rattle.path_syntax.specs.Expression.{expression}
 use Rattle.path_syntax.specs.declared.expr.Expr.{Expr}
 use Rattle.rpq_model.specs.declared.mode.Mode.TheVariants.{Arbitrary}
-use Rattle.rpq_model.specs.Answers.{IsJoined}
+use Rattle.rpq_model.specs.Answers.{IsJoinedBy}
 use Rattle.rpq_model.specs.Relations.{values, AreExactly, IsReached}
-use Rattle.rpq_model.proofs.ByCases.{AreJoined, TellsEmpty, InSequence, atom_joined, sequence_joined, alternative_joined, star_joined, plus_joined, optional_joined}
+use Rattle.rpq_model.proofs.ByCases.{AreJoined, TellsEmpty, InSequence, atom_joined}
+use Rattle.rpq_model.proofs.ByCases.{sequence_joined, alternative_joined, star_joined, plus_joined}
+use Rattle.rpq_model.proofs.ByCases.{optional_joined}
 use Rattle.rpq_model.proofs.plain.+joined.Goals as goal
 
 pub returns-in-Atom : goal.returns-in-Atom
@@ -16,7 +18,7 @@ returns-in-Atom t c =
     let expr = expression c.args.expr.now in
     let label = c.in-Atom.label in
     IfOk-weaker c.joined_by_label.result
-    (λ (pairs : Vec Pair Global). AreExactly (IsJoined edges (λ word. word ≡ label ∷ []) Arbitrary) pairs.items)
+    (λ (pairs : Vec Pair Global). AreExactly (IsJoinedBy edges (λ word. word ≡ label ∷ []) Arbitrary) pairs.items)
     (λ (pairs : Vec Pair Global). AreJoined edges expr pairs.items)
     (λ pairs are. atom_joined edges expr label pairs.items (ap expression c.in-Atom.is) are)
     c.joined_by_label.ensures
@@ -38,13 +40,15 @@ returns-in_ok-seconds-in-Seq t c =
     subst (λ (pairs : List Pair). AreJoined edges (expression right) pairs) (sym c.deref-in-Seq-5.ensures.value)
     (subst (λ (each : Expr). AreJoined edges (expression each) seconds) c.deref-in-Seq.ensures c.in_ok-seconds-in-Seq.ensures) in
     let first_tells : TellsEmpty no_first (expression left) =
-    subst (λ (each : Expr). TellsEmpty no_first (expression each)) c.deref-in-Seq-2.ensures c.has_empty_word-no_first.ensures in
+    subst (λ (each : Expr). TellsEmpty no_first (expression each)) c.deref-in-Seq-2.ensures c.has_empty_word-no_first.ensures.meaning in
     let second_tells : TellsEmpty no_second (expression right) =
-    subst (λ (each : Expr). TellsEmpty no_second (expression each)) c.deref-in-Seq-3.ensures c.has_empty_word-no_second.ensures in
+    subst (λ (each : Expr). TellsEmpty no_second (expression each)) c.deref-in-Seq-3.ensures c.has_empty_word-no_second.ensures.meaning in
     IfOk-weaker c.composed.result
     (λ (all : Vec Pair Global). AreExactly (InSequence c.deref-in-Seq-4.result.now c.deref-in-Seq-5.result.now no_first no_second) all.items)
     (λ (all : Vec Pair Global). AreJoined edges expr all.items)
-    (λ all are. sequence_joined edges expr (expression left) (expression right) c.deref-in-Seq-4.result.now c.deref-in-Seq-5.result.now all.items no_first no_second (ap expression c.in-Seq.is) firsts_are seconds_are first_tells second_tells are)
+    (λ all are. sequence_joined edges expr (expression left)
+    (expression right) c.deref-in-Seq-4.result.now c.deref-in-Seq-5.result.now all.items no_first no_second
+    (ap expression c.in-Seq.is) firsts_are seconds_are first_tells second_tells are)
     c.composed.ensures
 
 pub returns-in_ok-others-in-Alt : goal.returns-in_ok-others-in-Alt
@@ -64,7 +68,9 @@ returns-in_ok-others-in-Alt t c =
     IfOk-weaker c.united.result
     (λ (all : Vec Pair Global). AreExactly (λ pair. Contains c.deref-in-Alt-3.result.now pair ⊎ Contains c.deref-in-Alt-4.result.now pair) all.items)
     (λ (all : Vec Pair Global). AreJoined edges expr all.items)
-    (λ all are. alternative_joined edges expr (expression left) (expression right) c.deref-in-Alt-3.result.now c.deref-in-Alt-4.result.now all.items (ap expression c.in-Alt.is) pairs_are others_are are)
+    (λ all are. alternative_joined edges expr (expression left)
+    (expression right) c.deref-in-Alt-3.result.now c.deref-in-Alt-4.result.now all.items
+    (ap expression c.in-Alt.is) pairs_are others_are are)
     c.united.ensures
 
 pub returns-in-Opt : goal.returns-in-Opt
@@ -87,7 +93,8 @@ returns-in_ok-joined-in-Star t c =
     let pairs = c.deref-in-Star-2.result.now in
     let pairs_are : AreJoined edges (expression body) pairs =
     subst (λ (all : List Pair). AreJoined edges (expression body) all) (sym c.deref-in-Star-2.ensures.value)
-    (subst (λ (each : Expr). AreJoined edges (expression each) c.in_ok-joined-in-Star.field-0.items) c.deref-in-Star.ensures c.in_ok-joined-in-Star.ensures) in
+    (subst (λ (each : Expr). AreJoined edges
+    (expression each) c.in_ok-joined-in-Star.field-0.items) c.deref-in-Star.ensures c.in_ok-joined-in-Star.ensures) in
     IfOk-weaker c.closure.result
     (λ (all : Vec Pair Global). AreExactly (IsReached pairs) all.items)
     (λ (all : Vec Pair Global). AreJoined edges expr all.items)
@@ -102,7 +109,8 @@ returns-in_ok-joined-in-Plus t c =
     let pairs = c.deref-in-Plus-2.result.now in
     let pairs_are : AreJoined edges (expression body) pairs =
     subst (λ (all : List Pair). AreJoined edges (expression body) all) (sym c.deref-in-Plus-2.ensures.value)
-    (subst (λ (each : Expr). AreJoined edges (expression each) c.in_ok-joined-in-Plus.field-0.items) c.deref-in-Plus.ensures c.in_ok-joined-in-Plus.ensures) in
+    (subst (λ (each : Expr). AreJoined edges
+    (expression each) c.in_ok-joined-in-Plus.field-0.items) c.deref-in-Plus.ensures c.in_ok-joined-in-Plus.ensures) in
     IfOk-weaker c.closure-in-Plus.result
     (λ (all : Vec Pair Global). AreExactly (IsReached pairs) all.items)
     (λ (all : Vec Pair Global). AreJoined edges expr all.items)

@@ -1,27 +1,42 @@
-use Rattle.std.proofs.Common.{◌≡◌, Vec, Global, ap, ◌∙◌}
+use Rattle.std.proofs.Common.{◌≡◌, ℕ, List, Vec, Bor, Global, sym, ap, subst, ◌∙◌}
+use Rattle.std.specs.Prelude.{◌↔◌, Contains}
 use Rattle.std.proofs.lemmas.Result.{IfOk-weaker}
+use Rattle.rpq_base.specs.declared.data.Edge.{Edge}
 use Rattle.rpq_base.specs.declared.data.Pair.{Pair}
 use Rattle.path_syntax.specs.Expression.{expression}
 use Rattle.path_syntax.specs.Language.{In}
 use Rattle.rpq_model.specs.declared.mode.Mode.TheVariants.{Arbitrary, Simple}
-use Rattle.rpq_model.specs.Window.{window_edges}
-use Rattle.rpq_model.specs.Answers.{IsJoined}
+use Rattle.rpq_model.specs.Window.{clock, edges_at}
+use Rattle.rpq_model.specs.Answers.{IsJoinedBy, AreAnswers}
 use Rattle.rpq_model.specs.Relations.{values, AreExactly}
-use Rattle.rpq_model.specs.Query.{AreQueryAnswers}
+use Rattle.rpq_model.specs.Query.{path_query}
 use Rattle.rpq_model.proofs.Answered.{answered}
 use Rattle.rpq_model.proofs.plain.plain_answers.Goals as goal
+
+-- the distinct edges are those of the window
+seen : (given live distinct slice : List (Bor Edge)) (window : List Edge) → values live ≡ window →
+    given ≡ live → slice ≡ distinct →
+    ((edge : Edge) → Contains (values distinct) edge ↔ Contains (values given) edge) →
+    (edge : Edge) → Contains (values slice) edge ↔ Contains window edge
+seen given live distinct slice window is given_is slice_is same edge =
+    subst (λ (all : List Edge). Contains (values slice) edge ↔ Contains all edge) (ap values given_is ∙ is)
+    (subst (λ (all : List (Bor Edge)). Contains (values all) edge ↔ Contains (values given) edge) (sym slice_is) (same edge))
 
 pub returns-in-Arbitrary : goal.returns-in-Arbitrary
 returns-in-Arbitrary c =
     let query = c.query.inside in
     let entries = c.args.entries.now in
-    let edges = values c.deref.result.now in
+    let edges = values c.deref-in-Arbitrary.result.now in
     let expr = expression query.expr in
-    let edges_are : edges ≡ window_edges query.window query.slide entries = ap values c.deref.ensures.value ∙ c.in_ok-edges.ensures in
+    let is = c.in_ok-live.ensures ∙ ap (λ (now : ℕ). edges_at query.window now entries) c.clock.ensures in
+    let edges_are = seen c.deref.result.now c.in_ok-live.live.items c.in_ok-edges.edges.items
+    c.deref-in-Arbitrary.result.now (edges_at query.window (clock entries) entries)
+    is c.deref.ensures.value c.deref-in-Arbitrary.ensures.value c.in_ok-edges.ensures in
     IfOk-weaker c.joined.result
-    (λ (pairs : Vec Pair Global). AreExactly (IsJoined edges (In expr) Arbitrary) pairs.items)
-    (λ (pairs : Vec Pair Global). AreQueryAnswers c.args.query.now entries pairs.items)
-    (λ pairs are. answered c.args.query.now query.name query.window query.slide query.mode expr entries edges Arbitrary pairs.items c.query.view_is c.in-Arbitrary.is edges_are are)
+    (λ (pairs : Vec Pair Global). AreExactly (IsJoinedBy edges (In expr) Arbitrary) pairs.items)
+    (λ (pairs : Vec Pair Global). AreAnswers (path_query c.args.query.now) entries pairs.items)
+    (λ pairs are. answered c.args.query.now query.name query.window query.mode expr entries
+    edges Arbitrary pairs.items c.query.view_is c.in-Arbitrary.is edges_are are)
     c.joined.ensures
 
 pub returns : goal.returns
@@ -30,9 +45,13 @@ returns c =
     let entries = c.args.entries.now in
     let edges = values c.deref-in-Simple.result.now in
     let expr = expression query.expr in
-    let edges_are : edges ≡ window_edges query.window query.slide entries = ap values c.deref-in-Simple.ensures.value ∙ c.in_ok-edges.ensures in
+    let is = c.in_ok-live.ensures ∙ ap (λ (now : ℕ). edges_at query.window now entries) c.clock.ensures in
+    let edges_are = seen c.deref.result.now c.in_ok-live.live.items c.in_ok-edges.edges.items
+    c.deref-in-Simple.result.now (edges_at query.window (clock entries) entries)
+    is c.deref.ensures.value c.deref-in-Simple.ensures.value c.in_ok-edges.ensures in
     IfOk-weaker c.joined_simply.result
-    (λ (pairs : Vec Pair Global). AreExactly (IsJoined edges (In expr) Simple) pairs.items)
-    (λ (pairs : Vec Pair Global). AreQueryAnswers c.args.query.now entries pairs.items)
-    (λ pairs are. answered c.args.query.now query.name query.window query.slide query.mode expr entries edges Simple pairs.items c.query.view_is c.in-Simple.is edges_are are)
+    (λ (pairs : Vec Pair Global). AreExactly (IsJoinedBy edges (In expr) Simple) pairs.items)
+    (λ (pairs : Vec Pair Global). AreAnswers (path_query c.args.query.now) entries pairs.items)
+    (λ pairs are. answered c.args.query.now query.name query.window query.mode expr entries
+    edges Simple pairs.items c.query.view_is c.in-Simple.is edges_are are)
     c.joined_simply.ensures

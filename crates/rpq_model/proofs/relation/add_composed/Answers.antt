@@ -3,7 +3,8 @@ use Rattle.std.specs.Prelude.{◌↔◌, Contains}
 use Rattle.std.proofs.lemmas.List.{take_all}
 use Rattle.rpq_base.specs.declared.data.Pair.{Pair}
 use Rattle.rpq_model.specs.Relations.{IsComposed}
-use Rattle.rpq_model.proofs.Composing.{next_one, composed_more}
+use Rattle.rpq_base.proofs.Members.{next_one}
+use Rattle.rpq_model.proofs.Composing.{composed_more}
 use Rattle.rpq_model.proofs.relation.add_composed.Goals as goal
 
 pub loop-first-preserved : goal.loop-first-preserved
@@ -11,7 +12,8 @@ loop-first-preserved c =
     let firsts = c.args.firsts.now in
     let index = c.loop-first.first-index in
     let first = c.first-item.result in
-    composed_more (take index firsts) first (take (index + 1) firsts) c.args.seconds.now c.args.found.now.keys c.loop-first.found.keys c.add_longer.new.found.keys
+    composed_more (take index firsts) first
+    (take (index + 1) firsts) c.args.seconds.now c.args.found.now.keys c.loop-first.found.keys c.add_longer.new.found.keys
     (next_one firsts index first c.loop-first-test.true c.first-item.is) c.loop-first.invariant c.in_ok-add_longer.ensures
 
 pub returns : goal.returns

@@ -10,4 +10,5 @@ returns c =
     let first = c.args.first.now in
     let before = c.args.found.now.keys in
     longer_added pairs first before c.loop-pair.found.keys
-    (c.loop-pair.invariant ∙ ap (λ (all : List Pair). fold (with_longer first) before all) (take_all c.loop-pair.pair-index pairs c.loop-pair-test.false))
+    (c.loop-pair.invariant ∙ ap (λ (all : List Pair). fold (with_longer first) before all)
+    (take_all c.loop-pair.pair-index pairs c.loop-pair-test.false))

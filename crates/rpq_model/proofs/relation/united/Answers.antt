@@ -4,7 +4,8 @@ use Rattle.std.specs.List.Sorted.{IsStrictlySortedBy}
 use Rattle.rpq_base.specs.Order.{pair_cmp}
 use Rattle.rpq_base.specs.declared.data.Pair.{Pair}
 use Rattle.rpq_model.specs.Relations.{AreExactly}
-use Rattle.rpq_model.proofs.Composing.{ok_from_both, exactly_from_set, first_added, then_added}
+use Rattle.rpq_base.proofs.Outcomes.{ok_from_both}
+use Rattle.rpq_model.proofs.Composing.{exactly_from_set, first_added, then_added}
 use Rattle.rpq_model.proofs.relation.united.Goals as goal
 
 pub returns : goal.returns

@@ -8,9 +8,11 @@ use Rattle.rpq_base.specs.declared.data.Pair.{Pair}
 use Rattle.path_syntax.specs.Expression.{expression}
 use Rattle.path_syntax.specs.Language.{In}
 use Rattle.rpq_model.specs.declared.mode.Mode.TheVariants.{Simple}
-use Rattle.rpq_model.specs.Answers.{IsJoined}
+use Rattle.rpq_model.specs.Answers.{IsJoinedBy}
 use Rattle.rpq_model.specs.Relations.{values, AreExactly}
-use Rattle.rpq_model.proofs.Composing.{next_given, ok_from_both, exactly_from_set}
+use Rattle.rpq_base.proofs.Members.{next_given}
+use Rattle.rpq_base.proofs.Outcomes.{ok_from_both}
+use Rattle.rpq_model.proofs.Composing.{exactly_from_set}
 use Rattle.rpq_model.proofs.Onwards.{IsSimplyAlongOne, simply_more, simple_joined}
 use Rattle.rpq_model.proofs.simple.joined_simply.Goals as goal
 
@@ -28,7 +30,7 @@ returns c =
     let edges = c.args.edges.now in
     let language = In (expression c.args.expr.now) in
     let found = c.loop-edge.found.keys in
-    let joined : Pair → Type 0 = IsJoined (values edges) language Simple in
+    let joined : Pair → Type 0 = IsJoinedBy (values edges) language Simple in
     let members = simple_joined (values edges) language found
     (subst (λ (firsts : List (Bor Edge)). (pair : Pair) → Contains found pair ↔ IsSimplyAlongOne (values firsts) (values edges) language pair)
     (take_all c.loop-edge.edge-index edges c.loop-edge-test.false) c.loop-edge.invariant) in

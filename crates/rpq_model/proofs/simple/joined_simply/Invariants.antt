@@ -9,4 +9,5 @@ use Rattle.rpq_model.proofs.simple.joined_simply.Given as goal
 
 -- the pairs of the simple paths that begin with the edges so far are found
 abbrev pub invariant-loop-edge : goal.invariant-loop-edge
-invariant-loop-edge l = (pair : Pair) → Contains l.found.keys pair ↔ IsSimplyAlongOne (values (take l.edge-index l.edges)) (values l.edges) (In (expression l.expr)) pair
+invariant-loop-edge l = (pair : Pair) → Contains l.found.keys pair ↔ IsSimplyAlongOne
+    (values (take l.edge-index l.edges)) (values l.edges) (In (expression l.expr)) pair
