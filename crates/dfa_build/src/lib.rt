@@ -22,6 +22,3 @@ pub use construction::positions;
 pub use fault::BuildFault;
 pub use laws::{marked_spells_words, one_automaton, one_position_automaton};
 pub use subset_construction::subset;
-
-#[cfg(test)]
-mod tests;

@@ -17,6 +17,3 @@ pub use laws::{
     accepted_words_pass, labels_have_places, one_numbering, runs_go_by_numbers, runs_join,
     runs_stay_within, start_is_apart,
 };
-
-#[cfg(test)]
-mod tests;

@@ -1,11 +1,18 @@
-//! Laws of the definitions. The functions do nothing: their contracts are the laws.
+//! Laws of the definitions. The functions do nothing, but for the last one: their contracts are the
+//! laws.
 
-ghost use Rattle.std.specs.Prelude.{List};
+ghost use Rattle.std.specs.Prelude.{◌≡◌, ◌≤◌, List, MatchResult};
 ghost use Rattle.rpq_base.specs.declared.data.Label.{Label};
-ghost use Rattle.path_syntax.specs.Expression.{Expression};
+ghost use Rattle.path_syntax.specs.Expression.{Expression, expression};
 ghost use Rattle.path_syntax.specs.Laws.{RepetitionsByCases, NullableHasEmptyWord};
 ghost use Rattle.path_syntax.specs.WrittenLaws.{WrittenExamples, WrittenIsSpelled, WrittenHasSigns};
-ghost use Rattle.path_syntax.specs.WrittenLaws.{WrittenIsReadable};
+ghost use Rattle.path_syntax.specs.WrittenLaws.{WrittenIsReadable, written_signs};
+ghost use Rattle.path_syntax.specs.Plain.{IsPlainExpression};
+
+use crate::expr::Expr;
+use crate::read::{BadExpr, read_expr};
+use crate::write::write_expr;
+use std::alloc::Global;
 
 /// The words of a star, a plus and an optional are those that the textbook gives them by cases.
 pub fn repetitions_by_cases()
@@ -40,3 +47,19 @@ pub fn written_has_signs()
 pub fn written_is_readable()
     ensures { WrittenIsReadable }
 {}
+
+/// What is written is read again, by what the two calls and the laws say alone.
+///
+/// The expression is written and its text read, so that this law is seen by a caller.
+pub fn written_is_read_again(alloc: Global, expr: &Expr) -> Result<Expr, BadExpr>
+    requires plain { IsPlainExpression (expression expr.now) }
+    requires few { written_signs (expression expr.now) ≤ 512 }
+    ensures { MatchResult result
+        (λ again. expression again ≡ expression expr.now)
+        (λ fault. fault ≡ BadExpr.Memory) }
+{
+    written_is_spelled();
+    written_is_readable();
+    let text = write_expr(alloc, expr)?;
+    read_expr(alloc, &text)
+}

@@ -20,6 +20,3 @@ pub use laws::{greatest_time, orders_are_named, same_is_equal};
 pub use memory::{Copied, Memory, copy_all};
 pub use name::{MAX_NAME, Name, NameFault};
 pub use word::Word;
-
-#[cfg(test)]
-mod tests;

@@ -64,6 +64,3 @@ pub use place::Place;
 pub use sink::Sink;
 pub use source::Source;
 pub use whole::{put_all, read_all};
-
-#[cfg(test)]
-mod tests;

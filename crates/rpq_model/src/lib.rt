@@ -46,8 +46,3 @@ pub use window_laws::{
     delete_takes_all_before, edges_by_places, last_insert_is_seen, later_sees_less,
     live_below_deadline, live_by_places, live_in_order, one_entry_more, times_have_deadlines,
 };
-
-#[cfg(test)]
-mod plain_tests;
-#[cfg(test)]
-mod tests;

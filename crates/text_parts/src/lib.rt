@@ -10,8 +10,6 @@ mod field;
 mod laws;
 mod lines;
 mod numbers;
-#[cfg(test)]
-mod tests;
 
 pub use field::fields;
 pub use laws::{
