@@ -1,0 +1,102 @@
+//! A program that asks the libraries, so that what they answer can be compared with what it
+//! should be. `stdin` has some thousand requests, and `stdout` the answers, which an evaluator
+//! from outside gave.
+//!
+//! A request is a line of its own: a keyword, and what is asked about. One line is printed for
+//! each. A line of another first word, as one that begins with `#`, is printed as it stands.
+//!
+//! Fields end with a space, and the last one of a request with its line. A field stands for
+//! bytes: `%` and two hexadecimal digits for one byte, and each other byte for itself. In what is
+//! printed the bytes that can't be seen, and `%`, stand so too.
+//!
+//! - `read EXPR`: the expression as it is written, how many labels stand in it, and `+` where it
+//!   has the empty word, else `-`; or the fault of the text.
+//! - `copy EXPR`: a copy of it as it is written.
+//! - `positions EXPR`: its position automaton, or the fault.
+//! - `automaton EXPR`: the deterministic automaton: its labels, its rows with `-` for no step,
+//!   and `+` for each final state; or the fault.
+//! - `words EXPR WORDS`: for each word `+` where the matcher takes it, else `-`, and then the
+//!   same of the automaton.
+//! - `word WORD`: the word as it is written.
+//! - `answers SIZE SLIDE MODE EXPR TUPLES`: the answers of the query after each tuple, `;` behind
+//!   each.
+//! - `events SIZE SLIDE MODE EXPR TUPLES`: what each tuple changes of them, `;` behind each.
+//! - `live SIZE SLIDE CLOCK TUPLES`: the places of the live entries, from 0, with their edges.
+//! - `clock TUPLES`: the clock of the history.
+//! - `tuple LINE`: the tuple of a line as it is written, `nothing`, or the fault of the line.
+//! - `line TEXT`, `fields LINE`: the lines of a text, the fields of a line, `|` behind each.
+//! - `length TEXT`: the length of the first line.
+//! - `kind LINE`: whether the line is blank, a comment or neither.
+//! - `number MOST TEXT`: the number that a text writes, or the fault.
+//! - `name BYTES`: the name, or the fault.
+//! - `order NAME NAME`: how the first name compares with the second.
+//! - `source PIECE LINE BYTES TEXT`: the lines of a source that gives its bytes in pieces of this
+//!   length, for the limits of a line and of all bytes; then how they ended, and how many there
+//!   were.
+//! - `all PIECE BYTES TEXT`: all bytes of such a source, or the fault.
+//!
+//! `MODE` is `arbitrary` or `simple`. A word is the names of its labels with `/` between them;
+//! `WORDS` are words with `;` between them, and `TUPLES` lines of a stream with `;` between them:
+//! a name with such a byte has it as `%` and two digits.
+#![tactic(auto)]
+
+mod automata;
+mod expressions;
+mod fields;
+mod output;
+mod queries;
+mod request;
+mod sources;
+mod texts;
+
+use fields::Fields;
+use output::Output;
+use request::Request;
+use std::alloc::Global;
+use std::io::{BufRead, BufReader};
+
+/// Answers one request.
+fn answer(alloc: Global, out: &mut Output, request: Request, fields: Fields) -> anyhow::Result<()> {
+    match request {
+        Request::Read => expressions::answer_read(alloc, out, fields),
+        Request::Copy => expressions::answer_copy(alloc, out, fields),
+        Request::Words => automata::answer_words(alloc, out, fields),
+        Request::Positions => automata::answer_positions(alloc, out, fields),
+        Request::Automaton => automata::answer_automaton(alloc, out, fields),
+        Request::Word => expressions::answer_word(alloc, out, fields),
+        Request::Answers => queries::answer_answers(alloc, out, fields),
+        Request::Events => queries::answer_events(alloc, out, fields),
+        Request::Live => queries::answer_live(alloc, out, fields),
+        Request::Clock => queries::answer_clock(alloc, out, fields),
+        Request::Tuple => texts::answer_tuple(alloc, out, fields),
+        Request::Line => texts::answer_line(alloc, out, fields),
+        Request::Length => texts::answer_length(alloc, out, fields),
+        Request::Fields => texts::answer_fields(alloc, out, fields),
+        Request::Kind => texts::answer_kind(alloc, out, fields),
+        Request::Number => texts::answer_number(alloc, out, fields),
+        Request::Name => texts::answer_name(alloc, out, fields),
+        Request::Order => texts::answer_order(alloc, out, fields),
+        Request::Source => sources::answer_source(alloc, out, fields),
+        Request::All => sources::answer_all(alloc, out, fields),
+    }
+}
+
+/// Answers one line.
+fn answer_line(alloc: Global, out: &mut Output, line: &[u8]) -> anyhow::Result<()> {
+    let mut fields = Fields::new(line);
+    match Request::named(fields.next()) {
+        Some(request) => answer(alloc, out, request, fields)?,
+        None => out.put_bytes(line)?,
+    }
+    out.put("\n")
+}
+
+fn main(rt: HostRuntime) -> anyhow::Result<()> {
+    let alloc = rt.alloc();
+    let mut out = Output::new(alloc);
+    for line in BufReader::new(alloc, rt.reader())?.lines(alloc) {
+        answer_line(alloc, &mut out, line?.as_bytes())?;
+    }
+    rt.print(out.as_str())?;
+    Ok(())
+}
