@@ -1,34 +1,41 @@
-//! The program `rpq QUERIES STREAM`: it makes the real files and streams, calls [`run`], and ends with its status.
+//! The program `rpq QUERIES STREAM`: it makes the real files and streams, calls [`run`], and ends
+//! with its status.
 #![tactic(auto)]
 
-use rpq_io::{HostFiles, HostSink};
-use rpq_run::run;
+ghost use Rattle.std.specs.Prelude.{◌≡◌};
+ghost use Rattle.std.specs.Process.{exit_status};
+
+use rpq_io::{Files, HostFiles, HostSink, Place};
+use rpq_run::{Report, run, status};
 use std::alloc::Global;
 use std::env;
 use std::io::{self, ErrorKind};
 use std::process::ExitCode;
-
-/// The status where memory runs out before the run.
-const NO_MEMORY: u8 = 8;
-
-/// The status where a word isn't UTF-8.
-const NOT_YET: u8 = 9;
 
 /// The words of the command line, the program's name first.
 fn words(rt: &HostRuntime, alloc: Global) -> io::Result<Vec<String>> {
     Ok(env::args(rt)?.collect(alloc)?)
 }
 
+/// The end of the program with the report's status.
+fn exit_code<F: Files>(report: &Report<F>) -> ExitCode
+    ensures { exit_status result ≡ report.now.status }
+{
+    ExitCode::from(report.status)
+}
+
 fn main(rt: HostRuntime) -> ExitCode {
     let alloc = rt.alloc();
     let words = match words(&rt, alloc) {
         Ok(words) => words,
-        Err(error) if error.kind() == ErrorKind::OutOfMemory => return ExitCode::from(NO_MEMORY),
-        Err(_) => return ExitCode::from(NOT_YET),
+        Err(error) if error.kind() == ErrorKind::OutOfMemory => {
+            return ExitCode::from(status::MEMORY);
+        }
+        // A word that isn't UTF-8 names no file that is taken: the run refuses its words.
+        Err(_) => Vec::new(alloc),
     };
     let mut files = HostFiles::new(alloc, &rt);
-    let mut events = HostSink::output(rt.stdout());
-    let mut errors = HostSink::errors(rt.stderr());
-    let report = run(&rt, alloc, &words, &mut files, &mut events, &mut errors);
-    ExitCode::from(report.status)
+    let mut events = HostSink::new(Place::Output(rt.stdout()));
+    let mut errors = HostSink::new(Place::Errors(rt.stderr()));
+    exit_code(&run(&rt, alloc, &words, &mut files, &mut events, &mut errors))
 }

@@ -15,4 +15,6 @@ each_is_of pairs query added = All-map (IsOf query) (event query added) pairs (�
 -- each event is of the query
 pub changes_of_query : (query : ℕ) (old new : List Pair) → All (λ event. event.query ≡ query) (changes query old new)
 changes_of_query query old new =
-    All-append (IsOf query) (map (event query false) (without old new)) (map (event query true) (without new old)) (each_is_of (without old new) query false) (each_is_of (without new old) query true)
+    All-append (IsOf query) (map (event query false) (without old new))
+    (map (event query true) (without new old)) (each_is_of (without old new) query false)
+    (each_is_of (without new old) query true)

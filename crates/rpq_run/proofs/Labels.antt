@@ -7,13 +7,16 @@ use Rattle.std.proofs.lemmas.Simd.{map-map}
 use Rattle.std.proofs.lemmas.List.Folds.{list_all-map}
 use Rattle.rpq_run.specs.QueriesFile.{is_bare_label, label_named, labels_of}
 
-module _ {A : Type 0} (now : A → List ℕ) (expression : List ℕ) (texts : List A) (cut : map now texts ≡ slice_split (λ byte. eqb byte 47) expression) where
+module _ {A : Type 0} (now : A → List ℕ) (expression : List ℕ) (texts : List A)
+    (cut : map now texts ≡ slice_split (λ byte. eqb byte 47) expression) where
   no_labels : (b : Bool) → (b && false) ≡ false
   no_labels true = refl
   no_labels false = refl
 
   -- 64 bare labels at the most are the labels
-  pub labels_from_pieces : length texts ≤ 64 → list_all (λ text. is_bare_label (now text)) texts ≡ true → labels_of expression ≡ Some (map (λ text. label_named (now text)) texts)
+  pub labels_from_pieces : length texts ≤ 64
+      → list_all (λ text. is_bare_label (now text)) texts ≡ true
+      → labels_of expression ≡ Some (map (λ text. label_named (now text)) texts)
   unfolding labels_of
   labels_from_pieces few bare =
       let short : leb (length (map now texts)) 64 ≡ true = rw (length-map texts now) (le-leb (length texts) 64 few) in
@@ -24,7 +27,8 @@ module _ {A : Type 0} (now : A → List ℕ) (expression : List ℕ) (texts : Li
   pub none_from_many : 64 < length texts → labels_of expression ≡ None
   unfolding labels_of
   none_from_many many =
-      let long : leb (length (map now texts)) 64 ≡ false = rw (length-map texts now) (lt-leb (length texts) 64 many) in
+      let long : leb (length (map now texts)) 64 ≡ false = rw (length-map texts now)
+      (lt-leb (length texts) 64 many) in
       rw (← cut) (rw (long, no_labels (list_all is_bare_label (map now texts))) refl)
 
   -- where one is no bare label, there are none

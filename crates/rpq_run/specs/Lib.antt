@@ -1,9 +1,10 @@
-pub mod QueryValue
+pub mod Limits
 pub mod QueriesFile
 pub mod StreamText
 pub mod Text
 pub mod Files
 pub mod History
+pub mod Statuses
 pub mod Ends
 pub mod Progress
 pub mod Turns

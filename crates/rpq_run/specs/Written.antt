@@ -1,34 +1,43 @@
--- What the events grew by.
-use Rattle.std.specs.Prelude.{◌≡◌, ◌≢◌, ℕ, List, [], ◌++◌, Option}
+-- What a sink grew by: a text of some kind, or a prefix of one.
+use Rattle.std.specs.Prelude.{◌≡◌, ◌≢◌, ℕ, List, [], ◌++◌, Option, Result, IsOk, IsErr}
 use Rattle.std.specs.Io.KnownBytes.{append_known}
-use Rattle.rpq_base.specs.declared.data.Entry.{Entry}
-use Rattle.rpq_run.specs.QueryValue.{QueryValue}
-use Rattle.rpq_run.specs.Text.{IsText}
+use Rattle.rpq_io.specs.Counts.{CountsFault}
+use Rattle.rpq_run.specs.Statuses.{write_status, memory_status}
 
--- the whole text of the history was written
-pub record WritesText (query : QueryValue) (history : List Entry) (before after : Option (List ℕ)) : Type 0 where
+-- a text of this kind was written, all of it
+pub record Grew (IsText : List ℕ → Type 0) (before after : Option (List ℕ)) : Type 0 where
   pub text : List ℕ
-  pub of_history : IsText query history text
+  pub of_kind : IsText text
   pub written : after ≡ append_known before text
 
--- a part at the front of the text of the history was written, perhaps all of it
-pub record WritesBeginning (query : QueryValue) (history : List Entry) (before after : Option (List ℕ)) : Type 0 where
+-- a prefix of such a text was written, perhaps all of it
+pub record GrewByPrefix (IsText : List ℕ → Type 0) (before after : Option (List ℕ)) : Type 0 where
   pub front : List ℕ
   pub rest : List ℕ
-  pub of_history : IsText query history (front ++ rest)
+  pub of_kind : IsText (front ++ rest)
   pub written : after ≡ append_known before front
 
--- such a part, and not all of it
-pub record WritesProperBeginning (query : QueryValue) (history : List Entry) (before after : Option (List ℕ)) : Type 0 where
+-- such a prefix, and not all of the text
+pub record GrewByProperPrefix (IsText : List ℕ → Type 0) (before after : Option (List ℕ))
+    : Type 0 where
   pub front : List ℕ
   pub rest : List ℕ
-  pub of_history : IsText query history (front ++ rest)
+  pub of_kind : IsText (front ++ rest)
   pub proper : rest ≢ []
   pub written : after ≡ append_known before front
 
--- a part at the front of the text was written, perhaps all of it
-pub record WritesFront (text : List ℕ) (before after : Option (List ℕ)) : Type 0 where
-  pub front : List ℕ
-  pub rest : List ℕ
-  pub cut : text ≡ front ++ rest
-  pub written : after ≡ append_known before front
+-- a run with this status wrote a text of this kind: a proper prefix where a write failed, a prefix
+-- where memory ran out, else all of it
+pub record WritesByStatus (status : ℕ) (IsText : List ℕ → Type 0) (before after : Option (List ℕ))
+    : Type 0 where
+  pub whole : status ≢ write_status → status ≢ memory_status → Grew IsText before after
+  pub write : status ≡ write_status → GrewByProperPrefix IsText before after
+  pub memory : status ≡ memory_status → GrewByPrefix IsText before after
+
+-- a call that was to write this text on a sink answered this: the text was written, or a prefix of
+-- it with an error, which the sink's count shows
+pub record Tells {Sink T E : Type 0} (written : Sink → Option (List ℕ)) (faults : Sink → ℕ)
+    (text : List ℕ) (old new : Sink) (result : Result T E) : Type 0 where
+  pub whole : IsOk result → written new ≡ append_known (written old) text
+  pub prefix : IsErr result → GrewByPrefix (λ all. all ≡ text) (written old) (written new)
+  pub counted : CountsFault (IsErr result) (faults old) (faults new)

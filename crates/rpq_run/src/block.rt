@@ -1,32 +1,33 @@
 //! The text of an entry and its events.
 
-ghost use Rattle.std.specs.Prelude.{◌≡◌, ◌++◌, OnOk, IfOk, All};
+ghost use Rattle.std.specs.Prelude.{◌≡◌, ◌∷◌, ◌++◌, [], OnOk, IfOk, All};
 ghost use Rattle.rpq_base.specs.Plain.{IsPlain};
 ghost use Rattle.rpq_run.specs.Text.{event_line, entry_line, block};
 
-use crate::query::FirstQuery;
-use rpq_base::{Entry, Event, Memory, Name};
+use rpq_base::{Entry, Event, Memory};
+use rpq_model::QueryDef;
 use std::alloc::{AllocError, Global};
 use text_parts::push_decimal;
 use tuple_text::write_tuple;
 
-/// The block of the entry at position `n`, counted from 1: the line of the entry, then one line for each of its events,
-/// each with a line feed at its end. The events are those of this one query, and the entry's label points forwards.
+/// The block of the entry at position `n`, counted from 1: the line of the entry, then one line for
+/// each of its events, each with a line feed at its end. The events are those of this one query,
+/// and the entry's label points forwards. The only error is [`Memory`].
 #[tactic(auto, unfolding(crate::specs::Text::block))]
 pub fn block_text(
     alloc: Global,
     n: u64,
     entry: &Entry,
     events: &[Event],
-    query: &FirstQuery,
+    query: &QueryDef,
 ) -> Result<Vec<u8>, Memory>
     requires plain { IsPlain entry.now }
     requires queries { All (λ event. event.query ≡ 0) events.now }
-    ensures { IfOk result (λ text. text.items ≡ block query.now.name n entry.now events.now) }
+    ensures { IfOk result (λ text. text.items ≡ block (query.now ∷ []) n entry.now events.now) }
 {
     let mut text = entry_line(alloc, n, entry)?;
     for event in events {
-        push_event(&mut text, &query.name, event)?;
+        push_event(&mut text, query, event)?;
     }
     Ok(text)
 }
@@ -48,13 +49,15 @@ fn entry_line(alloc: Global, n: u64, entry: &Entry) -> Result<Vec<u8>, Memory>
     Ok(text)
 }
 
-/// Writes the line of an event at the end of the text.
-fn push_event(text: &mut Vec<u8>, query: &Name, event: &Event) -> Result<(), AllocError>
-    ensures { OnOk result (text.new.items ≡ text.old.items ++ event_line query.now event.now) }
+/// Writes the line of an event of the one query at the end of the text.
+fn push_event(text: &mut Vec<u8>, query: &QueryDef, event: &Event) -> Result<(), AllocError>
+    requires { event.now.query ≡ 0 }
+    ensures { OnOk result
+        (text.new.items ≡ text.old.items ++ event_line (query.now ∷ []) event.now) }
 {
     let sign = if event.added { b"+ " } else { b"- " };
     text.extend_from_slice(sign)?;
-    text.extend_from_slice(query.as_bytes())?;
+    text.extend_from_slice(query.name.as_bytes())?;
     text.extend_from_slice(b" ")?;
     text.extend_from_slice(event.pair.from.as_bytes())?;
     text.extend_from_slice(b" ")?;

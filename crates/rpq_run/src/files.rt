@@ -1,94 +1,102 @@
 //! The two files of a run: the queries file is read and understood, and the stream opened.
 
-ghost use Rattle.std.specs.Prelude.{◌≡◌, ◌≢◌, ◌≤◌, ◌<◌, ℕ, List, [], length, IfOk, IfSome};
-ghost use Rattle.rpq_io.specs.Counts.{Rose};
-ghost use Rattle.rpq_io.specs.Reader.{source_of, byte_cap_of};
-ghost use Rattle.rpq_run.specs.Files.{query_of, IsTooLong, LacksForm};
-ghost use Rattle.rpq_run.specs.StreamText.{byte_limit};
-ghost use Rattle.rpq_run.specs.Progress.{IsStreamReader, IsNew};
+ghost use Rattle.std.specs.Prelude.{◌≡◌, ◌≤◌, ◌<◌, ◌∷◌, ℕ, List, [], length, option_to_list, IfOk, IfErr, IsErrAnd, IfSome};
+ghost use Rattle.rpq_io.specs.Counts.{CountsOpening};
+ghost use Rattle.rpq_io.specs.Files.{KeepsFiles};
+ghost use Rattle.rpq_model.specs.declared.mode.Mode.TheVariants.{Arbitrary};
+ghost use Rattle.rpq_run.specs.Limits.{file_limit};
+ghost use Rattle.rpq_run.specs.Files.{queries_of};
+ghost use Rattle.rpq_run.specs.Run.{IsFaultOfFile, AreSourcesOf, IsNewReader};
 
-use crate::form::FormFault;
-use crate::query::FirstQuery;
+use crate::limits::{BYTE_LIMIT, FILE_LIMIT, LINE_LIMIT};
 use crate::read_query::read_first_query;
+use crate::report::{StartFault, Which};
 use rpq_base::Memory;
 use rpq_io::{AllFault, Files, LineReader, OpenFault, read_all};
+use rpq_model::QueryDef;
 use std::alloc::Global;
 
-/// A file that is read whole has fewer bytes than this.
-const FILE_LIMIT: u64 = 1 << 24;
-
-/// The most bytes of a line of a stream before its line feed.
-const MAX_LINE: usize = 1024;
-
-/// A stream has fewer bytes than this.
-const BYTE_LIMIT: u64 = 1 << 40;
-
-/// Why a file wasn't read and understood.
+/// Why a run doesn't begin, and the source of which a read failed, if one did.
 #[derive(Drop)]
-pub enum FileFault<S> {
-    /// It couldn't be opened.
-    Open,
-    /// A read of this source failed.
-    Read(S),
-    /// It has too many bytes.
-    Long,
-    /// It isn't of the form that is taken so far.
-    NotYet,
-    /// Memory ran out.
-    Memory,
+pub struct Refusal<S> {
+    pub fault: StartFault,
+    pub source: Option<S>,
 }
 
-/// All the bytes of the file of this name, and its source at the end of them.
+/// The refusal for this, which leaves no source.
+pub fn without_source<S>(fault: StartFault) -> Refusal<S>
+    ensures { result ≡ record { fault = fault; source = None } }
+{
+    Refusal {
+        fault,
+        source: None,
+    }
+}
+
+/// All the bytes of the file of this name.
 fn whole_file<F: Files>(
     alloc: Global,
     files: &mut F,
     name: &str,
-) -> Result<(Vec<u8>, F::Source), FileFault<F::Source>>
-    ensures content { IfOk result (λ file. IfSome (F.holds files.old name.now) (λ bytes. file.0.items ≡ bytes)) }
-    ensures short { IfOk result (λ file. length file.0.items < FILE_LIMIT) }
-    ensures end { IfOk result (λ file. IfSome (F.Source.left file.1) (λ rest. rest ≡ [])) }
-    ensures open { result ≡ Err FileFault.Open → Rose (F.unread files.old name.now) (F.unread files.new name.now) }
-    ensures read { (source : F.Source) → result ≡ Err (FileFault.Read source) → Rose 0 (F.Source.faults source) }
-    ensures long { result ≡ Err FileFault.Long → IsTooLong (F.holds files.old name.now) }
-    ensures no_form { result ≢ Err FileFault.NotYet }
-    ensures never_falls { (any : List ℕ) → F.unread files.old any ≤ F.unread files.new any }
-    ensures holds_stays { (any : List ℕ) → F.holds files.new any ≡ F.holds files.old any }
-    ensures made_stays { F.made files.new ≡ F.made files.old }
+    which: Which,
+) -> Result<Vec<u8>, Refusal<F::Source>>
+    ensures content { IfOk result (λ bytes.
+        IfSome (F.holds files.old name.now) (λ held. bytes.items ≡ held)) }
+    ensures short { IfOk result (λ bytes. length bytes.items < file_limit) }
+    ensures cause { IfErr result (λ refusal.
+        IsFaultOfFile which (F.holds files.old name.now) refusal.fault) }
+    ensures source { IfErr result (λ refusal. AreSourcesOf F.Source.left F.Source.faults
+        (F.holds files.old name.now) refusal.fault (option_to_list refusal.source)) }
+    ensures openings { CountsOpening
+        (IsErrAnd result (λ refusal. refusal.fault ≡ StartFault.Open which))
+        name.now (F.unread files.old) (F.unread files.new) }
+    ensures kept { KeepsFiles F.holds F.made files.old files.new }
+    ensures unmade { (any : List ℕ) → F.unmade files.new any ≡ F.unmade files.old any }
 {
     let mut source = match files.source(name) {
         Ok(source) => source,
-        Err(OpenFault::Failed) => return Err(FileFault::Open),
-        Err(OpenFault::Memory) => return Err(FileFault::Memory),
+        Err(OpenFault::Failed) => return Err(without_source(StartFault::Open(which))),
+        Err(OpenFault::Memory) => return Err(without_source(StartFault::Memory)),
     };
     match read_all(alloc, &mut source, FILE_LIMIT) {
-        Ok(bytes) => Ok((bytes, source)),
-        Err(AllFault::Read) => Err(FileFault::Read(source)),
-        Err(AllFault::Long) => Err(FileFault::Long),
-        Err(AllFault::Memory) => Err(FileFault::Memory),
+        Ok(bytes) => Ok(bytes),
+        Err(AllFault::Read) => Err(Refusal {
+            fault: StartFault::Read(which),
+            source: Some(source),
+        }),
+        Err(AllFault::Long) => Err(without_source(StartFault::Long(which))),
+        Err(AllFault::Memory) => Err(without_source(StartFault::Memory)),
     }
 }
 
 /// The query of the queries file of this name.
-#[tactic(auto, unfolding(crate::specs::Files::query_of))]
+#[tactic(auto, unfolding(crate::specs::Files::queries_of))]
 pub fn query_of_file<F: Files>(
     alloc: Global,
     files: &mut F,
     name: &str,
-) -> Result<FirstQuery, FileFault<F::Source>>
-    ensures ok { IfOk result (λ query. IfSome (F.holds files.old name.now) (λ bytes. query_of bytes ≡ Some query)) }
-    ensures open { result ≡ Err FileFault.Open → Rose (F.unread files.old name.now) (F.unread files.new name.now) }
-    ensures read { (source : F.Source) → result ≡ Err (FileFault.Read source) → Rose 0 (F.Source.faults source) }
-    ensures long { result ≡ Err FileFault.Long → IsTooLong (F.holds files.old name.now) }
-    ensures not_yet { result ≡ Err FileFault.NotYet → LacksForm (F.holds files.old name.now) }
-    ensures never_falls { (any : List ℕ) → F.unread files.old any ≤ F.unread files.new any }
-    ensures holds_stays { (any : List ℕ) → F.holds files.new any ≡ F.holds files.old any }
-    ensures made_stays { F.made files.new ≡ F.made files.old }
+) -> Result<QueryDef, Refusal<F::Source>>
+    ensures query { IfOk result (λ query.
+        IfSome (F.holds files.old name.now) (λ bytes. queries_of bytes ≡ Some (query ∷ []))) }
+    ensures arbitrary { IfOk result (λ query. query.mode ≡ Arbitrary) }
+    ensures cause { IfErr result (λ refusal.
+        IsFaultOfFile Which.Queries (F.holds files.old name.now) refusal.fault) }
+    ensures source { IfErr result (λ refusal. AreSourcesOf F.Source.left F.Source.faults
+        (F.holds files.old name.now) refusal.fault (option_to_list refusal.source)) }
+    ensures openings { CountsOpening
+        (IsErrAnd result (λ refusal. refusal.fault ≡ StartFault.Open Which.Queries))
+        name.now (F.unread files.old) (F.unread files.new) }
+    ensures kept { KeepsFiles F.holds F.made files.old files.new }
+    ensures unmade { (any : List ℕ) → F.unmade files.new any ≡ F.unmade files.old any }
 {
-    let (bytes, _source) = whole_file(alloc, files, name)?;
+    let bytes = match whole_file(alloc, files, name, Which::Queries) {
+        Ok(bytes) => bytes,
+        Err(refusal) => return Err(refusal),
+    };
     match read_first_query(alloc, &bytes) {
-        Ok(query) => Ok(query),
-        Err(FormFault::NotYet) => Err(FileFault::NotYet),
-        Err(FormFault::Memory) => Err(FileFault::Memory),
+        Ok(Some(query)) => Ok(query),
+        Ok(None) => Err(without_source(StartFault::NotYet)),
+        Err(Memory) => Err(without_source(StartFault::Memory)),
     }
 }
 
@@ -98,21 +106,19 @@ pub fn open_stream<F: Files>(
     files: &mut F,
     name: &str,
 ) -> Result<LineReader<F::Source>, OpenFault>
-    ensures content { IfOk result (λ reader. F.Source.left (source_of reader) ≡ F.holds files.old name.now) }
-    ensures counted { IfOk result (λ reader. F.Source.faults (source_of reader) ≡ 0) }
-    ensures sound { IfOk result (λ reader. IsStreamReader F.Source.left reader) }
-    ensures fresh { IfOk result (λ reader. IsNew reader) }
-    ensures cap { IfOk result (λ reader. byte_cap_of reader ≡ byte_limit) }
-    ensures open { result ≡ Err OpenFault.Failed → Rose (F.unread files.old name.now) (F.unread files.new name.now) }
-    ensures never_falls { (any : List ℕ) → F.unread files.old any ≤ F.unread files.new any }
-    ensures holds_stays { (any : List ℕ) → F.holds files.new any ≡ F.holds files.old any }
-    ensures made_stays { F.made files.new ≡ F.made files.old }
+    ensures content { IfOk result (λ reader.
+        F.Source.left reader.source ≡ F.holds files.old name.now) }
+    ensures fresh { IfOk result (λ reader. IsNewReader F.Source.left F.Source.faults reader) }
+    ensures openings { CountsOpening (result ≡ Err OpenFault.Failed)
+        name.now (F.unread files.old) (F.unread files.new) }
+    ensures kept { KeepsFiles F.holds F.made files.old files.new }
+    ensures unmade { (any : List ℕ) → F.unmade files.new any ≡ F.unmade files.old any }
 {
     let source = match files.source(name) {
         Ok(source) => source,
         Err(fault) => return Err(fault),
     };
-    match LineReader::new(alloc, source, MAX_LINE, BYTE_LIMIT) {
+    match LineReader::new(alloc, source, LINE_LIMIT, BYTE_LIMIT) {
         Ok(reader) => Ok(reader),
         Err((_source, Memory)) => Err(OpenFault::Memory),
     }

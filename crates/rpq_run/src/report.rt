@@ -1,8 +1,15 @@
 //! What a run answers.
 
+ghost use Rattle.std.specs.Prelude.{◌≡◌};
+ghost use Rattle.rpq_run.specs.Statuses.{status_of_start, status_of_end};
+
+use crate::status;
 use rpq_base::Entry;
 use rpq_io::Files;
 use tuple_text::BadLine;
+
+/// The number of the one stream of a run.
+pub const FIRST_STREAM: u32 = 1;
 
 /// One of the files that a run opens. Streams are numbered from 1.
 #[derive(Clone, Copy, Debug, PartialEq, Eq)]
@@ -24,6 +31,20 @@ pub enum StartFault {
     NotYet,
     /// Memory ran out.
     Memory,
+}
+
+impl StartFault {
+    /// The status of a run that didn't begin for this.
+    pub fn status(&self) -> u8
+        ensures { result ≡ status_of_start self.now }
+    {
+        match self {
+            StartFault::Open(_) | StartFault::Read(_) => status::READ,
+            StartFault::Long(_) => status::LIMIT,
+            StartFault::NotYet => status::NOT_YET,
+            StartFault::Memory => status::MEMORY,
+        }
+    }
 }
 
 /// Why a run takes no more tuples of any stream.
@@ -56,6 +77,22 @@ pub enum StreamEnd {
     Memory,
 }
 
+impl StreamEnd {
+    /// The status of a run in which nothing but this end arose.
+    pub fn status(&self) -> u8
+        ensures { result ≡ status_of_end self.now }
+    {
+        match self {
+            StreamEnd::Whole => status::DONE,
+            StreamEnd::Line { .. } | StreamEnd::LongLine { .. } => status::LINE,
+            StreamEnd::LongStream | StreamEnd::Full => status::LIMIT,
+            StreamEnd::Read => status::READ,
+            StreamEnd::Closed(Why::Write) => status::WRITE,
+            StreamEnd::Closed(Why::Memory) | StreamEnd::Memory => status::MEMORY,
+        }
+    }
+}
+
 /// What a run answers.
 ///
 /// | Status | Where |
@@ -68,7 +105,8 @@ pub enum StreamEnd {
 /// | 8 | memory ran out |
 /// | 9 | the words or the queries file aren't of the form that is taken so far |
 ///
-/// After the start it is the first of 8, 6, 7, 5 and 4 that arose, else 0.
+/// After the start it is the first of 8, 6, 7, 5 and 4 that arose, else 0. The numbers have names
+/// in [`status`](crate::status).
 #[derive(Drop)]
 pub struct Report<F: Files> {
     pub status: u8,
@@ -78,6 +116,7 @@ pub struct Report<F: Files> {
     pub history: Vec<Entry>,
     /// How the stream ended. Where the run didn't begin, there is none.
     pub streams: Vec<StreamEnd>,
-    /// The source of the stream, as the run leaves it; where a read of the queries file failed, that file's source.
+    /// The source of the stream, as the run leaves it; where a read of the queries file failed,
+    /// that file's source.
     pub sources: Vec<F::Source>,
 }

@@ -3,11 +3,10 @@
 ghost use Rattle.std.specs.Prelude.{◌≡◌, ◌<◌, ◌≤◌, ◌∷◌, ◌++◌, [], ◌⊎◌, ℕ, List, Option, option_to_list, length, IfOk, IfErr, OnOk, IfSome};
 ghost use Rattle.rpq_base.specs.Plain.{IsPlainTuple};
 ghost use Rattle.rpq_base.specs.declared.data.Tuple.{Tuple as TupleRead};
-ghost use Rattle.rpq_io.specs.Counts.{Rose};
-ghost use Rattle.rpq_io.specs.Reader.{source_of, byte_cap_of};
+ghost use Rattle.rpq_io.specs.Counts.{CountsFault};
 ghost use Rattle.tuple_text.specs.Reading.{line_tuple};
-ghost use Rattle.rpq_run.specs.StreamText.{line_limit};
-ghost use Rattle.rpq_run.specs.History.{AreTuplesAt};
+ghost use Rattle.rpq_run.specs.Limits.{line_limit};
+ghost use Rattle.rpq_run.specs.History.{AreTuplesOfEnd};
 ghost use Rattle.rpq_run.specs.Ends.{IsReadEnd, IsFaultOf};
 ghost use Rattle.rpq_run.specs.Progress.{IsStreamReader, HasRead, passed};
 
@@ -23,14 +22,16 @@ pub fn next_tuple<S: Source>(alloc: Global, reader: &mut LineReader<S>) -> Resul
     ensures plain { IfOk result IsPlainTuple }
     ensures sound { OnOk result (IsStreamReader S.left reader.new) }
     ensures forward { OnOk result (passed reader.old < passed reader.new) }
-    ensures ok { IfOk result (λ tuple. (file : Option (List ℕ)) (tuples : List TupleRead) → HasRead S.left file tuples reader.old
+    ensures ok { IfOk result (λ tuple. (file : Option (List ℕ)) (tuples : List TupleRead)
+        → HasRead S.left file tuples reader.old
         → HasRead S.left file (tuples ++ tuple ∷ []) reader.new) }
-    ensures err { IfErr result (λ end. (file : Option (List ℕ)) (tuples : List TupleRead) → HasRead S.left file tuples reader.old
-        → IfSome file (λ text. AreTuplesAt (byte_cap_of reader.new) text (S.left (source_of reader.new)) tuples end)) }
+    ensures err { IfErr result (λ end. (file : Option (List ℕ)) (tuples : List TupleRead)
+        → HasRead S.left file tuples reader.old → IfSome file (λ text.
+        AreTuplesOfEnd reader.new.byte_limit text (S.left reader.new.source) tuples end)) }
     ensures ends { IfErr result IsReadEnd }
-    ensures read { result ≡ Err StreamEnd.Read → Rose (S.faults (source_of reader.old)) (S.faults (source_of reader.new)) }
-    ensures never_falls { S.faults (source_of reader.old) ≤ S.faults (source_of reader.new) }
-    ensures cap_stays { byte_cap_of reader.new ≡ byte_cap_of reader.old }
+    ensures read { CountsFault (result ≡ Err StreamEnd.Read)
+        (S.faults reader.old.source) (S.faults reader.new.source) }
+    ensures limits { reader.new.byte_limit ≡ reader.old.byte_limit }
 {
     loop {
         if let Some(tuple) = read_line(alloc, reader)? {
@@ -48,14 +49,16 @@ fn read_line<S: Source>(
     ensures plain { IfOk result (λ found. IfSome found IsPlainTuple) }
     ensures sound { OnOk result (IsStreamReader S.left reader.new) }
     ensures forward { OnOk result (passed reader.old < passed reader.new) }
-    ensures ok { IfOk result (λ found. (file : Option (List ℕ)) (tuples : List TupleRead) → HasRead S.left file tuples reader.old
+    ensures ok { IfOk result (λ found. (file : Option (List ℕ)) (tuples : List TupleRead)
+        → HasRead S.left file tuples reader.old
         → HasRead S.left file (tuples ++ option_to_list found) reader.new) }
-    ensures err { IfErr result (λ end. (file : Option (List ℕ)) (tuples : List TupleRead) → HasRead S.left file tuples reader.old
-        → IfSome file (λ text. AreTuplesAt (byte_cap_of reader.new) text (S.left (source_of reader.new)) tuples end)) }
+    ensures err { IfErr result (λ end. (file : Option (List ℕ)) (tuples : List TupleRead)
+        → HasRead S.left file tuples reader.old → IfSome file (λ text.
+        AreTuplesOfEnd reader.new.byte_limit text (S.left reader.new.source) tuples end)) }
     ensures ends { IfErr result IsReadEnd }
-    ensures read { result ≡ Err StreamEnd.Read → Rose (S.faults (source_of reader.old)) (S.faults (source_of reader.new)) }
-    ensures never_falls { S.faults (source_of reader.old) ≤ S.faults (source_of reader.new) }
-    ensures cap_stays { byte_cap_of reader.new ≡ byte_cap_of reader.old }
+    ensures read { CountsFault (result ≡ Err StreamEnd.Read)
+        (S.faults reader.old.source) (S.faults reader.new.source) }
+    ensures limits { reader.new.byte_limit ≡ reader.old.byte_limit }
 {
     match reader.next_line() {
         Ok(Some(line)) => tuple_of_line(alloc, &line, reader.lines()),
@@ -74,7 +77,8 @@ fn tuple_of_line(alloc: Global, line: &[u8], number: u64) -> Result<Option<Tuple
     requires { length line.now ≤ line_limit }
     ensures plain { IfOk result (λ found. IfSome found IsPlainTuple) }
     ensures ok { IfOk result (λ found. line_tuple line.now ≡ Ok found) }
-    ensures err { IfErr result (λ end. (end ≡ StreamEnd.Memory) ⊎ IsFaultOf number (line_tuple line.now) end) }
+    ensures err { IfErr result (λ end.
+        (end ≡ StreamEnd.Memory) ⊎ IsFaultOf number (line_tuple line.now) end) }
 {
     match read_tuple(alloc, line) {
         Ok(found) => Ok(found),

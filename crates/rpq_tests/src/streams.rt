@@ -1,153 +1,211 @@
-//! Worked examples of whole streams, each in any pieces and cut anywhere: late tuples, deletes and ticks, and faulty lines.
+//! Worked streams: each in any pieces, and cut anywhere.
 
-use crate::case::{SEQUENCE, SHORT_WINDOW, stops, tells, without_faults};
-use crate::cut::{ends_as_its_lines_say, writes};
-use rpq_run::StreamEnd;
+use crate::case::{Case, SHORT_WINDOW, holds, path};
 use std::alloc::{AllocError, Global};
 use std::test::Fail;
 
+/// The case of a stream for the query whose window soon passes.
+fn short<'a>(stream: &'a str, events: &'a str) -> Case<'a> {
+    Case {
+        queries: SHORT_WINDOW,
+        stream,
+        events,
+        ..path()
+    }
+}
+
+/// The case of a stream for the query of two labels.
+fn sequence<'a>(stream: &'a str, events: &'a str) -> Case<'a> {
+    Case {
+        stream,
+        events,
+        ..path()
+    }
+}
+
+/// Whether the runs of all the cases answer what they are to, in whatever pieces the files are
+/// read.
+fn hold_in_pieces<R>(rt: &R, alloc: Global, cases: &[Case]) -> Result<bool, Fail> {
+    for case in cases {
+        for read_piece in [4096usize, 1, 2, 3, 7] {
+            let case = Case {
+                read_piece,
+                ..*case
+            };
+            if !holds(rt, alloc, &case)? {
+                return Ok(false);
+            }
+        }
+    }
+    Ok(true)
+}
+
 #[test]
-fn expiry_at_slide_boundary(rt: HostRuntime) -> Result<(), Fail> {
-    let files = (SHORT_WINDOW, "1 x a y\n14\n15\n");
-    let events = "@1 1 1 x a y +\n+ q x y\n@2 1 14\n@3 1 15\n- q x y\n";
-    assert!(rt; writes(&rt, rt.alloc(), files, 0, events)?);
-    assert!(rt; ends_as_its_lines_say(&rt, rt.alloc(), files)?);
+fn inserts_and_ticks(rt: HostRuntime) -> Result<(), Fail> {
+    let cases = [
+        path(),
+        sequence("", ""),
+        Case {
+            queries: "query q window 100 slide 10 arbitrary: a/b",
+            stream: "1 x a y\n2 y b z",
+            ..path()
+        },
+        Case {
+            queries: "query q window 100 slide 10 arbitrary: a/b\r\n",
+            stream: "1 x a y\r\n2 y b z\r\n",
+            ..path()
+        },
+        short(
+            "1 x a y\n15 x a y\n",
+            "@1 1 1 x a y +\n+ q x y\n@2 1 15 x a y +\n",
+        ),
+        short(
+            "1 x a y\n20 z a w\n",
+            "@1 1 1 x a y +\n+ q x y\n@2 1 20 z a w +\n- q x y\n+ q z w\n",
+        ),
+        short(
+            "1 x a y\n14\n15\n",
+            "@1 1 1 x a y +\n+ q x y\n@2 1 14\n@3 1 15\n- q x y\n",
+        ),
+        short("20\n1 x a y\n", "@1 1 20\n@2 1 1 x a y +\n"),
+        Case {
+            queries: "query q window 10 slide 5 arbitrary: a/b\n",
+            ..sequence(
+                "1 x a y\n8 y b z\n9 x a y\n15\n20\n",
+                "@1 1 1 x a y +\n@2 1 8 y b z +\n+ q x z\n@3 1 9 x a y +\n@4 1 15\n@5 1 20\n- q x z\n",
+            )
+        },
+    ];
+    assert!(rt; hold_in_pieces(&rt, rt.alloc(), &cases)?);
     Ok(())
 }
 
 #[test]
-fn refresh_travels_down(rt: HostRuntime) -> Result<(), Fail> {
-    let queries = "query q window 10 slide 5 arbitrary: a/b\n";
-    let files = (queries, "1 x a y\n8 y b z\n9 x a y\n15\n20\n");
-    let events =
-        "@1 1 1 x a y +\n@2 1 8 y b z +\n+ q x z\n@3 1 9 x a y +\n@4 1 15\n@5 1 20\n- q x z\n";
-    assert!(rt; writes(&rt, rt.alloc(), files, 0, events)?);
-    assert!(rt; ends_as_its_lines_say(&rt, rt.alloc(), files)?);
+fn deletes(rt: HostRuntime) -> Result<(), Fail> {
+    let cases = [
+        sequence(
+            "1 x a y\n2 y b z\n3 x a w\n4 w b z\n5 x a y -\n6 w b z -\n",
+            "@1 1 1 x a y +\n@2 1 2 y b z +\n+ q x z\n@3 1 3 x a w +\n@4 1 4 w b z +\n@5 1 5 x a y -\n@6 1 6 w b z -\n- q x z\n",
+        ),
+        short(
+            "9 x a y\n9 x a y -\n5 x a y\n",
+            "@1 1 9 x a y +\n+ q x y\n@2 1 9 x a y -\n- q x y\n@3 1 5 x a y +\n+ q x y\n",
+        ),
+        short("3 x a y -\n", "@1 1 3 x a y -\n"),
+        short(
+            "1 x a y\n2 x a y\n3 x a y -\n",
+            "@1 1 1 x a y +\n+ q x y\n@2 1 2 x a y +\n@3 1 3 x a y -\n- q x y\n",
+        ),
+    ];
+    assert!(rt; hold_in_pieces(&rt, rt.alloc(), &cases)?);
     Ok(())
 }
 
 #[test]
-fn delete_finds_other_path(rt: HostRuntime) -> Result<(), Fail> {
-    let files = (
-        SEQUENCE,
-        "1 x a y\n2 y b z\n3 x a w\n4 w b z\n5 x a y -\n6 w b z -\n",
-    );
-    let events =
-        "@1 1 1 x a y +\n@2 1 2 y b z +\n+ q x z\n@3 1 3 x a w +\n@4 1 4 w b z +\n@5 1 5 x a y -\n@6 1 6 w b z -\n- q x z\n";
-    assert!(rt; writes(&rt, rt.alloc(), files, 0, events)?);
-    assert!(rt; ends_as_its_lines_say(&rt, rt.alloc(), files)?);
+fn faulty_lines(rt: HostRuntime) -> Result<(), Fail> {
+    let faulty = Case {
+        status: 4,
+        ..path()
+    };
+    let cases = [
+        Case {
+            stream: "1 x a y\n2 y b z\nx a y\n4 y b w\n",
+            errors: "rpq: stream 1 line 3: fields 3\n",
+            ..faulty
+        },
+        Case {
+            stream: "1 x a y\n\n# no tuple\n2 y b z\nt y b w",
+            errors: "rpq: stream 1 line 5: time\n",
+            ..faulty
+        },
+        Case {
+            stream: "1 x a y\n2 y b z\n3 y b w *\n",
+            errors: "rpq: stream 1 line 3: operation\n",
+            ..faulty
+        },
+        Case {
+            errors: "rpq: stream 1 line 2: time range\n",
+            ..Case {
+                status: 4,
+                ..short(
+                    "4611686018427387903 x a y\n4611686018427387904 x a y\n",
+                    "@1 1 4611686018427387903 x a y +\n+ q x y\n",
+                )
+            }
+        },
+    ];
+    assert!(rt; hold_in_pieces(&rt, rt.alloc(), &cases)?);
     Ok(())
 }
 
-#[test]
-fn older_insert_after_delete(rt: HostRuntime) -> Result<(), Fail> {
-    let files = (SHORT_WINDOW, "9 x a y\n9 x a y -\n5 x a y\n");
-    let events = "@1 1 9 x a y +\n+ q x y\n@2 1 9 x a y -\n- q x y\n@3 1 5 x a y +\n+ q x y\n";
-    assert!(rt; writes(&rt, rt.alloc(), files, 0, events)?);
-    assert!(rt; ends_as_its_lines_say(&rt, rt.alloc(), files)?);
-    Ok(())
-}
-
-#[test]
-fn late_insert_out_of_window(rt: HostRuntime) -> Result<(), Fail> {
-    let files = (SHORT_WINDOW, "20\n1 x a y\n");
-    assert!(rt; writes(&rt, rt.alloc(), files, 0, "@1 1 20\n@2 1 1 x a y +\n")?);
-    assert!(rt; ends_as_its_lines_say(&rt, rt.alloc(), files)?);
-    Ok(())
-}
-
-#[test]
-fn delete_of_absent_edge(rt: HostRuntime) -> Result<(), Fail> {
-    let files = (SHORT_WINDOW, "3 x a y -\n");
-    assert!(rt; writes(&rt, rt.alloc(), files, 0, "@1 1 3 x a y -\n")?);
-    assert!(rt; ends_as_its_lines_say(&rt, rt.alloc(), files)?);
-    Ok(())
-}
-
-#[test]
-fn delete_takes_both_occurrences(rt: HostRuntime) -> Result<(), Fail> {
-    let files = (SHORT_WINDOW, "1 x a y\n2 x a y\n3 x a y -\n");
-    let events = "@1 1 1 x a y +\n+ q x y\n@2 1 2 x a y +\n@3 1 3 x a y -\n- q x y\n";
-    assert!(rt; writes(&rt, rt.alloc(), files, 0, events)?);
-    assert!(rt; ends_as_its_lines_say(&rt, rt.alloc(), files)?);
-    Ok(())
-}
-
-#[test]
-fn faulty_line_ends_stream(rt: HostRuntime) -> Result<(), Fail> {
-    let files = (SEQUENCE, "1 x a y\n2 y b z\nx a y\n4 y b w\n");
-    let events = "@1 1 1 x a y +\n@2 1 2 y b z +\n+ q x z\n";
-    let case = without_faults(files.0, files.1);
-    assert!(rt; writes(&rt, rt.alloc(), files, 4, events)?);
-    assert!(rt;
-        tells(
-            &rt,
-            rt.alloc(),
-            case,
-            4,
-            events,
-            "rpq: stream 1 line 3: fields 3\n"
-        )?
-    );
-    assert!(rt; ends_as_its_lines_say(&rt, rt.alloc(), files)?);
-    Ok(())
-}
-
-#[test]
-fn greatest_time(rt: HostRuntime) -> Result<(), Fail> {
-    let stream = "4611686018427387903 x a y\n4611686018427387904 x a y\n";
-    let events = "@1 1 4611686018427387903 x a y +\n+ q x y\n";
-    let case = without_faults(SHORT_WINDOW, stream);
-    assert!(rt;
-        tells(
-            &rt,
-            rt.alloc(),
-            case,
-            4,
-            events,
-            "rpq: stream 1 line 2: time range\n"
-        )?
-    );
-    assert!(rt; writes(&rt, rt.alloc(), (SHORT_WINDOW, stream), 4, events)?);
-    assert!(rt; ends_as_its_lines_say(&rt, rt.alloc(), (SHORT_WINDOW, stream))?);
-    Ok(())
-}
-
-/// A line of these bytes before and after so many of a letter.
-fn line_with(
+/// These texts, with so many copies of the one in the middle.
+fn text_with(
     alloc: Global,
     before: &str,
-    letters: usize,
+    middle: &str,
+    count: usize,
     after: &str,
 ) -> Result<String, AllocError> {
-    let long = "n".repeat(alloc, letters)?;
-    let mut line = String::from_str(alloc, before)?;
-    line.push_str(&long)?;
-    line.push_str(after)?;
-    Ok(line)
+    let copies = middle.repeat(alloc, count)?;
+    let mut text = String::from_str(alloc, before)?;
+    text.push_str(&copies)?;
+    text.push_str(after)?;
+    Ok(text)
+}
+
+/// Whether a stream of one line, with so many copies of the text in its middle, ends with this
+/// status and tells this.
+fn line_ends<R>(
+    rt: &R,
+    alloc: Global,
+    line: (&str, &str, usize, &str),
+    status: u8,
+    errors: &str,
+) -> Result<bool, Fail> {
+    let stream = text_with(alloc, line.0, line.1, line.2, line.3)?;
+    let case = Case {
+        status,
+        errors,
+        ..short(stream.as_str(), "")
+    };
+    holds(rt, alloc, &case)
 }
 
 #[test]
-fn name_limits(rt: HostRuntime) -> Result<(), Fail> {
+fn limits_of_a_line(rt: HostRuntime) -> Result<(), Fail> {
     let alloc = rt.alloc();
-    let longest = line_with(alloc, "1 ", 255, " a y\n")?;
-    let longer = line_with(alloc, "1 ", 256, " a y\n")?;
-    let most = without_faults(SHORT_WINDOW, longest.as_str());
-    let more = without_faults(SHORT_WINDOW, longer.as_str());
-    assert!(rt; stops(&rt, alloc, most, StreamEnd::Whole)?);
-    assert!(rt; tells(&rt, alloc, more, 4, "", "rpq: stream 1 line 1: name 2\n")?);
+    assert!(rt; line_ends(&rt, alloc, ("#", "n", 1023, "\n"), 0, "")?);
+    let long = "rpq: stream 1 line 1: too long\n";
+    assert!(rt; line_ends(&rt, alloc, ("#", "n", 1024, "\n"), 4, long)?);
+    let name = "rpq: stream 1 line 1: name 2\n";
+    assert!(rt; line_ends(&rt, alloc, ("1 ", "n", 256, " a y\n"), 4, name)?);
     Ok(())
 }
 
+/// Whether a query of one label more than so many, over no tuple, ends with this status and tells
+/// this.
+fn labels_end<R>(
+    rt: &R,
+    alloc: Global,
+    more: usize,
+    status: u8,
+    errors: &str,
+) -> Result<bool, Fail> {
+    let before = "query q window 100 slide 10 arbitrary: ";
+    let queries = text_with(alloc, before, "a/", more, "a\n")?;
+    let case = Case {
+        queries: queries.as_str(),
+        status,
+        errors,
+        ..sequence("", "")
+    };
+    holds(rt, alloc, &case)
+}
+
 #[test]
-fn line_limits(rt: HostRuntime) -> Result<(), Fail> {
+fn limits_of_a_query(rt: HostRuntime) -> Result<(), Fail> {
     let alloc = rt.alloc();
-    let longest = line_with(alloc, "#", 1023, "\n")?;
-    let longer = line_with(alloc, "#", 1024, "\n")?;
-    let most = without_faults(SHORT_WINDOW, longest.as_str());
-    let more = without_faults(SHORT_WINDOW, longer.as_str());
-    assert!(rt; tells(&rt, alloc, most, 0, "", "")?);
-    assert!(rt; stops(&rt, alloc, more, StreamEnd::LongLine { line: 1 })?);
-    assert!(rt; tells(&rt, alloc, more, 4, "", "rpq: stream 1 line 1: too long\n")?);
+    assert!(rt; labels_end(&rt, alloc, 63, 0, "")?);
+    assert!(rt; labels_end(&rt, alloc, 64, 9, "rpq: not yet\n")?);
     Ok(())
 }

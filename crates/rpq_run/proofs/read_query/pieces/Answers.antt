@@ -6,4 +6,5 @@ use Rattle.rpq_run.proofs.read_query.pieces.Goals as goal
 pub returns : goal.returns
 returns c =
     map_from_collect _ c.collect.ensures.ran
-    (YieldsList-from_slice_split _ (λ byte. eqb byte 47) c.args.expression.now (cc) (cc) c.split.ensures.closure (λ x b q k. search (rules, tests)))
+    (YieldsList-from_slice_split _ (λ byte. eqb byte 47) c.args.text.now (cc)
+    (cc) c.split.ensures.closure (λ x b q k. search (rules, tests)))

@@ -3,12 +3,11 @@ use Rattle.std.specs.Prelude.{option_to_list, OnOk, IfSome}
 use Rattle.std.proofs.lemmas.Result.{IfOk-weaker, IfErr-weaker}
 use Rattle.rpq_base.specs.declared.data.Tuple.{Tuple}
 use Rattle.rpq_io.specs.declared.fault.LineFault.{LineFault}
-use Rattle.rpq_io.specs.Reader.{source_of, byte_cap_of}
 use Rattle.tuple_text.specs.Reading.{line_tuple}
 use Rattle.rpq_run.specs.declared.report.StreamEnd.{StreamEnd}
 use Rattle.rpq_run.specs.declared.report.StreamEnd.TheVariants.{Line, LongLine, Memory}
-use Rattle.rpq_run.specs.StreamText.{line_limit}
-use Rattle.rpq_run.specs.History.{AreTuplesAt}
+use Rattle.rpq_run.specs.Limits.{line_limit}
+use Rattle.rpq_run.specs.History.{AreTuplesOfEnd}
 use Rattle.rpq_run.specs.Ends.{IsFaultOf}
 use Rattle.rpq_run.specs.Progress.{HasRead}
 use Rattle.rpq_run.proofs.Reading.{short_line, goes_forward, gives_good, gives_bad, ends_whole, ends_long_line, ends_long_stream, ends_read, ends_memory, ends_front}
@@ -22,7 +21,8 @@ pub tuple_of_line-requires : goal.tuple_of_line-requires
 tuple_of_line-requires g c =
     let n = c.next_line.ensures in
     let gives = rw c.in-Ok-Some.field-0-is at c.in-Ok-Some.ensures.line in
-    let short = short_line g.S.Source.left c.args.reader.now c.next_line.new.self c.requires n.line_cap n.byte_cap n.fewer n.within n.over n.before_cap n.unread c.in-Ok-Some.line.items gives in
+    let short = short_line g.S.Source.left g.S.Source.has_told_end c.args.reader.now
+    c.next_line.new.self c.requires n.sound n.unread c.in-Ok-Some.line.items gives in
     subst (λ (line : List ℕ). length line ≤ line_limit) (sym c.deref.ensures.value) short
 
 pub returns-in-Ok-Some-clause-forward : goal.returns-in-Ok-Some-clause-forward
@@ -30,7 +30,8 @@ returns-in-Ok-Some-clause-forward g c =
     let n = c.next_line.ensures in
     let gives = rw c.in-Ok-Some.field-0-is at c.in-Ok-Some.ensures.line in
     on_ok c.tuple_of_line.result
-    (goes_forward g.S.Source.left c.args.reader.now c.next_line.new.self c.requires n.line_cap n.byte_cap n.fewer n.within n.over n.before_cap n.unread c.in-Ok-Some.line.items gives)
+    (goes_forward g.S.Source.left g.S.Source.has_told_end c.args.reader.now c.next_line.new.self
+    c.requires n.sound n.unread c.in-Ok-Some.line.items gives)
 
 pub returns-in-Ok-Some-clause-ok : goal.returns-in-Ok-Some-clause-ok
 returns-in-Ok-Some-clause-ok g c =
@@ -41,8 +42,10 @@ returns-in-Ok-Some-clause-ok g c =
     let gives = rw c.in-Ok-Some.field-0-is at c.in-Ok-Some.ensures.line in
     IfOk-weaker c.tuple_of_line.result
     (λ found. line_tuple c.deref.result.now ≡ Ok found)
-    (λ found. (file : Option (List ℕ)) (tuples : List Tuple) → HasRead left file tuples old → HasRead left file (tuples ++ option_to_list found) new)
-    (λ found good. gives_good left old new c.requires n.line_cap n.byte_cap n.fewer n.within n.over n.before_cap n.unread c.in-Ok-Some.line.items gives found
+    (λ found. (file : Option (List ℕ)) (tuples : List Tuple) → HasRead left file tuples old
+    → HasRead left file (tuples ++ option_to_list found) new)
+    (λ found good. gives_good left g.S.Source.has_told_end old new c.requires n.sound n.unread
+    c.in-Ok-Some.line.items gives found
     (ap line_tuple (sym c.deref.ensures.value) ∙ good))
     c.tuple_of_line.ensures.ok
 
@@ -53,14 +56,19 @@ returns-in-Ok-Some-clause-err g c =
     let new = c.next_line.new.self in
     let n = c.next_line.ensures in
     let gives = rw c.in-Ok-Some.field-0-is at c.in-Ok-Some.ensures.line in
-    let At : Option (List ℕ) → List Tuple → StreamEnd → Type 0 = λ file tuples end. IfSome file (λ text. AreTuplesAt (byte_cap_of new) text (left (source_of new)) tuples end) in
+    let At : Option (List ℕ) → List Tuple → StreamEnd
+    → Type 0 = λ file tuples end. IfSome file
+    (λ text. AreTuplesOfEnd new.byte_limit text (left new.source) tuples end) in
     IfErr-weaker c.tuple_of_line.result
     (λ end. (end ≡ Memory) ⊎ IsFaultOf c.lines.result (line_tuple c.deref.result.now) end)
     (λ end. (file : Option (List ℕ)) (tuples : List Tuple) → HasRead left file tuples old → At file tuples end)
     (λ end which file tuples read. elim which [
-      | inl none ↦ subst (At file tuples) (sym none) (ends_front left old new c.requires n.line_cap n.byte_cap n.fewer n.within n.over n.before_cap n.unread file tuples read gives.bytes gives.had)
+      | inl none ↦ subst (At file tuples) (sym none)
+          (ends_front left g.S.Source.has_told_end old new c.requires n.sound n.unread file tuples
+          read gives.bytes gives.had)
       | inr fault ↦
-          let bad = gives_bad left old new c.requires n.line_cap n.byte_cap n.fewer n.within n.over n.before_cap n.unread c.in-Ok-Some.line.items gives fault.0
+          let bad = gives_bad left g.S.Source.has_told_end old new c.requires n.sound n.unread
+          c.in-Ok-Some.line.items gives fault.0
           (ap line_tuple (sym c.deref.ensures.value) ∙ fault.2) file tuples read in
           subst (At file tuples) (sym (fault.1 ∙ ap (λ n. Line n fault.0) c.lines.ensures)) bad
     ])
@@ -70,12 +78,14 @@ pub returns-in-Ok-None-clause-err : goal.returns-in-Ok-None-clause-err
 returns-in-Ok-None-clause-err g c = λ file tuples read.
     let n = c.next_line.ensures in
     let ends = rw c.in-Ok-None.field-0-is at c.in-Ok-None.ensures.none in
-    ends_whole g.S.Source.left c.args.reader.now c.next_line.new.self c.requires n.line_cap n.byte_cap n.fewer n.within n.over n.before_cap n.unread file tuples read ends
+    ends_whole g.S.Source.left g.S.Source.has_told_end c.args.reader.now c.next_line.new.self
+    c.requires n.sound n.unread file tuples read ends
 
 pub returns-in-Err-Read-clause-err : goal.returns-in-Err-Read-clause-err
 returns-in-Err-Read-clause-err g c = λ file tuples read.
     let n = c.next_line.ensures in
-    ends_read g.S.Source.left c.args.reader.now c.next_line.new.self c.requires n.line_cap n.byte_cap n.fewer n.within n.over n.before_cap n.unread file tuples read c.in-Err-Read.ensures.err
+    ends_read g.S.Source.left g.S.Source.has_told_end c.args.reader.now c.next_line.new.self
+    c.requires n.sound n.unread file tuples read c.in-Err-Read.ensures.err
     (n.read_on (c.in-Err-Read.is ∙ ap (λ (f : LineFault). Err f) c.in-Err-Read.field-0-is))
 
 pub returns-in-Err-LongLine-clause-err : goal.returns-in-Err-LongLine-clause-err
@@ -84,17 +94,22 @@ returns-in-Err-LongLine-clause-err g c = λ file tuples read.
     let new = c.next_line.new.self in
     let n = c.next_line.ensures in
     let long = n.long_line (c.in-Err-LongLine.is ∙ ap (λ (f : LineFault). Err f) c.in-Err-LongLine.field-0-is) in
-    subst (λ number. IfSome file (λ text. AreTuplesAt (byte_cap_of new) text (left (source_of new)) tuples (LongLine (number + 1)))) (sym c.lines-in-Err-LongLine.ensures)
-    (ends_long_line left c.args.reader.now new c.requires n.line_cap n.byte_cap n.fewer n.within n.over n.before_cap n.unread file tuples read c.in-Err-LongLine.ensures.err long)
+    subst (λ number. IfSome file (λ text. AreTuplesOfEnd new.byte_limit text
+    (left new.source) tuples (LongLine (number + 1)))) (sym c.lines-in-Err-LongLine.ensures)
+    (ends_long_line left g.S.Source.has_told_end c.args.reader.now new c.requires n.sound n.unread
+    file tuples read c.in-Err-LongLine.ensures.err long.long)
 
 pub returns-in-Err-LongStream-clause-err : goal.returns-in-Err-LongStream-clause-err
 returns-in-Err-LongStream-clause-err g c = λ file tuples read.
     let n = c.next_line.ensures in
-    let long = n.long_stream (c.in-Err-LongStream.is ∙ ap (λ (f : LineFault). Err f) c.in-Err-LongStream.field-0-is) in
-    ends_long_stream g.S.Source.left c.args.reader.now c.next_line.new.self c.requires n.line_cap n.byte_cap n.fewer n.within n.over n.before_cap n.unread file tuples read
+    let long = n.long_stream (c.in-Err-LongStream.is
+    ∙ ap (λ (f : LineFault). Err f) c.in-Err-LongStream.field-0-is) in
+    ends_long_stream g.S.Source.left g.S.Source.has_told_end c.args.reader.now c.next_line.new.self
+    c.requires n.sound n.unread file tuples read
     c.in-Err-LongStream.ensures.err long
 
 pub returns-in-Err-Memory-clause-err : goal.returns-in-Err-Memory-clause-err
 returns-in-Err-Memory-clause-err g c = λ file tuples read.
     let n = c.next_line.ensures in
-    ends_memory g.S.Source.left c.args.reader.now c.next_line.new.self c.requires n.line_cap n.byte_cap n.fewer n.within n.over n.before_cap n.unread file tuples read c.in-Err-Memory.ensures.err
+    ends_memory g.S.Source.left g.S.Source.has_told_end c.args.reader.now c.next_line.new.self
+    c.requires n.sound n.unread file tuples read c.in-Err-Memory.ensures.err

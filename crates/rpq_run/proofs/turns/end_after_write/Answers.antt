@@ -1,6 +1,5 @@
 use Rattle.std.proofs.Common.{[], ◌∷◌, ◌++◌}
 use Rattle.std.proofs.lemmas.Option.{IfSome_then}
-use Rattle.rpq_io.specs.Reader.{byte_cap_of}
 use Rattle.rpq_run.specs.StreamText.{tuples_from}
 use Rattle.rpq_run.proofs.Reading.{front_of}
 use Rattle.rpq_run.proofs.Feeding.{proper_from}
@@ -10,5 +9,6 @@ pub returns-clause-tuples : goal.returns-clause-tuples
 returns-clause-tuples g c = λ file tuples read.
     let new = c.next_tuple.new.reader in
     let tuple = c.in_default.field-0 in
-    IfSome_then file (front_of g.S.Source.left file (tuples ++ tuple ∷ []) new c.in_default.ensures.sound (c.in_default.ensures.ok file tuples read))
-    (λ text front. proper_from tuples tuple (tuples_from 1 (byte_cap_of new) text).tuples front)
+    IfSome_then file (front_of g.S.Source.left file
+    (tuples ++ tuple ∷ []) new c.in_default.ensures.sound (c.in_default.ensures.ok file tuples read))
+    (λ text front. proper_from tuples tuple (tuples_from 1 new.byte_limit text).tuples front)

@@ -1,0 +1,28 @@
+use Rattle.std.proofs.Common.{◌≡◌, ◌≤◌, ◌-◌, [], ◌∷◌, length}
+use Rattle.std.specs.List.{All}
+use Rattle.rpq_base.specs.Plain.{IsPlain}
+use Rattle.rpq_run.specs.Progress.{IsStreamReader, IsInStep, passed}
+use Rattle.rpq_run.specs.Text.{IsText}
+use Rattle.rpq_run.specs.Turns.{StandsFor}
+use Rattle.rpq_run.specs.Written.{Grew}
+use Rattle.rpq_run.proofs.run_stream.run_stream.Given as goal
+
+-- the history has the tuples that were read, its text is written, and nothing failed
+abbrev pub invariant-loop-end : goal.invariant-loop-end
+invariant-loop-end g l = record {
+  sound : IsStreamReader g.S.Source.left l.reader;
+  in_step : IsInStep g.S.Source.left (g.S.Source.left l.fn.reader.source) l.history.items l.reader;
+  query : l.evaluator.query ≡ l.fn.query;
+  stands : StandsFor l.evaluator l.history.items;
+  plain : All IsPlain l.history.items;
+  few : length l.history.items ≤ l.limit;
+  written : Grew (IsText (l.fn.query ∷ []) l.history.items) (g.K.Sink.written l.fn.events)
+      (g.K.Sink.written l.events);
+  read_quietly : g.S.Source.faults l.reader.source ≡ g.S.Source.faults l.fn.reader.source;
+  written_quietly : g.K.Sink.faults l.events ≡ g.K.Sink.faults l.fn.events;
+  limits : l.reader.byte_limit ≡ l.fn.reader.byte_limit;
+}
+
+-- how many bytes may still be given
+abbrev pub decreases-loop-end : goal.decreases-loop-end
+decreases-loop-end g l = l.reader.byte_limit - passed l.reader

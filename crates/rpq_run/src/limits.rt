@@ -1,0 +1,16 @@
+//! How much is taken: of a file, of a line, of a stream, of a history and of an expression.
+
+/// A file that is read whole has fewer bytes than this.
+pub const FILE_LIMIT: u64 = 1 << 24;
+
+/// The most bytes of a line of a stream before its line feed, its carriage return counted.
+pub const LINE_LIMIT: usize = 1024;
+
+/// A stream has fewer bytes than this.
+pub const BYTE_LIMIT: u64 = 1 << 40;
+
+/// The most entries of a history.
+pub const HISTORY_LIMIT: usize = 1_000_000;
+
+/// The most labels of an expression.
+pub const LABEL_LIMIT: usize = 64;

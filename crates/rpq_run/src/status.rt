@@ -1,0 +1,22 @@
+//! The statuses with which a run ends.
+
+/// The stream was read to its end.
+pub const DONE: u8 = 0;
+
+/// A line of the stream is faulty or too long.
+pub const LINE: u8 = 4;
+
+/// A file couldn't be opened or read.
+pub const READ: u8 = 5;
+
+/// A write of the events failed.
+pub const WRITE: u8 = 6;
+
+/// The history is full, or the stream or the queries file has too many bytes.
+pub const LIMIT: u8 = 7;
+
+/// Memory ran out.
+pub const MEMORY: u8 = 8;
+
+/// The words or the queries file aren't of the form that is taken so far.
+pub const NOT_YET: u8 = 9;

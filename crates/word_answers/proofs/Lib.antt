@@ -1,4 +1,0 @@
-mod Existence
-mod Found
-mod Joins
-mod Paths
