@@ -3,7 +3,7 @@ use Rattle.std.proofs.Common.{◌≡◌, ℕ, zero, suc, ◌+◌, ◌^◌, ◌<�
 use Rattle.std.specs.Prelude.{◌↔◌, IsTrue}
 use Rattle.std.specs.List.Sorted.{IsStrictlySortedBy}
 use Rattle.std.proofs.lemmas.Bool.{cases_lt}
-use Rattle.std.proofs.lemmas.List.{get_or_past}
+use Rattle.std.proofs.lemmas.List.{get_or_past, length-map}
 use Rattle.std.proofs.lemmas.List.Elements.{All-from_get_or}
 use Rattle.std.proofs.lemmas.Option.{none-some, same_Some}
 use Rattle.rpq_base.specs.declared.data.Label.{Label}
@@ -12,7 +12,9 @@ use Rattle.dfa_table.specs.DfaValue.{IsDfa}
 use Rattle.dfa_build.specs.declared.position_set.PositionSet.{PositionSet}
 use Rattle.dfa_build.specs.PositionSet.{has}
 use Rattle.dfa_build.specs.Positions.{PositionsValue, ArePositions}
-use Rattle.dfa_build.specs.StateSets.{set_at, AreSetsOf, IsStepTo, IsRow, AreRows}
+use Rattle.dfa_table.specs.Discovery.{node_at}
+use Rattle.dfa_build.specs.StateSets.{set_at, AreSetsOf, IsStepTo, IsRow, AreRows, set_of, sets_of}
+use Rattle.dfa_build.proofs.Found.{set_read}
 use Rattle.dfa_build.proofs.Moves.{AreMoves}
 use Rattle.dfa_build.proofs.Runs.{IsSubsetDfa}
 
@@ -81,16 +83,20 @@ subset_dfa positions labels finals first last follow masks sets rows moves are s
       subst Q (add-one place) (final place below);
 }
 
--- the same from lists that are passed on
-pub passed_on : (positions : PositionsValue) (labels : List Label) (finals : List Bool) (first last : PositionSet) (follow masks sets follow_passed masks_passed sets_passed : List PositionSet)
-    (rows : List (List (Option ℕ))) → ArePositions positions → AreSetsOf positions labels first last follow masks →
-    follow_passed ≡ follow → masks_passed ≡ masks → sets_passed ≡ sets → AreRows follow_passed masks_passed first sets rows (length sets) →
-    get_or finals 0 false ≡ false →
-    ((place : ℕ) → place < length sets_passed → IsTrue (get_or finals (place + 1) false) ↔ ((position : ℕ) × IsTrue (has (set_at sets_passed place) position) × IsTrue (has last position))) →
-    IsSubsetDfa positions first last follow masks sets (record { labels = labels; rows = rows; finals = finals })
-passed_on positions labels finals first last follow masks sets follow_passed masks_passed sets_passed rows are of_positions same_follow same_masks same_sets states start final =
-    subset_dfa positions labels finals first last follow masks sets rows (record { are = are; sets = of_positions })
-    (subst (λ (f : List PositionSet). AreRows f masks first sets rows (length sets)) same_follow
-    (subst (λ (m : List PositionSet). AreRows follow_passed m first sets rows (length sets)) same_masks states))
-    start
-    (subst (λ (s : List PositionSet). (place : ℕ) → place < length s → IsTrue (get_or finals (place + 1) false) ↔ ((position : ℕ) × IsTrue (has (set_at s place) position) × IsTrue (has last position))) same_sets final)
+-- the set of the node at the place has one of the last positions
+abbrev pub IsFinalNode : List ℕ → PositionSet → ℕ → Type 0
+IsFinalNode nodes last place = (position : ℕ) × IsTrue (has (set_of (node_at nodes place)) position) × IsTrue (has last position)
+
+-- the same from nodes that are passed on
+pub passed_on : (positions : PositionsValue) (labels : List Label) (finals : List Bool) (first last : PositionSet) (follow masks : List PositionSet)
+    (nodes passed : List ℕ) (rows : List (List (Option ℕ))) → ArePositions positions → AreSetsOf positions labels first last follow masks →
+    passed ≡ nodes → AreRows follow masks first (sets_of nodes) rows (length (sets_of nodes)) → get_or finals 0 false ≡ false →
+    ((place : ℕ) → place < length passed → IsTrue (get_or finals (place + 1) false) ↔ IsFinalNode passed last place) →
+    IsSubsetDfa positions first last follow masks (sets_of nodes) (record { labels = labels; rows = rows; finals = finals })
+passed_on positions labels finals first last follow masks nodes passed rows are of_positions same states start final =
+    let P : List ℕ → Type 0 = λ all. (place : ℕ) → place < length all → IsTrue (get_or finals (place + 1) false) ↔ IsFinalNode all last place in
+    subset_dfa positions labels finals first last follow masks (sets_of nodes) rows (record { are = are; sets = of_positions }) states start
+    (λ place below.
+    let within : place < length nodes = omega (arith, below, length-map nodes set_of) in
+    let Q : PositionSet → Type 0 = λ set. IsTrue (get_or finals (place + 1) false) ↔ ((position : ℕ) × IsTrue (has set position) × IsTrue (has last position)) in
+    subst Q (sym (set_read nodes place within)) (subst P same final place within))

@@ -2,7 +2,7 @@ pub mod Accepting
 pub mod Assembled
 pub mod Counting
 pub mod Filling
-pub mod Growth
+pub mod Found
 pub mod Local
 pub mod Meanings
 pub mod Members
@@ -15,6 +15,5 @@ pub mod Rows
 pub mod Runs
 pub mod SetMembers
 pub mod Sets
-pub mod Table
 pub mod Theorem
 pub mod Words

@@ -1,12 +1,13 @@
 -- The sets of positions that are states, as the construction keeps them: the state of number n + 1
 -- is the set at place n. No public contract cites this file.
-use Rattle.std.specs.Prelude.{◌≡◌, ◌≢◌, ℕ, zero, suc, ◌<◌, ◌≤◌, ◌↔◌, ◌&&◌, false, List, [], length, slice_index_or, All, IsTrue, Option, Some, None, Contains}
+use Rattle.std.specs.Prelude.{◌≡◌, ◌≢◌, ℕ, zero, suc, ◌<◌, ◌≤◌, ◌↔◌, ◌&&◌, false, List, [], length, map, slice_index_or, All, IsTrue, Option, Some, None, Contains}
 use Rattle.std.specs.List.{AllPairs, slice_get}
 use Rattle.rpq_base.specs.declared.data.Label.{Label}
 use Rattle.dfa_build.specs.declared.position_set.PositionSet.{PositionSet}
 use Rattle.dfa_build.specs.PositionSet.{has}
 use Rattle.dfa_build.specs.Positions.{PositionsValue, next_of}
 use Rattle.dfa_table.specs.Order.{IsInOrder, greatest_of, all_steps}
+use Rattle.dfa_table.specs.Discovery.{GraphValue}
 
 -- the set at the place
 abbrev pub set_at : List PositionSet → ℕ → PositionSet
@@ -42,11 +43,6 @@ pub record AreSetsOf (positions : PositionsValue) (labels : List Label)
   pub starts : (position : ℕ) → IsTrue (has first position) ↔ Contains positions.first position
   pub ends : (position : ℕ) → IsTrue (has last position) ↔ Contains positions.last position
 
--- the number of the state of the set
-abbrev pub IsNumberOf : List PositionSet → PositionSet → ℕ → Type 0
-IsNumberOf sets set zero = ⊥
-IsNumberOf sets set (suc place) = (place < length sets) × (set_at sets place ≡ set)
-
 -- the step of a state to the cut: to the set that is it, or none where it is empty
 abbrev pub IsStepTo : List PositionSet → PositionSet → PositionSet → Option ℕ → Type 0
 IsStepTo sets reach mask None = (position : ℕ) → (has reach position && has mask position) ≡ false
@@ -68,25 +64,6 @@ pub record IsOneCut (reach : PositionSet) (masks : List PositionSet) (set : Posi
   pub place : ℕ
   pub within : place < length masks
   pub cut : IsCut reach (set_at masks place) set
-
--- the sets after a part of a row was made: those before it, and new ones, which are cuts; all
--- distinct, and at most 512
-pub record Grows (reach : PositionSet) (masks : List PositionSet)
-    (before after : List PositionSet) : Type 0 where
-  pub longer : length before ≤ length after
-  pub few : length after ≤ 512
-  pub kept : (place : ℕ) → place < length before → set_at after place ≡ set_at before place
-  pub cuts : (place : ℕ) → length before ≤ place → place < length after →
-      IsOneCut reach masks (set_at after place)
-  pub apart : AllPairs ◌≢◌ after
-
--- 512 sets are there, and one cut isn't among them
-pub record IsFull (reach : PositionSet) (masks : List PositionSet) (sets : List PositionSet)
-    : Type 0 where
-  pub full : length sets ≡ 512
-  pub further : PositionSet
-  pub cut : IsOneCut reach masks further
-  pub new : Contains sets further → ⊥
 
 -- the sets that the construction finds: the cuts of the first positions, and the cuts of what a
 -- found set leads to
@@ -123,3 +100,27 @@ pub record HasTooMany (follow masks : List PositionSet) (first : PositionSet) : 
   pub many : length sets ≡ 513
   pub apart : AllPairs ◌≢◌ sets
   pub found : All (IsFound follow masks first) sets
+
+-- ---- the sets as nodes of a walk
+
+-- the set of the node
+abbrev pub set_of : ℕ → PositionSet
+set_of node = record { bits = node }
+
+-- the sets of the nodes
+abbrev pub sets_of : List ℕ → List PositionSet
+sets_of nodes = map set_of nodes
+
+-- where a mask leads: to the cut, or to none where it is empty
+abbrev pub LeadsTo : PositionSet → PositionSet → Option ℕ → Type 0
+LeadsTo reach mask None = (position : ℕ) → (has reach position && has mask position) ≡ false
+LeadsTo reach mask (Some node) = HasSome (set_of node) × IsCut reach mask (set_of node)
+
+-- the graph of the sets: a set opens to what its members lead to, and of that the mask of a label
+-- leads to the cut
+abbrev pub set_graph : List PositionSet → List PositionSet → GraphValue
+set_graph follow masks = record {
+  label_count = length masks;
+  opens = λ node front. IsAfter follow (set_of node) (set_of front);
+  leads = λ front label node. LeadsTo (set_of front) (set_at masks label) node;
+}

@@ -1,9 +1,10 @@
 //! Why no automaton is built.
 
 ghost use Rattle.std.specs.Prelude.{◌≡◌, Some};
-ghost use Rattle.dfa_build.specs.FaultTexts.{build_fault_text};
+ghost use Rattle.dfa_build.specs.FaultTexts.{build_fault_text, build_fault_of};
 ghost use Rattle.dfa_build.specs.declared.fault.BuildFault.{BuildFault};
 
+use dfa_table::discovery::DiscoveryFault;
 use rpq_base::Memory;
 use std::alloc::{AllocError, AllocFailed};
 use std::error::Error;
@@ -41,6 +42,17 @@ impl<T: Drop> From<AllocFailed<T>> for BuildFault {
 
     fn from(_: AllocFailed<T>) -> Self {
         Self::Memory
+    }
+}
+
+impl From<DiscoveryFault> for BuildFault {
+    ghost from_gives = { λ fault built. built ≡ build_fault_of fault };
+
+    fn from(fault: DiscoveryFault) -> Self {
+        match fault {
+            DiscoveryFault::Full => Self::TooManyStates,
+            DiscoveryFault::Memory => Self::Memory,
+        }
     }
 }
 

@@ -20,6 +20,20 @@ impl PositionSet {
         PositionSet { bits: 0 }
     }
 
+    /// The set with these bits.
+    pub const fn from_bits(bits: u64) -> PositionSet
+        ensures { result.bits ≡ bits }
+    {
+        PositionSet { bits }
+    }
+
+    /// The bits of the set.
+    pub const fn bits(self) -> u64
+        ensures { result ≡ self.bits }
+    {
+        self.bits
+    }
+
     /// The set of this position alone.
     pub fn of(position: u32) -> PositionSet
         requires { position < 64 }

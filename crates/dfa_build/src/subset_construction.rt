@@ -31,12 +31,7 @@ pub fn subset(alloc: Global, positions: &Positions) -> Result<Dfa, BuildFault>
     ensures atoms { (n : ℕ) → result ≢ Err (BuildFault.TooManyLabels n) }
 {
     let of_positions = PositionSets::of(alloc, positions)?;
-    let states = find_states(
-        alloc,
-        of_positions.first,
-        &of_positions.follow,
-        &of_positions.masks,
-    )?;
-    let finals = finals_of(alloc, &states.sets, of_positions.last)?;
+    let states = find_states(alloc, &of_positions)?;
+    let finals = finals_of(alloc, &states.nodes, of_positions.last)?;
     Ok(Dfa::new(alloc, of_positions.labels, states.rows, finals)?)
 }

@@ -1,6 +1,7 @@
-pub mod Numbering
 mod OneStep
+mod Rows
+pub mod Numbering
 pub mod Order
 pub mod Places
-mod Rows
 pub mod Runs
+pub mod Walk

@@ -3,3 +3,5 @@ pub mod Table
 pub mod Runs
 pub mod Order
 pub mod Laws
+pub mod Discovery
+pub mod FaultTexts

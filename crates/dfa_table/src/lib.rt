@@ -6,10 +6,12 @@
 //! that contracts see, within its range, and takes no memory; a step is one index into a flat
 //! table. `specs/Runs` defines the state that a word leads to, by labels and by their numbers,
 //! and the words that are accepted; `specs/Order` the order in which a search from the start
-//! discovers the states.
+//! discovers the states. [`discovery::discover`] is such a search, for whoever builds an automaton:
+//! it numbers the nodes of any graph in that order, up to a limit, and makes the rows.
 #![tactic(auto)]
 
 mod dfa;
+pub mod discovery;
 mod laws;
 
 pub use dfa::Dfa;

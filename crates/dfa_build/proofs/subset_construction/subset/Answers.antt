@@ -1,9 +1,9 @@
-use Rattle.std.proofs.Common.{ℕ, List, length, map, Option, Vec, Global, Err, ap, subst, sym, ◌∙◌, arith}
+use Rattle.std.proofs.Common.{ℕ, List, length, map, Option, Vec, Global, Err, ap, subst, sym, arith}
 use Rattle.dfa_table.specs.DfaValue.{IsDfa}
-use Rattle.dfa_build.specs.StateSets.{HasTooMany}
+use Rattle.std.proofs.lemmas.List.{length-map}
+use Rattle.dfa_build.specs.StateSets.{set_of, sets_of}
 use Rattle.dfa_build.specs.declared.fault.BuildFault.{BuildFault}
 use Rattle.dfa_build.specs.declared.fault.BuildFault.TheVariants.{TooManyStates}
-use Rattle.dfa_build.specs.declared.position_set.PositionSet.{PositionSet}
 use Rattle.dfa_build.proofs.Assembled.{table_is_dfa, passed_on}
 use Rattle.dfa_build.proofs.Counting.{many_sets, all_sets, few_sets}
 use Rattle.rpq_base.proofs.Outcomes.{handed_on}
@@ -17,20 +17,18 @@ returns-in_err-states-clause-many c = λ is.
     let fault = handed_on c.from_residual-in_err-states.result c.in_err-states.field-0.0 TooManyStates c.from_residual-in_err-states.ensures.1 is in
     let many = c.in_err-states.ensures.full (ap (λ (e : BuildFault). Err e) fault) in
     many_sets c.args.positions.now sets.labels.items sets.first sets.last sets.follow.items sets.masks.items
-    (record { are = c.requires; sets = c.in_ok-of_positions.ensures.sets })
-    (subst (λ (m : List PositionSet). HasTooMany sets.follow.items m sets.first) c.deref-2.ensures.value
-    (subst (λ (f : List PositionSet). HasTooMany f c.deref-2.result.now sets.first) c.deref.ensures.value many))
+    (record { are = c.requires; sets = c.in_ok-of_positions.ensures.sets }) many
 
 pub new-requires : goal.new-requires
 new-requires c =
     let items : Vec (Option ℕ) Global → List (Option ℕ) = λ row. row.items in
     let sets = c.in_ok-of_positions.of_positions in
     let states = c.in_ok-states.states in
-    table_is_dfa sets.labels.items c.in_ok-finals.finals.items c.deref.result.now c.deref-2.result.now sets.first states.sets.items (map items states.rows.items)
+    table_is_dfa sets.labels.items c.in_ok-finals.finals.items sets.follow.items sets.masks.items sets.first (sets_of states.nodes.items) (map items states.rows.items)
     c.in_ok-states.ensures.states c.in_ok-of_positions.ensures.sorted
     (omega (arith, c.in_ok-of_positions.ensures.few, c.requires.few))
-    (ap length c.deref-2.ensures.value ∙ c.in_ok-of_positions.ensures.sets.as_many_masks)
-    (omega (arith, c.in_ok-finals.ensures.length, ap length c.deref-3.ensures.value))
+    c.in_ok-of_positions.ensures.sets.as_many_masks
+    (omega (arith, c.in_ok-finals.ensures.length, ap length c.deref.ensures.value, length-map states.nodes.items set_of))
     c.in_ok-finals.ensures.start
 
 pub returns : goal.returns
@@ -40,27 +38,27 @@ returns c =
     let sets = c.in_ok-of_positions.of_positions in
     let states = c.in_ok-states.states in
     let dfa = c.in_ok-new.field-0 in
-    let whole : IsSubsetDfa positions sets.first sets.last sets.follow.items sets.masks.items states.sets.items dfa =
-    subst (IsSubsetDfa positions sets.first sets.last sets.follow.items sets.masks.items states.sets.items) (sym c.in_ok-new.ensures)
-    (passed_on positions sets.labels.items c.in_ok-finals.finals.items sets.first sets.last sets.follow.items sets.masks.items states.sets.items
-    c.deref.result.now c.deref-2.result.now c.deref-3.result.now (map items states.rows.items) c.requires c.in_ok-of_positions.ensures.sets
-    c.deref.ensures.value c.deref-2.ensures.value c.deref-3.ensures.value c.in_ok-states.ensures.states c.in_ok-finals.ensures.start c.in_ok-finals.ensures.sets) in
+    let whole : IsSubsetDfa positions sets.first sets.last sets.follow.items sets.masks.items (sets_of states.nodes.items) dfa =
+    subst (IsSubsetDfa positions sets.first sets.last sets.follow.items sets.masks.items (sets_of states.nodes.items)) (sym c.in_ok-new.ensures)
+    (passed_on positions sets.labels.items c.in_ok-finals.finals.items sets.first sets.last sets.follow.items sets.masks.items states.nodes.items
+    c.deref.result.now (map items states.rows.items) c.requires c.in_ok-of_positions.ensures.sets c.deref.ensures.value
+    c.in_ok-states.ensures.states c.in_ok-finals.ensures.start c.in_ok-finals.ensures.sets) in
     record {
       automaton = record {
-        accepts = accepts_same positions sets.first sets.last sets.follow.items sets.masks.items states.sets.items dfa whole;
-        sets = state_per_set positions sets.first sets.last sets.follow.items sets.masks.items states.sets.items dfa whole;
+        accepts = accepts_same positions sets.first sets.last sets.follow.items sets.masks.items (sets_of states.nodes.items) dfa whole;
+        sets = state_per_set positions sets.first sets.last sets.follow.items sets.masks.items (sets_of states.nodes.items) dfa whole;
         labels = whole.moves.sets.labels_of_atoms;
         order = whole.rows.order;
         valid = subst IsDfa (sym c.in_ok-new.ensures)
-            (table_is_dfa sets.labels.items c.in_ok-finals.finals.items c.deref.result.now c.deref-2.result.now sets.first states.sets.items (map items states.rows.items)
+            (table_is_dfa sets.labels.items c.in_ok-finals.finals.items sets.follow.items sets.masks.items sets.first (sets_of states.nodes.items) (map items states.rows.items)
             c.in_ok-states.ensures.states c.in_ok-of_positions.ensures.sorted
             (omega (arith, c.in_ok-of_positions.ensures.few, c.requires.few))
-            (ap length c.deref-2.ensures.value ∙ c.in_ok-of_positions.ensures.sets.as_many_masks)
-            (omega (arith, c.in_ok-finals.ensures.length, ap length c.deref-3.ensures.value))
+            c.in_ok-of_positions.ensures.sets.as_many_masks
+            (omega (arith, c.in_ok-finals.ensures.length, ap length c.deref.ensures.value, length-map states.nodes.items set_of))
             c.in_ok-finals.ensures.start);
       };
-      states = all_sets positions sets.first sets.last sets.follow.items sets.masks.items states.sets.items dfa whole;
+      states = all_sets positions sets.first sets.last sets.follow.items sets.masks.items (sets_of states.nodes.items) dfa whole;
       many = λ e. cc;
-      few = few_sets positions sets.first sets.last sets.follow.items sets.masks.items states.sets.items dfa whole;
+      few = few_sets positions sets.first sets.last sets.follow.items sets.masks.items (sets_of states.nodes.items) dfa whole;
       atoms = λ n e. cc;
     }
