@@ -18,8 +18,8 @@ fn words(rt: &HostRuntime, alloc: Global) -> io::Result<Vec<String>> {
 }
 
 /// The end of the program with the report's status.
-fn exit_code<F: Files>(report: &Report<F>) -> ExitCode
-    ensures { exit_status result ≡ report.now.status }
+fn exit_code<F: Files>(report: Report<F>) -> ExitCode
+    ensures { exit_status result ≡ report.status }
 {
     ExitCode::from(report.status)
 }
@@ -37,5 +37,5 @@ fn main(rt: HostRuntime) -> ExitCode {
     let mut files = HostFiles::new(alloc, &rt);
     let mut events = HostSink::new(Place::Output(rt.stdout()));
     let mut errors = HostSink::new(Place::Errors(rt.stderr()));
-    exit_code(&run(&rt, alloc, &words, &mut files, &mut events, &mut errors))
+    exit_code(run(&rt, alloc, &words, &mut files, &mut events, &mut errors))
 }

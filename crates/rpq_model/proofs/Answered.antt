@@ -1,7 +1,6 @@
 -- The pairs that the edges of the window join are the answers of a query.
 use Rattle.std.proofs.Common.{◌≡◌, ℕ, List, sym, subst}
 use Rattle.std.specs.Prelude.{◌↔◌, Contains}
-use Rattle.rpq_base.specs.declared.data.Label.{Label}
 use Rattle.rpq_base.specs.declared.data.Edge.{Edge}
 use Rattle.rpq_base.specs.declared.data.Entry.{Entry}
 use Rattle.rpq_base.specs.declared.data.Pair.{Pair}

@@ -1,8 +1,7 @@
 -- What an expression joins, by its cases.
-use Rattle.std.proofs.Common.{◌≡◌, Bool, true, false, List, [], ◌∷◌, sym, subst, ◌⊎◌, inl, inr}
-use Rattle.std.proofs.Common.{⊎_elim, refl}
+use Rattle.std.proofs.Common.{◌≡◌, Bool, true, List, [], ◌∷◌, sym, subst, ◌⊎◌, inl, inr}
+use Rattle.std.proofs.Common.{⊎_elim}
 use Rattle.std.specs.Prelude.{◌↔◌, IsTrue, Contains}
-use Rattle.std.proofs.lemmas.Bool.{false≢true}
 use Rattle.rpq_base.specs.declared.data.Label.{Label}
 use Rattle.rpq_base.specs.declared.data.Edge.{Edge}
 use Rattle.rpq_base.specs.declared.data.Pair.{Pair}
@@ -12,7 +11,7 @@ use Rattle.rpq_model.specs.declared.mode.Mode.TheVariants.{Arbitrary}
 use Rattle.rpq_model.specs.Answers.{IsJoinedBy}
 use Rattle.rpq_model.specs.Relations.{between, AreExactly, IsComposed, IsReached}
 use Rattle.rpq_model.proofs.Composing.{exactly_same}
-use Rattle.rpq_model.proofs.Sequences.{empty_sequence, empty_repeated, sequence_joins, star_joins}
+use Rattle.rpq_model.proofs.Sequences.{sequence_joins, star_joins}
 use Rattle.rpq_model.proofs.Sequences.{plus_joins, optional_joins, alternative_joins}
 
 -- the pairs are those that the expression joins

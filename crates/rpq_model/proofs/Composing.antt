@@ -1,14 +1,10 @@
 -- What the loops over pairs find: unions and compositions.
-use Rattle.std.proofs.Common.{◌≡◌, ℕ, ◌+◌, ◌<◌, Bool, true, false, List, [], ◌∷◌, ◌++◌, length}
-use Rattle.std.proofs.Common.{get_or, take, map, fold, refl, sym, ap, subst, ◌∙◌, ◌⊎◌, inl, inr}
-use Rattle.std.proofs.Common.{⊎_elim, Result, Ok, Err, arith}
-use Rattle.std.specs.Prelude.{◌↔◌, Contains, IfOk, if◌then◌else◌}
+use Rattle.std.proofs.Common.{◌≡◌, ℕ, Bool, true, List, []}
+use Rattle.std.proofs.Common.{fold, refl, sym, ap, subst, ◌⊎◌, inl, inr}
+use Rattle.std.proofs.Common.{⊎_elim}
+use Rattle.std.specs.Prelude.{◌↔◌, Contains, if◌then◌else◌}
 use Rattle.std.specs.BTreeSet.{insert_key}
 use Rattle.std.specs.List.Sorted.{IsStrictlySortedBy}
-use Rattle.std.proofs.lemmas.Bool.{both_ways}
-use Rattle.std.proofs.lemmas.List.{take_more, map_more}
-use Rattle.std.proofs.lemmas.List.Elements.{Contains-push, Contains-push_cases}
-use Rattle.std.proofs.lemmas.List.Elements.{Contains-append_left}
 use Rattle.rpq_base.specs.Order.{pair_cmp}
 use Rattle.rpq_base.specs.Same.{same_name, same_label}
 use Rattle.rpq_base.specs.declared.data.Label.{Label}

@@ -1,6 +1,6 @@
 -- The live entries and their edges, entry by entry.
 use Rattle.std.proofs.Common.{◌≡◌, ℕ, suc, ◌+◌, ◌<◌, Bool, true, false, cond, ◌||◌, List, [], ◌∷◌, ◌++◌, map, drop, get_or, length, Option, Some, None, refl}
-use Rattle.std.proofs.Common.{sym, ap, subst, ◌∙◌, arith}
+use Rattle.std.proofs.Common.{sym, ap, ◌∙◌, arith}
 use Rattle.std.specs.Prelude.{reverse, if◌then◌else◌}
 use Rattle.std.specs.BTreeSet.{BTreeSet, contains}
 use Rattle.std.specs.BTreeMap.{is_at}
@@ -23,7 +23,7 @@ use Rattle.rpq_base.specs.declared.data.Act.{Act}
 use Rattle.rpq_base.specs.declared.data.Act.TheVariants.{Insert, Delete, Tick}
 use Rattle.rpq_base.specs.declared.data.Entry.{Entry}
 use Rattle.rpq_model.specs.declared.live.Live.{Live}
-use Rattle.rpq_model.specs.Window.{WindowValue, Placed, inserted_edge, deletes, is_deleted, is_live, live_from, live_entries, inserted_edges, edges_at}
+use Rattle.rpq_model.specs.Window.{WindowValue, Placed, inserted_edge, deletes, is_deleted, is_live, live_from, inserted_edges, edges_at}
 use Rattle.rpq_model.specs.Live.{placed_entry}
 use Rattle.rpq_model.specs.Deleted.{EdgeKey, edge_of, key_cmp, HoldsEdges}
 

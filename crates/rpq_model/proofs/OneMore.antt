@@ -1,5 +1,5 @@
 -- One entry more at the end of a history, at any clock: exactly what it changes.
-use Rattle.std.proofs.Common.{◌≡◌, ℕ, ◌+◌, Bool, true, false, ◌||◌, max, List, [], ◌∷◌, ◌++◌, refl, sym, ap, subst, ◌∙◌, ◌⊎◌, inl, inr, ⊎_elim, arith, None}
+use Rattle.std.proofs.Common.{◌≡◌, ℕ, Bool, true, false, ◌||◌, List, [], ◌∷◌, ◌++◌, refl, sym, ap, subst, ◌∙◌, ◌⊎◌, inl, inr, ⊎_elim, arith, None}
 use Rattle.std.specs.Prelude.{Contains, if◌then◌else◌}
 use Rattle.std.proofs.lemmas.Bool.{false≢true}
 use Rattle.std.proofs.lemmas.List.Folds.{list_any-append}
@@ -8,7 +8,7 @@ use Rattle.rpq_base.specs.declared.data.Edge.{Edge}
 use Rattle.rpq_base.specs.declared.data.Act.{Act}
 use Rattle.rpq_base.specs.declared.data.Act.TheVariants.{Insert, Delete, Tick}
 use Rattle.rpq_base.specs.declared.data.Entry.{Entry}
-use Rattle.rpq_model.specs.Window.{WindowValue, clock, inserted_edge, deletes, is_deleted, is_live, live_from, edges_at}
+use Rattle.rpq_model.specs.Window.{WindowValue, inserted_edge, deletes, is_deleted, is_live, live_from, edges_at}
 use Rattle.rpq_model.specs.WindowLaws.{IsSeenInsert, OneEntryMore}
 use Rattle.rpq_model.proofs.LiveEdges.{first_live}
 use Rattle.rpq_model.proofs.Places.{live_act, act_is_live, found_or_later, from_found, from_later}

@@ -3,7 +3,7 @@
 ghost use Rattle.std.specs.Prelude.{IfOk};
 ghost use Rattle.path_syntax.specs.Expression.{expression};
 ghost use Rattle.path_syntax.specs.Language.{In};
-ghost use Rattle.rpq_model.specs.declared.mode.Mode.TheVariants.{Arbitrary};
+ghost use Rattle.rpq_model.specs.declared.mode.Mode.TheVariants.{Arbitrary, Simple};
 ghost use Rattle.rpq_model.specs.Answers.{IsJoinedBy, AreAnswers};
 ghost use Rattle.rpq_model.specs.Relations.{values, AreExactly};
 ghost use Rattle.rpq_model.specs.Query.{path_query};
@@ -46,6 +46,16 @@ pub(crate) fn joined(alloc: Global, expr: &Expr, edges: &[&Edge]) -> Result<Vec<
     }
 }
 
+/// The pairs that a simple path of the edges joins whose word is in the language of the expression.
+/// Edges that are given more than once count once.
+fn joined_simply_once(alloc: Global, expr: &Expr, edges: &[&Edge]) -> Result<Vec<Pair>, Memory>
+    ensures { IfOk result (λ pairs. AreExactly
+        (IsJoinedBy (values edges.now) (In (expression expr.now)) Simple) pairs.items) }
+{
+    let distinct = distinct_edges(alloc, edges)?;
+    joined_simply(alloc, expr, &distinct)
+}
+
 /// The answers of the query over the history of these entries, from scratch: sorted by source and
 /// then target, each once. The only error is [`Memory`].
 ///
@@ -61,10 +71,9 @@ pub fn plain_answers(
 ) -> Result<Vec<Pair>, Memory>
     ensures { IfOk result (λ pairs. AreAnswers (path_query query.now) entries.now pairs.items) }
 {
-    let live = live_edges(alloc, query.window, clock(entries), entries)?;
-    let edges = distinct_edges(alloc, &live)?;
+    let edges = live_edges(alloc, query.window, clock(entries), entries)?;
     match query.mode {
         Mode::Arbitrary => joined(alloc, &query.expr, &edges),
-        Mode::Simple => joined_simply(alloc, &query.expr, &edges),
+        Mode::Simple => joined_simply_once(alloc, &query.expr, &edges),
     }
 }

@@ -13,25 +13,22 @@ use Rattle.rpq_model.specs.Query.{path_query}
 use Rattle.rpq_model.proofs.Answered.{answered}
 use Rattle.rpq_model.proofs.plain.plain_answers.Goals as goal
 
--- the distinct edges are those of the window
-seen : (given live distinct slice : List (Bor Edge)) (window : List Edge) → values live ≡ window →
-    given ≡ live → slice ≡ distinct →
-    ((edge : Edge) → Contains (values distinct) edge ↔ Contains (values given) edge) →
+-- the edges given are those of the window
+seen : (live slice : List (Bor Edge)) (window : List Edge) → values live ≡ window → slice ≡ live →
     (edge : Edge) → Contains (values slice) edge ↔ Contains window edge
-seen given live distinct slice window is given_is slice_is same edge =
-    subst (λ (all : List Edge). Contains (values slice) edge ↔ Contains all edge) (ap values given_is ∙ is)
-    (subst (λ (all : List (Bor Edge)). Contains (values all) edge ↔ Contains (values given) edge) (sym slice_is) (same edge))
+seen live slice window is slice_is edge =
+    subst (λ (all : List Edge). Contains all edge ↔ Contains window edge)
+    (sym (ap values slice_is ∙ is)) (λ member. member, λ member. member)
 
 pub returns-in-Arbitrary : goal.returns-in-Arbitrary
 returns-in-Arbitrary c =
     let query = c.query.inside in
     let entries = c.args.entries.now in
-    let edges = values c.deref-in-Arbitrary.result.now in
+    let edges = values c.deref.result.now in
     let expr = expression query.expr in
-    let is = c.in_ok-live.ensures ∙ ap (λ (now : ℕ). edges_at query.window now entries) c.clock.ensures in
-    let edges_are = seen c.deref.result.now c.in_ok-live.live.items c.in_ok-edges.edges.items
-    c.deref-in-Arbitrary.result.now (edges_at query.window (clock entries) entries)
-    is c.deref.ensures.value c.deref-in-Arbitrary.ensures.value c.in_ok-edges.ensures in
+    let is = c.in_ok-edges.ensures ∙ ap (λ (now : ℕ). edges_at query.window now entries) c.clock.ensures in
+    let edges_are = seen c.in_ok-edges.edges.items c.deref.result.now
+    (edges_at query.window (clock entries) entries) is c.deref.ensures.value in
     IfOk-weaker c.joined.result
     (λ (pairs : Vec Pair Global). AreExactly (IsJoinedBy edges (In expr) Arbitrary) pairs.items)
     (λ (pairs : Vec Pair Global). AreAnswers (path_query c.args.query.now) entries pairs.items)
@@ -45,13 +42,12 @@ returns c =
     let entries = c.args.entries.now in
     let edges = values c.deref-in-Simple.result.now in
     let expr = expression query.expr in
-    let is = c.in_ok-live.ensures ∙ ap (λ (now : ℕ). edges_at query.window now entries) c.clock.ensures in
-    let edges_are = seen c.deref.result.now c.in_ok-live.live.items c.in_ok-edges.edges.items
-    c.deref-in-Simple.result.now (edges_at query.window (clock entries) entries)
-    is c.deref.ensures.value c.deref-in-Simple.ensures.value c.in_ok-edges.ensures in
-    IfOk-weaker c.joined_simply.result
+    let is = c.in_ok-edges.ensures ∙ ap (λ (now : ℕ). edges_at query.window now entries) c.clock.ensures in
+    let edges_are = seen c.in_ok-edges.edges.items c.deref-in-Simple.result.now
+    (edges_at query.window (clock entries) entries) is c.deref-in-Simple.ensures.value in
+    IfOk-weaker c.joined_simply_once.result
     (λ (pairs : Vec Pair Global). AreExactly (IsJoinedBy edges (In expr) Simple) pairs.items)
     (λ (pairs : Vec Pair Global). AreAnswers (path_query c.args.query.now) entries pairs.items)
     (λ pairs are. answered c.args.query.now query.name query.window query.mode expr entries
     edges Simple pairs.items c.query.view_is c.in-Simple.is edges_are are)
-    c.joined_simply.ensures
+    c.joined_simply_once.ensures

@@ -8,7 +8,6 @@ use Rattle.rpq_base.specs.declared.data.Pair.{Pair}
 use Rattle.rpq_base.proofs.Members.{next_given}
 use Rattle.path_syntax.specs.Expression.{expression}
 use Rattle.path_syntax.specs.Language.{In}
-use Rattle.rpq_model.specs.declared.simple.Trail.{Trail}
 use Rattle.rpq_model.specs.Relations.{values, between, Adds}
 use Rattle.rpq_model.specs.Onwards.{vertices_of, leading_elsewhere, unvisited, IsSameTrail}
 use Rattle.rpq_model.specs.Onwards.{IsOnwards, IsAlong}
