@@ -5,6 +5,7 @@ pub mod Fronts
 pub mod Limits
 pub mod MarkedWords
 pub mod Meaning
+pub mod NonemptyWords
 pub mod Nullable
 pub mod OneFault
 pub mod Readable

@@ -7,8 +7,8 @@ use Rattle.rpq_base.specs.Names.{is_name_byte}
 use Rattle.path_syntax.specs.declared.read.BadExpr.{BadExpr}
 use Rattle.path_syntax.specs.declared.read.BadExpr.TheVariants.{Unexpected, Ended, TooLarge, LongName}
 use Rattle.path_syntax.specs.Expression.{Expression}
-use Rattle.path_syntax.specs.Grammar.{one_way, is_bare_byte, IsBare, AreNameBytes, quoted, IsText, CanGoOn}
-use Rattle.path_syntax.specs.Faults.{is_sign, signs, BeginsLabel, BeginsBare, BeginsQuoted, HasLongName, IsWithinLimits, IsTaken, Reaches, IsFault, IsOutcome, Whole, Faulty}
+use Rattle.path_syntax.specs.Grammar.{one_way, is_bare_byte, IsBare, AreNameBytes, quoted, CanGoOn}
+use Rattle.path_syntax.specs.Faults.{is_sign, signs, BeginsLabel, BeginsBare, BeginsQuoted, HasLongName, IsTaken, Reaches, IsFault, IsOutcome, Whole, Faulty}
 use Rattle.path_syntax.specs.Reading.{FrameValue, ModeValue, Operand, BareLabel, QuotedLabel, Escape, Primary, Element, StateValue, state_with, initial, step, whole_of, name_length, takes_operand, is_outside, ReaderValue, start, label_place_after, signs_after, after_step, read_byte, ◌>>=◌, read_all, ended_by, reading}
 use Rattle.path_syntax.proofs.Steps.{Leads, OperandBlank, OperandOpen, OperandQuote, OperandBare, BareMore, QuotedMore, QuotedBackslash, QuotedEnd, EscapeQuote, EscapeBackslash, PrimaryBlank, PrimaryStar, PrimaryPlus, PrimaryOpt, ElementBlank, ElementSlash, ElementBar, ElementClose, step_leads, run, run_from, run_one}
 use Rattle.path_syntax.proofs.Soundness.{quoted_push, escaped_plain, all_push, sound}

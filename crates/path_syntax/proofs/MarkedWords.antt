@@ -1,5 +1,5 @@
 -- What the marks of the matcher say of words.
-use Rattle.std.proofs.Common.{◌≡◌, ◌≢◌, Bool, true, false, ◌&&◌, ◌||◌, IsTrue, ◌↔◌, List, [], ◌∷◌, ◌++◌, ◌⊎◌, inl, inr, ℕ, ◌+◌, ◌-◌, ◌<◌, ◌≤◌, length, get_or, take, drop, refl, sym, ◌∙◌, ap, subst, append_assoc, add-one, suc, arith}
+use Rattle.std.proofs.Common.{◌≡◌, Bool, true, false, ◌&&◌, ◌||◌, IsTrue, ◌↔◌, List, [], ◌∷◌, ◌++◌, ◌⊎◌, inl, inr, ℕ, ◌+◌, ◌-◌, ◌<◌, ◌≤◌, length, get_or, take, drop, refl, sym, ◌∙◌, ap, subst, append_assoc, add-one, suc, arith}
 use Rattle.std.proofs.lemmas.Bool.{false≢true, or_cases, and_parts, and_from, or_left, or_right}
 use Rattle.std.proofs.lemmas.List.{append-nil, take_all, drop_all}
 use Rattle.std.proofs.Math.Seq.{drop-cons}
@@ -9,7 +9,7 @@ use Rattle.rpq_base.proofs.Equality.{labels}
 use Rattle.path_syntax.specs.Expression.{Expression, Atom, Seq, Alt, Star, Plus, Opt}
 use Rattle.path_syntax.specs.Language.{Language, IsJoined, IsRepeated, In}
 use Rattle.path_syntax.specs.Laws.{is_nullable, nonempty}
-use Rattle.path_syntax.specs.Marks.{first_mark, other_marks, marks_behind, may_end, marks_after}
+use Rattle.path_syntax.specs.Marks.{first_mark, marks_behind, may_end, marks_after}
 use Rattle.path_syntax.proofs.Nullable.{empty_joined, empty_sides, nullable_is}
 use Rattle.path_syntax.proofs.Stars.{repeated_none, repeated_more, repeated_cases}
 

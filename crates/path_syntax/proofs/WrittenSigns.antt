@@ -1,5 +1,5 @@
 -- The signs and the length of a written form.
-use Rattle.std.proofs.Common.{◌≡◌, ℕ, ◌+◌, ◌*◌, ◌≤◌, ◌&&◌, ◌||◌, ◌==◌, not, Bool, true, false, cond, IsTrue, List, [], ◌∷◌, ◌++◌, length, codes, refl, sym, ◌∙◌, ap, append_assoc, add_assoc, zero-add, arith, leb}
+use Rattle.std.proofs.Common.{◌≡◌, ℕ, ◌+◌, ◌*◌, ◌≤◌, ◌||◌, ◌==◌, not, Bool, true, false, cond, List, [], ◌∷◌, ◌++◌, length, codes, refl, sym, ◌∙◌, ap, append_assoc, add_assoc, zero-add, arith, leb}
 use Rattle.std.specs.List.{list_all, list_any, count_by}
 use Rattle.std.proofs.lemmas.Bool.{ne_eqb, and_parts, or_parts, leb-true}
 use Rattle.std.proofs.lemmas.List.{append-nil, length-append}

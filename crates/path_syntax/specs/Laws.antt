@@ -28,3 +28,7 @@ is_nullable (Opt body) = true
 -- the test tells which expressions have the empty word
 abbrev pub NullableHasEmptyWord : Type 0
 NullableHasEmptyWord = (e : Expression) → IsTrue (is_nullable e) ↔ In e []
+
+-- each expression has a nonempty word
+abbrev pub EachHasAWord : Type 0
+EachHasAWord = (e : Expression) → (word : List Label) × nonempty (In e) word

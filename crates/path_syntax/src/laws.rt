@@ -4,7 +4,7 @@
 ghost use Rattle.std.specs.Prelude.{◌≡◌, ◌≤◌, List, MatchResult};
 ghost use Rattle.rpq_base.specs.declared.data.Label.{Label};
 ghost use Rattle.path_syntax.specs.Expression.{Expression, expression};
-ghost use Rattle.path_syntax.specs.Laws.{RepetitionsByCases, NullableHasEmptyWord};
+ghost use Rattle.path_syntax.specs.Laws.{EachHasAWord, NullableHasEmptyWord, RepetitionsByCases};
 ghost use Rattle.path_syntax.specs.WrittenLaws.{WrittenExamples, WrittenIsSpelled, WrittenHasSigns};
 ghost use Rattle.path_syntax.specs.WrittenLaws.{WrittenIsReadable, written_signs};
 ghost use Rattle.path_syntax.specs.Plain.{IsPlainExpression};
@@ -22,6 +22,11 @@ pub fn repetitions_by_cases()
 /// The expressions that have the empty word are those that a test by cases finds.
 pub fn nullable_has_empty_word()
     ensures { NullableHasEmptyWord }
+{}
+
+/// Each expression has a nonempty word.
+pub fn each_has_a_word()
+    ensures { EachHasAWord }
 {}
 
 /// Some written forms.

@@ -31,8 +31,8 @@ pub use grammar_laws::{
 };
 pub use label_text::write_word;
 pub use laws::{
-    nullable_has_empty_word, repetitions_by_cases, written_examples, written_has_signs,
-    written_is_read_again, written_is_readable, written_is_spelled,
+    each_has_a_word, nullable_has_empty_word, repetitions_by_cases, written_examples,
+    written_has_signs, written_is_read_again, written_is_readable, written_is_spelled,
 };
 pub use matcher::accepts;
 pub use read::{BadExpr, read_expr};
