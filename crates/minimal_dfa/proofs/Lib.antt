@@ -1,0 +1,5 @@
+mod Fewest
+mod OneLeast
+mod Quotient
+mod Standing
+mod Theorem

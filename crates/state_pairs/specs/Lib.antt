@@ -1,0 +1,5 @@
+pub mod Goals
+pub mod Rounds
+pub mod Pairs
+pub mod PairGraph
+pub mod Laws
