@@ -1,0 +1,6 @@
+pub mod Clock
+pub mod Dues
+pub mod Edges
+pub mod FaultTexts
+pub mod Row
+pub mod Rows

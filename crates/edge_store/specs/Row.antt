@@ -1,0 +1,12 @@
+-- The edges of one vertex, on one side.
+use Rattle.std.specs.Prelude.{ℕ, ◌-◌, cond, nat_lt, List, length}
+use Rattle.edge_store.specs.declared.edge.HalfEdge.{HalfEdge}
+
+-- the edges in the order of a walk, and for how many more there is room
+pub record RowValue : Type 0 where
+  pub entries : List (HalfEdge × ℕ)
+  pub room : ℕ
+
+-- the room of a row: that of its list until this has 16 edges, and then that of its map
+abbrev pub room_of : List (HalfEdge × ℕ) → ℕ → ℕ → ℕ
+room_of few capacity spare = cond (nat_lt (length few) 16) (capacity - length few) spare

@@ -1,0 +1,144 @@
+//! The edges of one vertex, on one side.
+
+ghost use Rattle.std.specs.Prelude.{◌≡◌, ◌<◌, [], length, cond, IfSome, OnOk, None, Some, slice_get};
+ghost use Rattle.std.specs.List.{IsDistinct, position};
+ghost use Rattle.std.specs.Map.{keys_of, lookup};
+ghost use Rattle.edge_store.specs.declared.edge.HalfEdge.{HalfEdge};
+ghost use Rattle.edge_store.specs.Edges.{same_half};
+
+use crate::edge::HalfEdge;
+use crate::no_memory::NoMemory;
+use indexmap::IndexMap;
+use std::alloc::Global;
+use std::marker::Model;
+
+/// The most edges that stand in the list of a row.
+const FEW: usize = 16;
+
+/// The edges of a vertex with their values. The first ones stand in a list and are found by going
+/// through it, which is faster than a hash; the others stand in a map.
+///
+/// Contracts see it as all edges in the order of a walk, and the number of edges for which there is
+/// room.
+#[derive(Drop)]
+pub(crate) struct Row {
+    few: Vec<(HalfEdge, u64)>,
+    more: IndexMap<HalfEdge, u64>,
+}
+
+impl Model for Row {
+    ghost use Rattle.edge_store.specs.Row.{RowValue};
+
+    ghost Value = { RowValue };
+
+    ghost use Rattle.std.specs.Prelude.{◌++◌};
+    ghost use Rattle.std.specs.List.{IsDistinct};
+    ghost use Rattle.std.specs.Map.{keys_of};
+    ghost use Rattle.edge_store.specs.Edges.{same_half};
+    ghost use Rattle.edge_store.specs.Row.{room_of};
+    ghost use Rattle.indexmap.specs.IndexMap.{spare};
+    ghost use Rattle.std.specs.Vec.{vec_capacity};
+
+    ghost view = { λ row. record {
+      entries = row.few.items ++ row.more.entries;
+      room = room_of row.few.items (vec_capacity row.few) (spare row.more);
+    } };
+
+    ghost invariant = { λ row. IsDistinct same_half (keys_of (row.few.items ++ row.more.entries)) };
+}
+
+/// The place of an edge among those of a list.
+fn place(few: &[(HalfEdge, u64)], half: HalfEdge) -> Option<usize>
+    ensures place { result ≡ position (λ entry. same_half half entry.0) few.now }
+    ensures within { IfSome result (λ at. at < length few.now) }
+{
+    few.iter().position(|entry| half == entry.0)
+}
+
+impl Row {
+    /// A row without edges, which takes no memory.
+    pub(crate) fn new(alloc: Global) -> Row
+        ensures { result.entries ≡ [] }
+    {
+        Row {
+            few: Vec::new(alloc),
+            more: IndexMap::new(alloc),
+        }
+    }
+
+    /// The value of an edge.
+    pub(crate) fn get(&self, half: HalfEdge) -> Option<u64>
+        ensures { result ≡ lookup (same_half half) self.now.entries }
+    {
+        match place(&self.few, half) {
+            Some(at) => Some(self.few[at].1),
+            None => self.more.get(&half).copied(),
+        }
+    }
+
+    /// The number of edges.
+    pub(crate) fn len(&self) -> usize
+        ensures count { result ≡ length self.now.entries }
+        ensures once { IsDistinct same_half (keys_of self.now.entries) }
+    {
+        self.few.len() + self.more.len()
+    }
+
+    /// The edge at this place.
+    pub(crate) fn at(&self, place: usize) -> (HalfEdge, u64)
+        requires { place < length self.now.entries }
+        ensures { slice_get self.now.entries place ≡ Some result }
+    {
+        let few = self.few.len();
+        if place < few {
+            return self.few[place];
+        }
+        match self.more.get_index(place - few) {
+            Some((half, value)) => (*half, *value),
+            None => unreachable!(),
+        }
+    }
+
+    /// Room for one more edge.
+    pub(crate) fn reserve(&mut self) -> Result<(), NoMemory>
+        ensures same { self.new.entries ≡ self.old.entries }
+        ensures ok { OnOk result (0 < self.new.room) }
+    {
+        if self.few.len() < FEW {
+            self.few.reserve(1)?;
+        } else {
+            self.more.reserve(1)?;
+        }
+        Ok(())
+    }
+
+    /// Puts the value of an edge, for which there is room.
+    pub(crate) fn put(&mut self, half: HalfEdge, value: u64)
+        requires { 0 < self.old.room }
+        ensures { (other : HalfEdge) → lookup (same_half other) self.new.entries
+            ≡ cond (same_half half other) (Some value) (lookup (same_half other) self.old.entries) }
+    {
+        if let Some(at) = place(&self.few, half) {
+            self.few[at].1 = value;
+            return;
+        }
+        // There is room, so neither can be refused.
+        if self.few.len() < FEW && !self.more.contains_key(&half) {
+            let _ = self.few.push((half, value));
+            return;
+        }
+        let _ = self.more.insert(half, value);
+    }
+
+    /// Takes an edge out. The last edge of its list or map comes into its place.
+    pub(crate) fn take(&mut self, half: HalfEdge) -> Option<u64>
+        ensures value { result ≡ lookup (same_half half) self.old.entries }
+        ensures rest { (other : HalfEdge) → lookup (same_half other) self.new.entries
+            ≡ cond (same_half half other) None (lookup (same_half other) self.old.entries) }
+    {
+        match place(&self.few, half) {
+            Some(at) => Some(self.few.swap_remove(at).1),
+            None => self.more.swap_remove(&half),
+        }
+    }
+}

@@ -1,0 +1,195 @@
+//! A store of edges with values.
+
+ghost use Rattle.std.specs.Prelude.{◌≡◌, ℕ, ◌+◌, ◌<◌, length, IfOk, OnErr, OnOk, None, Some, slice_get};
+ghost use Rattle.edge_store.specs.Edges.{IsEmpty, HasSameValues, Updates, Expires, GivesOuts, GivesIns};
+ghost use Rattle.edge_store.specs.Edges.{value_of, raised, above, outs_of, ins_of, out_entry, in_entry};
+ghost use Rattle.edge_store.specs.Rows.{rows_of, sides, Agree};
+
+use crate::dues::{Due, next_due, note};
+use crate::edge::{EdgeId, In, Out, Raised};
+use crate::no_memory::NoMemory;
+use crate::row::Row;
+use crate::rows::{count, entry_at, find, make_room, put, take};
+use crate::steps::Steps;
+use std::alloc::Global;
+use std::collections::BinaryHeap;
+use std::marker::Model;
+use std::sync::ledger::Ledger;
+
+/// A finite map from edges to values, with the edges of each vertex at hand.
+///
+/// Contracts see it as `Edges` of `specs/`. Its rows lie by the numbers of the vertices, so these
+/// should be dense.
+#[derive(Drop)]
+pub struct EdgeStore {
+    alloc: Global,
+    /// For each vertex the edges that leave it.
+    outs: Vec<Row>,
+    /// For each vertex the edges that end at it.
+    ins: Vec<Row>,
+    /// Each edge with its value, and beside them values that an edge had before.
+    dues: BinaryHeap<Due>,
+}
+
+impl Model for EdgeStore {
+    ghost use Rattle.std.specs.BinaryHeap.{heap_items};
+    ghost use Rattle.edge_store.specs.Edges.{Edges};
+
+    ghost Value = { Edges };
+
+    ghost use Rattle.edge_store.specs.Rows.{rows_of};
+    ghost use Rattle.edge_store.specs.Dues.{IsStore};
+
+    ghost view = { λ store. record {
+      outs = rows_of store.outs.items;
+      ins = rows_of store.ins.items;
+    } };
+
+    ghost invariant = { λ store.
+        IsStore (rows_of store.outs.items) (rows_of store.ins.items) (heap_items store.dues) };
+}
+
+impl EdgeStore {
+    /// A store without edges. It takes memory with the first edge.
+    pub fn new(alloc: Global) -> Result<EdgeStore, NoMemory>
+        ensures { IfOk result IsEmpty }
+    {
+        Ok(EdgeStore {
+            alloc,
+            outs: Vec::new(alloc),
+            ins: Vec::new(alloc),
+            dues: BinaryHeap::new(alloc),
+        })
+    }
+
+    /// The value of the edge, or none where the store hasn't got it, by one look-up.
+    pub fn value(&self, edge: EdgeId) -> Option<u64>
+        ensures { result ≡ value_of self.now edge }
+    {
+        find(&self.outs, edge.from, edge.out_half())
+    }
+
+    /// Raises the value of the edge to this one, where it isn't greater already; an edge that the
+    /// store hasn't got comes in. The only error is [`NoMemory`], after which all values are as
+    /// before.
+    pub fn raise(&mut self, edge: EdgeId, value: u64) -> Result<Raised, NoMemory>
+        ensures before { IfOk result (λ change. change.before ≡ value_of self.old edge) }
+        ensures after { IfOk result (λ change.
+            change.after ≡ raised (value_of self.old edge) value) }
+        ensures updates { IfOk result (λ change.
+            Updates self.old self.new edge (Some change.after)) }
+        ensures unchanged { OnErr result (HasSameValues self.old self.new) }
+    {
+        let before = self.value(edge);
+        match before {
+            Some(kept) if kept >= value => Ok(Raised {
+                before,
+                after: kept,
+            }),
+            _ => {
+                self.put(edge, value)?;
+                Ok(Raised {
+                    before,
+                    after: value,
+                })
+            }
+        }
+    }
+
+    /// Gives the edge this value.
+    fn put(&mut self, edge: EdgeId, value: u64) -> Result<(), NoMemory>
+        ensures updates { OnOk result (Updates self.old self.new edge (Some value)) }
+        ensures unchanged { OnErr result (HasSameValues self.old self.new) }
+    {
+        note(&mut self.dues, edge, value)?;
+        make_room(self.alloc, &mut self.outs, edge.from)?;
+        make_room(self.alloc, &mut self.ins, edge.to)?;
+        put(&mut self.outs, edge.from, edge.out_half(), value);
+        put(&mut self.ins, edge.to, edge.in_half(), value);
+        Ok(())
+    }
+
+    /// Takes the edge out, and answers the value that it had.
+    pub fn remove(&mut self, edge: EdgeId) -> Option<u64>
+        ensures value { result ≡ value_of self.old edge }
+        ensures updates { Updates self.old self.new edge None }
+    {
+        take(&mut self.ins, edge.to, edge.in_half());
+        take(&mut self.outs, edge.from, edge.out_half())
+    }
+
+    /// Takes exactly the edges out whose value is at most `now`. Where none is, this is one
+    /// comparison, and else a step in a heap for each of them and for each raise that a later one
+    /// outdid.
+    pub fn expire(&mut self, now: u64)
+        ensures { Expires self.old self.new now }
+    {
+        while let Some(edge) = next_due(&mut self.dues, now) {
+            drop_due(&mut self.outs, &mut self.ins, edge, now);
+        }
+    }
+
+    /// The number of edges that leave the vertex. A walk over them goes from place 0 to below it.
+    pub fn out_len(&self, v: u32) -> usize
+        ensures count { result ≡ length (outs_of self.now v) }
+        ensures walk { GivesOuts self.now v }
+    {
+        count(&self.outs, v)
+    }
+
+    /// The number of edges that end at the vertex. A walk over them goes from place 0 to below it.
+    pub fn in_len(&self, v: u32) -> usize
+        ensures count { result ≡ length (ins_of self.now v) }
+        ensures walk { GivesIns self.now v }
+    {
+        count(&self.ins, v)
+    }
+
+    /// The edge at this place among those that leave the vertex. It counts one step.
+    pub fn out_at<L: Ledger>(&self, v: u32, k: usize, steps: &mut Steps<L>) -> Out
+        requires { k < length (outs_of self.now v) }
+        ensures there { slice_get (outs_of self.now v) k ≡ Some (out_entry result) }
+        ensures counted { steps.new ≡ steps.old + 1 }
+    {
+        steps.tick();
+        let (half, value) = entry_at(&self.outs, v, k);
+        Out {
+            label: half.label,
+            to: half.far,
+            value,
+        }
+    }
+
+    /// The edge at this place among those that end at the vertex. It counts one step.
+    pub fn in_at<L: Ledger>(&self, v: u32, k: usize, steps: &mut Steps<L>) -> In
+        requires { k < length (ins_of self.now v) }
+        ensures there { slice_get (ins_of self.now v) k ≡ Some (in_entry result) }
+        ensures counted { steps.new ≡ steps.old + 1 }
+    {
+        steps.tick();
+        let (half, value) = entry_at(&self.ins, v, k);
+        In {
+            label: half.label,
+            from: half.far,
+            value,
+        }
+    }
+}
+
+/// Takes the edge out of both sides where its value is at most `now`.
+fn drop_due(outs: &mut Vec<Row>, ins: &mut Vec<Row>, edge: EdgeId, now: u64)
+    requires { Agree (rows_of outs.old.items) (rows_of ins.old.items) }
+    ensures agree { Agree (rows_of outs.new.items) (rows_of ins.new.items) }
+    ensures updates { Updates
+        (sides (rows_of outs.old.items) (rows_of ins.old.items))
+        (sides (rows_of outs.new.items) (rows_of ins.new.items))
+        edge (above now (value_of (sides (rows_of outs.old.items) (rows_of ins.old.items)) edge)) }
+{
+    match find(outs, edge.from, edge.out_half()) {
+        Some(value) if value <= now => {
+            take(ins, edge.to, edge.in_half());
+            take(outs, edge.from, edge.out_half());
+        }
+        _ => {}
+    }
+}

@@ -1,0 +1,167 @@
+-- The numbers of names.
+use Rattle.std.proofs.Common.{◌≡◌, ◌<◌, ◌≤◌, ◌+◌, ◌^◌, ℕ, suc, Bool, true, false, not, cond, ◌||◌, nat_lt, List, [], ◌∷◌, ◌++◌, length, get_or, slice_get, None, Some, refl, sym, ap, ap₂, subst, ◌∙◌, true≢false, arith}
+use Rattle.std.specs.Cmp.{IsEquivalence}
+use Rattle.std.specs.Cmp.Lexicographic.{nat_list_eq_equiv}
+use Rattle.std.specs.List.{IsDistinct, position, position_or_len, list_any}
+use Rattle.std.specs.Map.{keys_of, lookup}
+use Rattle.std.specs.declared.vec.Vec.{Vec}
+use Rattle.std.specs.Global.{Global}
+use Rattle.std.proofs.lemmas.Bool.{lt-ltb, ltb-false}
+use Rattle.std.proofs.lemmas.List.{get_or_append_left, get_or_push, length-map, length-append, map-append}
+use Rattle.std.proofs.lemmas.List.Quantifiers.{position-Some}
+use Rattle.std.proofs.lemmas.List.Sums.{position_or_len_is, fails_before_first}
+use Rattle.std.proofs.lemmas.Map.Keys.{apart_from_distinct, IsDistinct-push}
+use Rattle.std.proofs.lemmas.Option.{slice_get_within, get_or_from_slice_get}
+use Rattle.rpq_base.specs.Same.{same_name}
+use Rattle.rpq_base.proofs.Equality.{name_again}
+use Rattle.indexmap.specs.IndexMap.{IndexMap, insert_entry}
+use Rattle.indexmap.proofs.CallerLemmas.{insert_entry-new}
+use Rattle.name_table.specs.Names.{KeepsNumbers, number_of}
+use Rattle.name_table.specs.Table.{names_of, IsKeyed, IsTable}
+
+-- the equality of names is one
+same_name_laws : IsEquivalence same_name
+same_name_laws = nat_list_eq_equiv
+
+-- the first element that passes is at this place
+position_is : (test : List ℕ → Bool) (names : List (List ℕ)) (place : ℕ) → place < length names →
+    ((earlier : ℕ) → earlier < place → test (get_or names earlier []) ≡ false) → test (get_or names place []) ≡ true →
+    position test names ≡ Some place
+position_is test names place within before here =
+    ap (λ n. cond (nat_lt n (length names)) (Some n) None)
+    (position_or_len_is test names place [] (omega (arith, within)) before (λ _. here))
+    ∙ ap (λ b. cond b (Some place) None) (lt-ltb place (length names) within)
+
+-- where none passes, all fail
+past_end : (test : List ℕ → Bool) (names : List (List ℕ)) → position test names ≡ None → length names ≤ position_or_len test names
+past_end test names none = by (nat_lt (position_or_len test names) (length names)) refl none
+  where
+    by : (b : Bool) → nat_lt (position_or_len test names) (length names) ≡ b →
+        cond b (Some (position_or_len test names)) None ≡ None → length names ≤ position_or_len test names
+    by true within is = absurd cc
+    by false past is = ltb-false (position_or_len test names) (length names) past
+
+none_passes : (test : List ℕ → Bool) (names : List (List ℕ)) → length names ≤ position_or_len test names → list_any test names ≡ false
+none_passes test [] past = refl
+none_passes test (name ∷ names) past = by (test name) refl (none_passes test names)
+  where
+    by : (b : Bool) → test name ≡ b → (length names ≤ position_or_len test names → list_any test names ≡ false) →
+        (b || list_any test names) ≡ false
+    by true passes rest = absurd (omega (arith, subst (λ b. suc (length names) ≤ cond (not b) (1 + position_or_len test names) 0) passes past))
+    by false fails rest = rest (omega (arith, subst (λ b. suc (length names) ≤ cond (not b) (1 + position_or_len test names) 0) fails past))
+
+-- a name that stands once has the number of its place
+pub number_at : (names : List (List ℕ)) (number : ℕ) (name : List ℕ) → IsDistinct same_name names → slice_get names number ≡ Some name →
+    number_of names name ≡ Some number
+number_at names number name distinct there =
+    let at : get_or names number [] ≡ name = get_or_from_slice_get names number name [] there in
+    let within : number < length names = slice_get_within names number name there in
+    position_is (same_name name) names number within
+    (λ earlier less.
+    same_name_laws.symm name (get_or names earlier [])
+    ∙ sym (ap (same_name (get_or names earlier [])) at)
+    ∙ apart_from_distinct same_name names earlier number [] distinct less within)
+    (ap (same_name name) at ∙ name_again name)
+
+-- a new name has the number of those before it
+pub number_of_new : (names : List (List ℕ)) (name : List ℕ) → number_of names name ≡ None →
+    number_of (names ++ name ∷ []) name ≡ Some (length names)
+number_of_new names name none =
+    position_is (same_name name) (names ++ name ∷ []) (length names) (omega (arith, length-append names (name ∷ [])))
+    (λ earlier less.
+    ap (same_name name) (get_or_append_left names (name ∷ []) [] earlier less)
+    ∙ fails_before_first (same_name name) names earlier [] (omega (arith, past_end (same_name name) names none, less)))
+    (ap (same_name name) (get_or_push names name [] (length names) refl) ∙ name_again name)
+
+-- a name that comes in leaves the numbers of the others
+pub keeps_numbers : (names : List (List ℕ)) (new : List ℕ) → KeepsNumbers names (names ++ new ∷ [])
+keeps_numbers names new name number is =
+    let found = position-Some (same_name name) names number [] is in
+    position_is (same_name name) (names ++ new ∷ []) number (omega (arith, length-append names (new ∷ []), found.0))
+    (λ earlier less.
+    ap (same_name name) (get_or_append_left names (new ∷ []) [] earlier (omega (arith, less, found.0))) ∙ found.2 earlier less)
+    (ap (same_name name) (get_or_append_left names (new ∷ []) [] number found.0) ∙ found.1)
+
+-- a new name leaves the names apart
+pub apart_more : (names : List (List ℕ)) (name : List ℕ) → IsDistinct same_name names → number_of names name ≡ None →
+    IsDistinct same_name (names ++ name ∷ [])
+apart_more names name distinct none =
+    IsDistinct-push same_name_laws names name distinct (none_passes (same_name name) names (past_end (same_name name) names none))
+
+-- ---- the table
+
+-- what a look-up by bytes finds
+pub found_by_bytes : (entries : List (Vec ℕ Global × List ℕ)) (name : List ℕ) → IsKeyed entries →
+    position (λ (key : Vec ℕ Global). same_name name key.items) (keys_of entries) ≡ number_of (names_of entries) name
+found_by_bytes entries name keyed =
+    ap₂ (λ place len. cond (nat_lt place len) (Some place) None) (same_place entries keyed)
+    (length-map entries (λ (e : Vec ℕ Global × List ℕ). e.0) ∙ sym (length-map entries (λ (e : Vec ℕ Global × List ℕ). e.1)))
+  where
+    same_place : (entries : List (Vec ℕ Global × List ℕ)) → IsKeyed entries →
+        position_or_len (λ (key : Vec ℕ Global). same_name name key.items) (keys_of entries)
+        ≡ position_or_len (same_name name) (names_of entries)
+    same_place [] keyed = refl
+    same_place (entry ∷ entries) keyed =
+        ap₂ (λ bytes rest. cond (not (same_name name bytes)) (1 + rest) 0) keyed.0 (same_place entries keyed.1)
+
+keyed_more : (entries : List (Vec ℕ Global × List ℕ)) (key : Vec ℕ Global) (name : List ℕ) → IsKeyed entries → key.items ≡ name →
+    IsKeyed (entries ++ (key, name) ∷ [])
+keyed_more [] key name keyed is = (is, tt)
+keyed_more (entry ∷ entries) key name keyed is = (keyed.0, keyed_more entries key name keyed.1 is)
+
+pub names_more : (entries : List (Vec ℕ Global × List ℕ)) (key : Vec ℕ Global) (name : List ℕ) →
+    names_of (entries ++ (key, name) ∷ []) ≡ names_of entries ++ name ∷ []
+names_more entries key name = map-append (λ (e : Vec ℕ Global × List ℕ). e.1) entries ((key, name) ∷ [])
+
+-- a table with a new name
+pub table_more : (entries : List (Vec ℕ Global × List ℕ)) (key : Vec ℕ Global) (name : List ℕ) → IsTable entries → key.items ≡ name →
+    number_of (names_of entries) name ≡ None → length entries + 1 < 2 ^ 32 → IsTable (entries ++ (key, name) ∷ [])
+table_more entries key name table is none few = record {
+  keyed = keyed_more entries key name table.keyed is;
+  apart = subst (IsDistinct same_name) (sym (names_more entries key name)) (apart_more (names_of entries) name table.apart none);
+  few = omega (arith, length-append entries ((key, name) ∷ []), few);
+}
+
+-- a name that has no number isn't found by its bytes
+not_found : (entries : List (Vec ℕ Global × List ℕ)) (name : List ℕ) → IsKeyed entries →
+    list_any (same_name name) (names_of entries) ≡ false → lookup (λ (key : Vec ℕ Global). same_name name key.items) entries ≡ None
+not_found [] name keyed none = refl
+not_found (entry ∷ entries) name keyed none =
+    by (same_name name entry.1) refl none (not_found entries name keyed.1)
+  where
+    by : (b : Bool) → same_name name entry.1 ≡ b → (b || list_any (same_name name) (names_of entries)) ≡ false →
+        (list_any (same_name name) (names_of entries) ≡ false → lookup (λ (key : Vec ℕ Global). same_name name key.items) entries ≡ None) →
+        lookup (λ (key : Vec ℕ Global). same_name name key.items) (entry ∷ entries) ≡ None
+    by true passes stays rest = absurd (true≢false stays)
+    by false fails stays rest =
+        ap (λ b. cond b (Some entry.1) (lookup (λ (key : Vec ℕ Global). same_name name key.items) entries)) (ap (same_name name) keyed.0 ∙ fails)
+        ∙ rest stays
+
+pub absent : (entries : List (Vec ℕ Global × List ℕ)) (name : List ℕ) → IsKeyed entries → number_of (names_of entries) name ≡ None →
+    lookup (λ (key : Vec ℕ Global). same_name name key.items) entries ≡ None
+absent entries name keyed none =
+    not_found entries name keyed (none_passes (same_name name) (names_of entries) (past_end (same_name name) (names_of entries) none))
+
+-- a table without names
+pub no_names : IsTable []
+unfolding IsDistinct
+no_names = record { keyed = tt; apart = tt; few = omega arith }
+
+-- the entries after a new name came in
+pub added : {S : Type 0} (table : IndexMap (Vec ℕ Global) (List ℕ) S) (after : List (Vec ℕ Global × List ℕ)) (key : Vec ℕ Global) (name copy : List ℕ) →
+    IsTable table.entries → key.items ≡ name → copy ≡ name → number_of (names_of table.entries) name ≡ None →
+    after ≡ insert_entry (λ (x y : Vec ℕ Global). same_name x.items y.items) table.entries key copy →
+    after ≡ table.entries ++ (key, name) ∷ []
+added table after key name copy is_table is same none inserted =
+    inserted
+    ∙ insert_entry-new (λ (x y : Vec ℕ Global). same_name x.items y.items) table key copy
+    (subst (λ bytes. lookup (λ (k : Vec ℕ Global). same_name bytes k.items) table.entries ≡ None) (sym is)
+    (absent table.entries name is_table.keyed none))
+    ∙ ap (λ n. table.entries ++ (key, n) ∷ []) same
+
+-- their names, and the number of the new one
+pub added_names : {S : Type 0} (table : IndexMap (Vec ℕ Global) (List ℕ) S) (after : List (Vec ℕ Global × List ℕ)) (key : Vec ℕ Global) (name : List ℕ)
+    (names : List (List ℕ)) → after ≡ table.entries ++ (key, name) ∷ [] → names_of table.entries ≡ names →
+    names_of after ≡ names ++ name ∷ []
+added_names table after key name names is view =
+    ap names_of is ∙ names_more table.entries key name ∙ ap (λ l. l ++ name ∷ []) view

@@ -1,0 +1,45 @@
+//! Numbers by hand, with random keys and without.
+
+use crate::Names;
+use rpq_base::Name;
+use std::alloc::Global;
+use std::io;
+use std::io::ErrorKind;
+use std::random::RandomSource;
+use std::test::Fail;
+
+/// A system that gives no random bytes.
+struct NoRandomBytes;
+
+impl RandomSource for NoRandomBytes {
+    fn fill_bytes(&self, _: &mut [u8]) -> io::Result<()> {
+        Err(ErrorKind::Unsupported.into())
+    }
+}
+
+/// Whether three names have the numbers from 0 in the order of their first sight.
+fn numbers_names<R: RandomSource>(rt: &R, alloc: Global) -> Result<bool, Fail> {
+    let late = Name::new(alloc, b"z")?;
+    let early = Name::new(alloc, b"a")?;
+    let other = Name::new(alloc, b"zz")?;
+    let mut names = Names::new(rt, alloc)?;
+    let first = names.number(&late)? == 0 && names.number(&early)? == 1;
+    let again = names.number(&late)? == 0 && names.find(&other).is_none();
+    let third = names.number(&other)? == 2 && names.find(&early) == Some(1);
+    Ok(first && again && third && is_named(&names, &other))
+}
+
+/// Whether the name with the name's number is this name.
+fn is_named(names: &Names, name: &Name) -> bool {
+    match names.find(name) {
+        Some(number) => names.name_of(number).as_bytes() == name.as_bytes(),
+        None => false,
+    }
+}
+
+#[test]
+fn names_have_numbers_in_the_order_of_first_sight(rt: HostRuntime) -> Result<(), Fail> {
+    assert!(rt; numbers_names(&rt, rt.alloc())?);
+    assert!(rt; numbers_names(&NoRandomBytes, rt.alloc())?);
+    Ok(())
+}
