@@ -1,0 +1,269 @@
+-- The first fault of a line is the first in the order of the kinds.
+use Rattle.std.proofs.Common.{◌≡◌, ℕ, ◌<◌, ◌≤◌, ◌⊎◌, inl, inr, List, Option, Some, None, Ok, Err, refl, sym, subst, ◌∙◌, arith}
+use Rattle.std.specs.Prelude.{IsSome}
+use Rattle.std.proofs.lemmas.Bool.{false≢true, cases_lt}
+use Rattle.path_syntax.specs.Expression.{Expression}
+use Rattle.path_syntax.specs.Faults.{IsOutcome}
+use Rattle.path_syntax.specs.Size.{atoms}
+use Rattle.path_syntax.specs.declared.read.BadExpr.{BadExpr}
+use Rattle.path_syntax.proofs.Answering.{one_outcome}
+use Rattle.rpq_model.specs.declared.mode.Mode.TheVariants.{Arbitrary, Simple}
+use Rattle.rpq_model.specs.Query.{Query}
+use Rattle.query_file.specs.declared.fault.QueryKind.{QueryKind}
+use Rattle.query_file.specs.declared.fault.QueryKind.TheVariants.{Shape, Number, Twice, TooMany, NoQuery, Expr, TooManyLabels, TooManyStates, Memory, NotYet}
+use Rattle.query_file.specs.InOrder.{IsTaken, HasLengths, HasNewName, HasRoom, HasExpression, HasFewLabels, HasFewStates, IsFirstInOrder, IsLineInOrder}
+use Rattle.query_file.specs.QueryLine.{LineParts, HasParts, ForParts, ForExpression, length_of, NeedsManyStates, HasFault, number_of, IsFirstFault, IsLineOf}
+use Rattle.query_file.proofs.OneParts.{one_parts}
+
+-- ---- what holds of the parts of a line
+
+-- what holds of some parts holds of those that are known
+pub at_parts : (line : List ℕ) (P : LineParts → Type 0) (parts : LineParts) → HasParts line parts → ForParts line P → P parts
+at_parts line P parts has (others, was, p) = subst P (one_parts line others parts was has) p
+
+-- a text is that of one expression
+pub one_expression : (text : List ℕ) (e f : Expression) → IsOutcome text (Ok e) → IsOutcome text (Ok f) → e ≡ f
+one_expression text e f one other = let same = (one_outcome text).one (Ok e) (Ok f) one other in cc same
+
+-- a text with an expression has no fault
+pub no_fault_of : (text : List ℕ) (e : Expression) (fault : BadExpr) → IsOutcome text (Ok e) → IsOutcome text (Err fault) → ⊥
+no_fault_of text e fault one other = let same = (one_outcome text).one (Ok e) (Err fault) one other in absurd (cc same)
+
+-- what holds of some expression of the line holds of the one that is known
+pub at_expression : (line : List ℕ) (P : Expression → Type 0) (parts : LineParts) (e : Expression) → HasParts line parts → IsOutcome parts.expr (Ok e) →
+    ForExpression line P → P e
+at_expression line P parts e has outcome for_one =
+    let found = at_parts line (λ p. (f : Expression) × IsOutcome p.expr (Ok f) × P f) parts has for_one in
+    subst P (one_expression parts.expr found.0 e found.1 outcome) found.2
+
+none_from : (found : Option ℕ) → (IsSome found → ⊥) → found ≡ None
+none_from None no_some = refl
+none_from (Some time) no_some = absurd (no_some refl)
+
+pub some_not_none : (found : Option ℕ) → IsSome found → found ≡ None → ⊥
+some_not_none found some none = absurd (false≢true (subst IsSome none some))
+
+-- ---- which faults are left
+
+-- what is known of a line with these parts that has no fault of a number below n
+record Facts (before : List Query) (parts : LineParts) (n : ℕ) : Type 0 where
+  lengths : 2 < n → HasLengths parts
+  name : 3 < n → HasNewName before parts
+  room : 4 < n → HasRoom before parts
+  expression : 6 < n → (e : Expression) × HasExpression before parts e
+  labels : 7 < n → (e : Expression) × HasFewLabels before parts e
+  states : 8 < n → (e : Expression) × HasFewStates before parts e
+  mode : 11 < n → parts.mode ≡ Arbitrary
+
+-- then each of its faults has a number from n on
+left : (before : List Query) (line : List ℕ) (parts : LineParts) (n : ℕ) → HasParts line parts → Facts before parts n →
+    (other : QueryKind) → HasFault before line other → n ≤ number_of other
+left before line parts n has facts Shape fault = absurd (fault parts has)
+left before line parts n has facts Number fault = elim (cases_lt 2 n) [
+  | inr done ↦ done
+  | inl less ↦
+      let lengths = facts.lengths less in
+      elim (at_parts line (λ p. (length_of p.size ≡ None) ⊎ (length_of p.slide ≡ None)) parts has fault) [
+        | inl none ↦ absurd (some_not_none (length_of parts.size) lengths.size none)
+        | inr none ↦ absurd (some_not_none (length_of parts.slide) lengths.slide none)
+      ]
+]
+left before line parts n has facts (Twice name) fault = elim (cases_lt 3 n) [
+  | inr done ↦ done
+  | inl less ↦
+      let both = at_parts line (λ p. (p.name ≡ name) × IsTaken before name) parts has fault in
+      absurd ((facts.name less).new (subst (IsTaken before) (sym both.0) both.1))
+]
+left before line parts n has facts TooMany fault = elim (cases_lt 4 n) [
+  | inr done ↦ done
+  | inl less ↦ let room = (facts.room less).room in absurd (omega (arith, room, fault))
+]
+left before line parts n has facts NoQuery fault = absurd fault
+left before line parts n has facts (Expr bad) fault = elim (cases_lt 6 n) [
+  | inr done ↦ done
+  | inl less ↦
+      let known = facts.expression less in
+      absurd (no_fault_of parts.expr known.0 bad known.1.outcome (at_parts line (λ p. IsOutcome p.expr (Err bad)) parts has fault))
+]
+left before line parts n has facts (TooManyLabels count) fault = elim (cases_lt 7 n) [
+  | inr done ↦ done
+  | inl less ↦
+      let known = facts.labels less in
+      let few = known.1.few in
+      let both = at_expression line (λ e. (atoms e ≡ count) × (64 < count)) parts known.0 has known.1.expression.outcome fault in
+      absurd (omega (arith, few, both.0, both.1))
+]
+left before line parts n has facts TooManyStates fault = elim (cases_lt 8 n) [
+  | inr done ↦ done
+  | inl less ↦
+      let known = facts.states less in
+      absurd (known.1.few (at_expression line NeedsManyStates parts known.0 has known.1.labels.expression.outcome fault))
+]
+left before line parts n has facts Memory fault = absurd fault
+left before line parts n has facts NotYet fault = elim (cases_lt 11 n) [
+  | inr done ↦ done
+  | inl less ↦
+      let simple = at_parts line (λ p. p.mode ≡ Simple) parts has fault in
+      let both : Arbitrary ≡ Simple = sym (facts.mode less) ∙ simple in
+      absurd (cc both)
+]
+
+-- each kind has a number from 1 to 11
+least_number : (kind : QueryKind) → 1 ≤ number_of kind
+least_number Shape = omega arith
+least_number Number = omega arith
+least_number (Twice name) = omega arith
+least_number TooMany = omega arith
+least_number NoQuery = omega arith
+least_number (Expr fault) = omega arith
+least_number (TooManyLabels count) = omega arith
+least_number TooManyStates = omega arith
+least_number Memory = omega arith
+least_number NotYet = omega arith
+
+greatest_number : (kind : QueryKind) → number_of kind ≤ 11
+greatest_number Shape = omega arith
+greatest_number Number = omega arith
+greatest_number (Twice name) = omega arith
+greatest_number TooMany = omega arith
+greatest_number NoQuery = omega arith
+greatest_number (Expr fault) = omega arith
+greatest_number (TooManyLabels count) = omega arith
+greatest_number TooManyStates = omega arith
+greatest_number Memory = omega arith
+greatest_number NotYet = omega arith
+
+-- ---- from the order
+
+known_lengths : (before : List Query) (parts : LineParts) → HasLengths parts → Facts before parts 3
+known_lengths before parts has = record {
+  lengths = λ less. has;
+  name = λ less. absurd (omega (arith, less));
+  room = λ less. absurd (omega (arith, less));
+  expression = λ less. absurd (omega (arith, less));
+  labels = λ less. absurd (omega (arith, less));
+  states = λ less. absurd (omega (arith, less));
+  mode = λ less. absurd (omega (arith, less));
+}
+
+known_name : (before : List Query) (parts : LineParts) → HasNewName before parts → Facts before parts 4
+known_name before parts has = record {
+  lengths = λ less. has.lengths;
+  name = λ less. has;
+  room = λ less. absurd (omega (arith, less));
+  expression = λ less. absurd (omega (arith, less));
+  labels = λ less. absurd (omega (arith, less));
+  states = λ less. absurd (omega (arith, less));
+  mode = λ less. absurd (omega (arith, less));
+}
+
+known_room : (before : List Query) (parts : LineParts) → HasRoom before parts → Facts before parts 6
+known_room before parts has = record {
+  lengths = λ less. has.name.lengths;
+  name = λ less. has.name;
+  room = λ less. has;
+  expression = λ less. absurd (omega (arith, less));
+  labels = λ less. absurd (omega (arith, less));
+  states = λ less. absurd (omega (arith, less));
+  mode = λ less. absurd (omega (arith, less));
+}
+
+known_expression : (before : List Query) (parts : LineParts) (e : Expression) → HasExpression before parts e → Facts before parts 7
+known_expression before parts e has = record {
+  lengths = λ less. has.room.name.lengths;
+  name = λ less. has.room.name;
+  room = λ less. has.room;
+  expression = λ less. (e, has);
+  labels = λ less. absurd (omega (arith, less));
+  states = λ less. absurd (omega (arith, less));
+  mode = λ less. absurd (omega (arith, less));
+}
+
+known_labels : (before : List Query) (parts : LineParts) (e : Expression) → HasFewLabels before parts e → Facts before parts 8
+known_labels before parts e has = record {
+  lengths = λ less. has.expression.room.name.lengths;
+  name = λ less. has.expression.room.name;
+  room = λ less. has.expression.room;
+  expression = λ less. (e, has.expression);
+  labels = λ less. (e, has);
+  states = λ less. absurd (omega (arith, less));
+  mode = λ less. absurd (omega (arith, less));
+}
+
+known_states : (before : List Query) (parts : LineParts) (e : Expression) (n : ℕ) → HasFewStates before parts e → (11 < n → parts.mode ≡ Arbitrary) →
+    Facts before parts n
+known_states before parts e n has mode = record {
+  lengths = λ less. has.labels.expression.room.name.lengths;
+  name = λ less. has.labels.expression.room.name;
+  room = λ less. has.labels.expression.room;
+  expression = λ less. (e, has.labels.expression);
+  labels = λ less. (e, has.labels);
+  states = λ less. (e, has);
+  mode = mode;
+}
+
+-- parts of which one isn't a length
+no_length : (parts : LineParts) → (HasLengths parts → ⊥) → (length_of parts.size ≡ None) ⊎ (length_of parts.slide ≡ None)
+no_length parts none = by (length_of parts.size) refl
+  where
+    by : (found : Option ℕ) → length_of parts.size ≡ found → (length_of parts.size ≡ None) ⊎ (length_of parts.slide ≡ None)
+    by None is = inl is
+    by (Some time) is = inr (none_from (length_of parts.slide) (λ slide. none (record { size = subst IsSome (sym is) refl; slide = slide })))
+
+-- the first in the order is the first fault
+pub first_fault : (before : List Query) (line : List ℕ) (kind : QueryKind) → IsFirstInOrder before line kind → IsFirstFault before line kind
+first_fault before line Shape none = record { has = none; least = λ other fault. least_number other }
+first_fault before line Number (parts, has, none) = record {
+  has = (parts, has, no_length parts none);
+  least = left before line parts 2 has (record {
+    lengths = λ less. absurd (omega (arith, less));
+    name = λ less. absurd (omega (arith, less));
+    room = λ less. absurd (omega (arith, less));
+    expression = λ less. absurd (omega (arith, less));
+    labels = λ less. absurd (omega (arith, less));
+    states = λ less. absurd (omega (arith, less));
+    mode = λ less. absurd (omega (arith, less));
+  });
+}
+first_fault before line (Twice name) (parts, has, (lengths, is, taken)) = record {
+  has = (parts, has, (is, taken));
+  least = left before line parts 3 has (known_lengths before parts lengths);
+}
+first_fault before line TooMany (parts, has, (new, many)) = record {
+  has = many;
+  least = left before line parts 4 has (known_name before parts new);
+}
+first_fault before line NoQuery none = absurd none
+first_fault before line (Expr fault) (parts, has, (room, outcome)) = record {
+  has = (parts, has, outcome);
+  least = left before line parts 6 has (known_room before parts room);
+}
+first_fault before line (TooManyLabels count) (parts, has, (e, expression, are, many)) = record {
+  has = (parts, has, (e, expression.outcome, (are, many)));
+  least = left before line parts 7 has (known_expression before parts e expression);
+}
+first_fault before line TooManyStates (parts, has, (e, labels, many)) = record {
+  has = (parts, has, (e, labels.expression.outcome, many));
+  least = left before line parts 8 has (known_labels before parts e labels);
+}
+first_fault before line Memory none = absurd none
+first_fault before line NotYet (parts, has, (e, states, simple)) = record {
+  has = (parts, has, simple);
+  least = left before line parts 11 has (known_states before parts e 11 states (λ less. absurd (omega (arith, less))));
+}
+
+-- a line without a fault in the order has none
+pub line_of : (before : List Query) (line : List ℕ) (query : Query) → IsLineInOrder before line query → IsLineOf before line query
+line_of before line query is = record {
+  no_fault = λ kind fault.
+      let above = left before line is.parts 12 is.has (known_states before is.parts query.expr 12 is.states (λ less. is.arbitrary)) kind fault in
+      let most = greatest_number kind in
+      absurd (omega (arith, above, most));
+  parts = is.parts;
+  has = is.has;
+  name = is.name;
+  size = is.size;
+  slide = is.slide;
+  mode = is.mode;
+  expr = is.states.labels.expression.outcome;
+}

@@ -1,0 +1,129 @@
+-- The first fault of a line is the first in the order of the kinds: the other way round.
+use Rattle.std.proofs.Common.{◌≡◌, ℕ, ◌<◌, ◌≤◌, inl, inr, List, length, Option, Some, None, Result, Ok, Err, refl, arith}
+use Rattle.std.specs.Prelude.{IsSome}
+use Rattle.std.proofs.lemmas.Bool.{cases_lt}
+use Rattle.path_syntax.specs.Expression.{Expression}
+use Rattle.path_syntax.specs.Faults.{IsOutcome}
+use Rattle.path_syntax.specs.Size.{atoms}
+use Rattle.path_syntax.specs.declared.read.BadExpr.{BadExpr}
+use Rattle.path_syntax.proofs.Answering.{one_outcome}
+use Rattle.rpq_model.specs.declared.mode.Mode.{Mode}
+use Rattle.rpq_model.specs.declared.mode.Mode.TheVariants.{Arbitrary, Simple}
+use Rattle.rpq_model.specs.Query.{Query}
+use Rattle.query_file.specs.declared.fault.QueryKind.{QueryKind}
+use Rattle.query_file.specs.declared.fault.QueryKind.TheVariants.{Shape, Number, Twice, TooMany, NoQuery, Expr, TooManyLabels, TooManyStates, Memory, NotYet}
+use Rattle.query_file.specs.InOrder.{HasLengths, HasNewName, HasRoom, HasFewLabels, HasFewStates, IsFirstInOrder, IsLineInOrder, FaultsInOrder}
+use Rattle.query_file.specs.QueryLine.{LineParts, HasParts, length_of, HasFault, number_of, IsFirstFault, IsLineOf}
+use Rattle.query_file.proofs.Decided.{parts_or_none}
+use Rattle.query_file.proofs.FirstFaults.{some_not_none, first_fault, line_of}
+
+some_from : (found : Option ℕ) → (found ≡ None → ⊥) → IsSome found
+some_from None other = absurd (other refl)
+some_from (Some time) other = refl
+
+-- what is known of a line with these parts whose faults have numbers from n on
+module _ (before : List Query) (line : List ℕ) (parts : LineParts) (n : ℕ) (has : HasParts line parts)
+    (least : (other : QueryKind) → HasFault before line other → n ≤ number_of other) where
+  lengths_known : 2 < n → HasLengths parts
+  lengths_known above = record {
+    size = some_from (length_of parts.size) (λ none. let most = least Number (parts, has, inl none) in absurd (omega (arith, above, most)));
+    slide = some_from (length_of parts.slide) (λ none. let most = least Number (parts, has, inr none) in absurd (omega (arith, above, most)));
+  }
+
+  name_known : 3 < n → HasNewName before parts
+  name_known above = record {
+    lengths = lengths_known (omega (arith, above));
+    new = λ taken. let most = least (Twice parts.name) (parts, has, (refl, taken)) in absurd (omega (arith, above, most));
+  }
+
+  room_known : 4 < n → HasRoom before parts
+  room_known above = record { name = name_known (omega (arith, above)); room = room }
+    where
+      room : length before < 64
+      room = elim (cases_lt (length before) 64) [
+        | inl less ↦ less
+        | inr many ↦ let most = least TooMany many in absurd (omega (arith, above, most))
+      ]
+
+  labels_known : (e : Expression) → 7 < n → IsOutcome parts.expr (Ok e) → HasFewLabels before parts e
+  labels_known e above outcome = record {
+    expression = record { room = room_known (omega (arith, above)); outcome = outcome };
+    few = few;
+  }
+    where
+      few : atoms e ≤ 64
+      few = elim (cases_lt 64 (atoms e)) [
+        | inr less ↦ less
+        | inl many ↦ let most = least (TooManyLabels (atoms e)) (parts, has, (e, outcome, (refl, many))) in absurd (omega (arith, above, most))
+      ]
+
+  states_known : (e : Expression) → 8 < n → IsOutcome parts.expr (Ok e) → HasFewStates before parts e
+  states_known e above outcome = record {
+    labels = labels_known e (omega (arith, above)) outcome;
+    few = λ many. let most = least TooManyStates (parts, has, (e, outcome, many)) in absurd (omega (arith, above, most));
+  }
+
+  expression_known : 6 < n → (e : Expression) × IsOutcome parts.expr (Ok e)
+  expression_known above = by (one_outcome parts.expr).some.0 (one_outcome parts.expr).some.1
+    where
+      by : (read : Result Expression BadExpr) → IsOutcome parts.expr read → (e : Expression) × IsOutcome parts.expr (Ok e)
+      by (Ok e) outcome = (e, outcome)
+      by (Err fault) outcome = let most = least (Expr fault) (parts, has, outcome) in absurd (omega (arith, above, most))
+
+-- the first fault is the first in the order
+in_order : (before : List Query) (line : List ℕ) (kind : QueryKind) → IsFirstFault before line kind → IsFirstInOrder before line kind
+in_order before line Shape first = first.has
+in_order before line Number first =
+    let (parts, has, either) = first.has in (
+      parts,
+      has,
+      λ lengths. elim either [
+        | inl none ↦ absurd (some_not_none (length_of parts.size) lengths.size none)
+        | inr none ↦ absurd (some_not_none (length_of parts.slide) lengths.slide none)
+      ],
+    )
+in_order before line (Twice name) first =
+    let (parts, has, both) = first.has in
+    (parts, has, (lengths_known before line parts 3 has first.least (omega arith), both.0, both.1))
+in_order before line TooMany first = elim (parts_or_none line) [
+  | inl found ↦ (found.0, found.1, (name_known before line found.0 4 found.1 first.least (omega arith), first.has))
+  | inr none ↦ let most = first.least Shape none in absurd (omega (arith, most))
+]
+in_order before line NoQuery first = absurd first.has
+in_order before line (Expr fault) first =
+    let (parts, has, outcome) = first.has in
+    (parts, has, (room_known before line parts 6 has first.least (omega arith), outcome))
+in_order before line (TooManyLabels count) first =
+    let (parts, has, (e, outcome, both)) = first.has in
+    (parts, has, (e, record { room = room_known before line parts 7 has first.least (omega arith); outcome = outcome }, both.0, both.1))
+in_order before line TooManyStates first =
+    let (parts, has, (e, outcome, many)) = first.has in
+    (parts, has, (e, labels_known before line parts 8 has first.least e (omega arith) outcome, many))
+in_order before line Memory first = absurd first.has
+in_order before line NotYet first =
+    let (parts, has, simple) = first.has in
+    let found = expression_known before line parts 11 has first.least (omega arith) in
+    (parts, has, (found.0, states_known before line parts 11 has first.least found.0 (omega arith) found.1, simple))
+
+-- a line without a fault has none in the order
+line_in_order : (before : List Query) (line : List ℕ) (query : Query) → IsLineOf before line query → IsLineInOrder before line query
+line_in_order before line query is = record {
+  parts = is.parts;
+  has = is.has;
+  states = states_known before line is.parts 12 is.has (λ other fault. absurd (is.no_fault other fault)) query.expr (omega arith) is.expr;
+  arbitrary = by is.parts.mode refl;
+  name = is.name;
+  size = is.size;
+  slide = is.slide;
+  mode = is.mode;
+}
+  where
+    by : (mode : Mode) → is.parts.mode ≡ mode → is.parts.mode ≡ Arbitrary
+    by Arbitrary same = same
+    by Simple same = absurd (is.no_fault NotYet (is.parts, is.has, same))
+
+pub faults_in_order : FaultsInOrder
+faults_in_order = record {
+  first = λ before line kind. (in_order before line kind, first_fault before line kind);
+  none = λ before line query. (line_in_order before line query, line_of before line query);
+}

@@ -1,0 +1,13 @@
+pub mod ByParts
+pub mod Decided
+pub mod Examples
+pub mod Exits
+pub mod FirstFaults
+pub mod FirstFields
+pub mod InOrder
+pub mod ManySets
+pub mod OneOutcome
+pub mod OneParts
+pub mod Taken
+pub mod Taking
+pub mod Texts

@@ -1,0 +1,21 @@
+use Rattle.std.proofs.Common.{◌≡◌, ◌+◌, ◌≤◌, [], length}
+use Rattle.std.specs.List.{All}
+use Rattle.text_parts.specs.Lines.{lines}
+use Rattle.rpq_model.specs.declared.mode.Mode.TheVariants.{Arbitrary}
+use Rattle.query_file.specs.Compiled.{IsAutomatonOf}
+use Rattle.query_file.specs.Takes.{defs, GivesSo}
+use Rattle.query_file.proofs.read.read_queries.Given as goal
+
+-- the file gives what the lines that are left give after the queries so far
+abbrev pub invariant-loop-line : goal.invariant-loop-line
+invariant-loop-line l = record {
+  so_far : GivesSo (defs l.queries.items) l.count (lines l.rest) [] 0 (lines l.bytes);
+  counted : l.count + length l.rest ≤ length l.bytes;
+  few : length l.queries.items ≤ 64;
+  arbitrary : All (λ each. each.def.mode ≡ Arbitrary) l.queries.items;
+  automata : All (λ each. IsAutomatonOf each.def each.dfa) l.queries.items;
+}
+
+-- the bytes that are left
+abbrev pub decreases-loop-line : goal.decreases-loop-line
+decreases-loop-line l = length l.rest

@@ -1,0 +1,33 @@
+-- Some lines and files with what they give.
+use Rattle.std.specs.Prelude.{◌≡◌, List, [], ◌∷◌, codes, Some, None, Err}
+use Rattle.path_syntax.specs.declared.read.BadExpr.TheVariants.{Unexpected, Ended}
+use Rattle.rpq_model.specs.declared.mode.Mode.TheVariants.{Simple}
+use Rattle.rpq_model.specs.Query.{Query}
+use Rattle.query_file.specs.declared.fault.QueryKind.TheVariants.{Number, Twice, NoQuery, Expr}
+use Rattle.query_file.specs.Queries.{fault_at, Queries}
+use Rattle.query_file.specs.QueryLine.{HasParts, length_of, IsFirstFault}
+
+-- a line with its parts: blanks may stand in front, and none behind the colon; lengths of time from
+-- 1 to 2^62 - 1; a number that is no length; a name that is taken; a fault of the expression,
+-- whose place is counted from the colon; an expression that is empty; a file without a query
+pub record LineExamples : Type 0 where
+  pub parts : HasParts (codes "  query q window 10 slide x simple:a b")
+      (record {
+        name = codes "q";
+        size = codes "10";
+        slide = codes "x";
+        mode = Simple;
+        expr = codes "a b";
+      })
+  pub greatest : length_of (codes "4611686018427387903") ≡ Some 4611686018427387903
+  pub beyond : length_of (codes "4611686018427387904") ≡ None
+  pub zeros : length_of (codes "0010") ≡ Some 10
+  pub number : (before : List Query) →
+      IsFirstFault before (codes "query q window 10 slide 0 simple:") Number
+  pub twice : (query : Query) → query.name ≡ codes "q" →
+      IsFirstFault (query ∷ []) (codes "query q window 10 slide 2 arbitrary: ||")
+      (Twice (codes "q"))
+  pub place : IsFirstFault [] (codes "query q window 10 slide 2 arbitrary: a||b")
+      (Expr (Unexpected 4))
+  pub empty : IsFirstFault [] (codes "query q window 10 slide 2 arbitrary:") (Expr Ended)
+  pub lacking : Queries (codes "\n # no query\n") (Err (fault_at 2 NoQuery))

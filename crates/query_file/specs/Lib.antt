@@ -1,0 +1,14 @@
+pub mod ByParts
+pub mod Compiled
+pub mod CompiledCode
+pub mod Examples
+pub mod FaultTexts
+pub mod FirstField
+pub mod InOrder
+pub mod Kinds
+pub mod Laws
+pub mod LineTexts
+pub mod Places
+pub mod Queries
+pub mod QueryLine
+pub mod Takes

@@ -1,0 +1,33 @@
+//! Laws of the definitions. The functions do nothing: their contracts are the laws.
+
+ghost use Rattle.query_file.specs.ByParts.{QueriesByParts};
+ghost use Rattle.query_file.specs.Examples.{LineExamples};
+ghost use Rattle.query_file.specs.FirstField.{OneFirstField};
+ghost use Rattle.query_file.specs.InOrder.{FaultsInOrder};
+ghost use Rattle.query_file.specs.Laws.{OneOutcome};
+
+/// The bytes of a file give its queries or its first fault, and one thing alone.
+pub fn one_outcome()
+    ensures { OneOutcome }
+{}
+
+/// A file gives the queries of its lines, or the first fault of a line behind lines without one.
+pub fn queries_by_parts()
+    ensures { QueriesByParts }
+{}
+
+/// The first fault of a line is the first in the order of the kinds, each of which says what holds
+/// where no kind before it applies.
+pub fn faults_in_order()
+    ensures { FaultsInOrder }
+{}
+
+/// A line has one first field at most.
+pub fn one_first_field()
+    ensures { OneFirstField }
+{}
+
+/// Some lines with their parts, and some with their faults.
+pub fn line_examples()
+    ensures { LineExamples }
+{}

@@ -1,0 +1,132 @@
+//! The query of a query line.
+
+ghost use Rattle.std.specs.Prelude.{◌≡◌, ◌≢◌, ◌+◌, ◌^◌, ◌<◌, ◌≤◌, ◌⊎◌, Some, None, IfOk, OnOk};
+ghost use Rattle.std.specs.Prelude.{IfErr, IfSome, IfNone, IsNone, length};
+ghost use Rattle.rpq_base.specs.declared.data.TheConstants.{MAX_TIME as GREATEST};
+ghost use Rattle.std.specs.List.{list_any};
+ghost use Rattle.rpq_base.specs.Same.{same_name};
+ghost use Rattle.rpq_base.specs.Names.{IsName};
+ghost use Rattle.query_file.specs.Compiled.{IsAutomatonOf};
+ghost use Rattle.query_file.specs.QueryLine.{length_of};
+ghost use Rattle.query_file.specs.InOrder.{IsTaken, IsFirstInOrder, IsLineInOrder};
+ghost use Rattle.query_file.specs.Takes.{defs};
+ghost use Rattle.query_file.specs.Places.{HasNoPlace, IsDefinitionOf};
+ghost use Rattle.path_syntax.specs.Size.{nodes};
+
+use crate::automaton::automaton_of;
+use crate::compiled::Compiled;
+use crate::fault::QueryKind;
+use crate::line_text::line_text;
+use path_syntax::read_expr;
+use rpq_base::{Copied, MAX_TIME, Name, NameFault};
+use rpq_model::{Mode, QueryDef, Window};
+use std::alloc::Global;
+use text_parts::read_number;
+
+/// The most queries that a file has.
+const MAX_QUERIES: usize = 64;
+
+/// The query of a line that follows these queries, with its automaton, or its first fault.
+pub fn read_query(alloc: Global, line: &[u8], before: &[Compiled]) -> Result<Compiled, QueryKind>
+    requires { length line.now < 2 ^ 24 + 1 }
+    ensures ok { IfOk result (λ found.
+        IsLineInOrder (defs before.now) line.now found.def) }
+    ensures automaton { IfOk result (λ found. IsAutomatonOf found.def found.dfa) }
+    ensures err { IfErr result (λ kind. kind ≢ QueryKind.Memory →
+        IsFirstInOrder (defs before.now) line.now kind) }
+    ensures room { OnOk result (length before.now < 64) }
+{
+    let def = read_definition(alloc, line, before)?;
+    let dfa = automaton_of(alloc, &def.expr)?;
+    if def.mode == Mode::Simple {
+        return Err(QueryKind::NotYet);
+    }
+    Ok(Compiled { def, dfa })
+}
+
+/// The query that a line defines which follows these queries, whatever its mode and its automaton.
+fn read_definition(alloc: Global, line: &[u8], before: &[Compiled]) -> Result<QueryDef, QueryKind>
+    requires { length line.now < 2 ^ 24 + 1 }
+    ensures ok { IfOk result (λ def.
+        IsDefinitionOf (defs before.now) line.now def) }
+    ensures small { IfOk result (λ def. nodes def.expr < 2 ^ 32) }
+    ensures err { IfErr result (λ kind. kind ≢ QueryKind.Memory →
+        IsFirstInOrder (defs before.now) line.now kind) }
+    ensures room { OnOk result (length before.now < 64) }
+{
+    let Some(text) = line_text(line) else {
+        return Err(QueryKind::Shape);
+    };
+    let name = read_name(alloc, text.name)?;
+    let Some(window) = read_window(text.size, text.slide) else {
+        return Err(QueryKind::Number);
+    };
+    check_place(&name, before)?;
+    let expr = read_expr(alloc, text.expr)?;
+    Ok(QueryDef {
+        name,
+        window,
+        mode: text.mode,
+        expr,
+    })
+}
+
+/// The name that a field is; another field spoils the form of its line.
+fn read_name(alloc: Global, field: &[u8]) -> Result<Name, QueryKind>
+    ensures name { IfOk result (λ name. name ≡ field.now) }
+    ensures valid { OnOk result (IsName field.now) }
+    ensures fault { IfErr result (λ kind. kind ≢ QueryKind.Memory →
+        (kind ≡ QueryKind.Shape) × (IsName field.now → ⊥)) }
+{
+    match Name::new(alloc, field) {
+        Ok(name) => Ok(name),
+        Err(NameFault::Length(_) | NameFault::Byte(_)) => Err(QueryKind::Shape),
+        Err(NameFault::Memory) => Err(QueryKind::Memory),
+    }
+}
+
+/// The window of the two lengths of time that these fields write.
+fn read_window(size: &[u8], slide: &[u8]) -> Option<Window>
+    ensures size { IfSome result (λ window. length_of size.now ≡ Some window.size) }
+    ensures slide { IfSome result (λ window. length_of slide.now ≡ Some window.slide) }
+    ensures none { IfNone result
+        (IsNone (length_of size.now) ⊎ IsNone (length_of slide.now)) }
+{
+    let size = read_length(size)?;
+    let slide = read_length(slide)?;
+    Some(Window { size, slide })
+}
+
+/// The length of time that a field writes.
+#[tactic(auto, unfolding(crate::specs::QueryLine::length_of))]
+fn read_length(field: &[u8]) -> Option<u64>
+    ensures value { result ≡ length_of field.now }
+    ensures within { IfSome result (λ length. (1 ≤ length) × (length ≤ GREATEST)) }
+{
+    match read_number(field, MAX_TIME) {
+        Ok(0) | Err(_) => None,
+        Ok(length) => Some(length),
+    }
+}
+
+/// Whether one more query may follow these, and have this name.
+fn check_place(name: &Name, before: &[Compiled]) -> Result<(), QueryKind>
+    ensures new { OnOk result (IsTaken (defs before.now) name.now → ⊥) }
+    ensures room { OnOk result (length before.now < 64) }
+    ensures fault { IfErr result (HasNoPlace (defs before.now) name.now) }
+{
+    if is_taken(name, before) {
+        return Err(QueryKind::Twice(name.copy()?));
+    }
+    if before.len() >= MAX_QUERIES {
+        return Err(QueryKind::TooMany);
+    }
+    Ok(())
+}
+
+/// Whether one of these queries has the name.
+fn is_taken(name: &Name, before: &[Compiled]) -> bool
+    ensures { result ≡ list_any (λ each. same_name each.def.name name.now) before.now }
+{
+    before.iter().any(|each| each.def.name == *name)
+}
