@@ -59,7 +59,7 @@ pub fn answer_automaton(alloc: Global, out: &mut Output, fields: Fields) -> anyh
     }
 }
 
-fn put_automaton(out: &mut Output, dfa: &Dfa) -> anyhow::Result<()> {
+pub fn put_automaton(out: &mut Output, dfa: &Dfa) -> anyhow::Result<()> {
     out.put("labels")?;
     put_labels(out, dfa.labels())?;
     out.put(" rows")?;

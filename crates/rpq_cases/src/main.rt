@@ -15,6 +15,8 @@
 //! - `positions EXPR`: its position automaton, or the fault.
 //! - `automaton EXPR`: the deterministic automaton: its labels, its rows with `-` for no step,
 //!   and `+` for each final state; or the fault.
+//! - `file TEXT`: the queries of a queries file, `|` behind each: its name, the size and the slide of
+//!   its window, its mode and its automaton; or the first fault with the number of its line.
 //! - `words EXPR WORDS`: for each word `+` where the matcher takes it, else `-`, and then the
 //!   same of the automaton.
 //! - `word WORD`: the word as it is written.
@@ -43,6 +45,7 @@
 mod automata;
 mod expressions;
 mod fields;
+mod files;
 mod output;
 mod queries;
 mod request;
@@ -63,6 +66,7 @@ fn answer(alloc: Global, out: &mut Output, request: Request, fields: Fields) -> 
         Request::Words => automata::answer_words(alloc, out, fields),
         Request::Positions => automata::answer_positions(alloc, out, fields),
         Request::Automaton => automata::answer_automaton(alloc, out, fields),
+        Request::File => files::answer_file(alloc, out, fields),
         Request::Word => expressions::answer_word(alloc, out, fields),
         Request::Answers => queries::answer_answers(alloc, out, fields),
         Request::Events => queries::answer_events(alloc, out, fields),

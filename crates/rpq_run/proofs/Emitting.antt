@@ -1,22 +1,11 @@
 -- The block of a history's last entry follows the text of the entries before it.
 use Rattle.std.proofs.Common.{◌≡◌, ℕ, ◌+◌, ◌-◌, List, [], ◌∷◌, ◌++◌, length, get_or, refl, ap, sym, subst, ◌∙◌, arith, length-append}
-use Rattle.std.proofs.lemmas.List.{append-nil}
 use Rattle.rpq_base.specs.declared.data.Entry.{Entry}
 use Rattle.rpq_base.specs.declared.data.Event.{Event}
-use Rattle.rpq_base.specs.declared.data.Pair.{Pair}
-use Rattle.rpq_model.specs.Answers.{AreAnswers}
-use Rattle.rpq_model.specs.Events.{changes}
-use Rattle.rpq_model.specs.Query.{Query, path_query}
+use Rattle.rpq_model.specs.Query.{Query}
 use Rattle.rpq_model.specs.QueryEvents.{AreEventsUnder}
 use Rattle.rpq_run.specs.Text.{block, IsText}
 use Rattle.rpq_run.proofs.Texts.{text_push}
-
--- the events of the one query
-pub one_query : (query : Query) (before history : List Entry) (old new : List Pair)
-    (events : List Event) → AreAnswers (path_query query) before old → AreAnswers (path_query query) history new
-    → events ≡ changes 0 old new → AreEventsUnder 0 (query ∷ []) before history events
-one_query query before history old new events are_old are_new is =
-    (changes 0 old new, [], (old, new, are_old, are_new, refl), refl, is ∙ sym (append-nil (changes 0 old new)))
 
 last_of : (before : List Entry) (entry other : Entry) → get_or (before ++ entry ∷ []) (length before) other ≡ entry
 last_of [] entry other = refl

@@ -1,44 +1,19 @@
--- Lines that are written in pieces.
-use Rattle.std.proofs.Common.{◌≡◌, ℕ, ◌+◌, ◌<◌, ◌≤◌, List, [], ◌++◌, length, Result, Ok, Err, take, drop, get_or, Option, refl, ap, sym, subst, ◌∙◌, append_assoc}
+-- Lines that are written one after another.
+use Rattle.std.proofs.Common.{◌≡◌, ℕ, ◌+◌, ◌<◌, ◌≤◌, List, [], ◌∷◌, ◌++◌, length, length-append, Result, Ok, Err, take, drop, get_or, Option, refl, ap, sym, subst, ◌∙◌, append_assoc, arith}
 use Rattle.std.specs.List.{flat_map}
 use Rattle.std.specs.Prelude.{IsOk, IsErr}
 use Rattle.std.specs.Io.KnownBytes.{append_known}
-use Rattle.std.proofs.lemmas.List.{append-nil, take-append-drop, drop_more}
+use Rattle.std.proofs.lemmas.List.{append-nil, take-append-drop, drop_more, drop_all}
 use Rattle.std.proofs.lemmas.List.Concat.{flat_map-append}
 use Rattle.rpq_io.specs.Counts.{Rose, CountsFault}
 use Rattle.rpq_io.specs.Writes.{WritesProperPrefix}
+use Rattle.rpq_run.specs.declared.report.StreamEnd.{StreamEnd}
+use Rattle.rpq_run.specs.ErrorLines.{end_line, end_lines, TellsLines}
 use Rattle.rpq_run.specs.Written.{GrewByPrefix, Tells}
-use Rattle.rpq_io.proofs.Bytes.{append_known-append}
+use Rattle.rpq_io.proofs.Bytes.{append_known-nil, append_known-append}
 
 abbrev pub Is : List ℕ → List ℕ → Type 0
 Is text all = all ≡ text
-
-split_at : {X : Type 0} (f : X → List ℕ) (xs : List X) (i : ℕ) (d : X) → i < length xs
-    → flat_map f xs ≡ flat_map f (take i xs) ++ (f (get_or xs i d) ++ flat_map f (drop (i + 1) xs))
-split_at f xs i d inside =
-    ap (flat_map f) (sym (take-append-drop i xs))
-    ∙ (flat_map-append f (take i xs) (drop i xs)
-    ∙ ap (λ t. flat_map f (take i xs) ++ flat_map f t) (drop_more xs i d inside))
-
--- a part of one piece is written, after those before it
-pub pieces_begun : {X : Type 0} (f : X → List ℕ) (xs : List X) (i : ℕ) (d : X)
-    (start between after : Option (List ℕ)) → i < length xs
-    → between ≡ append_known start (flat_map f (take i xs))
-    → WritesProperPrefix (f (get_or xs i d)) between after → GrewByPrefix (Is (flat_map f xs)) start after
-pieces_begun f xs i d start between after inside so_far prefix =
-    let done = flat_map f (take i xs) in
-    let later = flat_map f (drop (i + 1) xs) in
-    let joined : (prefix.front ++ prefix.rest) ++ later ≡ prefix.front ++
-    (prefix.rest ++ later) = append_assoc prefix.front prefix.rest later in
-    record {
-      front = done ++ prefix.front;
-      rest = prefix.rest ++ later;
-      of_kind = sym (split_at f xs i d inside
-          ∙ (ap (λ t. done ++ (t ++ later)) prefix.cut
-          ∙ (ap (λ t. done ++ t) joined ∙ sym (append_assoc done prefix.front (prefix.rest ++ later)))));
-      written = prefix.written ∙ (ap (λ (w : Option (List ℕ)). append_known w prefix.front) so_far
-          ∙ append_known-append start done prefix.front);
-    }
 
 module _ {Sink T E : Type 0} (written : Sink → Option (List ℕ)) (faults : Sink → ℕ) where
   -- an equal text
@@ -53,11 +28,18 @@ module _ {Sink T E : Type 0} (written : Sink → Option (List ℕ)) (faults : Si
       { front = text; rest = []; of_kind = append-nil text; written = told.whole refl }
   told_prefix text old new (Err e) told = told.prefix refl
 
-  pub told_whole : (text : List ℕ) (old new : Sink) (result : Result T E)
+  told_whole : (text : List ℕ) (old new : Sink) (result : Result T E)
       → Tells written faults text old new result → ¬ Rose (faults old) (faults new)
       → written new ≡ append_known (written old) text
   told_whole text old new (Ok x) told not = told.whole refl
   told_whole text old new (Err e) told not = absurd (not (told.counted.rose refl))
+
+  pub told_lines : (text : List ℕ) (old new : Sink) (result : Result T E)
+      → Tells written faults text old new result → TellsLines written faults text old new
+  told_lines text old new result told = record {
+    prefix = told_prefix text old new result told;
+    whole = told_whole text old new result told;
+  }
 
 -- a count that stayed, and then counts a fault
 pub counted_after : (fault : Type 0) (before between after : ℕ) → between ≡ before
@@ -107,23 +89,100 @@ tells_second written faults text more old between new first result done no_fault
       counted = counted_after (IsErr result) (faults old) (faults between) (faults new) same later.counted;
     }
 
--- a piece was written in part, after those before it
-pub tells_piece : {Sink X T E U F : Type 0} (written : Sink → Option (List ℕ)) (faults : Sink → ℕ)
-    (f : X → List ℕ) (xs : List X) (i : ℕ) (d : X) (old between new : Sink) (first : Result T E) (result : Result U F)
-    → i < length xs → written between ≡ append_known (written old) (flat_map f (take i xs))
+-- a line that is put
+pub tells_put : {Sink T E : Type 0} (written : Sink → Option (List ℕ)) (faults : Sink → ℕ)
+    (line : List ℕ) (old new : Sink) (result : Result T E)
+    → (IsOk result → written new ≡ append_known (written old) line)
+    → (IsErr result → WritesProperPrefix line (written old) (written new))
+    → CountsFault (IsErr result) (faults old) (faults new) → Tells written faults line old new result
+tells_put written faults line old new result whole part counts = record {
+  whole = whole;
+  prefix = λ err.
+      let front = part err in
+      record { front = front.front; rest = front.rest; of_kind = sym front.cut; written = front.written };
+  counted = counts;
+}
+
+-- one of some lines fails, after those before it
+pub tells_in_turn : {Sink T E U F : Type 0} (written : Sink → Option (List ℕ)) (faults : Sink → ℕ)
+    (done line more all : List ℕ) (old between new : Sink) (first : Result T E) (result : Result U F)
+    → done ++ (line ++ more) ≡ all → written between ≡ append_known (written old) done
     → faults between ≡ faults old → IsErr first → IsErr result
-    → WritesProperPrefix (f (get_or xs i d)) (written between) (written new)
-    → CountsFault (IsErr first) (faults between) (faults new)
-    → Tells written faults (flat_map f xs) old new result
-tells_piece written faults f xs i d old between new first (Ok x) inside so_far quiet failed fails
-    prefix counts = absurd (cc fails)
-tells_piece written faults f xs i d old between new first (Err e) inside so_far quiet failed fails
-    prefix counts = record {
-      whole = λ ok. absurd (cc ok);
-      prefix = λ _. pieces_begun f xs i d (written old) (written between) (written new) inside so_far prefix;
-      counted = record {
-        never_falls = subst (λ n. n ≤ faults new) quiet counts.never_falls;
-        rose = λ _. subst (λ n. Rose n (faults new)) quiet (counts.rose failed);
-        quiet = λ none. absurd (none refl);
-      };
-    }
+    → Tells written faults line between new first → Tells written faults all old new result
+tells_in_turn {Sink} {T} {E} {U} {F} written faults done line more all old between new first result is
+    so_far quiet failed fails told =
+    let fine : Result (Unit {0}) E = Ok tt in
+    let before : Tells written faults done old between fine = record {
+      whole = λ _. so_far;
+      prefix = λ err. absurd (cc err);
+      counted = record { never_falls = omega (arith, quiet); rose = λ err. absurd (cc err); quiet = λ _. quiet };
+    } in
+    tells_same written faults (done ++ (line ++ more)) all old new result is
+    (tells_second written faults done (line ++ more) old between new fine result refl (λ err. cc err) before
+    (tells_first written faults line more between new first result failed fails told))
+
+-- lines so far, and those of the ends that are left
+pub record HasToldEnds (ends : List StreamEnd) (place : ℕ) (before now : Option (List ℕ)) : Type 0 where
+  pub done : List ℕ
+  pub cut : done ++ end_lines (place + 1) (drop place ends) ≡ end_lines 1 ends
+  pub written : now ≡ append_known before done
+
+pub no_ends : (ends : List StreamEnd) (before : Option (List ℕ)) → HasToldEnds ends 0 before before
+no_ends ends before = record { done = []; cut = refl; written = sym (append_known-nil before) }
+
+-- the lines from one end on
+pub ends_from : (ends : List StreamEnd) (place : ℕ) (end : StreamEnd) → place < length ends
+    → end ≡ get_or ends place end
+    → end_lines (place + 1) (drop place ends)
+    ≡ end_line (place + 1) end ++ end_lines ((place + 1) + 1) (drop (place + 1) ends)
+ends_from ends place end inside is =
+    ap (end_lines (place + 1)) (drop_more ends place end inside
+    ∙ ap (λ (e : StreamEnd). e ∷ drop (place + 1) ends) (sym is))
+
+pub ends_more : (ends : List StreamEnd) (place : ℕ) (end : StreamEnd) (before now next : Option (List ℕ))
+    → place < length ends → end ≡ get_or ends place end → HasToldEnds ends place before now
+    → next ≡ append_known now (end_line (place + 1) end) → HasToldEnds ends (place + 1) before next
+ends_more ends place end before now next inside is told written = record {
+  done = told.done ++ end_line (place + 1) end;
+  cut = append_assoc told.done (end_line (place + 1) end) (end_lines ((place + 1) + 1) (drop (place + 1) ends))
+      ∙ (ap (λ (t : List ℕ). told.done ++ t) (sym (ends_from ends place end inside is)) ∙ told.cut);
+  written = written ∙ (ap (λ (w : Option (List ℕ)). append_known w (end_line (place + 1) end)) told.written
+      ∙ append_known-append before told.done (end_line (place + 1) end));
+}
+
+pub ends_all : (ends : List StreamEnd) (place : ℕ) (before now : Option (List ℕ))
+    → length ends ≤ place → HasToldEnds ends place before now → now ≡ append_known before (end_lines 1 ends)
+ends_all ends place before now all told =
+    told.written ∙ ap (append_known before) (sym (append-nil told.done)
+    ∙ (ap (λ (es : List StreamEnd). told.done ++ end_lines (place + 1) es) (sym (drop_all place ends all)) ∙ told.cut))
+
+-- one of the pieces
+pub split_at : {X : Type 0} (f : X → List ℕ) (xs : List X) (i : ℕ) (d : X) → i < length xs
+    → d ≡ get_or xs i d
+    → flat_map f (take i xs) ++ (f d ++ flat_map f (drop (i + 1) xs)) ≡ flat_map f xs
+split_at {X} f xs i d inside is =
+    ap (λ (x : X). flat_map f (take i xs) ++ (f x ++ flat_map f (drop (i + 1) xs))) is
+    ∙ sym (ap (flat_map f) (sym (take-append-drop i xs))
+    ∙ (flat_map-append f (take i xs) (drop i xs)
+    ∙ ap (λ t. flat_map f (take i xs) ++ flat_map f t) (drop_more xs i d inside)))
+
+-- a piece more fits
+pub piece_fits : {X : Type 0} (f : X → List ℕ) (xs : List X) (i : ℕ) (d : X) (line : List ℕ)
+    → i < length xs → line ≡ flat_map f (take i xs) → length (flat_map f xs) ≤ 256
+    → length line + length (f (get_or xs i d)) ≤ 256
+piece_fits {X} f xs i d line inside so_far fits =
+    let done = flat_map f (take i xs) in
+    let next = f (get_or xs i d) in
+    let later = flat_map f (drop (i + 1) xs) in
+    let all : flat_map f xs ≡ done ++ (next ++ later) =
+    ap (flat_map f) (sym (take-append-drop i xs))
+    ∙ (flat_map-append f (take i xs) (drop i xs)
+    ∙ ap (λ t. done ++ flat_map f t) (drop_more xs i d inside)) in
+    omega (
+      arith,
+      fits,
+      ap (λ (t : List ℕ). length t) all,
+      length-append done (next ++ later),
+      length-append next later,
+      ap (λ (t : List ℕ). length t) so_far,
+    )

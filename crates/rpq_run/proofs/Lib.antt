@@ -4,8 +4,7 @@ mod Grows
 mod Feeding
 mod Emitting
 mod ErrorTexts
-mod Changes
-mod Labels
+mod Evaluating
 mod StreamTexts
 mod ByParts
 mod Reading

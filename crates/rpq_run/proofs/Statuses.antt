@@ -1,29 +1,34 @@
 -- The status of a run, and when it is done.
-use Rattle.std.proofs.Common.{◌≡◌, ◌≢◌, ℕ, ◌≤◌, Bool, true, false, cond, eqb, List, [], ◌∷◌, ◌++◌, length, Option, Some, None, refl, ap, sym, subst, ◌∙◌, arith, inl, inr, ◌⊎◌, length-append}
-use Rattle.std.specs.Prelude.{IfSome, IsSome, IsSomeAnd, MatchBool, String}
-use Rattle.std.specs.Global.{Global}
-use Rattle.std.specs.List.{All}
-use Rattle.std.proofs.lemmas.Bool.{cases_eq, le-ltb}
-use Rattle.std.proofs.lemmas.List.{length-map}
-use Rattle.std.proofs.lemmas.List.Elements.{All-nil, All-cons, All-same}
+use Rattle.std.proofs.Common.{◌≡◌, ◌≢◌, ℕ, zero, suc, ◌+◌, ◌<◌, ◌≤◌, Bool, true, false, ◌==◌, ◌||◌, cond, List, [], ◌∷◌, ◌++◌, length, get_or, Option, Some, None, refl, ap, sym, subst, ◌∙◌, arith, inl, inr, ◌⊎◌, length-append}
+use Rattle.std.specs.Prelude.{IfSome, IsSomeAnd, MatchBool, Contains, slice_get, unwrap_or}
+use Rattle.std.specs.List.{All, list_any}
+use Rattle.std.proofs.lemmas.Bool.{cases_eq}
+use Rattle.std.proofs.lemmas.List.Elements.{All-nil, All-cons, All-head}
 use Rattle.rpq_base.specs.declared.data.Tuple.{Tuple}
 use Rattle.rpq_base.specs.declared.data.Entry.{Entry}
 use Rattle.rpq_io.specs.Counts.{Rose, CountsFault}
-use Rattle.rpq_model.specs.Query.{Query}
+use Rattle.rpq_io.proofs.Counting.{counts_as}
+use Rattle.query_file.specs.declared.fault.QueryFault.{QueryFault}
 use Rattle.rpq_run.specs.declared.report.Which.TheVariants.{Queries, Stream}
 use Rattle.rpq_run.specs.declared.report.Why.{Why}
 use Rattle.rpq_run.specs.declared.report.Why.TheVariants.{Write, Memory as MemoryOfAll}
+use Rattle.rpq_run.specs.declared.report.SinkName.{SinkName}
+use Rattle.rpq_run.specs.declared.report.SinkName.TheVariants.{Events}
 use Rattle.rpq_run.specs.declared.report.StartFault.{StartFault}
-use Rattle.rpq_run.specs.declared.report.StartFault.TheVariants.{Open, Read as ReadAtStart, Long, NotYet, Memory as MemoryAtStart}
+use Rattle.rpq_run.specs.declared.report.StartFault.TheVariants.{Queries as QueriesFault, Open, Read as ReadAtStart, Long, NotYet, Memory as MemoryAtStart}
 use Rattle.rpq_run.specs.declared.report.StreamEnd.{StreamEnd}
 use Rattle.rpq_run.specs.declared.report.StreamEnd.TheVariants.{Whole, Line, LongLine, LongStream, Read, Full, Closed, Memory}
-use Rattle.rpq_run.specs.Limits.{file_limit, byte_limit, history_limit}
+use Rattle.rpq_run.specs.Limits.{byte_limit, history_limit}
 use Rattle.rpq_run.specs.StreamText.{StreamTuples, tuples_with, tuples_from}
-use Rattle.rpq_run.specs.Files.{queries_of, IsTooLong, LacksForm, IsWholeStream}
-use Rattle.rpq_run.specs.History.{entry_of, IsHistoryAt}
-use Rattle.rpq_run.specs.Statuses.{status_of_start, status_of_end, status_after, IsStatusOf, write_status, memory_status}
-use Rattle.rpq_run.specs.Ends.{IsReadEnd, IsEndInTurn, IsEndAfterWrite, IsStreamOf, EndsStream}
-use Rattle.rpq_run.specs.Run.{word, are_words, IsRefusedFor, IsOpeningOf, AreSourcesOf, Refuses, IsFaultOfFile}
+use Rattle.rpq_run.specs.Files.{IsTooLong, IsFaultyFile, IsFaultless, IsWholeStream, tuple_count}
+use Rattle.rpq_run.specs.History.{own_tuples, AreTuplesOfEnd, IsStreamOf, AreStreamsOf}
+use Rattle.rpq_run.specs.Statuses.{status_of_start, status_of_end, arose, first_arisen, IsStatusOf, write_status, memory_status}
+use Rattle.rpq_run.specs.Ends.{IsReadEnd, IsEndInTurn, IsEndAfterWrite}
+use Rattle.rpq_run.specs.Turns.{failed_sinks, status_after}
+use Rattle.rpq_run.specs.Run.{IsRefusedFor, IsOpeningOf, AreSourcesOf, IsFaultOfFile}
+use Rattle.rpq_run.proofs.Feeding.{own_all}
+
+-- ---- the status of one stream's end, and of a write that failed or not
 
 -- where no write failed the status isn't that of a failed write
 pub no_write : (end : StreamEnd) → IsEndInTurn end → status_after false end ≢ write_status
@@ -36,263 +41,324 @@ no_write Full in_turn is = absurd cc
 no_write (Closed why) in_turn is = absurd in_turn
 no_write Memory in_turn is = absurd cc
 
-pick : (b : Bool) (x y : ℕ) → (cond b x y ≡ y) ⊎ (cond b x y ≡ x)
-pick true x y = inr refl
-pick false x y = inl refl
-
 -- where a write failed the status is that, or that of want of memory
 pub write_or_memory : (end : StreamEnd) → (status_after true end ≡ write_status)
     ⊎ (status_after true end ≡ memory_status)
-write_or_memory end = pick (eqb (status_of_end end) 8) 8 6
+write_or_memory Whole = inl refl
+write_or_memory (Line number fault) = inl refl
+write_or_memory (LongLine number) = inl refl
+write_or_memory LongStream = inl refl
+write_or_memory Read = inl refl
+write_or_memory Full = inl refl
+write_or_memory (Closed Write) = inl refl
+write_or_memory (Closed MemoryOfAll) = inr refl
+write_or_memory Memory = inr refl
 
--- the status of a failed write stands for one
-pub stands_for_write : (failed : Bool) (end : StreamEnd)
+-- the one element of a list
+one_contained : {X : Type 0} (x y : X) → Contains (x ∷ []) y → x ≡ y
+one_contained {X} x y has = by has.0 has.1 has.2
+  where
+    by : (k : ℕ) → k < length (x ∷ []) → get_or (x ∷ []) k y ≡ y → x ≡ y
+    by zero inside is = is
+    by (suc k) inside is = absurd (omega (arith, inside))
+
+none_contained : {X : Type 0} (y : X) → Contains [] y → ⊥
+none_contained {X} y has = absurd (omega (arith, has.1))
+
+contains_first : {X : Type 0} (x : X) (xs : List X) → Contains (x ∷ xs) x
+contains_first x xs = (0, omega arith, refl)
+
+-- a write of the events failed where they are among the failed sinks
+pub events_failed : (failed : Bool) (before after : ℕ) → CountsFault (failed ≡ true) before after
+    → CountsFault (Contains (failed_sinks failed) Events) before after
+events_failed true before after counts = counts_as (true ≡ true) (Contains (Events ∷ []) Events)
+    before after (λ _. contains_first Events []) (λ _. refl) counts
+events_failed false before after counts = counts_as (false ≡ true) (Contains [] Events)
+    before after (λ e. absurd (cc e)) (λ has. absurd (none_contained Events has)) counts
+
+-- a stream is full only where no write failed
+pub full_quietly : (failed : Bool) (end : StreamEnd)
     → MatchBool failed (IsEndAfterWrite end) (IsEndInTurn end)
-    → status_after failed end ≡ write_status → failed ≡ true
-stands_for_write true end ends is = refl
-stands_for_write false end ends is = absurd (no_write end ends is)
+    → Contains (end ∷ []) Full → Contains (failed_sinks failed) Events → ⊥
+full_quietly true end ends full events = subst IsEndAfterWrite (one_contained end Full full) ends
+full_quietly false end ends full events = none_contained Events events
 
-pub only_then : (failed : Bool) (end : StreamEnd) → failed ≡ true
-    → (status_after failed end ≡ write_status) ⊎ (status_after failed end ≡ memory_status)
-only_then true end is = write_or_memory end
-only_then false end is = absurd cc
+-- and closed only for a failed write
+pub closed_for_write : (failed : Bool) (end : StreamEnd)
+    → MatchBool failed (IsEndAfterWrite end) (IsEndInTurn end)
+    → (why : Why) → Contains (end ∷ []) (Closed why) → (why ≡ Write) × Contains (failed_sinks failed) Events
+closed_for_write true end ends why closed =
+    (subst IsEndAfterWrite (one_contained end (Closed why) closed) ends, contains_first Events [])
+closed_for_write false end ends why closed =
+    absurd (subst IsEndInTurn (one_contained end (Closed why) closed) ends)
 
--- the status is that of the end
-is_status_false : (end : StreamEnd) → IsStatusOf end (status_after false end)
-is_status_false Whole = record { memory = λ is. is; others = λ a b. refl }
-is_status_false (Line number fault) = record { memory = λ is. is; others = λ a b. refl }
-is_status_false (LongLine number) = record { memory = λ is. is; others = λ a b. refl }
-is_status_false LongStream = record { memory = λ is. is; others = λ a b. refl }
-is_status_false Read = record { memory = λ is. is; others = λ a b. refl }
-is_status_false Full = record { memory = λ is. is; others = λ a b. refl }
-is_status_false (Closed Write) = record { memory = λ is. is; others = λ a b. refl }
-is_status_false (Closed MemoryOfAll) = record { memory = λ is. is; others = λ a b. refl }
-is_status_false Memory = record { memory = λ is. is; others = λ a b. refl }
+-- the only stream, with its source and its end
+pub only_stream : {S : Type 0} (left : S → Option (List ℕ)) (faults : S → ℕ) (limit : ℕ)
+    (file : Option (List ℕ)) (source : S) (history : List Entry) (end : StreamEnd)
+    → IsStreamOf left faults 1 limit file source history end
+    → AreStreamsOf left faults limit (file ∷ []) (source ∷ []) history (end ∷ [])
+only_stream {S} left faults limit file source history end is = record {
+  as_many_sources = refl;
+  as_many_ends = refl;
+  each = each;
+}
+  where
+    each : (place : ℕ) (f : Option (List ℕ)) (s : S) (e : StreamEnd)
+        → slice_get (file ∷ []) place ≡ Some f → slice_get (source ∷ []) place ≡ Some s
+        → slice_get (end ∷ []) place ≡ Some e → IsStreamOf left faults (place + 1) limit f s history e
+    each zero f s e first second third =
+        let same_file : file ≡ f = cc first in
+        let same_source : source ≡ s = cc second in
+        let same_end : end ≡ e = cc third in
+        subst (λ (x : StreamEnd). IsStreamOf left faults 1 limit f s history x) same_end
+        (subst (λ (x : S). IsStreamOf left faults 1 limit f x history end) same_source
+        (subst (λ (x : Option (List ℕ)). IsStreamOf left faults 1 limit x source history end) same_file is))
+    each (suc place) f s e first second third = absurd (cc first)
 
-is_status_true : (end : StreamEnd) → IsStatusOf end (status_after true end)
-is_status_true end = record {
-  memory = λ is. ap (λ n. cond (eqb n 8) 8 6) is;
-  others = λ no_memory no_write'. absurd
-      (elim (write_or_memory end) [ inl is ↦ no_write' is | inr is ↦ no_memory is ]);
+pub record IsOnlyStream {S : Type 0} (left : S → Option (List ℕ)) (faults : S → ℕ) (limit : ℕ)
+    (file : Option (List ℕ)) (sources : List S) (history : List Entry) (ends : List StreamEnd) : Type 0 where
+  pub source : S
+  pub end : StreamEnd
+  pub one_source : sources ≡ source ∷ []
+  pub one_end : ends ≡ end ∷ []
+  pub stream : IsStreamOf left faults 1 limit file source history end
+
+pub is_only : {S : Type 0} (left : S → Option (List ℕ)) (faults : S → ℕ) (limit : ℕ)
+    (file : Option (List ℕ)) (sources : List S) (history : List Entry) (ends : List StreamEnd)
+    → AreStreamsOf left faults limit (file ∷ []) sources history ends
+    → IsOnlyStream left faults limit file sources history ends
+is_only left faults limit file [] history ends are = absurd (omega (arith, are.as_many_sources))
+is_only left faults limit file (source ∷ other ∷ sources) history ends are =
+    absurd (omega (arith, are.as_many_sources))
+is_only left faults limit file (source ∷ []) history [] are = absurd (omega (arith, are.as_many_ends))
+is_only left faults limit file (source ∷ []) history (end ∷ other ∷ ends) are =
+    absurd (omega (arith, are.as_many_ends))
+is_only left faults limit file (source ∷ []) history (end ∷ []) are = record {
+  source = source;
+  end = end;
+  one_source = refl;
+  one_end = refl;
+  stream = are.each 0 file source end refl refl refl;
 }
 
-pub is_status : (failed : Bool) (end : StreamEnd) → IsStatusOf end (status_after failed end)
-is_status true end = is_status_true end
-is_status false end = is_status_false end
+-- ---- the first status that arose
 
-full_quietly : (failed : Bool) (end : StreamEnd) (before after : ℕ)
-    → MatchBool failed (IsEndAfterWrite end) (IsEndInTurn end)
-    → CountsFault (failed ≡ true) before after → end ≡ Full → after ≡ before
-full_quietly true end before after ends counts is = absurd (subst IsEndAfterWrite is ends)
-full_quietly false end before after ends counts is = counts.quiet (λ e. absurd cc)
+-- where none is the first, none arose
+pub record NoneArose (p : ℕ → Bool) : Type 0 where
+  pub write : p 6 ≡ false
+  pub read : p 5 ≡ false
 
-closed_for_write : (failed : Bool) (end : StreamEnd) (before after : ℕ)
-    → MatchBool failed (IsEndAfterWrite end) (IsEndInTurn end) → CountsFault (failed ≡ true) before after
-    → (why : Why) → end ≡ Closed why → (why ≡ Write) × Rose before after
-closed_for_write true end before after ends counts why is = (subst IsEndAfterWrite is ends, counts.rose refl)
-closed_for_write false end before after ends counts why is = absurd (subst IsEndInTurn is ends)
+pub none_arose : (ends : List StreamEnd) (failed : List SinkName) → first_arisen ends failed ≡ 0
+    → NoneArose (arose ends failed)
+none_arose ends failed is =
+    let p = arose ends failed in
+    by (p 8) (p 6) (p 7) (p 5) (p 4) refl refl is
+  where
+    by : (a b c d e : Bool) → arose ends failed 6 ≡ b → arose ends failed 5 ≡ d
+        → ◌≡◌ {A = ℕ} (unwrap_or (cond a (Some 8) (cond b (Some 6) (cond c (Some 7) (cond d (Some 5) (cond e (Some 4) None))))) 0) 0
+        → NoneArose (arose ends failed)
+    by true b c d e six five is = absurd (omega (arith, is))
+    by false true c d e six five is = absurd (omega (arith, is))
+    by false false true d e six five is = absurd (omega (arith, is))
+    by false false false true e six five is = absurd (omega (arith, is))
+    by false false false false true six five is = absurd (omega (arith, is))
+    by false false false false false six five is = record { write = six; read = five }
 
--- what a run leaves whose stream ended so
-pub ends_stream : {Source : Type 0} (left : Source → Option (List ℕ)) (faults : Source → ℕ)
-    (file : Option (List ℕ)) (before after : ℕ) (history : List Entry) (streams : List StreamEnd)
-    (sources : List Source) (failed : Bool) (end : StreamEnd) (source : Source) → streams ≡ end ∷ []
-    → sources ≡ source ∷ [] → IsStreamOf left faults history_limit file source history end
-    → MatchBool failed (IsEndAfterWrite end) (IsEndInTurn end) → CountsFault (failed ≡ true) before after
-    → EndsStream left faults file before after history streams sources (status_after failed end)
-ends_stream left faults file before after history streams sources failed end source one_end
-    one_source stream ends counts = record {
-      end = end;
-      source = source;
-      one_end = one_end;
-      one_source = one_source;
-      stream = stream;
-      full = full_quietly failed end before after ends counts;
-      closed = closed_for_write failed end before after ends counts;
-      status_is = is_status failed end;
-    }
+-- a failed write of the events arose
+or_true : (b : Bool) → (b || true) ≡ true
+or_true true = refl
+or_true false = refl
 
-too_long_is_none : (bytes : List ℕ) → file_limit ≤ length bytes → queries_of bytes ≡ None
-unfolding queries_of
-too_long_is_none bytes long = rw (le-ltb (length bytes) file_limit long) refl
+events_arose : (ends : List StreamEnd) (failed : List SinkName) → Contains failed Events
+    → arose ends failed 6 ≡ true
+events_arose ends [] has = absurd (none_contained Events has)
+events_arose ends (Events ∷ rest) has = or_true (list_any (λ end. status_of_end end == 6) ends)
 
-none_is_not_some : (o : Option (List Query)) → o ≡ None → IsSome o → ⊥
-none_is_not_some None is some = absurd (cc some)
-none_is_not_some (Some q) is some = absurd cc
+pub no_events : (failed : List SinkName) → (Contains failed Events → ⊥) → failed ≡ []
+no_events [] none = refl
+no_events (Events ∷ rest) none = absurd (none (contains_first Events rest))
 
-not_long : (file : Option (List ℕ)) → IsTooLong file → IsSomeAnd file (λ bytes. IsSome (queries_of bytes)) → ⊥
+-- where all is done no write of the events failed
+pub events_quietly : (ends : List StreamEnd) (failed : List SinkName) (status : ℕ) (before after : ℕ)
+    → IsStatusOf ends failed status → CountsFault (Contains failed Events) before after → status ≡ 0
+    → after ≡ before
+events_quietly ends failed status before after is counts done =
+    let first : first_arisen ends failed ≡ 0 = sym (is.others (λ e. absurd (omega (arith, e, done)))) ∙ done in
+    counts.quiet (λ has.
+    let yes : arose ends failed 6 ≡ true = events_arose ends failed has in
+    let no_write : arose ends failed 6 ≡ false = (none_arose ends failed first).write in
+    absurd cc)
+
+-- and no read of the one source
+pub reads_quietly : {S : Type 0} (left : S → Option (List ℕ)) (faults : S → ℕ)
+    (file : Option (List ℕ)) (history : List Entry) (ends : List StreamEnd) (sources : List S)
+    (failed : List SinkName) (status : ℕ)
+    → AreStreamsOf left faults history_limit (file ∷ []) sources history ends
+    → IsStatusOf ends failed status → status ≡ 0 → All (λ source. faults source ≡ 0) sources
+reads_quietly {S} left faults file history ends sources failed status are is done =
+    let only = is_only left faults history_limit file sources history ends are in
+    let first : first_arisen ends failed ≡ 0 = sym (is.others (λ e. absurd (omega (arith, e, done)))) ∙ done in
+    let none : arose (only.end ∷ []) failed 5 ≡ false =
+    subst (λ (es : List StreamEnd). arose es failed 5 ≡ false) only.one_end (none_arose ends failed first).read in
+    let quiet : faults only.source ≡ 0 = only.stream.read.quiet
+    (λ e.
+    let no_read : arose (Read ∷ []) failed 5 ≡ false =
+    subst (λ (end : StreamEnd). arose (end ∷ []) failed 5 ≡ false) e none in
+    absurd (cc no_read)) in
+    subst (λ (ss : List S). All (λ source. faults source ≡ 0) ss) (sym {A = List S} only.one_source)
+    (All-cons (λ source. faults source ≡ 0) only.source [] quiet (All-nil (λ source. faults source ≡ 0)))
+
+-- ---- when all is done
+
+-- the end of a whole stream is no fault
+faultless : (file : Option (List ℕ)) (tuples : List Tuple) (end : StreamEnd)
+    → IsWholeStream file → IfSome file
+    (λ text. tuples_from 1 byte_limit text ≡ tuples_with tuples end) → end ≡ Whole
+faultless None tuples end whole is = absurd whole
+faultless (Some text) tuples end whole is = sym (ap (λ (ts : StreamTuples). ts.end) is) ∙ whole
+
+-- a history that is full has all tuples of such a stream
+not_full : (file : Option (List ℕ)) (left : Option (List ℕ)) (history : List Entry)
+    → IsWholeStream file → tuple_count file ≤ history_limit → All (λ (e : Entry). e.stream ≡ 1) history
+    → IfSome file (λ text. AreTuplesOfEnd byte_limit text left (own_tuples 1 history) Full)
+    → length history ≡ history_limit → ⊥
+not_full None left history whole few all tied full = whole
+not_full (Some text) left history whole few all tied full = too_many tied.rest tied.proper tied.cut
+  where
+    too_many : (rest : List Tuple) → rest ≢ []
+        → (tuples_from 1 byte_limit text).tuples ≡ own_tuples 1 history ++ rest → ⊥
+    too_many [] proper cut = proper refl
+    too_many (tuple ∷ rest) proper cut = omega (
+      arith,
+      few,
+      ap (λ (ts : List Tuple). length ts) cut,
+      length-append (own_tuples 1 history) (tuple ∷ rest),
+      full,
+      own_all history all,
+    )
+
+tied_tuples : (file left : Option (List ℕ)) (tuples : List Tuple) (end : StreamEnd)
+    → ((text : List ℕ) → AreTuplesOfEnd byte_limit text left tuples end
+    → tuples_from 1 byte_limit text ≡ tuples_with tuples end)
+    → IsWholeStream file → IfSome file (λ text. AreTuplesOfEnd byte_limit text left tuples end) → end ≡ Whole
+tied_tuples None left tuples end has whole tied = absurd whole
+tied_tuples (Some text) left tuples end has whole tied = faultless (Some text) tuples end whole (has text tied)
+
+-- how the stream of such a run ends, where no count rose
+ends_well : (end : StreamEnd) (file left : Option (List ℕ)) (history : List Entry)
+    → IsWholeStream file → tuple_count file ≤ history_limit → All (λ (e : Entry). e.stream ≡ 1) history
+    → IfSome file (λ text. AreTuplesOfEnd byte_limit text left (own_tuples 1 history) end)
+    → (end ≡ Full → length history ≡ history_limit) → (end ≡ Read → ⊥)
+    → ((why : Why) → end ≡ Closed why → ⊥)
+    → (first_arisen (end ∷ []) [] ≡ 0) ⊎ (first_arisen (end ∷ []) [] ≡ 8)
+ends_well Whole file left history whole few all tied full read closed = inl refl
+ends_well (Line number fault) file left history whole few all tied full read closed = absurd
+    (cc (tied_tuples file left (own_tuples 1 history) (Line number fault) (λ text is. is) whole tied))
+ends_well (LongLine number) file left history whole few all tied full read closed = absurd
+    (cc (tied_tuples file left (own_tuples 1 history) (LongLine number) (λ text is. is) whole tied))
+ends_well LongStream file left history whole few all tied full read closed = absurd
+    (cc (tied_tuples file left (own_tuples 1 history) LongStream (λ text is. is) whole tied))
+ends_well Read file left history whole few all tied full read closed = absurd (read refl)
+ends_well Full file left history whole few all tied full read closed = absurd
+    (not_full file left history whole few all tied (full refl))
+ends_well (Closed why) file left history whole few all tied full read closed = absurd (closed why refl)
+ends_well Memory file left history whole few all tied full read closed = inr refl
+
+-- a run over a whole stream is done, or wants memory, where no count rose
+pub done_or_memory : {S : Type 0} (left : S → Option (List ℕ)) (faults : S → ℕ)
+    (file : Option (List ℕ)) (before after : ℕ) (history : List Entry) (ends : List StreamEnd)
+    (sources : List S) (failed : List SinkName) (status : ℕ)
+    → AreStreamsOf left faults history_limit (file ∷ []) sources history ends
+    → All (λ (e : Entry). e.stream ≡ 1) history
+    → CountsFault (Contains failed Events) before after
+    → ((why : Why) → Contains ends (Closed why) → (why ≡ Write) × Contains failed Events)
+    → IsStatusOf ends failed status → IsWholeStream file → tuple_count file ≤ history_limit
+    → All (λ source. ¬ Rose 0 (faults source)) sources → ¬ Rose before after
+    → (status ≡ 0) ⊎ (status ≡ 8)
+done_or_memory {S} left faults file before after history ends sources failed status are all counts
+    closed is whole few reads writes =
+    let only = is_only left faults history_limit file sources history ends are in
+    let none : failed ≡ [] = no_events failed (λ has. writes (counts.rose has)) in
+    let read : ¬ Rose 0 (faults only.source) = All-head (λ source. ¬ Rose 0 (faults source)) only.source []
+    (subst (λ (ss : List S). All (λ source. ¬ Rose 0 (faults source)) ss) only.one_source reads) in
+    let same : first_arisen ends failed ≡ first_arisen (only.end ∷ []) [] =
+    ap (λ (es : List StreamEnd). first_arisen es failed) only.one_end
+    ∙ ap (λ (fs : List SinkName). first_arisen (only.end ∷ []) fs) none in
+    let well = ends_well only.end file (left only.source) history whole few all only.stream.tied
+    only.stream.full (λ e. read (only.stream.read.rose e))
+    (λ why e. writes (counts.rose (closed why (subst (λ (es : List StreamEnd). Contains es (Closed why))
+    (sym {A = List StreamEnd} only.one_end)
+    (subst (λ (x : StreamEnd). Contains (x ∷ []) (Closed why)) (sym {A = StreamEnd} e)
+    (contains_first (Closed why) [])))).1)) in
+    elim (cases_eq status 8) [
+      | inl eight ↦ inr eight
+      | inr other ↦ elim well [
+        | inl none_first ↦ inl (is.others other ∙ (same ∙ none_first))
+        | inr eight ↦ inr (is.memory (same ∙ eight))
+      ]
+    ]
+
+-- ---- a run that doesn't begin
+
+not_long : (file : Option (List ℕ)) → IsTooLong file → IsSomeAnd file IsFaultless → ⊥
 not_long None long some = some
-not_long (Some bytes) long some = none_is_not_some (queries_of bytes) (too_long_is_none bytes long) some
+not_long (Some bytes) long some = omega (arith, long, some.short)
 
-has_form : (file : Option (List ℕ)) → LacksForm file → IsSomeAnd file (λ bytes. IsSome (queries_of bytes)) → ⊥
-has_form None lacks some = some
-has_form (Some bytes) lacks some = none_is_not_some (queries_of bytes) lacks.1 some
+not_faulty : (file : Option (List ℕ)) (fault : QueryFault) → IsFaultyFile file fault → IsSomeAnd file IsFaultless → ⊥
+not_faulty None fault faulty some = some
+not_faulty (Some bytes) fault faulty some = some.no_fault fault faulty.1.1
 
--- a run that doesn't begin with files of their form, and where no count rose, wants memory
-wants_memory : {S : Type 0} (left : S → Option (List ℕ)) (faults : S → ℕ)
+-- a run that doesn't begin with a faultless queries file, and where no count rose, wants memory
+pub wants_memory : {S : Type 0} (left : S → Option (List ℕ)) (faults : S → ℕ)
     (queries_name stream_name : List ℕ) (queries : Option (List ℕ)) (sources : List S)
     (rose : List ℕ → Type 0) (fault : StartFault)
     → IsRefusedFor queries fault → AreSourcesOf left faults queries fault sources
-    → IsSomeAnd queries (λ bytes. IsSome (queries_of bytes))
+    → IsSomeAnd queries IsFaultless
     → ((name : List ℕ) → IsOpeningOf queries_name stream_name name fault → rose name)
     → (rose queries_name → ⊥) → (rose stream_name → ⊥)
-    → ((source : S) → sources ≡ source ∷ [] → ¬ Rose 0 (faults source))
+    → All (λ source. ¬ Rose 0 (faults source)) sources
     → (status_of_start fault ≡ 0) ⊎ (status_of_start fault ≡ 8)
+wants_memory left faults queries_name stream_name queries sources rose
+    (QueriesFault fault) cause of some openings first second read = absurd (not_faulty queries fault cause some)
 wants_memory left faults queries_name stream_name queries sources rose
     (Open Queries) cause of some openings first second read = absurd (first (openings queries_name refl))
 wants_memory left faults queries_name stream_name queries sources rose
     (Open (Stream number)) cause of some openings first second read = absurd (second (openings stream_name refl))
-wants_memory left faults queries_name stream_name queries sources rose
-    (ReadAtStart which) cause of some openings first second read = absurd (read of.0 of.1 of.2)
+wants_memory {S} left faults queries_name stream_name queries sources rose
+    (ReadAtStart which) cause of some openings first second read =
+    absurd (All-head (λ source. ¬ Rose 0 (faults source)) of.0 []
+    (subst (λ (ss : List S). All (λ source. ¬ Rose 0 (faults source)) ss) of.1 read) of.2)
 wants_memory left faults queries_name stream_name queries sources rose
     (Long Queries) cause of some openings first second read = absurd (not_long queries cause some)
 wants_memory left faults queries_name stream_name queries sources rose
     (Long (Stream number)) cause of some openings first second read = absurd cause
 wants_memory left faults queries_name stream_name queries sources rose NotYet cause of some openings
-    first second read = absurd (has_form queries cause some)
+    first second read = absurd cause
 wants_memory left faults queries_name stream_name queries sources rose MemoryAtStart cause of some
     openings first second read = inr refl
-
--- the same, by what a refusal says
-pub refused_for_memory : {S : Type 0} (left : S → Option (List ℕ)) (faults : S → ℕ)
-    (words : List (String Global)) (queries : Option (List ℕ)) (status : ℕ) (history : List Entry)
-    (streams : List StreamEnd)
-    (sources : List S) (fault : StartFault) (before after : List ℕ → ℕ)
-    → Refuses left faults words queries status history streams sources fault → are_words words ≡ true
-    → IsSomeAnd queries (λ bytes. IsSome (queries_of bytes))
-    → ((name : List ℕ) → CountsFault (IsOpeningOf (word words 1) (word words 2) name fault)
-    (before name) (after name))
-    → ¬ Rose (before (word words 1)) (after (word words 1)) → ¬ Rose (before (word words 2)) (after (word words 2))
-    → ((source : S) → sources ≡ source ∷ [] → ¬ Rose 0 (faults source)) → (status ≡ 0) ⊎ (status ≡ 8)
-refused_for_memory left faults words queries status history streams sources fault before after
-    refuses good some openings first second read = elim refuses.cause [
-      | inl bad ↦
-          let no_words = bad.0 in
-          absurd (cc)
-      | inr cause ↦ subst (λ s. (s ≡ 0) ⊎ (s ≡ 8)) (sym refuses.status_is)
-          (wants_memory left faults (word words 1) (word words 2) queries sources
-          (λ name. Rose (before name) (after name)) fault cause refuses.sources_of some
-          (λ name is. (openings name).rose is) first second read)
-    ]
-
--- the end of a whole stream is no fault
-faultless : (file : Option (List ℕ)) (tuples : List Tuple) (end : StreamEnd)
-    → IsSomeAnd file IsWholeStream → IfSome file
-    (λ text. tuples_from 1 byte_limit text ≡ tuples_with tuples end) → end ≡ Whole
-faultless None tuples end whole is = absurd whole
-faultless (Some text) tuples end whole is = sym (ap (λ (ts : StreamTuples). ts.end) is) ∙ whole.whole
-
--- a history that is full has all tuples of such a stream
-not_full : (file : Option (List ℕ)) (left : Option (List ℕ)) (history : List Entry)
-    → IsSomeAnd file IsWholeStream → IfSome file
-    (λ text. IsHistoryAt byte_limit text left history Full) → length history ≡ history_limit → ⊥
-not_full None left history whole tied full = whole
-not_full (Some text) left history whole tied full = too_many tied.taken.rest tied.taken.proper tied.taken.cut
-  where
-    too_many : (rest : List Tuple) → rest ≢ [] → (tuples_from 1 byte_limit text).tuples ≡ tied.tuples ++ rest → ⊥
-    too_many [] proper cut = proper refl
-    too_many (tuple ∷ rest) proper cut = omega (
-      arith,
-      whole.few,
-      ap length cut,
-      length-append tied.tuples
-          (tuple ∷ rest),
-      full,
-      ap length tied.holds,
-      length-map tied.tuples entry_of,
-    )
-
-tied_tuples : (file left : Option (List ℕ)) (history : List Entry) (end : StreamEnd)
-    → ((text : List ℕ) → IsHistoryAt byte_limit text left history end → (tuples : List Tuple)
-    × (tuples_from 1 byte_limit text ≡ tuples_with tuples end))
-    → IsSomeAnd file IsWholeStream → IfSome file (λ text. IsHistoryAt byte_limit text left history end) → end ≡ Whole
-tied_tuples None left history end has whole tied = absurd whole
-tied_tuples (Some text) left history end has whole tied =
-    let found = has text tied in
-    faultless (Some text) found.0 end whole found.1
-
--- how the stream of such a run ends, where no count rose
-ends_well : (end : StreamEnd) (file left : Option (List ℕ)) (history : List Entry)
-    → IsSomeAnd file IsWholeStream → IfSome file (λ text. IsHistoryAt byte_limit text left history end)
-    → (end ≡ Full → length history ≡ history_limit) → (end ≡ Read → ⊥)
-    → ((why : Why) → end ≡ Closed why → ⊥) → (status_of_end end ≡ 0) ⊎ (status_of_end end ≡ 8)
-ends_well Whole file left history whole tied full read closed = inl refl
-ends_well (Line number fault) file left history whole tied full read closed =
-    absurd (cc (tied_tuples file left history (Line number fault) (λ text is. (is.tuples, is.taken)) whole tied))
-ends_well (LongLine number) file left history whole tied full read closed = absurd
-    (cc (tied_tuples file left history (LongLine number) (λ text is. (is.tuples, is.taken)) whole tied))
-ends_well LongStream file left history whole tied full read closed = absurd
-    (cc (tied_tuples file left history LongStream (λ text is. (is.tuples, is.taken)) whole tied))
-ends_well Read file left history whole tied full read closed = absurd (read refl)
-ends_well Full file left history whole tied full read closed = absurd
-    (not_full file left history whole tied (full refl))
-ends_well (Closed why) file left history whole tied full read closed = absurd (closed why refl)
-ends_well Memory file left history whole tied full read closed = inr refl
-
--- a run over a whole stream is done, or wants memory, where no count rose
-pub done_or_memory : {Source : Type 0} (left : Source → Option (List ℕ)) (faults : Source → ℕ)
-    (file : Option (List ℕ)) (before after : ℕ) (history : List Entry) (streams : List StreamEnd)
-    (sources : List Source) (status : ℕ)
-    → EndsStream left faults file before after history streams sources status
-    → IsSomeAnd file IsWholeStream → (status ≡ 6 → Rose before after)
-    → ((source : Source) → sources ≡ source ∷ [] → ¬ Rose 0 (faults source)) → ¬ Rose before after
-    → (status ≡ 0) ⊎ (status ≡ 8)
-done_or_memory left faults file before after history streams sources status ends whole write read events =
-    elim (cases_eq status 8) [
-      | inl eight ↦ inr eight
-      | inr other ↦
-          let is = ends.status_is.others other (λ six. events (write six)) in
-          elim (ends_well ends.end file (left ends.source) history whole ends.stream.tied
-          ends.stream.full (λ e. read ends.source ends.one_source (ends.stream.read.rose e))
-          (λ why e. events (ends.closed why e).1)) [
-            | inl none ↦ inl (is ∙ none)
-            | inr eight ↦ absurd (other (is ∙ eight))
-          ]
-    ]
-
--- the end of a run that is done
-whole_end : (end : StreamEnd) → status_of_end end ≡ 0 → end ≡ Whole
-whole_end Whole is = refl
-whole_end (Line number fault) is = absurd cc
-whole_end (LongLine number) is = absurd cc
-whole_end LongStream is = absurd cc
-whole_end Read is = absurd cc
-whole_end Full is = absurd cc
-whole_end (Closed Write) is = absurd cc
-whole_end (Closed MemoryOfAll) is = absurd cc
-whole_end Memory is = absurd cc
-
--- where all is done no read of the source failed
-pub reads_quietly : {Source : Type 0} (left : Source → Option (List ℕ)) (faults : Source → ℕ)
-    (file : Option (List ℕ)) (before after : ℕ) (history : List Entry) (streams : List StreamEnd)
-    (sources : List Source) (status : ℕ)
-    → EndsStream left faults file before after history streams sources status → status ≡ 0
-    → All (λ source. faults source ≡ 0) sources
-reads_quietly left faults file before after history streams sources status ends zero =
-    let whole = whole_end ends.end (sym (ends.status_is.others (λ e. absurd cc) (λ e. absurd cc)) ∙ zero) in
-    let none : faults ends.source ≡ 0 = ends.stream.read.quiet (λ e. absurd (cc)) in
-    All-same (λ source. faults source ≡ 0) sources (ends.source ∷ []) ends.one_source
-    (All-cons (λ source. faults source ≡ 0) ends.source [] none (All-nil (λ source. faults source ≡ 0)))
 
 -- the refusal for a fault of the queries file
 pub refused_by_file : (file : Option (List ℕ)) (fault : StartFault)
     → IsFaultOfFile Queries file fault → IsRefusedFor file fault
+refused_by_file file (QueriesFault fault) is = is.1
 refused_by_file file (Open Queries) is = tt
 refused_by_file file (Open (Stream number)) is = absurd cc
 refused_by_file file (ReadAtStart Queries) is = tt
 refused_by_file file (ReadAtStart (Stream number)) is = absurd cc
 refused_by_file file (Long Queries) is = is.1
 refused_by_file file (Long (Stream number)) is = absurd (cc is.0)
-refused_by_file file NotYet is = is
+refused_by_file file NotYet is = absurd is
 refused_by_file file MemoryAtStart is = tt
 
 -- no run that doesn't begin is done
 pub not_done : (fault : StartFault) → status_of_start fault ≡ 0 → ⊥
+not_done (QueriesFault fault) is = absurd cc
 not_done (Open which) is = absurd cc
 not_done (ReadAtStart which) is = absurd cc
 not_done (Long which) is = absurd cc
 not_done NotYet is = absurd cc
 not_done MemoryAtStart is = absurd cc
 
--- an end that the reading meets is not that of a full history
+-- no end that the reading meets is that of a full history
 pub no_full : (end : StreamEnd) → IsReadEnd end → end ≡ Full → ⊥
 no_full end meets is = subst IsReadEnd is meets

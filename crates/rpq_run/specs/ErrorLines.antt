@@ -1,15 +1,20 @@
 -- The lines on errors, each with a line feed at its end.
-use Rattle.std.specs.Prelude.{◌≡◌, ℕ, ◌==◌, Bool, true, ◌⊎◌, List, [], ◌∷◌, ◌++◌, codes, decimal, Option, Some, None, if◌then◌else◌}
+use Rattle.std.specs.Prelude.{◌≡◌, ℕ, ◌+◌, ◌==◌, List, [], ◌∷◌, ◌++◌, codes, decimal, if◌then◌else◌}
+use Rattle.std.specs.List.{flat_map}
 use Rattle.std.specs.Io.KnownBytes.{append_known}
+use Rattle.std.specs.Prelude.{Option}
 use Rattle.tuple_text.specs.FaultTexts.{fault_text}
-use Rattle.rpq_io.specs.Counts.{Rose, CountsFault}
+use Rattle.query_file.specs.FaultTexts.{query_kind_text}
+use Rattle.rpq_io.specs.Counts.{Rose}
 use Rattle.rpq_run.specs.declared.report.Which.{Which}
 use Rattle.rpq_run.specs.declared.report.Which.TheVariants.{Queries, Stream}
+use Rattle.rpq_run.specs.declared.report.SinkName.{SinkName}
+use Rattle.rpq_run.specs.declared.report.SinkName.TheVariants.{Events}
 use Rattle.rpq_run.specs.declared.report.StartFault.{StartFault}
-use Rattle.rpq_run.specs.declared.report.StartFault.TheVariants.{Open, Read as ReadAtStart, Long, NotYet, Memory as MemoryAtStart}
+use Rattle.rpq_run.specs.declared.report.StartFault.TheVariants.{Queries as QueriesFault, Open, Read as ReadAtStart, Long, NotYet, Memory as MemoryAtStart}
 use Rattle.rpq_run.specs.declared.report.StreamEnd.{StreamEnd}
 use Rattle.rpq_run.specs.declared.report.StreamEnd.TheVariants.{Whole, Line, LongLine, LongStream, Read, Full, Closed, Memory}
-use Rattle.rpq_run.specs.Statuses.{write_status, memory_status}
+use Rattle.rpq_run.specs.Statuses.{memory_status}
 use Rattle.rpq_run.specs.Written.{GrewByPrefix}
 
 -- a file, as the lines name it
@@ -17,8 +22,14 @@ abbrev pub file_text : Which → List ℕ
 file_text Queries = codes "queries"
 file_text (Stream number) = codes "stream " ++ decimal number
 
+-- what is said of the line of the queries file with this number
+unfoldable pub query_text : ℕ → List ℕ → List ℕ
+query_text line text =
+    codes "rpq: queries line " ++ (decimal line ++ (codes ": " ++ (text ++ codes "\n")))
+
 -- the line of a run that didn't begin
 abbrev pub start_line : StartFault → List ℕ
+start_line (QueriesFault fault) = query_text fault.line (query_kind_text fault.kind)
 start_line (Open which) = codes "rpq: read failed: " ++ file_text which ++ codes "\n"
 start_line (ReadAtStart which) = codes "rpq: read failed: " ++ file_text which ++ codes "\n"
 start_line (Long which) = codes "rpq: " ++ file_text which ++ codes ": too long\n"
@@ -43,35 +54,27 @@ end_line stream Full = codes "rpq: " ++ file_text (Stream stream) ++ codes ": hi
 end_line stream (Closed why) = []
 end_line stream Memory = []
 
--- the line of a failed write, where one failed
-unfoldable pub write_line : Bool → List ℕ
-write_line failed = if failed then codes "rpq: write failed: events\n" else []
+-- the lines of streams by their ends; the first stream has this number
+abbrev pub end_lines : ℕ → List StreamEnd → List ℕ
+end_lines number [] = []
+end_lines number (end ∷ ends) = end_line number end ++ end_lines (number + 1) ends
+
+-- the line of a failed write of a sink
+abbrev pub write_line : SinkName → List ℕ
+write_line Events = codes "rpq: write failed: events\n"
 
 -- the line of want of memory, on the status of that
 unfoldable pub memory_line : ℕ → List ℕ
 memory_line status = if status == memory_status then codes "rpq: memory\n" else []
 
--- the lines of a run that began: that of its one stream, that of a failed write, and that of want
--- of memory
-unfoldable pub run_lines : StreamEnd → Bool → ℕ → List ℕ
-run_lines end failed status = end_line 1 end ++ (write_line failed ++ memory_line status)
+-- the lines of a run that began: those of its streams, those of the sinks of which a write failed,
+-- and that of want of memory
+unfoldable pub run_lines : List StreamEnd → List SinkName → ℕ → List ℕ
+run_lines ends failed status =
+    end_lines 1 ends ++ (flat_map write_line failed ++ memory_line status)
 
--- the lines of a report
-abbrev pub error_lines : Option StartFault → List StreamEnd → Bool → ℕ → List ℕ
-error_lines (Some fault) ends failed status = start_line fault
-error_lines None [] failed status = []
-error_lines None (end ∷ others) failed status = run_lines end failed status
-
--- the lines of a report were written on the errors, or a prefix of them where that sink's count
--- rose; the line of a failed write stands among them where a write of the events failed, which the
--- events' count shows, on the status of that, and else perhaps on that of want of memory
-pub record TellsErrors (start : Option StartFault) (ends : List StreamEnd) (status : ℕ)
-    (events_before events_after errors_before errors_after : ℕ) (before after : Option (List ℕ))
-    : Type 0 where
-  pub failed : Bool
-  pub counted : CountsFault (failed ≡ true) events_before events_after
-  pub on_write : status ≡ write_status → failed ≡ true
-  pub only_then : failed ≡ true → (status ≡ write_status) ⊎ (status ≡ memory_status)
-  pub prefix : GrewByPrefix (λ lines. lines ≡ error_lines start ends failed status) before after
-  pub whole : ¬ Rose errors_before errors_after
-      → after ≡ append_known before (error_lines start ends failed status)
+-- these lines were written on a sink, or a prefix of them where its count rose
+pub record TellsLines {K : Type 0} (written : K → Option (List ℕ)) (faults : K → ℕ)
+    (lines : List ℕ) (old new : K) : Type 0 where
+  pub prefix : GrewByPrefix (λ text. text ≡ lines) (written old) (written new)
+  pub whole : ¬ Rose (faults old) (faults new) → written new ≡ append_known (written old) lines

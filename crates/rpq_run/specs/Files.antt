@@ -1,44 +1,59 @@
--- The two files of a run.
-use Rattle.std.specs.Prelude.{◌≡◌, ℕ, ◌<◌, ◌≤◌, nat_lt, List, [], ◌∷◌, length, Option, None, option_map, IsSome, IfSome, IsSomeAnd, if◌then◌else◌}
+-- The files of a run.
+use Rattle.std.specs.Prelude.{◌≡◌, ◌≢◌, ℕ, ◌<◌, ◌≤◌, List, length, map, sum, All, Option, Ok, Err, option_map, unwrap_or, IfSome, IsSomeAnd}
 use Rattle.std.specs.Io.KnownBytes.{prepend_known}
 use Rattle.rpq_model.specs.Query.{Query}
+use Rattle.query_file.specs.declared.fault.QueryFault.{QueryFault}
+use Rattle.query_file.specs.declared.fault.QueryKind.TheVariants.{Memory}
+use Rattle.query_file.specs.Queries.{Queries}
 use Rattle.rpq_run.specs.declared.report.StreamEnd.TheVariants.{Whole}
 use Rattle.rpq_run.specs.Limits.{file_limit, history_limit}
-use Rattle.rpq_run.specs.QueriesFile.{first_query}
 use Rattle.rpq_run.specs.StreamText.{stream_tuples}
 
--- the queries of a queries file with fewer bytes than the limit: today, one
-unfoldable pub queries_of : List ℕ → Option (List Query)
-queries_of bytes =
-    if nat_lt (length bytes) file_limit
-    then option_map (λ query. query ∷ []) (first_query bytes) else None
+-- a queries file has these bytes, which are not too many, and these queries
+abbrev pub HasQueries : List ℕ → List Query → Type 0
+HasQueries bytes queries = (length bytes < file_limit) × Queries bytes (Ok queries)
+
+-- a queries file has these bytes, which are not too many, and this fault
+abbrev pub HasFault : List ℕ → QueryFault → Type 0
+HasFault bytes fault = (length bytes < file_limit) × Queries bytes (Err fault)
 
 -- the bytes of a queries file, where they are told, give queries
 abbrev pub IsQueriesFile : Option (List ℕ) → Type 0
-IsQueriesFile file = IfSome file (λ bytes. IsSome (queries_of bytes))
+IsQueriesFile file = IfSome file (λ bytes. (queries : List Query) × HasQueries bytes queries)
 
 -- the bytes of a queries file, where they are told, give queries, and this holds of them
 abbrev pub ForQueries : Option (List ℕ) → (List Query → Type 0) → Type 0
-ForQueries file P = IfSome file (λ bytes. IsSomeAnd (queries_of bytes) P)
+ForQueries file P =
+    IfSome file (λ bytes. (queries : List Query) × HasQueries bytes queries × P queries)
+
+-- the bytes of a queries file, where they are told, have this fault, which isn't want of memory
+abbrev pub IsFaultyFile : Option (List ℕ) → QueryFault → Type 0
+IsFaultyFile file fault = (fault.kind ≢ Memory) × IfSome file (λ bytes. HasFault bytes fault)
 
 -- the bytes of a queries file, where they are told, are too many
 abbrev pub IsTooLong : Option (List ℕ) → Type 0
 IsTooLong file = IfSome file (λ bytes. file_limit ≤ length bytes)
 
--- the bytes of a queries file, where they are told, are not too many and give no queries
-abbrev pub LacksForm : Option (List ℕ) → Type 0
-LacksForm file = IfSome file (λ bytes. (length bytes < file_limit) × (queries_of bytes ≡ None))
-
 -- of a file some bytes were taken, and these are left
 abbrev pub IsRestOf : Option (List ℕ) → Option (List ℕ) → Type 0
 IsRestOf file left = (bytes : List ℕ) × (file ≡ prepend_known bytes left)
 
--- a stream without a fault, whose tuples a history can hold
-pub record IsWholeStream (text : List ℕ) : Type 0 where
-  pub whole : (stream_tuples text).end ≡ Whole
-  pub few : length (stream_tuples text).tuples ≤ history_limit
+-- a queries file that isn't too long and has no fault
+pub record IsFaultless (bytes : List ℕ) : Type 0 where
+  pub short : length bytes < file_limit
+  pub no_fault : (fault : QueryFault) → Queries bytes (Err fault) → ⊥
 
--- the bytes of both files are told, and give queries and a whole stream
-pub record CanBeDone (queries stream : Option (List ℕ)) : Type 0 where
-  pub understood : IsSomeAnd queries (λ bytes. IsSome (queries_of bytes))
-  pub whole : IsSomeAnd stream IsWholeStream
+-- the bytes of a stream are told, and it has no fault
+abbrev pub IsWholeStream : Option (List ℕ) → Type 0
+IsWholeStream file = IsSomeAnd file (λ text. (stream_tuples text).end ≡ Whole)
+
+-- how many tuples a stream has, where its bytes are told
+abbrev pub tuple_count : Option (List ℕ) → ℕ
+tuple_count file = unwrap_or (option_map (λ text. length (stream_tuples text).tuples) file) 0
+
+-- the bytes of all files are told and have no fault, and a history can hold the streams' tuples
+pub record CanBeDone (queries : Option (List ℕ)) (streams : List (Option (List ℕ)))
+    : Type 0 where
+  pub understood : IsSomeAnd queries IsFaultless
+  pub whole : All IsWholeStream streams
+  pub few : sum (map tuple_count streams) ≤ history_limit

@@ -1,20 +1,19 @@
--- How the history of a run is tied to the bytes of its stream.
-use Rattle.std.specs.Prelude.{◌≡◌, ◌≢◌, ℕ, List, [], ◌++◌, map, Option, Some, IfSome}
+-- How the history of a run is tied to the bytes of its streams.
+use Rattle.std.specs.Prelude.{◌≡◌, ◌≢◌, ℕ, ◌+◌, ◌==◌, List, [], ◌++◌, length, map, filter, slice_get, Option, Some, IfSome}
 use Rattle.std.specs.Io.KnownBytes.{prepend_known}
 use Rattle.rpq_base.specs.declared.data.Tuple.{Tuple}
 use Rattle.rpq_base.specs.declared.data.Entry.{Entry}
+use Rattle.rpq_io.specs.Counts.{CountsFault}
 use Rattle.rpq_run.specs.declared.report.StreamEnd.{StreamEnd}
 use Rattle.rpq_run.specs.declared.report.StreamEnd.TheVariants.{Whole, Line, LongLine, LongStream, Read, Full, Closed, Memory}
+use Rattle.rpq_run.specs.Limits.{byte_limit}
 use Rattle.text_parts.specs.EndedLines.{ended_lines}
 use Rattle.rpq_run.specs.StreamText.{tuples_with, tuples_of_lines, tuples_from}
 
--- the entry of a tuple of the one stream
-abbrev pub entry_of : Tuple → Entry
-entry_of tuple = record { stream = 1; tuple = tuple }
-
--- the history holds these tuples as those of stream 1, each once, in their order
-abbrev pub Holds : List Entry → List Tuple → Type 0
-Holds history tuples = history ≡ map entry_of tuples
+-- the tuples of the stream with this number in the history, in order
+abbrev pub own_tuples : ℕ → List Entry → List Tuple
+own_tuples number history =
+    map (λ entry. entry.tuple) (filter (λ entry. entry.stream == number) history)
 
 -- a list is a prefix of another, perhaps all of it
 pub record IsPrefix {A : Type 0} (front all : List A) : Type 0 where
@@ -52,9 +51,24 @@ AreTuplesOfEnd limit text left tuples (Closed why) =
     IsProperPrefix tuples (tuples_from 1 limit text).tuples
 AreTuplesOfEnd limit text left tuples Memory = IsPrefix tuples (tuples_from 1 limit text).tuples
 
--- the history of a stream that ended so
-pub record IsHistoryAt (limit : ℕ) (text : List ℕ) (left : Option (List ℕ)) (history : List Entry)
+-- the stream with this number ended so: its tuples in the history are those of its file's bytes by
+-- the end, which has its cause: it is full where the history has so many entries, and a read failed
+-- where the source's count rose from 0, which stays 0 at every other end
+pub record IsStreamOf {S : Type 0} (left : S → Option (List ℕ)) (faults : S → ℕ)
+    (number limit : ℕ) (file : Option (List ℕ)) (source : S) (history : List Entry)
     (end : StreamEnd) : Type 0 where
-  pub tuples : List Tuple
-  pub holds : Holds history tuples
-  pub taken : AreTuplesOfEnd limit text left tuples end
+  pub tied : IfSome file (λ text.
+      AreTuplesOfEnd byte_limit text (left source) (own_tuples number history) end)
+  pub full : end ≡ Full → length history ≡ limit
+  pub read : CountsFault (end ≡ Read) 0 (faults source)
+
+-- each of the streams, which are numbered from 1, has one source and one end, and ended so
+pub record AreStreamsOf {S : Type 0} (left : S → Option (List ℕ)) (faults : S → ℕ) (limit : ℕ)
+    (files : List (Option (List ℕ))) (sources : List S) (history : List Entry)
+    (ends : List StreamEnd) : Type 0 where
+  pub as_many_sources : length sources ≡ length files
+  pub as_many_ends : length ends ≡ length files
+  pub each : (place : ℕ) (file : Option (List ℕ)) (source : S) (end : StreamEnd)
+      → slice_get files place ≡ Some file → slice_get sources place ≡ Some source
+      → slice_get ends place ≡ Some end
+      → IsStreamOf left faults (place + 1) limit file source history end

@@ -1,14 +1,14 @@
 pub mod Limits
-pub mod QueriesFile
 pub mod StreamText
 pub mod Text
 pub mod Files
 pub mod History
 pub mod Statuses
 pub mod Ends
+pub mod Written
 pub mod Progress
 pub mod Turns
-pub mod Written
 pub mod ErrorLines
 pub mod Run
+pub mod RunsStreams
 pub mod Laws

@@ -1,4 +1,4 @@
--- How much is taken: of a file, of a line, of a stream, of a history and of an expression.
+-- How much is taken: of a file, of a line, of a stream and of a history.
 use Rattle.std.specs.Prelude.{ℕ, ◌^◌}
 
 -- a file that is read whole has fewer bytes than this
@@ -17,6 +17,10 @@ byte_limit = 2 ^ 40
 abbrev pub history_limit : ℕ
 history_limit = 1000000
 
--- the most labels of an expression
-abbrev pub label_limit : ℕ
-label_limit = 64
+-- the most streams of a run
+abbrev pub stream_limit : ℕ
+stream_limit = 64
+
+-- the most queries of a file
+abbrev pub query_limit : ℕ
+query_limit = 64

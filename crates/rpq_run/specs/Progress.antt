@@ -9,7 +9,7 @@ use Rattle.rpq_run.specs.declared.report.StreamEnd.{StreamEnd}
 use Rattle.rpq_run.specs.declared.report.StreamEnd.TheVariants.{Whole}
 use Rattle.rpq_run.specs.Limits.{line_limit, byte_limit}
 use Rattle.rpq_run.specs.StreamText.{tuples_with, tuples_before, tuples_of_lines, tuples_from}
-use Rattle.rpq_run.specs.History.{Holds}
+use Rattle.rpq_run.specs.History.{own_tuples}
 
 -- a reader has the limits of a stream; each line that it gave took a byte at least; and it was told
 -- the end before its limit, after the last byte
@@ -59,9 +59,7 @@ abbrev pub HasRead : {S : Type 0} → (S → Option (List ℕ)) → Option (List
 HasRead left file tuples reader =
     HasReadLines left file tuples reader ⊎ HasReadAll file tuples reader
 
--- the tuples that were read are those of the history
-pub record IsInStep {S : Type 0} (left : S → Option (List ℕ)) (file : Option (List ℕ))
-    (history : List Entry) (reader : ReaderState S) : Type 0 where
-  pub tuples : List Tuple
-  pub holds : Holds history tuples
-  pub read : HasRead left file tuples reader
+-- the tuples that were read are those of stream 1 in the history
+abbrev pub IsInStep : {S : Type 0} → (S → Option (List ℕ)) → Option (List ℕ) → List Entry
+    → ReaderState S → Type 0
+IsInStep left file history reader = HasRead left file (own_tuples 1 history) reader

@@ -1,8 +1,11 @@
--- The status of a run, by why it didn't begin or by how its stream ended.
-use Rattle.std.specs.Prelude.{◌≡◌, ◌≢◌, ℕ, Bool, ◌==◌, if◌then◌else◌}
+-- The status of a run, by why it didn't begin, or by how its streams ended and which writes failed.
+use Rattle.std.specs.Prelude.{◌≡◌, ◌≢◌, ℕ, Bool, ◌==◌, ◌||◌, List, [], ◌∷◌, find, unwrap_or}
+use Rattle.std.specs.List.{list_any}
 use Rattle.rpq_run.specs.declared.report.Why.TheVariants.{Write, Memory as MemoryOfAll}
+use Rattle.rpq_run.specs.declared.report.SinkName.{SinkName}
+use Rattle.rpq_run.specs.declared.report.SinkName.TheVariants.{Events}
 use Rattle.rpq_run.specs.declared.report.StartFault.{StartFault}
-use Rattle.rpq_run.specs.declared.report.StartFault.TheVariants.{Open, Read as ReadAtStart, Long, NotYet, Memory as MemoryAtStart}
+use Rattle.rpq_run.specs.declared.report.StartFault.TheVariants.{Queries, Open, Read as ReadAtStart, Long, NotYet, Memory as MemoryAtStart}
 use Rattle.rpq_run.specs.declared.report.StreamEnd.{StreamEnd}
 use Rattle.rpq_run.specs.declared.report.StreamEnd.TheVariants.{Whole, Line, LongLine, LongStream, Read, Full, Closed, Memory}
 
@@ -10,7 +13,11 @@ use Rattle.rpq_run.specs.declared.report.StreamEnd.TheVariants.{Whole, Line, Lon
 abbrev pub done_status : ℕ
 done_status = 0
 
--- a line of the stream is faulty or too long
+-- the queries file has a fault
+abbrev pub queries_status : ℕ
+queries_status = 2
+
+-- a line of a stream is faulty or too long
 abbrev pub line_status : ℕ
 line_status = 4
 
@@ -18,7 +25,7 @@ line_status = 4
 abbrev pub read_status : ℕ
 read_status = 5
 
--- a write of the events failed
+-- a write failed
 abbrev pub write_status : ℕ
 write_status = 6
 
@@ -30,19 +37,20 @@ limit_status = 7
 abbrev pub memory_status : ℕ
 memory_status = 8
 
--- the words or the queries file aren't of the form that is taken
+-- the words aren't taken so far
 abbrev pub not_yet_status : ℕ
 not_yet_status = 9
 
 -- the status of a run that didn't begin
 abbrev pub status_of_start : StartFault → ℕ
+status_of_start (Queries fault) = queries_status
 status_of_start (Open which) = read_status
 status_of_start (ReadAtStart which) = read_status
 status_of_start (Long which) = limit_status
 status_of_start NotYet = not_yet_status
 status_of_start MemoryAtStart = memory_status
 
--- the status of a run in which nothing but this end of its stream arose
+-- the status of a run in which nothing but this end of a stream arose
 abbrev pub status_of_end : StreamEnd → ℕ
 status_of_end Whole = done_status
 status_of_end (Line number fault) = line_status
@@ -54,14 +62,28 @@ status_of_end (Closed Write) = write_status
 status_of_end (Closed MemoryOfAll) = memory_status
 status_of_end Memory = memory_status
 
--- the status of a run whose stream ended so, and in which a write of the events failed or not
-abbrev pub status_after : Bool → StreamEnd → ℕ
-status_after failed end =
-    if status_of_end end == memory_status then memory_status
-    else if failed then write_status else status_of_end end
+-- the status of a run in which nothing but a failed write of this sink arose
+abbrev pub status_of_sink : SinkName → ℕ
+status_of_sink Events = write_status
 
--- the status of a run whose stream ended so: that of want of memory where memory ran out, else that
--- of a failed write where one failed, else that of the end
-pub record IsStatusOf (end : StreamEnd) (status : ℕ) : Type 0 where
-  pub memory : status_of_end end ≡ memory_status → status ≡ memory_status
-  pub others : status ≢ memory_status → status ≢ write_status → status ≡ status_of_end end
+-- whether the status is that of an end of a stream, or that of a failed write of a sink
+abbrev pub arose : List StreamEnd → List SinkName → ℕ → Bool
+arose ends failed status =
+    list_any (λ end. status_of_end end == status) ends
+    || list_any (λ sink. status_of_sink sink == status) failed
+
+-- the statuses of what can go wrong after the start, in the order in which they count
+abbrev pub status_order : List ℕ
+status_order =
+    memory_status ∷ write_status ∷ limit_status ∷ read_status ∷ line_status ∷ []
+
+-- the first status of the order that arose, else that all was done
+abbrev pub first_arisen : List StreamEnd → List SinkName → ℕ
+first_arisen ends failed = unwrap_or (find (arose ends failed) status_order) done_status
+
+-- the status of a run whose streams ended so, and in which writes of these sinks failed: that of
+-- want of memory, which can arise by itself, or else the first that arose
+pub record IsStatusOf (ends : List StreamEnd) (failed : List SinkName) (status : ℕ)
+    : Type 0 where
+  pub memory : first_arisen ends failed ≡ memory_status → status ≡ memory_status
+  pub others : status ≢ memory_status → status ≡ first_arisen ends failed

@@ -1,8 +1,8 @@
 //! The text of an entry and its events.
 
-ghost use Rattle.std.specs.Prelude.{◌≡◌, ◌∷◌, ◌++◌, [], OnOk, IfOk, All};
+ghost use Rattle.std.specs.Prelude.{◌≡◌, ◌<◌, ◌++◌, length, OnOk, IfOk, All};
 ghost use Rattle.rpq_base.specs.Plain.{IsPlain};
-ghost use Rattle.rpq_run.specs.Text.{event_line, entry_line, block};
+ghost use Rattle.rpq_run.specs.Text.{name_at, event_line, entry_line, block};
 
 use rpq_base::{Entry, Event, Memory};
 use rpq_model::QueryDef;
@@ -11,23 +11,23 @@ use text_parts::push_decimal;
 use tuple_text::write_tuple;
 
 /// The block of the entry at position `n`, counted from 1: the line of the entry, then one line for
-/// each of its events, each with a line feed at its end. The events are those of this one query,
-/// and the entry's label points forwards. The only error is [`Memory`].
+/// each of its events, each with a line feed at its end. Each event has the number of one of the
+/// queries, counted from 0, and the entry's label points forwards. The only error is [`Memory`].
 #[tactic(auto, unfolding(crate::specs::Text::block))]
 pub fn block_text(
     alloc: Global,
     n: u64,
     entry: &Entry,
     events: &[Event],
-    query: &QueryDef,
+    queries: &[QueryDef],
 ) -> Result<Vec<u8>, Memory>
     requires plain { IsPlain entry.now }
-    requires queries { All (λ event. event.query ≡ 0) events.now }
-    ensures { IfOk result (λ text. text.items ≡ block (query.now ∷ []) n entry.now events.now) }
+    requires numbers { All (λ event. event.query < length queries.now) events.now }
+    ensures { IfOk result (λ text. text.items ≡ block queries.now n entry.now events.now) }
 {
     let mut text = entry_line(alloc, n, entry)?;
     for event in events {
-        push_event(&mut text, query, event)?;
+        push_event(&mut text, queries, event)?;
     }
     Ok(text)
 }
@@ -49,18 +49,26 @@ fn entry_line(alloc: Global, n: u64, entry: &Entry) -> Result<Vec<u8>, Memory>
     Ok(text)
 }
 
-/// Writes the line of an event of the one query at the end of the text.
-fn push_event(text: &mut Vec<u8>, query: &QueryDef, event: &Event) -> Result<(), AllocError>
-    requires { event.now.query ≡ 0 }
-    ensures { OnOk result
-        (text.new.items ≡ text.old.items ++ event_line (query.now ∷ []) event.now) }
+/// Writes the line of an event of one of the queries at the end of the text.
+fn push_event(text: &mut Vec<u8>, queries: &[QueryDef], event: &Event) -> Result<(), AllocError>
+    requires { event.now.query < length queries.now }
+    ensures { OnOk result (text.new.items ≡ text.old.items ++ event_line queries.now event.now) }
 {
     let sign = if event.added { b"+ " } else { b"- " };
     text.extend_from_slice(sign)?;
-    text.extend_from_slice(query.name.as_bytes())?;
+    text.extend_from_slice(name_at(queries, event.query))?;
     text.extend_from_slice(b" ")?;
     text.extend_from_slice(event.pair.from.as_bytes())?;
     text.extend_from_slice(b" ")?;
     text.extend_from_slice(event.pair.to.as_bytes())?;
     text.extend_from_slice(b"\n")
+}
+
+/// The name of the query with this number, counted from 0.
+fn name_at(queries: &[QueryDef], number: u32) -> &[u8]
+    requires { number < length queries.now }
+    ensures { result.now ≡ name_at queries.now number }
+{
+    let query = &queries[number as usize];
+    query.name.as_bytes()
 }

@@ -1,16 +1,17 @@
 //! The two files of a run: the queries file is read and understood, and the stream opened.
 
-ghost use Rattle.std.specs.Prelude.{◌≡◌, ◌≤◌, ◌<◌, ◌∷◌, ℕ, List, [], length, option_to_list, IfOk, IfErr, IsErrAnd, IfSome};
+ghost use Rattle.std.specs.Prelude.{◌≡◌, ◌≢◌, ◌≤◌, ◌<◌, ℕ, List, [], length, map, option_to_list, All, IfOk, IfErr, IsErrAnd, IfSome};
 ghost use Rattle.rpq_io.specs.Counts.{CountsOpening};
 ghost use Rattle.rpq_io.specs.Files.{KeepsFiles};
 ghost use Rattle.rpq_model.specs.declared.mode.Mode.TheVariants.{Arbitrary};
-ghost use Rattle.rpq_run.specs.Limits.{file_limit};
-ghost use Rattle.rpq_run.specs.Files.{queries_of};
+ghost use Rattle.query_file.specs.declared.fault.QueryKind.{QueryKind};
+ghost use Rattle.rpq_run.specs.Limits.{file_limit, query_limit};
+ghost use Rattle.rpq_run.specs.Files.{HasQueries};
 ghost use Rattle.rpq_run.specs.Run.{IsFaultOfFile, AreSourcesOf, IsNewReader};
 
 use crate::limits::{BYTE_LIMIT, FILE_LIMIT, LINE_LIMIT};
-use crate::read_query::read_first_query;
 use crate::report::{StartFault, Which};
+use query_file::{Compiled, QueryFault, QueryKind, read_queries};
 use rpq_base::Memory;
 use rpq_io::{AllFault, Files, LineReader, OpenFault, read_all};
 use rpq_model::QueryDef;
@@ -69,16 +70,17 @@ fn whole_file<F: Files>(
     }
 }
 
-/// The query of the queries file of this name.
-#[tactic(auto, unfolding(crate::specs::Files::queries_of))]
-pub fn query_of_file<F: Files>(
+/// The queries of the queries file of this name.
+pub fn queries_of_file<F: Files>(
     alloc: Global,
     files: &mut F,
     name: &str,
-) -> Result<QueryDef, Refusal<F::Source>>
-    ensures query { IfOk result (λ query.
-        IfSome (F.holds files.old name.now) (λ bytes. queries_of bytes ≡ Some (query ∷ []))) }
-    ensures arbitrary { IfOk result (λ query. query.mode ≡ Arbitrary) }
+) -> Result<Vec<QueryDef>, Refusal<F::Source>>
+    ensures queries { IfOk result (λ queries.
+        IfSome (F.holds files.old name.now) (λ bytes. HasQueries bytes queries.items)) }
+    ensures few { IfOk result (λ queries. length queries.items ≤ query_limit) }
+    ensures arbitrary { IfOk result (λ queries.
+        All (λ query. query.mode ≡ Arbitrary) queries.items) }
     ensures cause { IfErr result (λ refusal.
         IsFaultOfFile Which.Queries (F.holds files.old name.now) refusal.fault) }
     ensures source { IfErr result (λ refusal. AreSourcesOf F.Source.left F.Source.faults
@@ -93,11 +95,32 @@ pub fn query_of_file<F: Files>(
         Ok(bytes) => bytes,
         Err(refusal) => return Err(refusal),
     };
-    match read_first_query(alloc, &bytes) {
-        Ok(Some(query)) => Ok(query),
-        Ok(None) => Err(without_source(StartFault::NotYet)),
+    let compiled = match read_queries(alloc, &bytes) {
+        Ok(compiled) => compiled,
+        Err(fault) => return Err(without_source(start_fault(fault))),
+    };
+    match definitions(alloc, compiled) {
+        Ok(queries) => Ok(queries),
         Err(Memory) => Err(without_source(StartFault::Memory)),
     }
+}
+
+/// Why a run doesn't begin for this fault of its queries file.
+fn start_fault(fault: QueryFault) -> StartFault
+    ensures memory { fault.kind ≡ QueryKind.Memory → result ≡ StartFault.Memory }
+    ensures others { fault.kind ≢ QueryKind.Memory → result ≡ StartFault.Queries fault }
+{
+    match fault.kind {
+        QueryKind::Memory => StartFault::Memory,
+        _ => StartFault::Queries(fault),
+    }
+}
+
+/// The definitions of the queries.
+fn definitions(alloc: Global, compiled: Vec<Compiled>) -> Result<Vec<QueryDef>, Memory>
+    ensures { IfOk result (λ queries. queries.items ≡ map (λ each. each.def) compiled.items) }
+{
+    Ok(compiled.into_iter().map(|each| each.def).collect(alloc)?)
 }
 
 /// A reader of the lines of the stream of this name, which has read nothing yet.

@@ -3,17 +3,17 @@
 //! The contract for the layer above is that of [`run`]: its history is tied to the bytes of the
 //! stream by the stream's end, what it writes is the text of that history, or a prefix of it with
 //! its cause, or nothing with the reason why it didn't begin, and what went wrong is told on the
-//! errors. Each turn evaluates the query from scratch over the whole history.
+//! errors. Each turn evaluates the queries from scratch over the whole history.
 #![tactic(auto)]
 
 mod begin;
 mod block;
+mod error_lines;
 mod errors;
 mod evaluator;
 mod files;
 mod laws;
 mod limits;
-mod read_query;
 mod report;
 mod run_stream;
 pub mod status;
@@ -23,7 +23,7 @@ mod turns;
 
 pub use block::block_text;
 pub use laws::{every_history_has_one_text, fronts_hold_answers, stream_by_parts};
-pub use report::{Report, StartFault, StreamEnd, Which, Why};
+pub use report::{Report, SinkName, StartFault, StreamEnd, Which, Why};
 pub use top::run;
 
 #[cfg(test)]

@@ -1,4 +1,4 @@
-//! How much is taken: of a file, of a line, of a stream, of a history and of an expression.
+//! How much is taken: of a file, of a line, of a stream and of a history.
 
 /// A file that is read whole has fewer bytes than this.
 pub const FILE_LIMIT: u64 = 1 << 24;
@@ -11,6 +11,3 @@ pub const BYTE_LIMIT: u64 = 1 << 40;
 
 /// The most entries of a history.
 pub const HISTORY_LIMIT: usize = 1_000_000;
-
-/// The most labels of an expression.
-pub const LABEL_LIMIT: usize = 64;

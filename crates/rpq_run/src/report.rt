@@ -1,9 +1,10 @@
 //! What a run answers.
 
 ghost use Rattle.std.specs.Prelude.{◌≡◌};
-ghost use Rattle.rpq_run.specs.Statuses.{status_of_start, status_of_end};
+ghost use Rattle.rpq_run.specs.Statuses.{status_of_start, status_of_end, status_of_sink};
 
 use crate::status;
+use query_file::QueryFault;
 use rpq_base::Entry;
 use rpq_io::Files;
 use tuple_text::BadLine;
@@ -18,16 +19,35 @@ pub enum Which {
     Stream(u32),
 }
 
-/// Why a run didn't begin.
+/// One of the sinks on which a run writes what it finds.
 #[derive(Clone, Copy, Debug, PartialEq, Eq)]
+pub enum SinkName {
+    Events,
+}
+
+impl SinkName {
+    /// The status of a run in which nothing but a failed write of this sink arose.
+    pub fn status(&self) -> u8
+        ensures { result ≡ status_of_sink self.now }
+    {
+        match self {
+            SinkName::Events => status::WRITE,
+        }
+    }
+}
+
+/// Why a run didn't begin.
+#[derive(Debug, Drop)]
 pub enum StartFault {
+    /// The queries file has this fault.
+    Queries(QueryFault),
     /// The opening of this file failed.
     Open(Which),
     /// A read of this file failed.
     Read(Which),
     /// This file, which is read whole, has too many bytes.
     Long(Which),
-    /// The words, or the queries file, aren't of the form that is taken so far.
+    /// The words aren't taken so far.
     NotYet,
     /// Memory ran out.
     Memory,
@@ -39,6 +59,7 @@ impl StartFault {
         ensures { result ≡ status_of_start self.now }
     {
         match self {
+            StartFault::Queries(_) => status::QUERIES,
             StartFault::Open(_) | StartFault::Read(_) => status::READ,
             StartFault::Long(_) => status::LIMIT,
             StartFault::NotYet => status::NOT_YET,
@@ -98,12 +119,13 @@ impl StreamEnd {
 /// | Status | Where |
 /// |---|---|
 /// | 0 | the stream was read to its end |
+/// | 2 | the queries file has a fault |
 /// | 4 | a line of the stream is faulty or too long |
 /// | 5 | a file couldn't be opened or read |
 /// | 6 | a write of the events failed |
 /// | 7 | the history is full, or the stream or the queries file has too many bytes |
 /// | 8 | memory ran out |
-/// | 9 | the words or the queries file aren't of the form that is taken so far |
+/// | 9 | the words aren't taken so far |
 ///
 /// After the start it is the first of 8, 6, 7, 5 and 4 that arose, else 0. The numbers have names
 /// in [`status`](crate::status).
@@ -114,9 +136,9 @@ pub struct Report<F: Files> {
     pub start: Option<StartFault>,
     /// The entries that were taken, in order.
     pub history: Vec<Entry>,
-    /// How the stream ended. Where the run didn't begin, there is none.
+    /// How each stream ended, in order. Where the run didn't begin, there is none.
     pub streams: Vec<StreamEnd>,
-    /// The source of the stream, as the run leaves it; where a read of the queries file failed,
+    /// The source of each stream, as the run leaves it; where a read of the queries file failed,
     /// that file's source.
     pub sources: Vec<F::Source>,
 }

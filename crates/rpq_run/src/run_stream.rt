@@ -1,10 +1,11 @@
 //! The run of one stream.
 
-ghost use Rattle.std.specs.Prelude.{◌≡◌, ◌∷◌, [], true};
+ghost use Rattle.std.specs.Prelude.{◌≡◌, [], true};
 ghost use Rattle.rpq_io.specs.Counts.{CountsFault};
-ghost use Rattle.rpq_run.specs.Ends.{IsStreamOf, IsEndInTurn, IsEndAfterWrite};
+ghost use Rattle.rpq_run.specs.Ends.{IsEndInTurn, IsEndAfterWrite};
+ghost use Rattle.rpq_run.specs.History.{IsStreamOf};
 ghost use Rattle.rpq_run.specs.Run.{IsReady};
-ghost use Rattle.rpq_run.specs.Statuses.{status_after};
+ghost use Rattle.rpq_run.specs.Turns.{IsWithin, status_after};
 ghost use Rattle.rpq_run.specs.Text.{IsText};
 ghost use Rattle.rpq_run.specs.Written.{WritesByStatus};
 ghost use Rattle.std.specs.Prelude.{MatchBool};
@@ -30,21 +31,22 @@ pub struct StreamRun {
 /// Takes the tuples of a stream one turn after another, at most `limit` of them.
 pub fn run_stream<S: Source, K: Sink>(
     alloc: Global,
-    query: QueryDef,
+    queries: Vec<QueryDef>,
     reader: &mut LineReader<S>,
     limit: usize,
     events: &mut K,
 ) -> StreamRun
-    requires { IsReady S.left S.faults query reader.old }
-    ensures stream { IsStreamOf S.left S.faults limit (S.left reader.old.source)
+    requires { IsReady S.left S.faults queries.items reader.old }
+    ensures stream { IsStreamOf S.left S.faults 1 limit (S.left reader.old.source)
         reader.new.source result.history.items result.end }
+    ensures within { IsWithin limit result.history.items }
     ensures ends { MatchBool result.failed (IsEndAfterWrite result.end) (IsEndInTurn result.end) }
     ensures text { WritesByStatus (status_after result.failed result.end)
-        (IsText (query ∷ []) result.history.items) (K.written events.old) (K.written events.new) }
+        (IsText queries.items result.history.items) (K.written events.old) (K.written events.new) }
     ensures write { CountsFault (result.failed ≡ true) (K.faults events.old) (K.faults events.new) }
 {
     let mut history = Vec::new(alloc);
-    let mut evaluator = match Evaluator::new(alloc, query) {
+    let mut evaluator = match Evaluator::new(alloc, queries) {
         Ok(evaluator) => evaluator,
         Err(Memory) => {
             let end = StreamEnd::Memory;

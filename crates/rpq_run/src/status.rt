@@ -3,6 +3,9 @@
 /// The stream was read to its end.
 pub const DONE: u8 = 0;
 
+/// The queries file has a fault.
+pub const QUERIES: u8 = 2;
+
 /// A line of the stream is faulty or too long.
 pub const LINE: u8 = 4;
 
@@ -18,5 +21,5 @@ pub const LIMIT: u8 = 7;
 /// Memory ran out.
 pub const MEMORY: u8 = 8;
 
-/// The words or the queries file aren't of the form that is taken so far.
+/// The words aren't taken so far.
 pub const NOT_YET: u8 = 9;

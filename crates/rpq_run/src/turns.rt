@@ -1,9 +1,7 @@
-//! The turns of a stream: each takes one tuple into the history, evaluates the query and writes the
-//! entry's block.
+//! The turns of a stream: each takes one tuple into the history, evaluates the queries and writes
+//! the entry's block.
 
-ghost use Rattle.std.specs.Prelude.{◌≡◌, ◌≢◌, ◌<◌, ◌≤◌, ◌∷◌, ◌++◌, [], true, ℕ, List, length, All, Option, OnOk, OnErr, IfErr, IsErrAnd, MatchBool, IfSome};
-ghost use Rattle.std.specs.List.Sorted.{IsStrictlySortedBy};
-ghost use Rattle.rpq_base.specs.Order.{pair_cmp};
+ghost use Rattle.std.specs.Prelude.{◌≡◌, ◌≢◌, ◌<◌, ◌≤◌, true, ℕ, List, length, All, Option, OnOk, OnErr, IfErr, IsErrAnd, MatchBool, IfSome};
 ghost use Rattle.rpq_base.specs.Plain.{IsPlain};
 ghost use Rattle.rpq_base.specs.declared.data.Entry.{Entry as EntryTaken};
 ghost use Rattle.rpq_base.specs.declared.data.Tuple.{Tuple as TupleRead};
@@ -13,9 +11,8 @@ ghost use Rattle.rpq_run.specs.declared.report.Why.{Why as WhyClosed};
 ghost use Rattle.rpq_run.specs.Ends.{IsEndInTurn, IsEndAfterWrite};
 ghost use Rattle.rpq_run.specs.History.{AreTuplesOfEnd};
 ghost use Rattle.rpq_run.specs.Progress.{IsStreamReader, HasRead};
-ghost use Rattle.rpq_run.specs.Statuses.{status_after};
 ghost use Rattle.rpq_run.specs.Text.{IsText};
-ghost use Rattle.rpq_run.specs.Turns.{StandsFor, TakesOne, EndsSo, Emits, Continues};
+ghost use Rattle.rpq_run.specs.Turns.{IsEvaluator, StandsFor, IsWithin, TakesOne, EndsSo, Emits, Continues, status_after};
 ghost use Rattle.rpq_run.specs.Written.{Grew, GrewByProperPrefix, WritesByStatus};
 
 use crate::block::block_text;
@@ -67,13 +64,13 @@ pub fn turn<S: Source, K: Sink>(
 ) -> Result<(), StreamStop>
     requires sound { IsStreamReader S.left reader.old }
     requires stands { StandsFor evaluator.old history.old.items }
-    requires arbitrary { evaluator.old.query.mode ≡ Arbitrary }
-    requires plain { All IsPlain history.old.items }
-    requires few { length history.old.items ≤ limit }
+    requires arbitrary { All (λ query. query.mode ≡ Arbitrary) evaluator.old.queries.items }
+    requires within { IsWithin limit history.old.items }
+    ensures within { IsWithin limit history.new.items }
 
     // One tuple was taken and written.
     ensures taken { OnOk result
-        (TakesOne S.left reader.old reader.new limit history.old.items history.new.items) }
+        (TakesOne S.left reader.old reader.new history.old.items history.new.items) }
     ensures emitted { OnOk result (Emits evaluator.old evaluator.new history.old.items
         history.new.items (K.written events.old) (K.written events.new)) }
 
@@ -83,9 +80,9 @@ pub fn turn<S: Source, K: Sink>(
     ensures ends { IfErr result (λ stop. MatchBool stop.failed
         (IsEndAfterWrite stop.end) (IsEndInTurn stop.end)) }
     ensures text { IfErr result (λ stop. (start : Option (List ℕ))
-        → Grew (IsText (evaluator.old.query ∷ []) history.old.items) start (K.written events.old)
+        → Grew (IsText evaluator.old.queries.items history.old.items) start (K.written events.old)
         → WritesByStatus (status_after stop.failed stop.end)
-        (IsText (evaluator.old.query ∷ []) history.new.items) start (K.written events.new)) }
+        (IsText evaluator.old.queries.items history.new.items) start (K.written events.new)) }
 
     ensures read { CountsFault (IsErrAnd result (λ stop. stop.end ≡ StreamEnd.Read))
         (S.faults reader.old.source) (S.faults reader.new.source) }
@@ -118,9 +115,10 @@ fn take<S: Source>(
     limit: usize,
 ) -> Result<(), StreamEnd>
     requires sound { IsStreamReader S.left reader.old }
-    requires few { length history.old.items ≤ limit }
+    requires within { IsWithin limit history.old.items }
+    ensures within { IsWithin limit history.new.items }
     ensures ok { OnOk result
-        (TakesOne S.left reader.old reader.new limit history.old.items history.new.items) }
+        (TakesOne S.left reader.old reader.new history.old.items history.new.items) }
     ensures err { IfErr result (λ end.
         EndsSo S.left reader.old reader.new limit history.old.items history.new.items end) }
     ensures kept { OnErr result (history.new.items ≡ history.old.items) }
@@ -142,31 +140,37 @@ fn take<S: Source>(
     Ok(())
 }
 
-/// Evaluates the query over the history with its last entry, and writes that entry's block.
+/// Evaluates the queries over the history with its last entry, and writes that entry's block.
 fn emit<K: Sink>(
     alloc: Global,
     evaluator: &mut Evaluator,
     history: &[Entry],
     events: &mut K,
 ) -> Result<(), EmitFault>
-    requires sorted { IsStrictlySortedBy pair_cmp evaluator.old.answers.items }
+    requires sound { IsEvaluator evaluator.old }
     requires some { 0 < length history.now }
     requires plain { All IsPlain history.now }
     ensures stands { OnOk result (StandsFor evaluator.new history.now) }
     ensures ok { OnOk result (Continues evaluator.old history.now (K.written events.old) (λ start.
-        Grew (IsText (evaluator.old.query ∷ []) history.now) start (K.written events.new))) }
+        Grew (IsText evaluator.old.queries.items history.now) start (K.written events.new))) }
     ensures write { result ≡ Err EmitFault.Write
         → Continues evaluator.old history.now (K.written events.old) (λ start.
-        GrewByProperPrefix (IsText (evaluator.old.query ∷ []) history.now) start
+        GrewByProperPrefix (IsText evaluator.old.queries.items history.now) start
         (K.written events.new)) }
     ensures memory { result ≡ Err EmitFault.Memory → K.written events.new ≡ K.written events.old }
     ensures counted { CountsFault (result ≡ Err EmitFault.Write)
         (K.faults events.old) (K.faults events.new) }
-    ensures query { evaluator.new.query ≡ evaluator.old.query }
+    ensures queries { evaluator.new.queries.items ≡ evaluator.old.queries.items }
 {
     let found = evaluator.feed(alloc, history)?;
     let entry = &history[history.len() - 1];
-    let block = block_text(alloc, history.len() as u64, entry, &found, &evaluator.query)?;
+    let block = block_text(
+        alloc,
+        history.len() as u64,
+        entry,
+        &found,
+        &evaluator.queries,
+    )?;
     match put_all(events, &block) {
         Ok(()) => Ok(()),
         Err(Write) => Err(EmitFault::Write),

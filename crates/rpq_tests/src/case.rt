@@ -2,7 +2,7 @@
 
 use rpq_io::{MemoryFiles, MemorySink};
 use rpq_run::run;
-use std::alloc::Global;
+use std::alloc::{AllocError, Global};
 use std::test::Fail;
 
 /// A query for two labels in sequence, with a wide window.
@@ -69,6 +69,23 @@ pub fn all_hold<R>(rt: &R, alloc: Global, cases: &[Case]) -> Result<bool, Fail> 
     Ok(true)
 }
 
+/// Whether the runs of all the cases answer what they are to, in whatever pieces the files are
+/// read.
+pub fn hold_in_pieces<R>(rt: &R, alloc: Global, cases: &[Case]) -> Result<bool, Fail> {
+    for case in cases {
+        for read_piece in [4096usize, 1, 2, 3, 7] {
+            let case = Case {
+                read_piece,
+                ..*case
+            };
+            if !holds(rt, alloc, &case)? {
+                return Ok(false);
+            }
+        }
+    }
+    Ok(true)
+}
+
 /// Whether the run of the case answers what it is to.
 pub fn holds<R>(rt: &R, alloc: Global, case: &Case) -> Result<bool, Fail> {
     let words = words_of(alloc, case.words)?;
@@ -105,4 +122,19 @@ fn files_of(alloc: Global, case: &Case) -> Result<MemoryFiles, Fail> {
     let stream = case.stream.as_bytes();
     files.add("s", stream, piece, case.failing_stream_reads)?;
     Ok(files)
+}
+
+/// These texts, with so many copies of the one in the middle.
+pub fn text_with(
+    alloc: Global,
+    before: &str,
+    middle: &str,
+    count: usize,
+    after: &str,
+) -> Result<String, AllocError> {
+    let copies = middle.repeat(alloc, count)?;
+    let mut text = String::from_str(alloc, before)?;
+    text.push_str(&copies)?;
+    text.push_str(after)?;
+    Ok(text)
 }

@@ -52,8 +52,8 @@ fn faults_of_the_files(rt: HostRuntime) -> Result<(), Fail> {
         Case {
             queries: "x\n",
             failing_openings: &[2],
-            status: 9,
-            errors: "rpq: not yet\n",
+            status: 2,
+            errors: "rpq: queries line 1: shape\n",
             ..failed
         },
     ];
@@ -100,12 +100,20 @@ fn faults_of_the_sinks(rt: HostRuntime) -> Result<(), Fail> {
             write_piece: 1,
             ..slow
         },
-        // A fault of the errors changes no status.
+        // A fault of the errors changes no status, and a line goes out in one write.
         Case {
             stream: "1 x\n",
             failing_error_writes: &[1],
             status: 4,
             events: "",
+            ..path()
+        },
+        Case {
+            stream: "1 x\n",
+            failing_error_writes: &[2],
+            status: 4,
+            events: "",
+            errors: "rpq: stream 1 line 1: fields 2\n",
             ..path()
         },
     ];

@@ -14,4 +14,6 @@ mod edge;
 #[cfg(test)]
 mod faults;
 #[cfg(test)]
+mod queries;
+#[cfg(test)]
 mod streams;

@@ -1,7 +1,7 @@
 //! Worked streams: each in any pieces, and cut anywhere.
 
-use crate::case::{Case, SHORT_WINDOW, holds, path};
-use std::alloc::{AllocError, Global};
+use crate::case::{Case, SHORT_WINDOW, hold_in_pieces, holds, path, text_with};
+use std::alloc::Global;
 use std::test::Fail;
 
 /// The case of a stream for the query whose window soon passes.
@@ -21,23 +21,6 @@ fn sequence<'a>(stream: &'a str, events: &'a str) -> Case<'a> {
         events,
         ..path()
     }
-}
-
-/// Whether the runs of all the cases answer what they are to, in whatever pieces the files are
-/// read.
-fn hold_in_pieces<R>(rt: &R, alloc: Global, cases: &[Case]) -> Result<bool, Fail> {
-    for case in cases {
-        for read_piece in [4096usize, 1, 2, 3, 7] {
-            let case = Case {
-                read_piece,
-                ..*case
-            };
-            if !holds(rt, alloc, &case)? {
-                return Ok(false);
-            }
-        }
-    }
-    Ok(true)
 }
 
 #[test]
@@ -138,21 +121,6 @@ fn faulty_lines(rt: HostRuntime) -> Result<(), Fail> {
     Ok(())
 }
 
-/// These texts, with so many copies of the one in the middle.
-fn text_with(
-    alloc: Global,
-    before: &str,
-    middle: &str,
-    count: usize,
-    after: &str,
-) -> Result<String, AllocError> {
-    let copies = middle.repeat(alloc, count)?;
-    let mut text = String::from_str(alloc, before)?;
-    text.push_str(&copies)?;
-    text.push_str(after)?;
-    Ok(text)
-}
-
 /// Whether a stream of one line, with so many copies of the text in its middle, ends with this
 /// status and tells this.
 fn line_ends<R>(
@@ -179,33 +147,5 @@ fn limits_of_a_line(rt: HostRuntime) -> Result<(), Fail> {
     assert!(rt; line_ends(&rt, alloc, ("#", "n", 1024, "\n"), 4, long)?);
     let name = "rpq: stream 1 line 1: name 2\n";
     assert!(rt; line_ends(&rt, alloc, ("1 ", "n", 256, " a y\n"), 4, name)?);
-    Ok(())
-}
-
-/// Whether a query of one label more than so many, over no tuple, ends with this status and tells
-/// this.
-fn labels_end<R>(
-    rt: &R,
-    alloc: Global,
-    more: usize,
-    status: u8,
-    errors: &str,
-) -> Result<bool, Fail> {
-    let before = "query q window 100 slide 10 arbitrary: ";
-    let queries = text_with(alloc, before, "a/", more, "a\n")?;
-    let case = Case {
-        queries: queries.as_str(),
-        status,
-        errors,
-        ..sequence("", "")
-    };
-    holds(rt, alloc, &case)
-}
-
-#[test]
-fn limits_of_a_query(rt: HostRuntime) -> Result<(), Fail> {
-    let alloc = rt.alloc();
-    assert!(rt; labels_end(&rt, alloc, 63, 0, "")?);
-    assert!(rt; labels_end(&rt, alloc, 64, 9, "rpq: not yet\n")?);
     Ok(())
 }

@@ -1,17 +1,18 @@
-use Rattle.std.proofs.Common.{◌≡◌, List, [], ◌∷◌, length, refl, ap, sym, subst, ◌∙◌, arith}
+use Rattle.std.proofs.Common.{◌≡◌, List, [], refl, sym, subst, ◌∙◌}
 use Rattle.std.specs.Prelude.{IfSome}
-use Rattle.std.proofs.lemmas.List.Elements.{All-nil, All-same}
-use Rattle.rpq_base.specs.Plain.{IsPlain}
 use Rattle.rpq_base.specs.declared.data.Entry.{Entry}
 use Rattle.rpq_io.specs.Counts.{CountsFault}
 use Rattle.rpq_model.specs.Query.{Query}
-use Rattle.rpq_run.specs.declared.report.StreamEnd.TheVariants.{Read}
-use Rattle.rpq_run.specs.History.{IsHistoryAt}
+use Rattle.rpq_run.specs.declared.report.StreamEnd.TheVariants.{Read, Memory}
+use Rattle.rpq_run.specs.Limits.{byte_limit}
+use Rattle.rpq_io.proofs.Counting.{counts_none}
+use Rattle.rpq_run.specs.History.{own_tuples, AreTuplesOfEnd}
 use Rattle.rpq_run.specs.Text.{IsText}
-use Rattle.rpq_run.specs.Turns.{StandsFor}
-use Rattle.rpq_run.specs.Written.{Grew}
-use Rattle.rpq_run.proofs.Feeding.{plain_more}
-use Rattle.rpq_run.proofs.Grows.{begins}
+use Rattle.rpq_run.specs.Turns.{StandsFor, IsWithin}
+use Rattle.rpq_run.specs.Progress.{IsInStep}
+use Rattle.rpq_run.specs.Written.{Grew, WritesByStatus}
+use Rattle.rpq_run.proofs.Feeding.{within_none, ended_for_memory}
+use Rattle.rpq_run.proofs.Grows.{begins, whole_is_prefix, by_prefix}
 use Rattle.rpq_run.proofs.Reading.{new_reader}
 use Rattle.rpq_run.proofs.run_stream.run_stream.Goals as goal
 
@@ -19,19 +20,14 @@ pub loop-end-init : goal.loop-end-init
 loop-end-init g c =
     let none : c.new-history.result.items ≡ [] = c.new-history.ensures.items in
     let start = g.K.Sink.written c.args.events.now in
-    let queries = c.args.query ∷ [] in
+    let queries = c.args.queries.items in
     record {
       sound = c.requires.new_reader.sound;
-      in_step = record {
-        tuples = [];
-        holds = none;
-        read = new_reader g.S.Source.left
-            c.args.reader.now c.requires.new_reader.fresh;
-      };
-      query = c.in-Ok.ensures.query;
+      in_step = subst (λ (h : List Entry). IsInStep g.S.Source.left (g.S.Source.left c.args.reader.now.source)
+          h c.args.reader.now) (sym none) (new_reader g.S.Source.left c.args.reader.now c.requires.new_reader.fresh);
+      queries = c.in-Ok.ensures.queries;
       stands = subst (λ (h : List Entry). StandsFor c.in-Ok.evaluator h) (sym none) c.in-Ok.ensures.stands;
-      plain = All-same IsPlain c.new-history.result.items [] none (All-nil IsPlain);
-      few = omega (arith, ap length none);
+      within = subst (λ (h : List Entry). IsWithin c.args.limit h) (sym none) (within_none c.args.limit);
       written = subst (λ (h : List Entry). Grew (IsText queries h) start start) (sym none) (begins queries start);
       read_quietly = refl;
       written_quietly = refl;
@@ -49,18 +45,43 @@ loop-end-preserved g c =
     record {
       sound = taken.sound;
       in_step = taken.in_step (g.S.Source.left c.args.reader.now.source) so_far.in_step;
-      query = emitted.query ∙ so_far.query;
+      queries = ◌∙◌ {A = List Query} emitted.queries so_far.queries;
       stands = emitted.stands;
-      plain = plain_more before after taken.entry so_far.plain taken.more taken.plain;
-      few = taken.few;
-      written = subst (λ (q : Query). Grew (IsText (q ∷ []) after) start
-          (g.K.Sink.written c.turn-turned.new.events)) so_far.query
-          (emitted.text start (subst (λ (q : Query). Grew (IsText (q ∷ []) before) start
-          (g.K.Sink.written c.loop-end.events)) (sym so_far.query) so_far.written));
+      within = c.in_default.ensures.within;
+      written = subst (λ (qs : List Query). Grew (IsText qs after) start
+          (g.K.Sink.written c.turn-turned.new.events)) so_far.queries
+          (emitted.text start (subst (λ (qs : List Query). Grew (IsText qs before) start
+          (g.K.Sink.written c.loop-end.events)) (sym so_far.queries) so_far.written));
       read_quietly = c.in_default.ensures.read.quiet (λ no. no) ∙ so_far.read_quietly;
       written_quietly = c.in_default.ensures.write.quiet (λ no. no) ∙ so_far.written_quietly;
       limits = taken.limits ∙ so_far.limits;
     }
+
+pub returns-in-Err-clause-stream : goal.returns-in-Err-clause-stream
+returns-in-Err-clause-stream g c =
+    let left = g.S.Source.left in
+    let none : c.new-history.result.items ≡ [] = c.new-history.ensures.items in
+    let reader = c.args.reader.now in
+    let new = c.requires.new_reader in
+    let file = left reader.source in
+    let start : IsInStep left file [] reader = new_reader left reader new.fresh in
+    let tied = ended_for_memory left file [] reader start new.sound in
+    record {
+      tied = subst (λ (h : List Entry).
+          IfSome file (λ text. AreTuplesOfEnd byte_limit text (left reader.source) (own_tuples 1 h) Memory)) (sym none)
+          (subst (λ n. IfSome file (λ text. AreTuplesOfEnd n text (left reader.source) [] Memory)) new.limit tied);
+      full = λ is. absurd cc;
+      read = counts_none (Memory ≡ Read) 0 (g.S.Source.faults reader.source) (λ e. cc e) new.counted;
+    }
+
+pub returns-in-Err-clause-text : goal.returns-in-Err-clause-text
+returns-in-Err-clause-text g c =
+    let none : c.new-history.result.items ≡ [] = c.new-history.ensures.items in
+    let start = g.K.Sink.written c.args.events.now in
+    let queries = c.args.queries.items in
+    subst (λ (h : List Entry). WritesByStatus 8 (IsText queries h) start start) (sym none)
+    (by_prefix (IsText queries []) start start 8 refl
+    (whole_is_prefix (IsText queries []) start start (begins queries start)))
 
 pub returns-in-Err-turned-clause-stream : goal.returns-in-Err-turned-clause-stream
 returns-in-Err-turned-clause-stream g c =
@@ -73,7 +94,7 @@ returns-in-Err-turned-clause-stream g c =
     let new = c.turn-turned.new.reader in
     let after : List Entry = c.turn-turned.new.history.items in
     record {
-      tied = subst (λ n. IfSome file (λ text. IsHistoryAt n text (left new.source) after stop.end))
+      tied = subst (λ n. IfSome file (λ text. AreTuplesOfEnd n text (left new.source) (own_tuples 1 after) stop.end))
           (ended.limits ∙ (so_far.limits ∙ c.requires.new_reader.limit)) (ended.tied file so_far.in_step);
       full = ended.full;
       read = subst (λ n. CountsFault (stop.end ≡ Read) n (faults new.source)) (so_far.read_quietly

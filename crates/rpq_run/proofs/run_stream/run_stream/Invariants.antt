@@ -1,9 +1,7 @@
-use Rattle.std.proofs.Common.{◌≡◌, ◌≤◌, ◌-◌, [], ◌∷◌, length}
-use Rattle.std.specs.List.{All}
-use Rattle.rpq_base.specs.Plain.{IsPlain}
+use Rattle.std.proofs.Common.{◌≡◌, ◌-◌}
 use Rattle.rpq_run.specs.Progress.{IsStreamReader, IsInStep, passed}
 use Rattle.rpq_run.specs.Text.{IsText}
-use Rattle.rpq_run.specs.Turns.{StandsFor}
+use Rattle.rpq_run.specs.Turns.{StandsFor, IsWithin}
 use Rattle.rpq_run.specs.Written.{Grew}
 use Rattle.rpq_run.proofs.run_stream.run_stream.Given as goal
 
@@ -12,11 +10,10 @@ abbrev pub invariant-loop-end : goal.invariant-loop-end
 invariant-loop-end g l = record {
   sound : IsStreamReader g.S.Source.left l.reader;
   in_step : IsInStep g.S.Source.left (g.S.Source.left l.fn.reader.source) l.history.items l.reader;
-  query : l.evaluator.query ≡ l.fn.query;
+  queries : l.evaluator.queries.items ≡ l.fn.queries.items;
   stands : StandsFor l.evaluator l.history.items;
-  plain : All IsPlain l.history.items;
-  few : length l.history.items ≤ l.limit;
-  written : Grew (IsText (l.fn.query ∷ []) l.history.items) (g.K.Sink.written l.fn.events)
+  within : IsWithin l.limit l.history.items;
+  written : Grew (IsText l.fn.queries.items l.history.items) (g.K.Sink.written l.fn.events)
       (g.K.Sink.written l.events);
   read_quietly : g.S.Source.faults l.reader.source ≡ g.S.Source.faults l.fn.reader.source;
   written_quietly : g.K.Sink.faults l.events ≡ g.K.Sink.faults l.fn.events;

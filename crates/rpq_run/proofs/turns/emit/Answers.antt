@@ -1,4 +1,4 @@
-use Rattle.std.proofs.Common.{◌≡◌, List, [], ◌∷◌, length, ap, subst, ◌∙◌}
+use Rattle.std.proofs.Common.{◌≡◌, List, length, ap, subst, ◌∙◌}
 use Rattle.std.specs.Prelude.{ℕ}
 use Rattle.std.specs.Io.KnownBytes.{append_known}
 use Rattle.rpq_io.specs.Writes.{WritesProperPrefix}
@@ -9,14 +9,14 @@ use Rattle.rpq_run.proofs.turns.emit.Goals as goal
 
 pub returns-in-Ok-clause-ok : goal.returns-in-Ok-clause-ok
 returns-in-Ok-clause-ok g c = λ before entry start is stands so_far.
-    let queries = c.args.evaluator.now.query ∷ [] in
+    let queries = c.args.evaluator.now.queries.items in
     let history = c.args.history.now in
     let last = c.index-history-history.result in
     let found = c.in_ok-found.found.items in
     let written = g.K.Sink.written c.args.events.now in
     let next = block queries (length history) last found in
-    let text : c.deref-2.result.now ≡ next = cc
-    (c.deref-2.ensures.value, c.in_ok-block.ensures, c.feed.ensures.query, c.deref.ensures.value) in
+    let text : c.deref-3.result.now ≡ next = cc
+    (c.deref-3.ensures.value, c.in_ok-block.ensures, c.feed.ensures.queries, c.deref.ensures.value, c.deref-2.ensures.value) in
     grew_on (IsText queries before) (IsText queries history) next start written (g.K.Sink.written c.put_all.new.sink)
     (next_text queries history before entry last found is c.index-history-history.is
     (c.in_ok-found.ensures.events before stands))
@@ -24,14 +24,14 @@ returns-in-Ok-clause-ok g c = λ before entry start is stands so_far.
 
 pub returns-clause-write : goal.returns-clause-write
 returns-clause-write g c = λ _ before entry start is stands so_far.
-    let queries = c.args.evaluator.now.query ∷ [] in
+    let queries = c.args.evaluator.now.queries.items in
     let history = c.args.history.now in
     let last = c.index-history-history.result in
     let found = c.in_ok-found.found.items in
     let written = g.K.Sink.written c.args.events.now in
     let next = block queries (length history) last found in
-    let text : c.deref-2.result.now ≡ next = cc
-    (c.deref-2.ensures.value, c.in_ok-block.ensures, c.feed.ensures.query, c.deref.ensures.value) in
+    let text : c.deref-3.result.now ≡ next = cc
+    (c.deref-3.ensures.value, c.in_ok-block.ensures, c.feed.ensures.queries, c.deref.ensures.value, c.deref-2.ensures.value) in
     grew_on_by_proper (IsText queries before) (IsText queries history) next start written
     (g.K.Sink.written c.put_all.new.sink)
     (next_text queries history before entry last found is c.index-history-history.is

@@ -3,18 +3,18 @@ use Rattle.rpq_base.specs.declared.data.Entry.{Entry}
 use Rattle.rpq_run.specs.declared.report.StreamEnd.TheVariants.{Memory}
 use Rattle.rpq_run.specs.declared.turns.EmitFault.{EmitFault}
 use Rattle.rpq_run.specs.Ends.{IsEndAfterWrite}
-use Rattle.rpq_run.specs.Statuses.{status_after}
+use Rattle.rpq_run.specs.History.{own_tuples}
 use Rattle.rpq_run.specs.Text.{IsText}
-use Rattle.rpq_run.specs.Turns.{StandsFor}
+use Rattle.rpq_run.specs.Turns.{StandsFor, status_after}
 use Rattle.rpq_run.specs.Written.{Grew, GrewByPrefix, GrewByProperPrefix}
-use Rattle.rpq_run.proofs.Feeding.{ended, ended_for_memory, all_arbitrary}
+use Rattle.rpq_run.proofs.Feeding.{ended_for_memory}
 use Rattle.rpq_run.proofs.Grows.{by_whole, by_prefix, by_proper, prefix_of_longer}
 use Rattle.rpq_run.proofs.Statuses.{no_write, write_or_memory}
 use Rattle.rpq_run.proofs.turns.turn.Goals as goal
 
 pub returns-in-Err-clause-text : goal.returns-in-Err-clause-text
 returns-in-Err-clause-text g c = λ start so_far.
-    let queries = c.args.evaluator.now.query ∷ [] in
+    let queries = c.args.evaluator.now.queries.items in
     let written = g.K.Sink.written c.args.events.now in
     let end = c.in-Err.end in
     by_whole (IsText queries c.take.new.history.items) start written (status_after false end)
@@ -26,9 +26,9 @@ pub returns-in-Ok-clause-emitted : goal.returns-in-Ok-clause-emitted
 returns-in-Ok-clause-emitted g c =
     let one = c.in_default.ensures.ok in
     let same : c.as_slice.result.now ≡ c.take.new.history.items = c.as_slice.ensures.value in
-    let queries = c.args.evaluator.now.query ∷ [] in
+    let queries = c.args.evaluator.now.queries.items in
     record {
-      query = c.emit.ensures.query;
+      queries = c.emit.ensures.queries;
       stands = subst (λ (h : List Entry). StandsFor c.emit.new.evaluator h) same c.in-Ok.ensures.stands;
       text = λ start so_far.
           subst (λ (h : List Entry). Grew (IsText queries h) start (g.K.Sink.written c.emit.new.events)) same
@@ -48,12 +48,11 @@ returns-in-Err-Memory-clause-ended g c =
 pub returns-in-Err-Memory-clause-text : goal.returns-in-Err-Memory-clause-text
 returns-in-Err-Memory-clause-text g c = λ start so_far.
     let one = c.in_default.ensures.ok in
-    let query = c.args.evaluator.now.query in
-    let queries = query ∷ [] in
+    let queries = c.args.evaluator.now.queries.items in
     let after = c.take.new.history.items in
     let fault = c.in-Err-Memory.is ∙ ap (λ (f : EmitFault). Err f) c.in-Err-Memory.field-0-is in
     let part = prefix_of_longer c.histories_have_answers.ensures queries
-    (all_arbitrary query c.requires.arbitrary) c.args.history.now.items (one.entry ∷ []) start
+    c.requires.arbitrary c.args.history.now.items (one.entry ∷ []) start
     (g.K.Sink.written c.args.events.now) so_far in
     by_prefix (IsText queries after) start (g.K.Sink.written c.emit.new.events) (status_after false Memory) refl
     (subst (λ w. GrewByPrefix (IsText queries after) start w) (sym (c.emit.ensures.memory fault))
@@ -63,14 +62,9 @@ returns-in-Err-Memory-clause-text g c = λ start so_far.
 pub returns-in-Err-Write-clause-ended : goal.returns-in-Err-Write-clause-ended
 returns-in-Err-Write-clause-ended g c =
     let one = c.in_default.ensures.ok in
-    let left = g.S.Source.left in
-    let new = c.end_after_write-end.new.reader in
     record {
-      tied = λ file step.
-          let next = one.in_step file step in
-          ended left file c.take.new.history.items c.take.new.reader next new.byte_limit
-          (left new.source) c.end_after_write-end.result
-          (c.end_after_write-end.ensures.tuples file next.tuples next.read);
+      tied = λ file step. c.end_after_write-end.ensures.tuples file
+          (own_tuples 1 c.take.new.history.items) (one.in_step file step);
       full = λ is. absurd (subst IsEndAfterWrite is c.end_after_write-end.ensures.ends);
       limits = c.end_after_write-end.ensures.limits ∙ one.limits;
     }
@@ -78,7 +72,7 @@ returns-in-Err-Write-clause-ended g c =
 pub returns-in-Err-Write-clause-text : goal.returns-in-Err-Write-clause-text
 returns-in-Err-Write-clause-text g c = λ start so_far.
     let one = c.in_default.ensures.ok in
-    let queries = c.args.evaluator.now.query ∷ [] in
+    let queries = c.args.evaluator.now.queries.items in
     let end = c.end_after_write-end.result in
     let fault = c.in-Err-Write.is ∙ ap (λ (f : EmitFault). Err f) c.in-Err-Write.field-0-is in
     let same : c.as_slice.result.now ≡ c.take.new.history.items = c.as_slice.ensures.value in

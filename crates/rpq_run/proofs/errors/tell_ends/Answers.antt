@@ -1,0 +1,42 @@
+use Rattle.std.proofs.Common.{◌≡◌, ℕ, ◌+◌, true, List, ◌++◌, Err, drop, get_or, refl, ap, sym, ◌∙◌, rules, arith}
+use Rattle.std.specs.Io.KnownBytes.{append_known}
+use Rattle.std.proofs.lemmas.List.{get_or_default}
+use Rattle.rpq_run.specs.declared.report.StreamEnd.TheVariants.{Whole}
+use Rattle.rpq_run.specs.ErrorLines.{end_line, end_lines}
+use Rattle.rpq_run.proofs.ErrorTexts.{tells_in_turn, ends_from, ends_more}
+use Rattle.rpq_run.proofs.errors.tell_ends.Goals as goal
+
+pub returns-in_err-put_line : goal.returns-in_err-put_line
+returns-in_err-put_line g c =
+    let ends = c.args.ends.now in
+    let place = c.loop-place.place in
+    let told = c.loop-place.invariant.written in
+    let end = get_or ends place Whole in
+    let line = c.end_line.result.bytes in
+    let more = end_lines ((place + 1) + 1) (drop (place + 1) ends) in
+    let number : 1 + place ≡ place + 1 = omega arith in
+    let line_is : line ≡ end_line (place + 1) end = c.end_line.ensures ∙ ap (λ n. end_line n end) number in
+    let all : told.done ++ (line ++ more) ≡ end_lines 1 ends =
+    ap (λ (l : List ℕ). told.done ++ (l ++ more)) line_is
+    ∙ (ap (λ (t : List ℕ). told.done ++ t) (sym (ends_from ends place end c.loop-place-test.true
+    (get_or_default ends place Whole end c.loop-place-test.true))) ∙ told.cut) in
+    tells_in_turn g.S.Sink.written g.S.Sink.faults told.done line more (end_lines 1 ends) c.args.errors.now
+    c.loop-place.errors c.put_line.new.errors (Err c.in_err-put_line.field-0.0) c.from_residual.result
+    all told.written c.loop-place.invariant.quiet refl (search rules) c.in_err-put_line.ensures
+
+pub loop-place-preserved : goal.loop-place-preserved
+loop-place-preserved g c =
+    let ends = c.args.ends.now in
+    let place = c.loop-place.place in
+    let end = get_or ends place Whole in
+    let between = g.S.Sink.written c.loop-place.errors in
+    let number : 1 + place ≡ place + 1 = omega arith in
+    let line_is : c.end_line.result.bytes ≡ end_line (place + 1) end =
+    c.end_line.ensures ∙ ap (λ n. end_line n end) number in
+    record {
+      written = ends_more ends place end (g.S.Sink.written c.args.errors.now) between
+          (g.S.Sink.written c.put_line.new.errors) c.loop-place-test.true
+          (get_or_default ends place Whole end c.loop-place-test.true) c.loop-place.invariant.written
+          (c.in_ok-put_line.ensures.whole (refl {a = true}) ∙ ap (λ (l : List ℕ). append_known between l) line_is);
+      quiet = c.in_ok-put_line.ensures.counted.quiet (λ err. cc err) ∙ c.loop-place.invariant.quiet;
+    }
