@@ -45,7 +45,7 @@ fn put_labels(out: &mut Output, labels: &[Label]) -> anyhow::Result<()> {
 }
 
 /// The deterministic automaton of the expression.
-fn automaton(alloc: Global, expr: &Expr) -> Result<Dfa, BuildFault>
+pub fn automaton(alloc: Global, expr: &Expr) -> Result<Dfa, BuildFault>
     requires { nodes (expression expr.now) < 2 ^ 32 }
 {
     subset(alloc, &positions(alloc, expr)?)

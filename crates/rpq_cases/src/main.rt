@@ -15,6 +15,10 @@
 //! - `positions EXPR`: its position automaton, or the fault.
 //! - `automaton EXPR`: the deterministic automaton: its labels, its rows with `-` for no step,
 //!   and `+` for each final state; or the fault.
+//! - `command WORDS`: the settings of a command line, the words with `;` between them: workers,
+//!   history, `+` for a check, tuples to generate, asks, replies, queries, streams; or the fault.
+//! - `contained EXPR`: `yes` where its language has the property of containment, else `no` and the
+//!   least three words that show it; or the fault.
 //! - `file TEXT`: the queries of a queries file, `|` behind each: its name, the size and the slide of
 //!   its window, its mode and its automaton; or the first fault with the number of its line.
 //! - `words EXPR WORDS`: for each word `+` where the matcher takes it, else `-`, and then the
@@ -43,6 +47,8 @@
 #![tactic(auto)]
 
 mod automata;
+mod commands;
+mod containment;
 mod expressions;
 mod fields;
 mod files;
@@ -66,6 +72,8 @@ fn answer(alloc: Global, out: &mut Output, request: Request, fields: Fields) -> 
         Request::Words => automata::answer_words(alloc, out, fields),
         Request::Positions => automata::answer_positions(alloc, out, fields),
         Request::Automaton => automata::answer_automaton(alloc, out, fields),
+        Request::Command => commands::answer_command(alloc, out, fields),
+        Request::Contained => containment::answer_contained(alloc, out, fields),
         Request::File => files::answer_file(alloc, out, fields),
         Request::Word => expressions::answer_word(alloc, out, fields),
         Request::Answers => queries::answer_answers(alloc, out, fields),

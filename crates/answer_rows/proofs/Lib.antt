@@ -1,0 +1,8 @@
+pub mod Changed
+pub mod Edited
+pub mod Ends
+pub mod Held
+pub mod Listed
+pub mod Places
+pub mod Sources
+mod Told

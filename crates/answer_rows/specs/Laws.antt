@@ -1,0 +1,28 @@
+-- What the definitions are meant to say, as laws.
+use Rattle.std.specs.Prelude.{◌≡◌, ℕ, ◌↔◌, ◌⊎◌, true, false, List, Contains, None, IsSome}
+use Rattle.rpq_base.specs.declared.data.Pair.{Pair}
+use Rattle.rpq_base.specs.declared.data.Event.{Event}
+use Rattle.answer_rows.specs.Answers.{Answer, AreRows, until_of, row_of, end_of}
+use Rattle.answer_rows.specs.Changes.{changes}
+
+-- rows in which all pairs have the same ends are the same
+abbrev pub EndsTellRows : Type 0
+EndsTellRows = (rows others : List Answer) → AreRows rows → AreRows others →
+    ((pair : Pair) → until_of rows pair ≡ until_of others pair) → rows ≡ others
+
+-- the end of a pair is that of its target in the row of its source
+abbrev pub EndsAreInRows : Type 0
+EndsAreInRows =
+    (rows : List Answer) (pair : Pair) → until_of rows pair ≡ end_of (row_of rows pair.from) pair.to
+
+-- an event between two lists of answers: the pair of a loss has an end in the old one and none in
+-- the new one, that of a gain none in the old one and an end in the new one
+abbrev pub IsChange : List Answer → List Answer → Event → Type 0
+IsChange old new each =
+    ((each.added ≡ false) × IsSome (until_of old each.pair) × (until_of new each.pair ≡ None))
+    ⊎ ((each.added ≡ true) × (until_of old each.pair ≡ None) × IsSome (until_of new each.pair))
+
+-- the events are exactly the changes, under the query's number
+abbrev pub EventsAreChanges : Type 0
+EventsAreChanges = (query : ℕ) (old new : List Answer) (each : Event) →
+    Contains (changes query old new) each ↔ ((each.query ≡ query) × IsChange old new each)

@@ -1,0 +1,6 @@
+pub mod Answers
+pub mod BySource
+pub mod Changes
+pub mod Laws
+pub mod RowChanges
+pub mod RowEdits

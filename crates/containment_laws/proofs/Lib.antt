@@ -1,0 +1,7 @@
+mod Agreeing
+mod Chains
+mod Shortened
+mod Distinct
+mod Missed
+mod Spelled
+mod Turning

@@ -1,0 +1,3 @@
+pub mod SimplePaths
+pub mod Lines
+pub mod LineExamples

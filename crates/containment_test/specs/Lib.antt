@@ -1,0 +1,4 @@
+pub mod Containment
+pub mod Verdict
+pub mod Needed
+pub mod Laws

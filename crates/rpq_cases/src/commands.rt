@@ -1,0 +1,68 @@
+//! Words of command lines.
+
+use crate::fields::{Fields, decoded, parts};
+use crate::output::Output;
+use rpq_words::{Chosen, FileWord, read_words};
+use std::alloc::Global;
+
+/// The words that parts of a request are.
+fn words_of(alloc: Global, text: &[u8]) -> anyhow::Result<Vec<String>> {
+    let mut words = Vec::new(alloc);
+    for part in &parts(alloc, text, b';')? {
+        words.push(String::from_utf8(decoded(alloc, part)?)?)?;
+    }
+    Ok(words)
+}
+
+/// The settings of a command line, or why its words aren't taken.
+pub fn answer_command(alloc: Global, out: &mut Output, fields: Fields) -> anyhow::Result<()> {
+    match read_words(alloc, &words_of(alloc, fields.rest())?) {
+        Ok(chosen) => put_settings(out, &chosen),
+        Err(fault) => out.put_shown(&fault),
+    }
+}
+
+fn put_settings(out: &mut Output, chosen: &Chosen) -> anyhow::Result<()> {
+    out.put_shown(&chosen.workers)?;
+    out.put(" ")?;
+    out.put_shown(&chosen.history)?;
+    out.put(" ")?;
+    out.put_sign(chosen.check)?;
+    out.put(" ")?;
+    match &chosen.generate {
+        Some(count) => out.put_shown(count)?,
+        None => out.put("-")?,
+    }
+    put_file(out, &chosen.asks)?;
+    put_file(out, &chosen.replies)?;
+    out.put(" ")?;
+    put_word(out, &chosen.queries)?;
+    put_streams(out, &chosen.streams)
+}
+
+/// Puts the word of an option, or `-` where it isn't given.
+fn put_file(out: &mut Output, word: &Option<FileWord>) -> anyhow::Result<()> {
+    out.put(" ")?;
+    match word {
+        Some(word) => put_word(out, word),
+        None => out.put("-"),
+    }
+}
+
+/// Puts the words of the streams, or `-` where there are none.
+fn put_streams(out: &mut Output, streams: &[FileWord]) -> anyhow::Result<()> {
+    out.put(" ")?;
+    if streams.is_empty() {
+        return out.put("-");
+    }
+    for stream in streams {
+        put_word(out, stream)?;
+    }
+    Ok(())
+}
+
+fn put_word(out: &mut Output, word: &FileWord) -> anyhow::Result<()> {
+    out.put("[")?;
+    out.put_bytes(word.as_str().as_bytes())?;
+    out.put("]")
+}

@@ -1,0 +1,32 @@
+-- Some command lines, computed.
+use Rattle.std.specs.Prelude.{refl}
+use Rattle.clap.proofs.OnLiterals.{clap_on_literals}
+use Rattle.text_parts.specs.Numbers.{number_within}
+use Rattle.rpq_words.specs.Command.{found_in, is_taken, rpq_command}
+use Rattle.rpq_words.specs.Examples.{SettingsExamples}
+use Rattle.rpq_words.specs.Settings.{clash, number_from_one, optional_number, settings, settings_of}
+use Rattle.rpq_words.specs.Settings.{settled}
+
+pub examples : SettingsExamples
+unfolding clap_on_literals number_within found_in is_taken rpq_command clash number_from_one
+    optional_number settings settings_of settled
+examples = record {
+  defaults = refl;
+  between = refl;
+  dashes = refl;
+  checked = refl;
+  made = refl;
+  greatest = refl;
+  no_stream = refl;
+  no_queries = refl;
+  above = refl;
+  zero = refl;
+  sign = refl;
+  twice = refl;
+  alone = refl;
+  both = refl;
+  stream = refl;
+  hyphen = refl;
+  short = refl;
+  help = refl;
+}

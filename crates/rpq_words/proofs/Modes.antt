@@ -1,0 +1,260 @@
+-- Settings in their ranges, and their modes.
+use Rattle.std.proofs.Common.{arith, ◌≡◌, ◌∙◌, ap, ap₂, refl, subst, ℕ, ◌≤◌}
+use Rattle.std.proofs.Common.{Bool, true, false, List, [], ◌∷◌, codes, length, inl, inr}
+use Rattle.std.specs.Prelude.{◌&&◌, ◌||◌, not, nat_le, nat_lt, if◌then◌else◌, is_some, IfSome}
+use Rattle.std.specs.Prelude.{Option, Some, None, option_map, unwrap_or}
+use Rattle.std.proofs.lemmas.Bool.{le-ltb, leb-true, ltb-false, ne_eqb}
+use Rattle.clap.specs.Walk.{Row, Text, all_of, first_of, is_empty}
+use Rattle.clap.proofs.SimpleLemmas.{is_nil}
+use Rattle.clap.proofs.WalkLemmas.{both}
+use Rattle.text_parts.specs.Numbers.{is_digit_text, number_of, number_within}
+use Rattle.rpq_words.specs.Command.{found_in, is_taken}
+use Rattle.rpq_words.specs.Settings.{Settings, clash, has_flag, is_one_alone, number_from_one}
+use Rattle.rpq_words.specs.Settings.{only_if, optional_number, reads_none, settings, settings_of}
+use Rattle.rpq_words.specs.Settings.{settled, ◌>>=◌}
+use Rattle.rpq_words.specs.Modes.{AreSettings, ClashHasNoMode, HasMode, IsWithin}
+use Rattle.rpq_words.specs.Modes.{ReadsNothing, ReadsStreams, WordsAreSettings}
+
+-- ---- no clash is a mode
+
+none_holds : (a b c d e : Bool) → (a || (b || (c || (d || e)))) ≡ false
+    → (a ≡ false) × (b ≡ false) × (c ≡ false) × (d ≡ false) × (e ≡ false)
+none_holds true b c d e is = absurd cc
+none_holds false true c d e is = absurd cc
+none_holds false false true d e is = absurd cc
+none_holds false false false true e is = absurd cc
+none_holds false false false false e is = (refl, refl, refl, refl, is)
+
+none_of : (a b c d e : Bool) → a ≡ false → b ≡ false → c ≡ false → d ≡ false → e ≡ false →
+    (a || (b || (c || (d || e)))) ≡ false
+none_of false false false false e p q r s t = t
+none_of true b c d e p q r s t = absurd cc
+none_of false true c d e p q r s t = absurd cc
+none_of false false true d e p q r s t = absurd cc
+none_of false false false true e p q r s t = absurd cc
+
+paired_from : {A B : Type 0} (first : Option A) (second : Option B) →
+    is_one_alone first second ≡ false → is_some first ≡ is_some second
+paired_from (Some x) (Some y) is = refl
+paired_from None None is = refl
+paired_from (Some x) None is = absurd cc
+paired_from None (Some y) is = absurd cc
+
+none_alone : {A B : Type 0} (first : Option A) (second : Option B) →
+    is_some first ≡ is_some second → is_one_alone first second ≡ false
+none_alone (Some x) (Some y) is = refl
+none_alone None None is = refl
+none_alone (Some x) None is = absurd cc
+none_alone None (Some y) is = absurd cc
+
+true_from : (b : Bool) → not b ≡ false → b ≡ true
+true_from true is = refl
+true_from false is = absurd cc
+
+reads_nothing : (given : Settings) (asks replies : Option Text) → given.asks ≡ asks →
+    given.replies ≡ replies → is_one_alone asks replies ≡ false →
+    (is_some asks || not (is_empty given.streams)) ≡ false → ReadsNothing given
+reads_nothing given None None no_asks no_replies alone is = record {
+  no_stream = is_nil given.streams (true_from (is_empty given.streams) is);
+  no_asks = no_asks;
+  no_replies = no_replies;
+}
+reads_nothing given None (Some reply) no_asks no_replies alone is = absurd cc
+reads_nothing given (Some ask) replies no_asks no_replies alone is = absurd cc
+
+some_stream : (streams : List Text) → is_empty streams ≡ false → 1 ≤ length streams
+some_stream [] is = absurd cc
+some_stream (stream ∷ streams) is = omega arith
+
+not_empty : (streams : List Text) → 1 ≤ length streams → is_empty streams ≡ false
+not_empty streams some = ne_eqb (length streams) 0 (λ none. omega (arith, some, none))
+
+mode_by : (given : Settings) (check : Bool) (generate : Option ℕ) → given.check ≡ check →
+    given.generate ≡ generate → is_one_alone given.asks given.replies ≡ false →
+    (check && is_some generate) ≡ false →
+    ((check || is_some generate) && (is_some given.asks || not (is_empty given.streams))) ≡ false →
+    (not (check || is_some generate) && is_empty given.streams) ≡ false →
+    nat_lt 64 (length given.streams) ≡ false → HasMode given
+mode_by given true (Some number) checked made alone one reads some few = absurd cc
+mode_by given true None checked made alone one reads some few = inr (inl (record {
+  checked = checked;
+  none_made = made;
+  alone = reads_nothing given given.asks given.replies refl refl alone reads;
+}))
+mode_by given false (Some number) checked made alone one reads some few = inr (inr (record {
+  unchecked = checked;
+  made = ap is_some made;
+  alone = reads_nothing given given.asks given.replies refl refl alone reads;
+}))
+mode_by given false None checked made alone one reads some few = inl (record {
+  unchecked = checked;
+  none_made = made;
+  some = some_stream given.streams some;
+  few = ltb-false 64 (length given.streams) few;
+  paired = paired_from given.asks given.replies alone;
+})
+
+mode_from : (given : Settings) → clash given ≡ false → HasMode given
+unfolding clash
+mode_from given is =
+    let parts = none_holds (is_one_alone given.asks given.replies)
+    (given.check && is_some given.generate)
+    (reads_none given && (is_some given.asks || not (is_empty given.streams)))
+    (not (reads_none given) && is_empty given.streams) (nat_lt 64 (length given.streams)) is in
+    mode_by given given.check given.generate refl refl parts.0 parts.1 parts.2 parts.3 parts.4
+
+-- ---- a mode is no clash
+
+streams_agree : (given : Settings) → ReadsStreams given → clash given ≡ false
+unfolding clash
+streams_agree given reads = none_of _ _ _ _ _
+    (none_alone given.asks given.replies reads.paired)
+    (ap (λ check. check && is_some given.generate) reads.unchecked)
+    (ap₂ (λ check generate. (check || is_some generate)
+    && (is_some given.asks || not (is_empty given.streams))) reads.unchecked reads.none_made)
+    (ap₂ (λ check generate. not (check || is_some generate) && is_empty given.streams)
+    reads.unchecked reads.none_made ∙ not_empty given.streams reads.some)
+    (le-ltb 64 (length given.streams) reads.few)
+
+-- where one of the two says that nothing is read
+alone_agrees : (given : Settings) → ReadsNothing given →
+    (given.check && is_some given.generate) ≡ false → reads_none given ≡ true → clash given ≡ false
+unfolding clash
+alone_agrees given alone one none = none_of _ _ _ _ _
+    (ap₂ is_one_alone alone.no_asks alone.no_replies)
+    one
+    (ap₂ (λ reads others. reads && others) none
+    (ap₂ (λ asks streams. is_some asks || not (is_empty streams)) alone.no_asks alone.no_stream))
+    (ap (λ reads. not reads && is_empty given.streams) none)
+    (ap (λ streams. nat_lt 64 (length streams)) alone.no_stream)
+
+agrees : (given : Settings) → HasMode given → clash given ≡ false
+agrees given (inl reads) = streams_agree given reads
+agrees given (inr (inl checks)) = alone_agrees given checks.alone
+    (ap₂ (λ check generate. check && is_some generate) checks.checked checks.none_made)
+    (ap (λ check. check || is_some given.generate) checks.checked)
+agrees given (inr (inr made)) = alone_agrees given made.alone
+    (ap (λ check. check && is_some given.generate) made.unchecked)
+    (ap₂ (λ check number. check || number) made.unchecked made.made)
+
+pub clash_has_no_mode : ClashHasNoMode
+clash_has_no_mode given = (mode_from given, agrees given)
+
+-- ---- numbers in their ranges
+
+guarded : {A : Type 0} (test : Bool) (x y : A) → (if test then Some x else None) ≡ Some y
+    → (test ≡ true) × (x ≡ y)
+guarded true x y is = (refl, cc)
+guarded false x y is = absurd cc
+
+bound : {A B : Type 0} (first : Option A) (next : A → Option B) (y : B) →
+    (first >>= next) ≡ Some y → (x : A) × (first ≡ Some x) × (next x ≡ Some y)
+bound None next y is = absurd cc
+bound (Some x) next y is = (x, refl, is)
+
+within_most : (most : ℕ) (text : Text) (number : ℕ) → number_within most text ≡ Some number →
+    number ≤ most
+unfolding number_within
+within_most most text number is =
+    let read = guarded (is_digit_text text && nat_le (number_of text) most) (number_of text) number is in
+    let few = leb-true (number_of text) most
+    (both (is_digit_text text) (nat_le (number_of text) most) read.0).1 in
+    subst (λ x. x ≤ most) read.1 few
+
+in_range : (most : ℕ) (text : Text) (number : ℕ) → number_from_one most text ≡ Some number →
+    IsWithin most number
+unfolding number_from_one
+in_range most text number is =
+    let read = bound (number_within most text) (only_if (nat_le 1)) number is in
+    let kept = guarded (nat_le 1 read.0) read.0 number read.2 in
+    subst (IsWithin most) kept.1 (leb-true 1 read.0 kept.0, within_most most text read.0 read.1)
+
+needed_in_range : (most : ℕ) (text : Option Text) (number : ℕ) →
+    (text >>= number_from_one most) ≡ Some number → IsWithin most number
+needed_in_range most text number is =
+    let read = bound text (number_from_one most) number is in
+    in_range most read.0 number read.2
+
+some_of : (x y : Option ℕ) → Some x ≡ Some y → x ≡ y
+some_of x y same = cc
+
+mapped : (P : ℕ → Type 0) (found : Option ℕ) (number : Option ℕ) →
+    ((n : ℕ) → found ≡ Some n → P n) → option_map (λ n. Some n) found ≡ Some number →
+    IfSome number P
+mapped P None number holds is = absurd cc
+mapped P (Some n) number holds is =
+    subst (λ x. IfSome x P) (some_of (Some n) number is) (holds n refl)
+
+optional_in_range : (most : ℕ) (text : Option Text) (number : Option ℕ) →
+    optional_number most text ≡ Some number → IfSome number (IsWithin most)
+unfolding optional_number
+optional_in_range most (Some text) number is =
+    mapped (IsWithin most) (number_from_one most text) number (in_range most text) is
+optional_in_range most None None is = tt
+optional_in_range most None (Some number) is = absurd cc
+
+-- ---- the settings of words
+
+module _ (make : ℕ → ℕ → Option ℕ → Text → Settings) where
+  made_by : (workers history : Option ℕ) (generate : Option (Option ℕ)) (queries : Option Text)
+      (given : Settings) →
+      (workers >>= λ w. (history >>= λ h. (generate >>= λ g. (queries >>= λ q. Some (make w h g q)))))
+      ≡ Some given →
+      (w : ℕ) × (h : ℕ) × (g : Option ℕ) × (q : Text) × (workers ≡ Some w) × (history ≡ Some h)
+      × (generate ≡ Some g) × (make w h g q ≡ given)
+  made_by (Some w) (Some h) (Some g) (Some q) given is = (w, h, g, q, refl, refl, refl, cc)
+  made_by None history generate queries given is = absurd cc
+  made_by (Some w) None generate queries given is = absurd cc
+  made_by (Some w) (Some h) None queries given is = absurd cc
+  made_by (Some w) (Some h) (Some g) None given is = absurd cc
+
+are_settings : (rows : List Row) (given : Settings) → settings_of rows ≡ Some given →
+    HasMode given → AreSettings given
+unfolding settings_of
+are_settings rows given is mode =
+    let read = made_by
+    (λ workers history generate queries. record {
+      workers = workers;
+      history = history;
+      check = has_flag (codes "check") rows;
+      generate = generate;
+      asks = first_of (codes "asks") rows;
+      replies = first_of (codes "replies") rows;
+      queries = queries;
+      streams = unwrap_or (all_of (codes "streams") rows) [];
+    })
+    (first_of (codes "workers") rows >>= number_from_one 64)
+    (first_of (codes "history") rows >>= number_from_one 2000000)
+    (optional_number 1000000 (first_of (codes "generate") rows))
+    (first_of (codes "queries") rows) given is in
+    record {
+      workers = subst (IsWithin 64) (ap (λ (s : Settings). s.workers) read.7)
+          (needed_in_range 64 (first_of (codes "workers") rows) read.0 read.4);
+      history = subst (IsWithin 2000000) (ap (λ (s : Settings). s.history) read.7)
+          (needed_in_range 2000000 (first_of (codes "history") rows) read.1 read.5);
+      generate = subst (λ number. IfSome number (IsWithin 1000000))
+          (ap (λ (s : Settings). s.generate) read.7)
+          (optional_in_range 1000000 (first_of (codes "generate") rows) read.2 read.6);
+      mode = mode;
+    }
+
+false_from : (b : Bool) → not b ≡ true → b ≡ false
+false_from false is = refl
+false_from true is = absurd cc
+
+pub settled_are : (rows : List Row) (given : Settings) → settled rows ≡ Some given → AreSettings given
+unfolding settled
+settled_are rows given is =
+    let read = bound (settings_of rows) (only_if (λ s. not (clash s))) given is in
+    let kept = guarded (not (clash read.0)) read.0 given read.2 in
+    subst AreSettings kept.1
+    (are_settings rows read.0 read.1 (mode_from read.0 (false_from (clash read.0) kept.0)))
+
+taken_are : (taken : Bool) (rows : List Row) (given : Settings) →
+    (if taken then settled rows else None) ≡ Some given → AreSettings given
+taken_are true rows given is = settled_are rows given is
+taken_are false rows given is = absurd cc
+
+pub words_are_settings : WordsAreSettings
+unfolding settings
+words_are_settings words given is = taken_are (is_taken words) (found_in words) given is

@@ -1,0 +1,54 @@
+-- Some command lines with what they give.
+use Rattle.std.specs.Prelude.{◌≡◌, true, false, List, [], ◌∷◌, codes, Some, None}
+use Rattle.clap.specs.Walk.{Text}
+use Rattle.rpq_words.specs.Settings.{Settings, settings}
+
+-- a run over these streams, where nothing else is said
+abbrev pub plain : List Text → Settings
+plain streams = record {
+  workers = 4;
+  history = 1000000;
+  check = false;
+  generate = None;
+  asks = None;
+  replies = None;
+  queries = codes "q";
+  streams = streams;
+}
+
+-- The defaults. An option between streams, and zeros in front of its number. Values that begin with
+-- `-` or are empty behind `=`, and words behind `--`. A check; generated tuples. The greatest
+-- numbers. Refused: no stream; no queries; a number above its range, below it, or with a sign; a
+-- flag given twice; asks without replies; a check with generated tuples, or with a stream; a value
+-- that begins with `-`; a name cut short; and `--help`.
+pub record SettingsExamples : Type 0 where
+  pub defaults : settings (codes "rpq" ∷ codes "q" ∷ codes "s" ∷ [])
+      ≡ Some (plain (codes "s" ∷ []))
+  pub between : settings (codes "rpq" ∷ codes "q" ∷ codes "s" ∷ codes "--workers" ∷ codes "0008"
+      ∷ codes "t" ∷ []) ≡ Some (record (plain (codes "s" ∷ codes "t" ∷ [])) { workers = 8 })
+  pub dashes : settings (codes "rpq" ∷ codes "--asks=-a" ∷ codes "--replies=" ∷ codes "--"
+      ∷ codes "q" ∷ codes "--check" ∷ [])
+      ≡ Some (record (plain (codes "--check" ∷ [])) {
+        asks = Some (codes "-a");
+        replies = Some [];
+      })
+  pub checked : settings (codes "rpq" ∷ codes "--check" ∷ codes "q" ∷ [])
+      ≡ Some (record (plain []) { check = true })
+  pub made : settings (codes "rpq" ∷ codes "--generate" ∷ codes "5" ∷ codes "q" ∷ [])
+      ≡ Some (record (plain []) { generate = Some 5 })
+  pub greatest : settings (codes "rpq" ∷ codes "--workers=64" ∷ codes "--history=2000000"
+      ∷ codes "q" ∷ codes "s" ∷ [])
+      ≡ Some (record (plain (codes "s" ∷ [])) { workers = 64; history = 2000000 })
+  pub no_stream : settings (codes "rpq" ∷ codes "q" ∷ []) ≡ None
+  pub no_queries : settings (codes "rpq" ∷ []) ≡ None
+  pub above : settings (codes "rpq" ∷ codes "--workers=65" ∷ codes "q" ∷ codes "s" ∷ []) ≡ None
+  pub zero : settings (codes "rpq" ∷ codes "--history=0" ∷ codes "q" ∷ codes "s" ∷ []) ≡ None
+  pub sign : settings (codes "rpq" ∷ codes "--workers=+4" ∷ codes "q" ∷ codes "s" ∷ []) ≡ None
+  pub twice : settings (codes "rpq" ∷ codes "--check" ∷ codes "--check" ∷ codes "q" ∷ []) ≡ None
+  pub alone : settings (codes "rpq" ∷ codes "--asks=a" ∷ codes "q" ∷ codes "s" ∷ []) ≡ None
+  pub both : settings (codes "rpq" ∷ codes "--check" ∷ codes "--generate=5" ∷ codes "q" ∷ []) ≡ None
+  pub stream : settings (codes "rpq" ∷ codes "--check" ∷ codes "q" ∷ codes "s" ∷ []) ≡ None
+  pub hyphen : settings (codes "rpq" ∷ codes "--asks" ∷ codes "-a" ∷ codes "--replies=r"
+      ∷ codes "q" ∷ codes "s" ∷ []) ≡ None
+  pub short : settings (codes "rpq" ∷ codes "--work=4" ∷ codes "q" ∷ codes "s" ∷ []) ≡ None
+  pub help : settings (codes "rpq" ∷ codes "--help" ∷ codes "q" ∷ codes "s" ∷ []) ≡ None

@@ -1,0 +1,55 @@
+-- What can stand together, said once more: a run over streams, a check, or generated tuples.
+use Rattle.std.specs.Prelude.{◌≡◌, ◌⊎◌, ◌≤◌, ◌↔◌, ℕ, true, false, List, [], length}
+use Rattle.std.specs.Prelude.{Some, None, is_some, IfSome}
+use Rattle.clap.specs.Walk.{Text}
+use Rattle.rpq_words.specs.Settings.{Settings, clash, settings}
+
+-- some streams are read, 64 at most; asks and replies stand together
+pub record ReadsStreams (given : Settings) : Type 0 where
+  pub unchecked : given.check ≡ false
+  pub none_made : given.generate ≡ None
+  pub some : 1 ≤ length given.streams
+  pub few : length given.streams ≤ 64
+  pub paired : is_some given.asks ≡ is_some given.replies
+
+-- no stream is read, and nothing is asked
+pub record ReadsNothing (given : Settings) : Type 0 where
+  pub no_stream : given.streams ≡ []
+  pub no_asks : given.asks ≡ None
+  pub no_replies : given.replies ≡ None
+
+-- the queries are checked, and nothing else is done
+pub record Checks (given : Settings) : Type 0 where
+  pub checked : given.check ≡ true
+  pub none_made : given.generate ≡ None
+  pub alone : ReadsNothing given
+
+-- tuples are generated in the place of streams
+pub record Generates (given : Settings) : Type 0 where
+  pub unchecked : given.check ≡ false
+  pub made : is_some given.generate ≡ true
+  pub alone : ReadsNothing given
+
+-- one of the three
+abbrev pub HasMode : Settings → Type 0
+HasMode given = ReadsStreams given ⊎ (Checks given ⊎ Generates given)
+
+-- from 1 to `most`
+abbrev pub IsWithin : ℕ → ℕ → Type 0
+IsWithin most number = (1 ≤ number) × (number ≤ most)
+
+-- each number is in its range, and all can stand together
+pub record AreSettings (given : Settings) : Type 0 where
+  pub workers : IsWithin 64 given.workers
+  pub history : IsWithin 2000000 given.history
+  pub generate : IfSome given.generate (IsWithin 1000000)
+  pub mode : HasMode given
+
+-- settings clash exactly where they have none of the three modes
+abbrev pub ClashHasNoMode : Type 0
+ClashHasNoMode = (given : Settings) → (clash given ≡ false) ↔ HasMode given
+
+-- the settings of words are in their ranges, and have a mode
+abbrev pub WordsAreSettings : Type 0
+WordsAreSettings =
+    (words : List Text) (given : Settings) → settings words ≡ Some given → AreSettings given

@@ -1,0 +1,8 @@
+-- The usage line.
+use Rattle.std.specs.Prelude.{ℕ, List, ◌++◌, codes}
+
+-- how the command is used
+abbrev pub usage : List ℕ
+usage =
+    codes "usage: rpq [--workers N] [--history N] [--asks FILE --replies FILE] [--check] "
+    ++ codes "[--generate N] QUERIES [STREAM...]"

@@ -1,0 +1,111 @@
+//! From words to settings.
+
+ghost use Rattle.std.specs.Prelude.{◌≡◌, ◌≢◌, ◌⊎◌, Some, None, Err, IfOk, true, false};
+ghost use Rattle.clap.specs.Walk.{rows_of};
+ghost use Rattle.clap.specs.Matches.{found_of};
+ghost use Rattle.rpq_words.specs.Command.{found_in, is_taken};
+ghost use Rattle.rpq_words.specs.Modes.{AreSettings};
+ghost use Rattle.rpq_words.specs.Settings.{settings, settings_of, settled, texts};
+
+use crate::chosen::Chosen;
+use crate::command::command;
+use crate::fault::WordsFault;
+use crate::file_word::{FileWord, file_words, optional_file_word};
+use crate::matches::{all_of, first_of, has_flag};
+use crate::numbers::{needed_number, optional_number};
+use clap::ArgMatches;
+use clap::error::ErrorKind;
+use std::alloc::Global;
+
+/// The most workers.
+const MAX_WORKERS: u64 = 64;
+
+/// The most tuples that a history may hold.
+const MAX_HISTORY: u64 = 2_000_000;
+
+/// The most tuples that are generated.
+const MAX_GENERATED: u64 = 1_000_000;
+
+/// The settings of the words, of which the first is the program's name.
+///
+/// The words are refused exactly where they have no settings, unless memory runs out.
+#[tactic(auto, unfolding(crate::specs::Settings::settings))]
+pub fn read_words(alloc: Global, words: &[String]) -> Result<Chosen, WordsFault>
+    ensures ok { IfOk result (λ chosen. settings (texts words.now) ≡ Some chosen) }
+    ensures sound { IfOk result AreSettings }
+    ensures refused { result ≡ Err WordsFault.Refused → settings (texts words.now) ≡ None }
+    ensures none { settings (texts words.now) ≡ None
+        → (result ≡ Err WordsFault.Refused) ⊎ (result ≡ Err WordsFault.Memory) }
+{
+    match parsed(alloc, words) {
+        Ok(matches) => settled(alloc, &matches),
+        Err(fault) => Err(fault),
+    }
+}
+
+/// What the command finds in the words.
+fn parsed<'a>(alloc: Global, words: &'a [String]) -> Result<ArgMatches<'a>, WordsFault>
+    ensures taken { IfOk result (λ matches. is_taken (texts words.now) ≡ true) }
+    ensures found { IfOk result (λ matches. rows_of (found_of matches)
+        ≡ found_in (texts words.now)) }
+    ensures refused { result ≡ Err WordsFault.Refused → is_taken (texts words.now) ≡ false }
+{
+    match command(alloc)?.try_get_matches_from(words) {
+        Ok(matches) => Ok(matches),
+        Err(error) => Err(fault_of(error.kind())),
+    }
+}
+
+/// Why words aren't taken of which the parse fails so.
+fn fault_of(kind: ErrorKind) -> WordsFault
+    ensures { result ≡ WordsFault.Refused → kind ≢ ErrorKind.OutOfMemory }
+{
+    match kind {
+        ErrorKind::OutOfMemory => WordsFault::Memory,
+        _ => WordsFault::Refused,
+    }
+}
+
+/// What was found, where each number is in its range and all can stand together.
+#[tactic(auto, unfolding(crate::specs::Settings::settled))]
+fn settled(alloc: Global, matches: &ArgMatches<'_>) -> Result<Chosen, WordsFault>
+    ensures ok { IfOk result (λ chosen. settled (rows_of (found_of matches.now)) ≡ Some chosen) }
+    ensures refused { result ≡ Err WordsFault.Refused
+        → settled (rows_of (found_of matches.now)) ≡ None }
+{
+    let chosen = chosen(alloc, matches)?;
+    if chosen.clashes() {
+        return Err(WordsFault::Refused);
+    }
+    Ok(chosen)
+}
+
+/// What was found, where each number is in its range.
+#[tactic(auto, unfolding(crate::specs::Settings::settings_of))]
+fn chosen(alloc: Global, matches: &ArgMatches<'_>) -> Result<Chosen, WordsFault>
+    ensures ok { IfOk result
+        (λ chosen. settings_of (rows_of (found_of matches.now)) ≡ Some chosen) }
+    ensures refused { result ≡ Err WordsFault.Refused
+        → settings_of (rows_of (found_of matches.now)) ≡ None }
+{
+    let workers = needed_number(first_of(matches, "workers"), MAX_WORKERS).ok_or(
+        WordsFault::Refused,
+    )?;
+    let history = needed_number(first_of(matches, "history"), MAX_HISTORY).ok_or(
+        WordsFault::Refused,
+    )?;
+    let generate = optional_number(first_of(matches, "generate"), MAX_GENERATED).ok_or(
+        WordsFault::Refused,
+    )?;
+    let queries = first_of(matches, "queries").ok_or(WordsFault::Refused)?;
+    Ok(Chosen {
+        workers: workers as u32,
+        history,
+        check: has_flag(matches, "check"),
+        generate,
+        asks: optional_file_word(alloc, first_of(matches, "asks"))?,
+        replies: optional_file_word(alloc, first_of(matches, "replies"))?,
+        queries: FileWord::new(alloc, queries)?,
+        streams: file_words(alloc, all_of(matches, "streams"))?,
+    })
+}

@@ -1,0 +1,12 @@
+//! How the command is used.
+
+ghost use Rattle.std.specs.Prelude.{◌≡◌};
+ghost use Rattle.rpq_words.specs.Usage.{usage};
+
+/// The line that tells how the command is used, without a line feed.
+pub fn usage_line() -> &'static str
+    ensures { result.now ≡ usage }
+{
+    "usage: rpq [--workers N] [--history N] [--asks FILE --replies FILE] [--check] \
+     [--generate N] QUERIES [STREAM...]"
+}
