@@ -19,8 +19,8 @@
 //!   history, `+` for a check, tuples to generate, asks, replies, queries, streams; or the fault.
 //! - `contained EXPR`: `yes` where its language has the property of containment, else `no` and the
 //!   least three words that show it; or the fault.
-//! - `file TEXT`: the queries of a queries file, `|` behind each: its name, the size and the slide of
-//!   its window, its mode and its automaton; or the first fault with the number of its line.
+//! - `file TEXT`: the queries of a queries file, `|` behind each: its name, the size and the slide
+//!   of its window, its mode and its automaton; or the first fault with the number of its line.
 //! - `words EXPR WORDS`: for each word `+` where the matcher takes it, else `-`, and then the
 //!   same of the automaton.
 //! - `word WORD`: the word as it is written.
