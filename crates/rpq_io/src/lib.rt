@@ -36,6 +36,7 @@
 
 mod fault;
 mod files;
+mod gate;
 mod host;
 mod host_files;
 mod laws;
@@ -53,6 +54,7 @@ mod whole;
 
 pub use fault::{AllFault, Failed, LineFault, OpenFault, Write};
 pub use files::Files;
+pub use gate::{Gate, OpenGate, Who};
 pub use host::{HostSink, HostSource};
 pub use host_files::HostFiles;
 pub use laws::only_lines_are_cut;
