@@ -1,5 +1,5 @@
 -- Deadlines, and clocks that see less.
-use Rattle.std.proofs.Common.{◌≡◌, ℕ, suc, ◌+◌, ◌-◌, ◌*◌, ◌/◌, ◌<◌, ◌≤◌, true, refl, ⊎_elim, arith}
+use Rattle.std.proofs.Common.{◌≡◌, ℕ, suc, ◌+◌, ◌-◌, ◌*◌, ◌/◌, ◌%◌, ◌<◌, ◌≤◌, true, refl, ⊎_elim, arith}
 use Rattle.std.specs.Prelude.{◌↔◌}
 use Rattle.std.proofs.Math.Nat.{mod-lt}
 use Rattle.std.proofs.lemmas.Bool.{cases_order, ltb-true, lt-ltb}
@@ -88,3 +88,26 @@ pub times_have_deadlines : TimesHaveDeadlines
 times_have_deadlines window time some =
     let is = deadline_is window time some in
     (deadline_of window time, is, λ other other_is. one_deadline window time other (deadline_of window time) other_is is)
+
+-- a multiple of the slide that is at least the time and the size together, and by less than the
+-- slide, is the deadline
+pub deadline_from_bounds : (window : WindowValue) (time deadline : ℕ) → 0 < window.slide →
+    time + window.size ≤ deadline → deadline < time + window.size + window.slide →
+    deadline % window.slide ≡ 0 → IsDeadline window time deadline
+deadline_from_bounds window time deadline some reached below even =
+    let slide = window.slide in
+    let parts = div-add-mod' deadline slide in
+    let number = deadline / slide in
+    let is : deadline ≡ number * slide = omega (arith, parts, even) in
+    record {
+      multiple = (number, is);
+      reached = reached;
+      least = λ n fits. below_or_not (n * slide) deadline (λ more.
+          let steps : suc n * slide ≡ n * slide + slide = grind arith in
+          let over : number ≤ n → ⊥ = λ le.
+          omega (arith, mul-le number slide n slide le (omega arith), is, more) in
+          let next : suc n ≤ number = below_or_not number (suc n) (λ less.
+          over (omega (arith, less))) in
+          let at_most = mul-le (suc n) slide number slide next (omega arith) in
+          omega (arith, at_most, steps, is, fits, below));
+    }

@@ -186,6 +186,6 @@ histories_have_answers nullable query history is =
     let edges = edges_at query.window (clock history) history in
     let joined = joined_listed query.expr edges nullable in (
       joined.pairs,
-      answered query query.name query.window query.mode query.expr history edges Arbitrary joined.pairs refl is
+      answered query query.name query.window query.mode query.expr (clock history) history edges Arbitrary joined.pairs refl is
           (λ edge. ((λ member. member), (λ member. member))) joined.are,
     )

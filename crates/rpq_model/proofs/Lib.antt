@@ -9,6 +9,8 @@ pub mod Paths
 pub mod Deadlines
 pub mod OneMore
 pub mod Ends
+mod Lasting
+mod EndedAnswers
 pub mod EachEntry
 pub mod ByMembers
 mod ByLabel
@@ -20,6 +22,6 @@ mod ByCases
 mod Onwards
 mod Answered
 pub mod Ticks
-mod Queries
+pub mod Queries
 pub mod AllEvents
 mod Existence

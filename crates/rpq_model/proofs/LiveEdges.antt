@@ -105,7 +105,7 @@ edge_cmp_exact first second e =
     let to = exact_bytes first.to second.to outer.1 in
     λ i. record { from = from i; label = label i; to = to i }
 
-is_equal : (order : Ordering) → is_eq order ≡ true → order ≡ Equal
+pub is_equal : (order : Ordering) → is_eq order ≡ true → order ≡ Equal
 is_equal Less e = absurd (false≢true e)
 is_equal Equal e = refl
 is_equal Greater e = absurd (false≢true e)

@@ -10,7 +10,9 @@ use Rattle.rpq_model.specs.declared.mode.Mode.TheVariants.{Arbitrary, Simple}
 use Rattle.rpq_model.specs.Window.{WindowValue, clock}
 use Rattle.rpq_model.specs.Answers.{PathQuery, IsJoinedBy, IsAnswerAt, IsAnswer, AreAnswersAt}
 use Rattle.rpq_model.specs.Answers.{AreAnswers}
-use Rattle.rpq_model.specs.Ends.{IsUntil}
+use Rattle.rpq_model.specs.declared.rows.Ended.{Ended}
+use Rattle.rpq_model.specs.Ends.{IsUntil, AreEndedAnswers, pairs_of}
+use Rattle.rpq_model.specs.WindowLaws.{IsLiveDeadline}
 use Rattle.rpq_model.specs.Query.{Query, path_query}
 
 -- the path query with this language
@@ -82,3 +84,31 @@ LastsBelowItsEnd language =
     0 < window.slide → clock history ≤ now →
     IsUntil (query_for language mode window) history pair until →
     IsAnswerAt (query_for language mode window) now history pair ↔ (now < until)
+
+-- each answer ends: it can't be that no time is its end
+abbrev pub AnswersEnd : (List Label → Type 0) → Type 0
+AnswersEnd language =
+    (mode : Mode) (window : WindowValue) (history : List Entry) (pair : Pair) →
+    0 < window.slide → IsAnswer (query_for language mode window) history pair →
+    ((until : ℕ) → IsUntil (query_for language mode window) history pair until → ⊥) → ⊥
+
+-- an end is the deadline of an entry that is live at the clock of the history
+abbrev pub EndsAreDeadlines : (List Label → Type 0) → Type 0
+EndsAreDeadlines language =
+    (mode : Mode) (window : WindowValue) (history : List Entry) (pair : Pair) (until : ℕ) →
+    0 < window.slide → IsUntil (query_for language mode window) history pair until →
+    IsLiveDeadline window (clock history) history until
+
+-- a query has at most one list of its answers with their ends
+abbrev pub EndedAnswersAreOne : (List Label → Type 0) → Type 0
+EndedAnswersAreOne language =
+    (mode : Mode) (window : WindowValue) (history : List Entry) (rows others : List Ended) →
+    AreEndedAnswers (query_for language mode window) history rows →
+    AreEndedAnswers (query_for language mode window) history others → rows ≡ others
+
+-- the pairs of the answers with their ends are exactly the answers
+abbrev pub EndedAnswersAreAnswers : (List Label → Type 0) → Type 0
+EndedAnswersAreAnswers language =
+    (mode : Mode) (window : WindowValue) (history : List Entry) (rows : List Ended) →
+    0 < window.slide → AreEndedAnswers (query_for language mode window) history rows →
+    AreAnswers (query_for language mode window) history (pairs_of rows)

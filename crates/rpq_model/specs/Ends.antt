@@ -1,8 +1,11 @@
 -- Until when an answer lasts.
-use Rattle.std.specs.Prelude.{ℕ, ◌<◌, List, [], ◌∷◌, ◌++◌}
+use Rattle.std.specs.Prelude.{ℕ, ◌<◌, ◌↔◌, List, [], ◌∷◌, ◌++◌, map, Contains}
+use Rattle.std.specs.List.Sorted.{IsStrictlySortedBy}
+use Rattle.rpq_base.specs.Order.{pair_cmp}
 use Rattle.rpq_base.specs.declared.data.Act.TheVariants.{Tick}
 use Rattle.rpq_base.specs.declared.data.Entry.{Entry}
 use Rattle.rpq_base.specs.declared.data.Pair.{Pair}
+use Rattle.rpq_model.specs.declared.rows.Ended.{Ended}
 use Rattle.rpq_model.specs.Answers.{PathQuery, IsAnswer}
 
 -- the entry of the first stream that lets time pass until this clock
@@ -20,3 +23,15 @@ pub record IsUntil (query : PathQuery) (history : List Entry) (pair : Pair)
   pub answer : IsAnswer query history pair
   pub ended : IsAnswer query (with_tick history until) pair → ⊥
   pub lasts : (time : ℕ) → time < until → IsAnswer query (with_tick history time) pair
+
+-- the pairs of answers with their ends
+abbrev pub pairs_of : List Ended → List Pair
+pairs_of rows = map (λ row. row.pair) rows
+
+-- the rows are exactly the answers over the history, each with its end, sorted by source and then
+-- target, each pair once
+pub record AreEndedAnswers (query : PathQuery) (history : List Entry)
+    (rows : List Ended) : Type 0 where
+  pub sorted : IsStrictlySortedBy pair_cmp (pairs_of rows)
+  pub exact : (pair : Pair) (until : ℕ) →
+      Contains rows (record { pair = pair; until = until }) ↔ IsUntil query history pair until

@@ -4,6 +4,7 @@ pub mod Deleted
 pub mod Path
 pub mod Answers
 pub mod Ends
+pub mod Lasting
 pub mod Events
 pub mod Query
 pub mod QueryEvents

@@ -55,6 +55,12 @@ TimesHaveDeadlines = (window : WindowValue) (time : ℕ) → 0 < window.slide �
     (deadline : ℕ) × IsDeadline window time deadline
     × ((other : ℕ) → IsDeadline window time other → other ≡ deadline)
 
+-- the deadline is that of an entry which is live at a clock
+abbrev pub IsLiveDeadline : WindowValue → ℕ → List Entry → ℕ → Type 0
+IsLiveDeadline window now entries deadline = (live : Placed)
+    × Contains (live_entries window now entries) live
+    × IsDeadline window live.entry.tuple.time deadline
+
 -- an insert that no later entry deletes is live exactly where its deadline is above the clock
 abbrev pub LiveBelowDeadline : Type 0
 LiveBelowDeadline = (window : WindowValue) (now : ℕ) (entries : List Entry) (edge : Edge)

@@ -7,7 +7,9 @@ ghost use Rattle.rpq_model.specs.declared.mode.Mode.{Mode};
 ghost use Rattle.rpq_model.specs.AnswerLaws.{AnswersAreOne, HistoriesHaveAnswers, UntilIsOne};
 ghost use Rattle.rpq_model.specs.AnswerLaws.{TickMovesTheClock, EmptyWordBringsNoPair};
 ghost use Rattle.rpq_model.specs.AnswerLaws.{SimpleAnswersAreApart, MoreEdgesJoinMore};
-ghost use Rattle.rpq_model.specs.AnswerLaws.{LaterAnswersLess, LastsBelowItsEnd};
+ghost use Rattle.rpq_model.specs.AnswerLaws.{LaterAnswersLess, LastsBelowItsEnd, AnswersEnd};
+ghost use Rattle.rpq_model.specs.AnswerLaws.{EndsAreDeadlines, EndedAnswersAreOne};
+ghost use Rattle.rpq_model.specs.AnswerLaws.{EndedAnswersAreAnswers};
 
 use crate::language::Language;
 use crate::mode::Mode;
@@ -61,6 +63,32 @@ pub fn later_answers_less<L: Language>(language: &L)
 /// From the clock of the history on, an answer lasts exactly below its end.
 pub fn lasts_below_its_end<L: Language>(language: &L)
     ensures { LastsBelowItsEnd (L.contains language.now) }
+{
+    same_is_equal()
+}
+
+/// Each answer ends: it can't be that no time is its end.
+pub fn answers_end<L: Language>(language: &L)
+    ensures { AnswersEnd (L.contains language.now) }
+{
+    same_is_equal()
+}
+
+/// An end is the deadline of an entry that is live at the clock of the history.
+pub fn ends_are_deadlines<L: Language>(language: &L)
+    ensures { EndsAreDeadlines (L.contains language.now) }
+{
+    same_is_equal()
+}
+
+/// A query has at most one list of its answers with their ends.
+pub fn ended_answers_are_one<L: Language>(language: &L)
+    ensures { EndedAnswersAreOne (L.contains language.now) }
+{}
+
+/// The pairs of the answers with their ends are exactly the answers.
+pub fn ended_answers_are_answers<L: Language>(language: &L)
+    ensures { EndedAnswersAreAnswers (L.contains language.now) }
 {
     same_is_equal()
 }

@@ -5,9 +5,9 @@
 //! on words, the paths that a query takes, and its window. A query definition means the path query
 //! whose language is that of its expression. The layer above uses them, and the laws here.
 //! [`plain_answers`] computes the answers of any query with no automaton: in polynomial time where
-//! it takes all paths, and in exponential time where it takes the simple ones. Of the parts that
-//! evaluations share, [`clock`] and [`live_entries`] read the whole history, and [`changes`]
-//! compares two lists of answers.
+//! it takes all paths, and in exponential time where it takes the simple ones; [`plain_rows`]
+//! computes the end of each of them too. Of the parts that evaluations share, [`clock`] and
+//! [`live_entries`] read the whole history, and [`changes`] compares two lists of answers.
 #![tactic(auto)]
 
 mod answer_laws;
@@ -21,12 +21,14 @@ mod mode;
 mod plain;
 mod query;
 mod relation;
+mod rows;
 mod simple;
 mod window;
 mod window_laws;
 
 pub use answer_laws::{
-    answers_are_one, empty_word_brings_no_pair, histories_have_answers, lasts_below_its_end,
+    answers_are_one, answers_end, empty_word_brings_no_pair, ended_answers_are_answers,
+    ended_answers_are_one, ends_are_deadlines, histories_have_answers, lasts_below_its_end,
     later_answers_less, modes_are_told_apart, more_edges_join_more, simple_answers_are_apart,
     tick_moves_the_clock, until_is_one,
 };
@@ -41,6 +43,7 @@ pub use live::{Live, live_entries};
 pub use mode::Mode;
 pub use plain::plain_answers;
 pub use query::QueryDef;
+pub use rows::{Ended, plain_rows};
 pub use window::{Window, clock};
 pub use window_laws::{
     delete_takes_all_before, edges_by_places, last_insert_is_seen, later_sees_less,

@@ -4,7 +4,7 @@ ghost use Rattle.std.specs.Prelude.{IfOk};
 ghost use Rattle.path_syntax.specs.Expression.{expression};
 ghost use Rattle.path_syntax.specs.Language.{In};
 ghost use Rattle.rpq_model.specs.declared.mode.Mode.TheVariants.{Arbitrary, Simple};
-ghost use Rattle.rpq_model.specs.Answers.{IsJoinedBy, AreAnswers};
+ghost use Rattle.rpq_model.specs.Answers.{IsJoinedBy, AreAnswers, AreAnswersAt};
 ghost use Rattle.rpq_model.specs.Relations.{values, AreExactly};
 ghost use Rattle.rpq_model.specs.Query.{path_query};
 
@@ -56,6 +56,24 @@ fn joined_simply_once(alloc: Global, expr: &Expr, edges: &[&Edge]) -> Result<Vec
     joined_simply(alloc, expr, &distinct)
 }
 
+/// The answers of the query at this clock, which may be any number: sorted by source and then
+/// target, each once.
+pub(crate) fn answers_at(
+    alloc: Global,
+    query: &QueryDef,
+    now: u64,
+    entries: &[Entry],
+) -> Result<Vec<Pair>, Memory>
+    ensures { IfOk result (λ pairs.
+        AreAnswersAt (path_query query.now) now entries.now pairs.items) }
+{
+    let edges = live_edges(alloc, query.window, now, entries)?;
+    match query.mode {
+        Mode::Arbitrary => joined(alloc, &query.expr, &edges),
+        Mode::Simple => joined_simply_once(alloc, &query.expr, &edges),
+    }
+}
+
 /// The answers of the query over the history of these entries, from scratch: sorted by source and
 /// then target, each once. The only error is [`Memory`].
 ///
@@ -71,9 +89,5 @@ pub fn plain_answers(
 ) -> Result<Vec<Pair>, Memory>
     ensures { IfOk result (λ pairs. AreAnswers (path_query query.now) entries.now pairs.items) }
 {
-    let edges = live_edges(alloc, query.window, clock(entries), entries)?;
-    match query.mode {
-        Mode::Arbitrary => joined(alloc, &query.expr, &edges),
-        Mode::Simple => joined_simply_once(alloc, &query.expr, &edges),
-    }
+    answers_at(alloc, query, clock(entries), entries)
 }

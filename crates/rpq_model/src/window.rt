@@ -3,6 +3,7 @@
 ghost use Rattle.std.specs.Prelude.{◌≡◌, ◌≤◌};
 ghost use Rattle.rpq_base.specs.declared.data.TheConstants.{MAX_TIME};
 ghost use Rattle.rpq_model.specs.Window.{clock, is_in_window};
+ghost use Rattle.rpq_model.specs.WindowLaws.{IsDeadline};
 
 use rpq_base::{Entry, MAX_TIME};
 use std::marker::Model;
@@ -45,4 +46,13 @@ pub(crate) fn is_in_window(window: Window, now: u64, time: u64) -> bool
     ensures { result ≡ is_in_window window now time }
 {
     now / window.slide * window.slide < time + window.size
+}
+
+/// The deadline of an edge of this time: the least multiple of the slide that is at least the time
+/// and the size of the window together. The edge is in the window at the clocks below it.
+pub(crate) fn deadline(window: Window, time: u64) -> u64
+    requires { time ≤ MAX_TIME }
+    ensures { IsDeadline window time result }
+{
+    (time + window.size).next_multiple_of(window.slide)
 }

@@ -1,4 +1,4 @@
-use Rattle.std.proofs.Common.{◌≡◌, ℕ, List, Vec, Bor, Global, sym, ap, subst, ◌∙◌}
+use Rattle.std.proofs.Common.{◌≡◌, List, Vec, Bor, Global, sym, ap, subst, ◌∙◌}
 use Rattle.std.specs.Prelude.{◌↔◌, Contains}
 use Rattle.std.proofs.lemmas.Result.{IfOk-weaker}
 use Rattle.rpq_base.specs.declared.data.Edge.{Edge}
@@ -6,12 +6,12 @@ use Rattle.rpq_base.specs.declared.data.Pair.{Pair}
 use Rattle.path_syntax.specs.Expression.{expression}
 use Rattle.path_syntax.specs.Language.{In}
 use Rattle.rpq_model.specs.declared.mode.Mode.TheVariants.{Arbitrary, Simple}
-use Rattle.rpq_model.specs.Window.{clock, edges_at}
-use Rattle.rpq_model.specs.Answers.{IsJoinedBy, AreAnswers}
+use Rattle.rpq_model.specs.Window.{edges_at}
+use Rattle.rpq_model.specs.Answers.{IsJoinedBy, AreAnswersAt}
 use Rattle.rpq_model.specs.Relations.{values, AreExactly}
 use Rattle.rpq_model.specs.Query.{path_query}
 use Rattle.rpq_model.proofs.Answered.{answered}
-use Rattle.rpq_model.proofs.plain.plain_answers.Goals as goal
+use Rattle.rpq_model.proofs.plain.answers_at.Goals as goal
 
 -- the edges given are those of the window
 seen : (live slice : List (Bor Edge)) (window : List Edge) → values live ≡ window → slice ≡ live →
@@ -26,13 +26,14 @@ returns-in-Arbitrary c =
     let entries = c.args.entries.now in
     let edges = values c.deref.result.now in
     let expr = expression query.expr in
-    let is = c.in_ok-edges.ensures ∙ ap (λ (now : ℕ). edges_at query.window now entries) c.clock.ensures in
     let edges_are = seen c.in_ok-edges.edges.items c.deref.result.now
-    (edges_at query.window (clock entries) entries) is c.deref.ensures.value in
+    (edges_at query.window c.args.now entries) c.in_ok-edges.ensures c.deref.ensures.value in
     IfOk-weaker c.joined.result
     (λ (pairs : Vec Pair Global). AreExactly (IsJoinedBy edges (In expr) Arbitrary) pairs.items)
-    (λ (pairs : Vec Pair Global). AreAnswers (path_query c.args.query.now) entries pairs.items)
-    (λ pairs are. answered c.args.query.now query.name query.window query.mode expr entries
+    (λ (pairs : Vec Pair Global). AreAnswersAt (path_query c.args.query.now) c.args.now entries
+    pairs.items)
+    (λ pairs are. answered c.args.query.now query.name query.window query.mode expr c.args.now
+    entries
     edges Arbitrary pairs.items c.query.view_is c.in-Arbitrary.is edges_are are)
     c.joined.ensures
 
@@ -42,12 +43,14 @@ returns c =
     let entries = c.args.entries.now in
     let edges = values c.deref-in-Simple.result.now in
     let expr = expression query.expr in
-    let is = c.in_ok-edges.ensures ∙ ap (λ (now : ℕ). edges_at query.window now entries) c.clock.ensures in
     let edges_are = seen c.in_ok-edges.edges.items c.deref-in-Simple.result.now
-    (edges_at query.window (clock entries) entries) is c.deref-in-Simple.ensures.value in
+    (edges_at query.window c.args.now entries) c.in_ok-edges.ensures c.deref-in-Simple.ensures.value
+    in
     IfOk-weaker c.joined_simply_once.result
     (λ (pairs : Vec Pair Global). AreExactly (IsJoinedBy edges (In expr) Simple) pairs.items)
-    (λ (pairs : Vec Pair Global). AreAnswers (path_query c.args.query.now) entries pairs.items)
-    (λ pairs are. answered c.args.query.now query.name query.window query.mode expr entries
+    (λ (pairs : Vec Pair Global). AreAnswersAt (path_query c.args.query.now) c.args.now entries
+    pairs.items)
+    (λ pairs are. answered c.args.query.now query.name query.window query.mode expr c.args.now
+    entries
     edges Simple pairs.items c.query.view_is c.in-Simple.is edges_are are)
     c.joined_simply_once.ensures
