@@ -1,0 +1,32 @@
+use Rattle.std.proofs.Common.{◌+◌, sym, subst, refl}
+use Rattle.delta_tree.specs.Nodes.{TreeValue}
+use Rattle.delta_tree.specs.Changes.{Carries, Raises}
+use Rattle.delta_tree.proofs.Trees.{put_keeps}
+use Rattle.delta_tree.proofs.tree.Tree.put.Goals as goal
+
+pub invariant_of-self-2 : goal.invariant_of-self-2
+invariant_of-self-2 c =
+    let old : TreeValue = record {
+      root = c.self.inside.root;
+      nodes = c.self.inside.nodes.entries;
+      puts = c.self.inside.puts;
+    } in
+    let new : TreeValue = record {
+      root = c.self.inside.root;
+      nodes = c.set_node.new.nodes.entries;
+      puts =
+          c.self.inside.puts + 1;
+    } in
+    record {
+      is_tree =
+          put_keeps old new c.args.step c.args.value c.self.invariant.is_tree
+          (subst (λ tree. Raises tree c.args.step.to c.args.value) (sym c.self.view_is)
+          c.requires.raises)
+          c.in_ok-set_node.ensures.nodes refl refl
+          (subst (λ tree. Carries tree c.args.step.from c.args.value) (sym c.self.view_is)
+          c.requires.from)
+          c.requires.state c.requires.joins c.ranges.value.fits;
+      once = c.in_ok-set_node.ensures.once;
+      noted = c.in_ok-set_node.ensures.noted;
+      order = c.set_node.ensures.order;
+    }

@@ -1,0 +1,56 @@
+-- What the calls on a tree change.
+use Rattle.std.specs.Prelude.{◌≡◌, ℕ, ◌<◌, ◌≤◌, ◌⊎◌, ◌↔◌, nat_lt, cond}
+use Rattle.std.specs.Prelude.{List, Contains, Option, None, Some}
+use Rattle.std.specs.List.{IsDistinct}
+use Rattle.edge_store.specs.declared.edge.EdgeId.{EdgeId}
+use Rattle.delta_tree.specs.declared.node.NodeId.{NodeId}
+use Rattle.delta_tree.specs.declared.node.Try.{Try}
+use Rattle.delta_tree.specs.Nodes.{Node, TreeValue, same_node, root_id, node_of}
+use Rattle.delta_tree.specs.Paths.{IsBelow}
+
+-- the root, or a node of at least this value
+abbrev pub Carries : TreeValue → NodeId → ℕ → Type 0
+Carries tree id value =
+    (id ≡ root_id tree) ⊎ ((node : Node) × (node_of tree id ≡ Some node) × (value ≤ node.value))
+
+-- the value is above that of the node, where there is one
+abbrev pub Raises : TreeValue → NodeId → ℕ → Type 0
+Raises tree id value = (node : Node) → node_of tree id ≡ Some node → node.value < value
+
+-- the node that a put makes
+abbrev pub put_node : TreeValue → Try → ℕ → Node
+put_node tree step value = record {
+  value = value;
+  parent = step.from;
+  edge = step.edge;
+  stamp = tree.puts;
+}
+
+-- this node stands there now, and each other node as it stood
+abbrev pub Puts : TreeValue → TreeValue → NodeId → Node → Type 0
+Puts old new id node =
+    (each : NodeId) → node_of new each ≡ cond (same_node id each) (Some node) (node_of old each)
+
+-- a node whose value is above the clock, else none
+abbrev pub living : ℕ → Option Node → Option Node
+living now None = None
+living now (Some node) = cond (nat_lt now node.value) (Some node) None
+
+-- the nodes whose value is at most the clock are gone, and the others as they stood
+abbrev pub Expires : TreeValue → TreeValue → ℕ → Type 0
+Expires old new now = (id : NodeId) → node_of new id ≡ living now (node_of old id)
+
+-- the same root, and the same number of puts
+pub record IsSameBeside (old new : TreeValue) : Type 0 where
+  pub root : new.root ≡ old.root
+  pub puts : new.puts ≡ old.puts
+
+-- the nodes on whose path the edge stands are gone, and the others as they stood
+pub record Cuts (old new : TreeValue) (edge : EdgeId) : Type 0 where
+  pub gone : (id : NodeId) → IsBelow old edge id → node_of new id ≡ None
+  pub kept : (id : NodeId) → (IsBelow old edge id → ⊥) → node_of new id ≡ node_of old id
+
+-- the list has exactly the nodes on whose path the edge stands, each once
+pub record AreBelow (tree : TreeValue) (edge : EdgeId) (ids : List NodeId) : Type 0 where
+  pub exact : (id : NodeId) → Contains ids id ↔ IsBelow tree edge id
+  pub once : IsDistinct same_node ids

@@ -1,0 +1,6 @@
+pub mod Changes
+pub mod Dues
+pub mod Laws
+pub mod Nodes
+pub mod Paths
+pub mod Ranks

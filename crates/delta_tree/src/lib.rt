@@ -1,0 +1,33 @@
+//! The tree of one source: which vertices it reaches with which states, and up to when.
+//!
+//! A [`Tree`] has a root, the source's vertex with the start of an automaton, and below it a node
+//! for each vertex and state that some path from the root leads to. A node keeps a value, the node
+//! below which it hangs, the edge by which it does, and a stamp. The layers above choose the
+//! values: that of a node is the greatest time up to which all edges of some path to it stay.
+//! Source: the spanning trees of the Delta index of Pacaci, Bonifati and Özsu, SIGMOD 2020, whose
+//! nodes have a timestamp; that the greatest of these times is kept is this project's own rule.
+//!
+//! The contract for the layers above: a node has at most the value of its parent and comes after
+//! it, so that the parents never form a ring and each node has one path from the root; each call
+//! answers and changes exactly what the map from vertices and states to nodes says. A put stamps a
+//! node with the number of puts before it, so that a node made anew is told from one that stood.
+//!
+//! A look-up and a put cost a hash. An expiry costs one comparison where no node goes, and else a
+//! step in a heap for each node that goes and for each one that was raised since it was last looked
+//! at. A cut goes over all nodes, and sorts them where a node hangs by its edge. A tree that loses
+//! most of its nodes gives their memory back.
+#![tactic(auto)]
+
+mod cut;
+mod dues;
+mod laws;
+mod node;
+mod nodes;
+mod ranks;
+#[cfg(test)]
+mod tests;
+mod tree;
+
+pub use laws::{changes_of_trees, order_of_trees, paths_of_trees};
+pub use node::{NodeId, Pending, Try};
+pub use tree::Tree;

@@ -1,0 +1,93 @@
+//! The nodes of a tree, and the order in which they leave it.
+
+ghost use Rattle.std.specs.Prelude.{◌≡◌, ◌<◌, ◌≤◌, cond, Some, Contains, OnOk, OnErr, option_map};
+ghost use Rattle.std.specs.BinaryHeap.{heap_items, heap_len, heap_capacity};
+ghost use Rattle.std.specs.List.{IsDistinct};
+ghost use Rattle.std.specs.Map.{keys_of};
+ghost use Rattle.delta_tree.specs.declared.node.NodeId.{NodeId};
+ghost use Rattle.delta_tree.specs.Nodes.{Node, same_node, node_in};
+ghost use Rattle.delta_tree.specs.Changes.{living};
+ghost use Rattle.delta_tree.specs.Dues.{due, IsQueue, IsNoted, KeepsDues, pending};
+
+use crate::dues::{Due, note};
+use crate::node::{Node, NodeId};
+use edge_store::NoMemory;
+use indexmap::IndexMap;
+use std::collections::BinaryHeap;
+
+/// The value of the node that stands there, by one look-up.
+pub(crate) fn value_in(nodes: &IndexMap<NodeId, Node>, id: NodeId) -> Option<u64>
+    ensures { result ≡ option_map (λ (node : Node). node.value) (node_in nodes.now.entries id) }
+{
+    nodes.get(&id).map(|node| node.value)
+}
+
+/// Puts a node, whose value is at least the one that it has. The only error is [`NoMemory`], after
+/// which nothing has changed.
+pub(crate) fn set_node(
+    nodes: &mut IndexMap<NodeId, Node>,
+    dues: &mut BinaryHeap<Due>,
+    id: NodeId,
+    node: Node,
+) -> Result<(), NoMemory>
+    requires order { IsQueue (heap_items dues.old) }
+    requires noted { IsNoted nodes.old.entries (heap_items dues.old) }
+    requires raises { (old : Node) →
+        node_in nodes.old.entries id ≡ Some old → old.value ≤ node.value }
+    ensures nodes { OnOk result ((each : NodeId) → node_in nodes.new.entries each
+        ≡ cond (same_node id each) (Some node) (node_in nodes.old.entries each)) }
+    ensures once { OnOk result (IsDistinct same_node (keys_of nodes.new.entries)) }
+    ensures order { IsQueue (heap_items dues.new) }
+    ensures noted { OnOk result (IsNoted nodes.new.entries (heap_items dues.new)) }
+    ensures unchanged { OnErr result (nodes.new.entries ≡ nodes.old.entries) }
+    ensures noted_before { OnErr result (heap_items dues.new ≡ heap_items dues.old) }
+{
+    // A node that is raised stays where it is noted, so only a new one needs the room.
+    dues.reserve(1)?;
+    if nodes.insert(id, node)?.is_none() {
+        note(dues, id, node.value);
+    }
+    Ok(())
+}
+
+/// Gives memory back where there are few nodes for the room that there is.
+pub(crate) fn give_back(nodes: &mut IndexMap<NodeId, Node>, dues: &mut BinaryHeap<Due>)
+    ensures nodes { nodes.new.entries ≡ nodes.old.entries }
+    ensures once { IsDistinct same_node (keys_of nodes.new.entries) }
+    ensures dues { heap_items dues.new ≡ heap_items dues.old }
+{
+    if nodes.len() <= nodes.capacity() / 4 {
+        nodes.shrink_to_fit();
+        dues.shrink_to_fit();
+    }
+}
+
+/// Takes the node out where its value is at most `now`, and else notes it with its value.
+pub(crate) fn drop_or_note(
+    nodes: &mut IndexMap<NodeId, Node>,
+    dues: &mut BinaryHeap<Due>,
+    id: NodeId,
+    now: u64,
+)
+    requires once { IsDistinct same_node (keys_of nodes.old.entries) }
+    requires order { IsQueue (heap_items dues.old) }
+    requires room { heap_len dues.old < heap_capacity dues.old }
+    ensures nodes { (each : NodeId) → node_in nodes.new.entries each
+        ≡ cond (same_node id each)
+        (living now (node_in nodes.old.entries id)) (node_in nodes.old.entries each) }
+    ensures once { IsDistinct same_node (keys_of nodes.new.entries) }
+    ensures order { IsQueue (heap_items dues.new) }
+    ensures pending { pending now (heap_items dues.new) ≡ pending now (heap_items dues.old) }
+    ensures kept { KeepsDues (heap_items dues.old) (heap_items dues.new) }
+    ensures noted { (node : Node) → node_in nodes.new.entries id ≡ Some node →
+        Contains (heap_items dues.new) (due id node.value) }
+{
+    match value_in(nodes, id) {
+        Some(value) if value > now => note(dues, id, value),
+        Some(_) => {
+            nodes.swap_remove(&id);
+            give_back(nodes, dues);
+        }
+        None => {}
+    }
+}

@@ -1,0 +1,225 @@
+//! A tree of nodes below a root.
+
+ghost use Rattle.std.specs.Prelude.{◌≡◌, ◌+◌, ◌<◌, ◌^◌, ◌↔◌, [], length, slice_get, Contains};
+ghost use Rattle.std.specs.Prelude.{IfOk, IfSome, IsSome, OnErr, OnOk, None, Some};
+ghost use Rattle.delta_tree.specs.Nodes.{IsTree, GivesNodes, Joins};
+ghost use Rattle.delta_tree.specs.Nodes.{node_id, node_of, value_of, ids_of};
+ghost use Rattle.delta_tree.specs.Paths.{IsPathTo, LeadsUp, IsBelow};
+ghost use Rattle.delta_tree.specs.declared.node.NodeId.{NodeId};
+ghost use Rattle.delta_tree.specs.Changes.{Carries, Raises, Puts, put_node, Expires};
+ghost use Rattle.delta_tree.specs.Changes.{IsSameBeside, Cuts, AreBelow};
+
+use crate::cut::{hangs, has_edge, retain_dues, take_out};
+use crate::dues::{Due, next_due};
+use crate::node::{Node, NodeId, Try};
+use crate::nodes::{drop_or_note, give_back, set_node, value_in};
+use crate::ranks::in_order;
+use edge_store::{EdgeId, NoMemory};
+use indexmap::{IndexMap, IndexSet};
+use std::alloc::Global;
+use std::collections::BinaryHeap;
+use std::marker::Model;
+
+/// A root vertex, and nodes that hang below it, each with a value.
+#[derive(Drop)]
+pub struct Tree {
+    alloc: Global,
+    root: u32,
+    puts: u128,
+    nodes: IndexMap<NodeId, Node>,
+    /// Each node with a value that is at most its own, and beside them nodes that are gone.
+    dues: BinaryHeap<Due>,
+}
+
+impl Model for Tree {
+    ghost use Rattle.std.specs.BinaryHeap.{heap_items};
+    ghost use Rattle.delta_tree.specs.Nodes.{TreeValue};
+
+    ghost Value = { TreeValue };
+
+    ghost use Rattle.delta_tree.specs.Dues.{IsKept};
+
+    ghost view = { λ tree. record {
+      root = tree.root;
+      nodes = tree.nodes.entries;
+      puts = tree.puts;
+    } };
+
+    ghost invariant = { λ tree. IsKept (record {
+      root = tree.root;
+      nodes = tree.nodes.entries;
+      puts = tree.puts;
+    }) (heap_items tree.dues) };
+}
+
+impl Tree {
+    /// A root without nodes. It takes memory with the first node.
+    pub fn new(alloc: Global, root: u32) -> Result<Tree, NoMemory>
+        ensures root { IfOk result (λ tree. tree.root ≡ root) }
+        ensures empty { IfOk result (λ tree. tree.nodes ≡ []) }
+        ensures puts { IfOk result (λ tree. tree.puts ≡ 0) }
+    {
+        Ok(Tree {
+            alloc,
+            root,
+            puts: 0,
+            nodes: IndexMap::new(alloc),
+            dues: BinaryHeap::new(alloc),
+        })
+    }
+
+    /// The vertex of the root.
+    pub fn root(&self) -> u32
+        ensures root { result ≡ self.now.root }
+        ensures tree { IsTree self.now }
+    {
+        self.root
+    }
+
+    /// The value of the node of this vertex with this state, or none where there is no such node,
+    /// by one look-up.
+    pub fn value_of(&self, v: u32, s: u32) -> Option<u64>
+        ensures { result ≡ value_of self.now (node_id v s) }
+    {
+        let id = NodeId {
+            vertex: v,
+            state: s,
+        };
+        value_in(&self.nodes, id)
+    }
+
+    /// The number of nodes, without the root. A walk over them goes from place 0 to below it.
+    pub fn len(&self) -> usize
+        ensures count { result ≡ length self.now.nodes }
+        ensures walk { GivesNodes self.now }
+    {
+        self.nodes.len()
+    }
+
+    /// The node at this place.
+    pub fn node_at(&self, k: usize) -> NodeId
+        requires { k < length self.now.nodes }
+        ensures { slice_get (ids_of self.now) k ≡ Some result }
+    {
+        match self.nodes.get_index(k) {
+            Some((id, _)) => *id,
+            None => unreachable!(),
+        }
+    }
+
+    /// Hangs `step.to` below `step.from` by the edge, with this value; where it stands already, it
+    /// leaves the place at which it hung. The value is at most that of `step.from` and above that
+    /// of `step.to`. The only error is [`NoMemory`], after which nothing has changed.
+    pub fn put(&mut self, step: Try, value: u64) -> Result<(), NoMemory>
+        requires from { Carries self.old step.from value }
+        requires raises { Raises self.old step.to value }
+        requires state { 0 < step.to.state }
+        requires joins { Joins step.from step.edge step.to }
+        requires puts { self.old.puts < 2 ^ 127 }
+        ensures node { OnOk result (Puts self.old self.new step.to (put_node self.old step value)) }
+        ensures counted { OnOk result (self.new.puts ≡ self.old.puts + 1) }
+        ensures root { self.new.root ≡ self.old.root }
+        ensures unchanged { OnErr result (self.new ≡ self.old) }
+    {
+        let node = Node {
+            value,
+            parent: step.from,
+            edge: step.edge,
+            stamp: self.puts,
+        };
+        set_node(&mut self.nodes, &mut self.dues, step.to, node)?;
+        self.puts += 1;
+        Ok(())
+    }
+
+    /// Takes exactly the nodes out whose value is at most `now`. Where none is, this is one
+    /// comparison, and else a step in a heap for each of them and for each raised node whose value
+    /// before was at most `now`.
+    pub fn expire(&mut self, now: u64)
+        ensures gone { Expires self.old self.new now }
+        ensures beside { IsSameBeside self.old self.new }
+    {
+        while let Some(id) = next_due(&mut self.dues, now) {
+            drop_or_note(&mut self.nodes, &mut self.dues, id, now);
+        }
+    }
+
+    /// The edges of the path from the root to the node of this vertex with this state, or none
+    /// where there is no such node. This costs a look-up for each edge.
+    pub fn path_to(&self, v: u32, s: u32) -> Result<Option<Vec<EdgeId>>, NoMemory>
+        ensures none { IfOk result (λ found.
+            (found ≡ None) ↔ (node_of self.now (node_id v s) ≡ None)) }
+        ensures path { IfOk result (λ found. IfSome found (λ path.
+            IsPathTo self.now (node_id v s) path.items)) }
+    {
+        let id = NodeId {
+            vertex: v,
+            state: s,
+        };
+        if !self.nodes.contains_key(&id) {
+            return Ok(None);
+        }
+        let mut path = self.way_up(id)?;
+        path.reverse();
+        Ok(Some(path))
+    }
+
+    /// The parent edges from a node up to the root, that of the node first.
+    fn way_up(&self, id: NodeId) -> Result<Vec<EdgeId>, NoMemory>
+        requires { IsSome (node_of self.now id) }
+        ensures { IfOk result (λ up. LeadsUp self.now id up.items) }
+    {
+        let mut up = Vec::new(self.alloc);
+        let mut at = id;
+        while let Some(node) = self.nodes.get(&at) {
+            up.push(node.edge)?;
+            at = node.parent;
+        }
+        Ok(up)
+    }
+
+    /// Takes exactly the nodes out on whose path from the root the edge stands, and answers them,
+    /// each after its parent. The only error is [`NoMemory`], after which nothing has changed. This
+    /// costs a step for each node of the tree, and sorts them where a node hangs by this edge.
+    pub fn cut_below(&mut self, edge: EdgeId) -> Result<Vec<NodeId>, NoMemory>
+        ensures cut { IfOk result (λ cut. AreBelow self.old edge cut.items) }
+        ensures gone { OnOk result (Cuts self.old self.new edge) }
+        ensures beside { IsSameBeside self.old self.new }
+        ensures unchanged { OnErr result (self.new ≡ self.old) }
+    {
+        let cut = self.below(edge)?;
+        if cut.is_empty() {
+            return Ok(cut);
+        }
+        take_out(&mut self.nodes, &cut);
+        retain_dues(&mut self.dues, &self.nodes);
+        give_back(&mut self.nodes, &mut self.dues);
+        Ok(cut)
+    }
+
+    /// The nodes on whose path from the root the edge stands.
+    fn below(&self, edge: EdgeId) -> Result<Vec<NodeId>, NoMemory>
+        ensures { IfOk result (λ ids. AreBelow self.now edge ids.items) }
+    {
+        if !has_edge(&self.nodes, edge) {
+            return Ok(Vec::new(self.alloc));
+        }
+        let below = self.set_below(edge)?;
+        Ok(Vec::from_slice(self.alloc, below.as_slice())?)
+    }
+
+    /// The same nodes as a set, found in an order in which each comes after its parent.
+    fn set_below(&self, edge: EdgeId) -> Result<IndexSet<NodeId>, NoMemory>
+        ensures { IfOk result (λ ids. (id : NodeId) →
+            Contains ids.keys id ↔ IsBelow self.now edge id) }
+    {
+        let ranks = in_order(self.alloc, &self.nodes)?;
+        let mut below = IndexSet::new(self.alloc);
+        for rank in &ranks {
+            if hangs(&self.nodes, rank.id, edge, &below) {
+                below.insert(rank.id)?;
+            }
+        }
+        Ok(below)
+    }
+}
