@@ -1,4 +1,5 @@
-mod Agreeing
+mod Accepted
+pub mod Agreeing
 mod Chains
 mod Shortened
 mod Distinct

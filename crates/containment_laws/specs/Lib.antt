@@ -1,3 +1,4 @@
 pub mod SimplePaths
 pub mod Lines
 pub mod LineExamples
+pub mod Accepted

@@ -1,5 +1,6 @@
 -- What simple paths do for a language with the property of containment.
-use Rattle.std.specs.Prelude.{◌≢◌, ◌↔◌, ℕ, List}
+use Rattle.std.specs.Prelude.{◌≢◌, ◌↔◌, ℕ, not, List, filter}
+use Rattle.rpq_base.specs.Same.{same_name}
 use Rattle.rpq_base.specs.declared.data.Label.{Label}
 use Rattle.rpq_base.specs.declared.data.Edge.{Edge}
 use Rattle.rpq_base.specs.declared.data.Entry.{Entry}
@@ -7,7 +8,7 @@ use Rattle.rpq_base.specs.declared.data.Pair.{Pair}
 use Rattle.rpq_model.specs.declared.mode.Mode.{Mode}
 use Rattle.rpq_model.specs.declared.mode.Mode.TheVariants.{Arbitrary, Simple}
 use Rattle.rpq_model.specs.Window.{WindowValue}
-use Rattle.rpq_model.specs.Answers.{IsJoinedBy, IsAnswerAt, PathQuery}
+use Rattle.rpq_model.specs.Answers.{IsJoinedBy, IsAnswerAt, AreAnswersAt, PathQuery}
 use Rattle.containment_test.specs.Containment.{Contained}
 
 -- simple paths join each pair of two vertices that any path joins, whatever edges there are
@@ -33,3 +34,15 @@ ContainedAnswersAgree language = Contained language →
     pair.from ≢ pair.to →
     IsAnswerAt (query_with language Simple window) now entries pair
     ↔ IsAnswerAt (query_with language Arbitrary window) now entries pair
+
+-- the pairs of two different vertices, in their order
+abbrev pub apart : List Pair → List Pair
+apart pairs = filter (λ pair. not (same_name pair.from pair.to)) pairs
+
+-- and so the list of the answers by simple paths is the one by all paths without the pairs of one
+-- vertex
+abbrev pub SimpleAnswersFromAll : (List Label → Type 0) → Type 0
+SimpleAnswersFromAll language = Contained language →
+    (window : WindowValue) (now : ℕ) (entries : List Entry) (pairs : List Pair) →
+    AreAnswersAt (query_with language Arbitrary window) now entries pairs →
+    AreAnswersAt (query_with language Simple window) now entries (apart pairs)

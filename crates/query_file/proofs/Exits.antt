@@ -1,5 +1,5 @@
 -- The faults with which the reader of a line ends.
-use Rattle.std.proofs.Common.{◌≡◌, ◌≢◌, ℕ, ◌<◌, ◌≤◌, ◌⊎◌, inl, inr, List, Option, Some, None, Result, Ok, Err, refl, sym, subst}
+use Rattle.std.proofs.Common.{◌≡◌, ◌≢◌, ℕ, ◌<◌, ◌≤◌, ◌⊎◌, inl, inr, List, Option, Some, None, Result, Ok, Err, refl, sym, subst, ◌∙◌}
 use Rattle.std.specs.Prelude.{IfErr, IsNone, IsSome}
 use Rattle.std.specs.Result.{IsErrAnd}
 use Rattle.std.proofs.lemmas.Bool.{false≢true}
@@ -10,13 +10,18 @@ use Rattle.path_syntax.specs.declared.read.BadExpr.{BadExpr}
 use Rattle.path_syntax.specs.declared.read.BadExpr.TheVariants as bad
 use Rattle.dfa_build.specs.declared.fault.BuildFault.{BuildFault}
 use Rattle.dfa_build.specs.declared.fault.BuildFault.TheVariants as build
+use Rattle.dfa_table.specs.DfaValue.{DfaValue}
+use Rattle.dfa_table.specs.Runs.{Accepts}
+use Rattle.containment_test.specs.declared.verdict.Verdict.TheVariants.{No}
 use Rattle.rpq_model.specs.Query.{Query}
+use Rattle.query_file.specs.Compiled.{IsAutomatonOf}
 use Rattle.query_file.specs.declared.fault.QueryKind.{QueryKind}
-use Rattle.query_file.specs.declared.fault.QueryKind.TheVariants.{Shape, Number, Twice, TooMany, NoQuery, Expr, TooManyLabels, TooManyStates, Memory, NotYet}
-use Rattle.query_file.specs.InOrder.{IsTaken, HasLengths, HasRoom, HasExpression, IsFirstInOrder}
+use Rattle.query_file.specs.declared.fault.QueryKind.TheVariants.{Shape, Number, Twice, TooMany, NoQuery, Expr, TooManyLabels, TooManyStates, NotContained, Memory}
+use Rattle.query_file.specs.InOrder.{IsTaken, HasLengths, HasRoom, HasExpression, HasFewStates, IsFirstInOrder}
 use Rattle.query_file.specs.Kinds.{kind_of_expr, kind_of_build}
-use Rattle.query_file.specs.Places.{HasNoPlace}
+use Rattle.query_file.specs.Places.{HasNoPlace, IsRefusedBy}
 use Rattle.query_file.specs.QueryLine.{LineParts, HasParts, length_of, NeedsManyStates}
+use Rattle.query_file.proofs.Verdicts.{verdict_on_query}
 
 -- what holds of an error that is handed on
 pub err_out : {T E : Type 0} (result : Result T E) (fault : E) (P : E → Type 0) → IsErrAnd result (λ handed. handed ≡ fault) → P fault → IfErr result P
@@ -52,8 +57,8 @@ no_place before line parts has long NoQuery none other = absurd none
 no_place before line parts has long (Expr fault) none other = absurd none
 no_place before line parts has long (TooManyLabels count) none other = absurd none
 no_place before line parts has long TooManyStates none other = absurd none
+no_place before line parts has long (NotContained p q w) none other = absurd none
 no_place before line parts has long Memory none other = absurd (other refl)
-no_place before line parts has long NotYet none other = absurd none
 
 -- a fault of the expression
 pub no_expression : (before : List Query) (line : List ℕ) (parts : LineParts) → HasParts line parts → HasRoom before parts → (fault : BadExpr) →
@@ -75,3 +80,19 @@ no_automaton before line parts e has expression result (build.TooManyLabels n) i
 no_automaton before line parts e has expression result build.TooManyStates is labels states other =
     let both = states is in (parts, has, (e, record { expression = expression; few = both.0 }, both.1))
 no_automaton before line parts e has expression result build.Memory is labels states other = absurd (other refl)
+
+-- a language that isn't contained
+pub not_contained : (before : List Query) (line : List ℕ) (parts : LineParts) (query : Query) (dfa : DfaValue) → HasParts line parts →
+    HasFewStates before parts query.expr → query.mode ≡ parts.mode → IsAutomatonOf query dfa → (kind : QueryKind) →
+    IsRefusedBy (Accepts dfa) query.mode kind → kind ≢ Memory → IsFirstInOrder before line kind
+not_contained before line parts query dfa has states mode is Shape refused other = absurd refused
+not_contained before line parts query dfa has states mode is Number refused other = absurd refused
+not_contained before line parts query dfa has states mode is (Twice name) refused other = absurd refused
+not_contained before line parts query dfa has states mode is TooMany refused other = absurd refused
+not_contained before line parts query dfa has states mode is NoQuery refused other = absurd refused
+not_contained before line parts query dfa has states mode is (Expr fault) refused other = absurd refused
+not_contained before line parts query dfa has states mode is (TooManyLabels count) refused other = absurd refused
+not_contained before line parts query dfa has states mode is TooManyStates refused other = absurd refused
+not_contained before line parts query dfa has states mode is (NotContained p q w) refused other =
+    (parts, has, (query.expr, states, sym mode ∙ refused.0, verdict_on_query query dfa (No p q w) is refused.1))
+not_contained before line parts query dfa has states mode is Memory refused other = absurd (other refl)

@@ -1,5 +1,5 @@
 -- The first fault of a line is the first in the order of the kinds.
-use Rattle.std.proofs.Common.{◌≡◌, ℕ, ◌<◌, ◌≤◌, ◌⊎◌, inl, inr, List, Option, Some, None, Ok, Err, refl, sym, subst, ◌∙◌, arith}
+use Rattle.std.proofs.Common.{◌≡◌, ℕ, ◌<◌, ◌≤◌, ◌⊎◌, inl, inr, List, Option, Some, None, Ok, Err, refl, sym, subst, arith}
 use Rattle.std.specs.Prelude.{IsSome}
 use Rattle.std.proofs.lemmas.Bool.{false≢true, cases_lt}
 use Rattle.path_syntax.specs.Expression.{Expression}
@@ -7,10 +7,13 @@ use Rattle.path_syntax.specs.Faults.{IsOutcome}
 use Rattle.path_syntax.specs.Size.{atoms}
 use Rattle.path_syntax.specs.declared.read.BadExpr.{BadExpr}
 use Rattle.path_syntax.proofs.Answering.{one_outcome}
-use Rattle.rpq_model.specs.declared.mode.Mode.TheVariants.{Arbitrary, Simple}
+use Rattle.rpq_base.specs.declared.data.Label.{Label}
+use Rattle.path_syntax.specs.Language.{In}
+use Rattle.containment_test.specs.Containment.{Contained, IsLeastTriple}
+use Rattle.rpq_model.specs.declared.mode.Mode.TheVariants.{Simple}
 use Rattle.rpq_model.specs.Query.{Query}
 use Rattle.query_file.specs.declared.fault.QueryKind.{QueryKind}
-use Rattle.query_file.specs.declared.fault.QueryKind.TheVariants.{Shape, Number, Twice, TooMany, NoQuery, Expr, TooManyLabels, TooManyStates, Memory, NotYet}
+use Rattle.query_file.specs.declared.fault.QueryKind.TheVariants.{Shape, Number, Twice, TooMany, NoQuery, Expr, TooManyLabels, TooManyStates, NotContained, Memory}
 use Rattle.query_file.specs.InOrder.{IsTaken, HasLengths, HasNewName, HasRoom, HasExpression, HasFewLabels, HasFewStates, IsFirstInOrder, IsLineInOrder}
 use Rattle.query_file.specs.QueryLine.{LineParts, HasParts, ForParts, ForExpression, length_of, NeedsManyStates, HasFault, number_of, IsFirstFault, IsLineOf}
 use Rattle.query_file.proofs.OneParts.{one_parts}
@@ -43,6 +46,11 @@ none_from (Some time) no_some = absurd (no_some refl)
 pub some_not_none : (found : Option ℕ) → IsSome found → found ≡ None → ⊥
 some_not_none found some none = absurd (false≢true (subst IsSome none some))
 
+-- a language that is contained has no words that show that it isn't
+pub contained_has_none : (language : List Label → Type 0) (p q w : List Label) → Contained language → IsLeastTriple language p q w → ⊥
+contained_has_none language p q w contained least =
+    let shows = least.shows in shows.outside (contained p q w shows.some shows.inside)
+
 -- ---- which faults are left
 
 -- what is known of a line with these parts that has no fault of a number below n
@@ -53,7 +61,7 @@ record Facts (before : List Query) (parts : LineParts) (n : ℕ) : Type 0 where
   expression : 6 < n → (e : Expression) × HasExpression before parts e
   labels : 7 < n → (e : Expression) × HasFewLabels before parts e
   states : 8 < n → (e : Expression) × HasFewStates before parts e
-  mode : 11 < n → parts.mode ≡ Arbitrary
+  accepted : 9 < n → (e : Expression) × IsOutcome parts.expr (Ok e) × (parts.mode ≡ Simple → Contained (In e))
 
 -- then each of its faults has a number from n on
 left : (before : List Query) (line : List ℕ) (parts : LineParts) (n : ℕ) → HasParts line parts → Facts before parts n →
@@ -99,16 +107,18 @@ left before line parts n has facts TooManyStates fault = elim (cases_lt 8 n) [
       let known = facts.states less in
       absurd (known.1.few (at_expression line NeedsManyStates parts known.0 has known.1.labels.expression.outcome fault))
 ]
-left before line parts n has facts Memory fault = absurd fault
-left before line parts n has facts NotYet fault = elim (cases_lt 11 n) [
+left before line parts n has facts (NotContained p q w) fault = elim (cases_lt 9 n) [
   | inr done ↦ done
   | inl less ↦
-      let simple = at_parts line (λ p. p.mode ≡ Simple) parts has fault in
-      let both : Arbitrary ≡ Simple = sym (facts.mode less) ∙ simple in
-      absurd (cc both)
+      let (e, outcome, contained) = facts.accepted less in
+      let (f, simple, other, least) =
+      at_parts line (λ part. (f : Expression) × (part.mode ≡ Simple) × IsOutcome part.expr (Ok f) × IsLeastTriple (In f) p q w) parts has fault in
+      absurd (contained_has_none (In e) p q w (contained simple)
+      (subst (λ (g : Expression). IsLeastTriple (In g) p q w) (one_expression parts.expr f e other outcome) least))
 ]
+left before line parts n has facts Memory fault = absurd fault
 
--- each kind has a number from 1 to 11
+-- each kind has a number from 1 to 10
 least_number : (kind : QueryKind) → 1 ≤ number_of kind
 least_number Shape = omega arith
 least_number Number = omega arith
@@ -118,10 +128,10 @@ least_number NoQuery = omega arith
 least_number (Expr fault) = omega arith
 least_number (TooManyLabels count) = omega arith
 least_number TooManyStates = omega arith
+least_number (NotContained p q w) = omega arith
 least_number Memory = omega arith
-least_number NotYet = omega arith
 
-greatest_number : (kind : QueryKind) → number_of kind ≤ 11
+greatest_number : (kind : QueryKind) → number_of kind ≤ 10
 greatest_number Shape = omega arith
 greatest_number Number = omega arith
 greatest_number (Twice name) = omega arith
@@ -130,8 +140,8 @@ greatest_number NoQuery = omega arith
 greatest_number (Expr fault) = omega arith
 greatest_number (TooManyLabels count) = omega arith
 greatest_number TooManyStates = omega arith
+greatest_number (NotContained p q w) = omega arith
 greatest_number Memory = omega arith
-greatest_number NotYet = omega arith
 
 -- ---- from the order
 
@@ -143,7 +153,7 @@ known_lengths before parts has = record {
   expression = λ less. absurd (omega (arith, less));
   labels = λ less. absurd (omega (arith, less));
   states = λ less. absurd (omega (arith, less));
-  mode = λ less. absurd (omega (arith, less));
+  accepted = λ less. absurd (omega (arith, less));
 }
 
 known_name : (before : List Query) (parts : LineParts) → HasNewName before parts → Facts before parts 4
@@ -154,7 +164,7 @@ known_name before parts has = record {
   expression = λ less. absurd (omega (arith, less));
   labels = λ less. absurd (omega (arith, less));
   states = λ less. absurd (omega (arith, less));
-  mode = λ less. absurd (omega (arith, less));
+  accepted = λ less. absurd (omega (arith, less));
 }
 
 known_room : (before : List Query) (parts : LineParts) → HasRoom before parts → Facts before parts 6
@@ -165,7 +175,7 @@ known_room before parts has = record {
   expression = λ less. absurd (omega (arith, less));
   labels = λ less. absurd (omega (arith, less));
   states = λ less. absurd (omega (arith, less));
-  mode = λ less. absurd (omega (arith, less));
+  accepted = λ less. absurd (omega (arith, less));
 }
 
 known_expression : (before : List Query) (parts : LineParts) (e : Expression) → HasExpression before parts e → Facts before parts 7
@@ -176,7 +186,7 @@ known_expression before parts e has = record {
   expression = λ less. (e, has);
   labels = λ less. absurd (omega (arith, less));
   states = λ less. absurd (omega (arith, less));
-  mode = λ less. absurd (omega (arith, less));
+  accepted = λ less. absurd (omega (arith, less));
 }
 
 known_labels : (before : List Query) (parts : LineParts) (e : Expression) → HasFewLabels before parts e → Facts before parts 8
@@ -187,19 +197,19 @@ known_labels before parts e has = record {
   expression = λ less. (e, has.expression);
   labels = λ less. (e, has);
   states = λ less. absurd (omega (arith, less));
-  mode = λ less. absurd (omega (arith, less));
+  accepted = λ less. absurd (omega (arith, less));
 }
 
-known_states : (before : List Query) (parts : LineParts) (e : Expression) (n : ℕ) → HasFewStates before parts e → (11 < n → parts.mode ≡ Arbitrary) →
-    Facts before parts n
-known_states before parts e n has mode = record {
+known_states : (before : List Query) (parts : LineParts) (e : Expression) (n : ℕ) → HasFewStates before parts e →
+    (9 < n → parts.mode ≡ Simple → Contained (In e)) → Facts before parts n
+known_states before parts e n has contained = record {
   lengths = λ less. has.labels.expression.room.name.lengths;
   name = λ less. has.labels.expression.room.name;
   room = λ less. has.labels.expression.room;
   expression = λ less. (e, has.labels.expression);
   labels = λ less. (e, has.labels);
   states = λ less. (e, has);
-  mode = mode;
+  accepted = λ less. (e, has.labels.expression.outcome, contained less);
 }
 
 -- parts of which one isn't a length
@@ -222,7 +232,7 @@ first_fault before line Number (parts, has, none) = record {
     expression = λ less. absurd (omega (arith, less));
     labels = λ less. absurd (omega (arith, less));
     states = λ less. absurd (omega (arith, less));
-    mode = λ less. absurd (omega (arith, less));
+    accepted = λ less. absurd (omega (arith, less));
   });
 }
 first_fault before line (Twice name) (parts, has, (lengths, is, taken)) = record {
@@ -246,17 +256,17 @@ first_fault before line TooManyStates (parts, has, (e, labels, many)) = record {
   has = (parts, has, (e, labels.expression.outcome, many));
   least = left before line parts 8 has (known_labels before parts e labels);
 }
-first_fault before line Memory none = absurd none
-first_fault before line NotYet (parts, has, (e, states, simple)) = record {
-  has = (parts, has, simple);
-  least = left before line parts 11 has (known_states before parts e 11 states (λ less. absurd (omega (arith, less))));
+first_fault before line (NotContained p q w) (parts, has, (e, states, simple, least)) = record {
+  has = (parts, has, (e, simple, states.labels.expression.outcome, least));
+  least = left before line parts 9 has (known_states before parts e 9 states (λ less. absurd (omega (arith, less))));
 }
+first_fault before line Memory none = absurd none
 
 -- a line without a fault in the order has none
 pub line_of : (before : List Query) (line : List ℕ) (query : Query) → IsLineInOrder before line query → IsLineOf before line query
 line_of before line query is = record {
   no_fault = λ kind fault.
-      let above = left before line is.parts 12 is.has (known_states before is.parts query.expr 12 is.states (λ less. is.arbitrary)) kind fault in
+      let above = left before line is.parts 11 is.has (known_states before is.parts query.expr 11 is.states (λ less. is.contained)) kind fault in
       let most = greatest_number kind in
       absurd (omega (arith, above, most));
   parts = is.parts;

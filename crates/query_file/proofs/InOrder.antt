@@ -1,21 +1,18 @@
 -- The first fault of a line is the first in the order of the kinds: the other way round.
-use Rattle.std.proofs.Common.{◌≡◌, ℕ, ◌<◌, ◌≤◌, inl, inr, List, length, Option, Some, None, Result, Ok, Err, refl, arith}
+use Rattle.std.proofs.Common.{◌≡◌, ℕ, ◌<◌, ◌≤◌, inl, inr, List, length, Option, Some, None, Ok, refl, arith}
 use Rattle.std.specs.Prelude.{IsSome}
 use Rattle.std.proofs.lemmas.Bool.{cases_lt}
 use Rattle.path_syntax.specs.Expression.{Expression}
 use Rattle.path_syntax.specs.Faults.{IsOutcome}
 use Rattle.path_syntax.specs.Size.{atoms}
-use Rattle.path_syntax.specs.declared.read.BadExpr.{BadExpr}
-use Rattle.path_syntax.proofs.Answering.{one_outcome}
-use Rattle.rpq_model.specs.declared.mode.Mode.{Mode}
-use Rattle.rpq_model.specs.declared.mode.Mode.TheVariants.{Arbitrary, Simple}
 use Rattle.rpq_model.specs.Query.{Query}
 use Rattle.query_file.specs.declared.fault.QueryKind.{QueryKind}
-use Rattle.query_file.specs.declared.fault.QueryKind.TheVariants.{Shape, Number, Twice, TooMany, NoQuery, Expr, TooManyLabels, TooManyStates, Memory, NotYet}
+use Rattle.query_file.specs.declared.fault.QueryKind.TheVariants.{Shape, Number, Twice, TooMany, NoQuery, Expr, TooManyLabels, TooManyStates, NotContained, Memory}
 use Rattle.query_file.specs.InOrder.{HasLengths, HasNewName, HasRoom, HasFewLabels, HasFewStates, IsFirstInOrder, IsLineInOrder, FaultsInOrder}
 use Rattle.query_file.specs.QueryLine.{LineParts, HasParts, length_of, HasFault, number_of, IsFirstFault, IsLineOf}
 use Rattle.query_file.proofs.Decided.{parts_or_none}
 use Rattle.query_file.proofs.FirstFaults.{some_not_none, first_fault, line_of}
+use Rattle.query_file.proofs.LeastTriples.{contained_of_none}
 
 some_from : (found : Option ℕ) → (found ≡ None → ⊥) → IsSome found
 some_from None other = absurd (other refl)
@@ -63,13 +60,6 @@ module _ (before : List Query) (line : List ℕ) (parts : LineParts) (n : ℕ) (
     few = λ many. let most = least TooManyStates (parts, has, (e, outcome, many)) in absurd (omega (arith, above, most));
   }
 
-  expression_known : 6 < n → (e : Expression) × IsOutcome parts.expr (Ok e)
-  expression_known above = by (one_outcome parts.expr).some.0 (one_outcome parts.expr).some.1
-    where
-      by : (read : Result Expression BadExpr) → IsOutcome parts.expr read → (e : Expression) × IsOutcome parts.expr (Ok e)
-      by (Ok e) outcome = (e, outcome)
-      by (Err fault) outcome = let most = least (Expr fault) (parts, has, outcome) in absurd (omega (arith, above, most))
-
 -- the first fault is the first in the order
 in_order : (before : List Query) (line : List ℕ) (kind : QueryKind) → IsFirstFault before line kind → IsFirstInOrder before line kind
 in_order before line Shape first = first.has
@@ -99,28 +89,24 @@ in_order before line (TooManyLabels count) first =
 in_order before line TooManyStates first =
     let (parts, has, (e, outcome, many)) = first.has in
     (parts, has, (e, labels_known before line parts 8 has first.least e (omega arith) outcome, many))
+in_order before line (NotContained p q w) first =
+    let (parts, has, (e, simple, outcome, least)) = first.has in
+    (parts, has, (e, states_known before line parts 9 has first.least e (omega arith) outcome, simple, least))
 in_order before line Memory first = absurd first.has
-in_order before line NotYet first =
-    let (parts, has, simple) = first.has in
-    let found = expression_known before line parts 11 has first.least (omega arith) in
-    (parts, has, (found.0, states_known before line parts 11 has first.least found.0 (omega arith) found.1, simple))
 
 -- a line without a fault has none in the order
 line_in_order : (before : List Query) (line : List ℕ) (query : Query) → IsLineOf before line query → IsLineInOrder before line query
 line_in_order before line query is = record {
   parts = is.parts;
   has = is.has;
-  states = states_known before line is.parts 12 is.has (λ other fault. absurd (is.no_fault other fault)) query.expr (omega arith) is.expr;
-  arbitrary = by is.parts.mode refl;
+  states = states_known before line is.parts 11 is.has (λ other fault. absurd (is.no_fault other fault)) query.expr (omega arith) is.expr;
+  contained = λ simple. contained_of_none query.expr
+      (λ p q w least. is.no_fault (NotContained p q w) (is.parts, is.has, (query.expr, simple, is.expr, least)));
   name = is.name;
   size = is.size;
   slide = is.slide;
   mode = is.mode;
 }
-  where
-    by : (mode : Mode) → is.parts.mode ≡ mode → is.parts.mode ≡ Arbitrary
-    by Arbitrary same = same
-    by Simple same = absurd (is.no_fault NotYet (is.parts, is.has, same))
 
 pub faults_in_order : FaultsInOrder
 faults_in_order = record {

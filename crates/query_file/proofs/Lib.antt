@@ -5,9 +5,13 @@ pub mod Exits
 pub mod FirstFaults
 pub mod FirstFields
 pub mod InOrder
+pub mod LeastTriples
+pub mod Letters
 pub mod ManySets
 pub mod OneOutcome
 pub mod OneParts
+pub mod SimpleExamples
 pub mod Taken
 pub mod Taking
 pub mod Texts
+pub mod Verdicts

@@ -5,10 +5,17 @@ use Rattle.path_syntax.specs.Size.{atoms}
 use Rattle.path_syntax.specs.declared.read.BadExpr.{BadExpr}
 use Rattle.path_syntax.proofs.Answering as answering
 use Rattle.text_parts.specs.Lines.{lines}
+use Rattle.rpq_base.specs.declared.data.Label.{Label}
+use Rattle.path_syntax.specs.Expression.{Expression}
+use Rattle.path_syntax.specs.Language.{In}
+use Rattle.containment_test.specs.Containment.{IsLeastTriple}
+use Rattle.containment_test.specs.declared.verdict.Verdict.TheVariants.{No}
+use Rattle.containment_test.proofs.Words.{one_verdict}
+use Rattle.rpq_model.specs.declared.mode.Mode.TheVariants.{Simple}
 use Rattle.rpq_model.specs.Query.{Query}
 use Rattle.query_file.specs.declared.fault.QueryFault.{QueryFault}
 use Rattle.query_file.specs.declared.fault.QueryKind.{QueryKind}
-use Rattle.query_file.specs.declared.fault.QueryKind.TheVariants.{Shape, Number, Twice, TooMany, NoQuery, Expr, TooManyLabels, TooManyStates, Memory, NotYet}
+use Rattle.query_file.specs.declared.fault.QueryKind.TheVariants.{Shape, Number, Twice, TooMany, NoQuery, Expr, TooManyLabels, TooManyStates, NotContained, Memory}
 use Rattle.query_file.specs.InOrder.{IsTaken}
 use Rattle.query_file.specs.Laws.{OneOutcome}
 use Rattle.query_file.specs.Queries.{Gives, AtEnd, NoneAtEnd, PassedOver, OneMore, Faulty, fault_at, Queries}
@@ -18,6 +25,16 @@ use Rattle.query_file.proofs.OneParts.{one_parts}
 
 one_fault_of : (text : List ℕ) (a b : BadExpr) → IsOutcome text (Err a) → IsOutcome text (Err b) → a ≡ b
 one_fault_of text a b one other = let same = (answering.one_outcome text).one (Err a) (Err b) one other in cc same
+
+-- a language has one least triple
+one_triple : (language : List Label → Type 0) (p q w p2 q2 w2 : List Label) → IsLeastTriple language p q w → IsLeastTriple language p2 q2 w2 →
+    NotContained p q w ≡ NotContained p2 q2 w2
+one_triple language p q w p2 q2 w2 one two =
+    let same = one_verdict language (No p q w) (No p2 q2 w2) one two in
+    let first : p ≡ p2 = cc same in
+    let second : q ≡ q2 = cc same in
+    let third : w ≡ w2 = cc same in
+    λ i. NotContained (first i) (second i) (third i)
 
 -- faults of a line with the same number are the same
 same_kind : (before : List Query) (line : List ℕ) (first second : QueryKind) → number_of first ≡ number_of second →
@@ -30,8 +47,8 @@ same_kind before line Shape NoQuery number is was = absurd (omega (arith, number
 same_kind before line Shape (Expr other) number is was = absurd (omega (arith, number))
 same_kind before line Shape (TooManyLabels other) number is was = absurd (omega (arith, number))
 same_kind before line Shape TooManyStates number is was = absurd (omega (arith, number))
+same_kind before line Shape (NotContained p2 q2 w2) number is was = absurd (omega (arith, number))
 same_kind before line Shape Memory number is was = absurd (omega (arith, number))
-same_kind before line Shape NotYet number is was = absurd (omega (arith, number))
 same_kind before line Number Shape number is was = absurd (omega (arith, number))
 same_kind before line Number Number number is was = refl
 same_kind before line Number (Twice other) number is was = absurd (omega (arith, number))
@@ -40,8 +57,8 @@ same_kind before line Number NoQuery number is was = absurd (omega (arith, numbe
 same_kind before line Number (Expr other) number is was = absurd (omega (arith, number))
 same_kind before line Number (TooManyLabels other) number is was = absurd (omega (arith, number))
 same_kind before line Number TooManyStates number is was = absurd (omega (arith, number))
+same_kind before line Number (NotContained p2 q2 w2) number is was = absurd (omega (arith, number))
 same_kind before line Number Memory number is was = absurd (omega (arith, number))
-same_kind before line Number NotYet number is was = absurd (omega (arith, number))
 same_kind before line (Twice name) Shape number is was = absurd (omega (arith, number))
 same_kind before line (Twice name) Number number is was = absurd (omega (arith, number))
 same_kind before line (Twice name) (Twice other) number (parts, has, (is, taken)) was =
@@ -52,8 +69,8 @@ same_kind before line (Twice name) NoQuery number is was = absurd (omega (arith,
 same_kind before line (Twice name) (Expr other) number is was = absurd (omega (arith, number))
 same_kind before line (Twice name) (TooManyLabels other) number is was = absurd (omega (arith, number))
 same_kind before line (Twice name) TooManyStates number is was = absurd (omega (arith, number))
+same_kind before line (Twice name) (NotContained p2 q2 w2) number is was = absurd (omega (arith, number))
 same_kind before line (Twice name) Memory number is was = absurd (omega (arith, number))
-same_kind before line (Twice name) NotYet number is was = absurd (omega (arith, number))
 same_kind before line TooMany Shape number is was = absurd (omega (arith, number))
 same_kind before line TooMany Number number is was = absurd (omega (arith, number))
 same_kind before line TooMany (Twice other) number is was = absurd (omega (arith, number))
@@ -62,8 +79,8 @@ same_kind before line TooMany NoQuery number is was = absurd (omega (arith, numb
 same_kind before line TooMany (Expr other) number is was = absurd (omega (arith, number))
 same_kind before line TooMany (TooManyLabels other) number is was = absurd (omega (arith, number))
 same_kind before line TooMany TooManyStates number is was = absurd (omega (arith, number))
+same_kind before line TooMany (NotContained p2 q2 w2) number is was = absurd (omega (arith, number))
 same_kind before line TooMany Memory number is was = absurd (omega (arith, number))
-same_kind before line TooMany NotYet number is was = absurd (omega (arith, number))
 same_kind before line NoQuery Shape number is was = absurd (omega (arith, number))
 same_kind before line NoQuery Number number is was = absurd (omega (arith, number))
 same_kind before line NoQuery (Twice other) number is was = absurd (omega (arith, number))
@@ -72,8 +89,8 @@ same_kind before line NoQuery NoQuery number is was = refl
 same_kind before line NoQuery (Expr other) number is was = absurd (omega (arith, number))
 same_kind before line NoQuery (TooManyLabels other) number is was = absurd (omega (arith, number))
 same_kind before line NoQuery TooManyStates number is was = absurd (omega (arith, number))
+same_kind before line NoQuery (NotContained p2 q2 w2) number is was = absurd (omega (arith, number))
 same_kind before line NoQuery Memory number is was = absurd (omega (arith, number))
-same_kind before line NoQuery NotYet number is was = absurd (omega (arith, number))
 same_kind before line (Expr fault) Shape number is was = absurd (omega (arith, number))
 same_kind before line (Expr fault) Number number is was = absurd (omega (arith, number))
 same_kind before line (Expr fault) (Twice other) number is was = absurd (omega (arith, number))
@@ -83,8 +100,8 @@ same_kind before line (Expr fault) (Expr other) number (parts, has, is) was =
     ap Expr (one_fault_of parts.expr fault other is (at_parts line (λ p. IsOutcome p.expr (Err other)) parts has was))
 same_kind before line (Expr fault) (TooManyLabels other) number is was = absurd (omega (arith, number))
 same_kind before line (Expr fault) TooManyStates number is was = absurd (omega (arith, number))
+same_kind before line (Expr fault) (NotContained p2 q2 w2) number is was = absurd (omega (arith, number))
 same_kind before line (Expr fault) Memory number is was = absurd (omega (arith, number))
-same_kind before line (Expr fault) NotYet number is was = absurd (omega (arith, number))
 same_kind before line (TooManyLabels count) Shape number is was = absurd (omega (arith, number))
 same_kind before line (TooManyLabels count) Number number is was = absurd (omega (arith, number))
 same_kind before line (TooManyLabels count) (Twice other) number is was = absurd (omega (arith, number))
@@ -95,8 +112,8 @@ same_kind before line (TooManyLabels count) (TooManyLabels other) number (parts,
     let also = at_expression line (λ f. (atoms f ≡ other) × (64 < other)) parts e has outcome was in
     ap TooManyLabels (sym are ∙ also.0)
 same_kind before line (TooManyLabels count) TooManyStates number is was = absurd (omega (arith, number))
+same_kind before line (TooManyLabels count) (NotContained p2 q2 w2) number is was = absurd (omega (arith, number))
 same_kind before line (TooManyLabels count) Memory number is was = absurd (omega (arith, number))
-same_kind before line (TooManyLabels count) NotYet number is was = absurd (omega (arith, number))
 same_kind before line TooManyStates Shape number is was = absurd (omega (arith, number))
 same_kind before line TooManyStates Number number is was = absurd (omega (arith, number))
 same_kind before line TooManyStates (Twice other) number is was = absurd (omega (arith, number))
@@ -105,8 +122,22 @@ same_kind before line TooManyStates NoQuery number is was = absurd (omega (arith
 same_kind before line TooManyStates (Expr other) number is was = absurd (omega (arith, number))
 same_kind before line TooManyStates (TooManyLabels other) number is was = absurd (omega (arith, number))
 same_kind before line TooManyStates TooManyStates number is was = refl
+same_kind before line TooManyStates (NotContained p2 q2 w2) number is was = absurd (omega (arith, number))
 same_kind before line TooManyStates Memory number is was = absurd (omega (arith, number))
-same_kind before line TooManyStates NotYet number is was = absurd (omega (arith, number))
+same_kind before line (NotContained p q w) Shape number is was = absurd (omega (arith, number))
+same_kind before line (NotContained p q w) Number number is was = absurd (omega (arith, number))
+same_kind before line (NotContained p q w) (Twice other) number is was = absurd (omega (arith, number))
+same_kind before line (NotContained p q w) TooMany number is was = absurd (omega (arith, number))
+same_kind before line (NotContained p q w) NoQuery number is was = absurd (omega (arith, number))
+same_kind before line (NotContained p q w) (Expr other) number is was = absurd (omega (arith, number))
+same_kind before line (NotContained p q w) (TooManyLabels other) number is was = absurd (omega (arith, number))
+same_kind before line (NotContained p q w) TooManyStates number is was = absurd (omega (arith, number))
+same_kind before line (NotContained p q w) (NotContained p2 q2 w2) number (parts, has, (e, simple, outcome, least)) was =
+    let (f, also, other, least2) =
+    at_parts line (λ part. (f : Expression) × (part.mode ≡ Simple) × IsOutcome part.expr (Ok f) × IsLeastTriple (In f) p2 q2 w2) parts has was in
+    one_triple (In e) p q w p2 q2 w2 least
+    (subst (λ (g : Expression). IsLeastTriple (In g) p2 q2 w2) (one_expression parts.expr f e other outcome) least2)
+same_kind before line (NotContained p q w) Memory number is was = absurd (omega (arith, number))
 same_kind before line Memory Shape number is was = absurd (omega (arith, number))
 same_kind before line Memory Number number is was = absurd (omega (arith, number))
 same_kind before line Memory (Twice other) number is was = absurd (omega (arith, number))
@@ -115,18 +146,8 @@ same_kind before line Memory NoQuery number is was = absurd (omega (arith, numbe
 same_kind before line Memory (Expr other) number is was = absurd (omega (arith, number))
 same_kind before line Memory (TooManyLabels other) number is was = absurd (omega (arith, number))
 same_kind before line Memory TooManyStates number is was = absurd (omega (arith, number))
+same_kind before line Memory (NotContained p2 q2 w2) number is was = absurd (omega (arith, number))
 same_kind before line Memory Memory number is was = refl
-same_kind before line Memory NotYet number is was = absurd (omega (arith, number))
-same_kind before line NotYet Shape number is was = absurd (omega (arith, number))
-same_kind before line NotYet Number number is was = absurd (omega (arith, number))
-same_kind before line NotYet (Twice other) number is was = absurd (omega (arith, number))
-same_kind before line NotYet TooMany number is was = absurd (omega (arith, number))
-same_kind before line NotYet NoQuery number is was = absurd (omega (arith, number))
-same_kind before line NotYet (Expr other) number is was = absurd (omega (arith, number))
-same_kind before line NotYet (TooManyLabels other) number is was = absurd (omega (arith, number))
-same_kind before line NotYet TooManyStates number is was = absurd (omega (arith, number))
-same_kind before line NotYet Memory number is was = absurd (omega (arith, number))
-same_kind before line NotYet NotYet number is was = refl
 
 -- a line has one first fault
 pub one_first_fault : (before : List Query) (line : List ℕ) (first second : QueryKind) → IsFirstFault before line first → IsFirstFault before line second →
@@ -188,7 +209,7 @@ is_memory NoQuery = inr (λ e. absurd cc)
 is_memory (Expr bad) = inr (λ e. absurd cc)
 is_memory (TooManyLabels count) = inr (λ e. absurd cc)
 is_memory TooManyStates = inr (λ e. absurd cc)
-is_memory NotYet = inr (λ e. absurd cc)
+is_memory (NotContained p q w) = inr (λ e. absurd cc)
 
 -- what a file gives is what is answered, unless memory ran out
 pub answered : (bytes : List ℕ) (fault : QueryFault) → (fault.kind ≢ Memory → Queries bytes (Err fault)) → (outcome : Result (List Query) QueryFault) →

@@ -3,13 +3,16 @@ use Rattle.std.specs.Prelude.{◌≡◌, ◌↔◌, ℕ, ◌<◌, ◌≤◌, Lis
 use Rattle.std.specs.Prelude.{IsSome}
 use Rattle.path_syntax.specs.Expression.{Expression}
 use Rattle.path_syntax.specs.Faults.{IsOutcome}
+use Rattle.path_syntax.specs.Language.{In}
 use Rattle.path_syntax.specs.Size.{atoms}
-use Rattle.rpq_model.specs.declared.mode.Mode.TheVariants.{Arbitrary, Simple}
+use Rattle.containment_test.specs.Containment.{Contained, IsLeastTriple}
+use Rattle.rpq_model.specs.declared.mode.Mode.TheVariants.{Simple}
 use Rattle.rpq_model.specs.Query.{Query}
 use Rattle.query_file.specs.declared.fault.QueryKind.{QueryKind}
 use Rattle.query_file.specs.declared.fault.QueryKind.TheVariants.{Shape, Number, Twice, TooMany}
 use Rattle.query_file.specs.declared.fault.QueryKind.TheVariants.{NoQuery, Expr, TooManyLabels}
-use Rattle.query_file.specs.declared.fault.QueryKind.TheVariants.{TooManyStates, Memory, NotYet}
+use Rattle.query_file.specs.declared.fault.QueryKind.TheVariants.{TooManyStates, NotContained}
+use Rattle.query_file.specs.declared.fault.QueryKind.TheVariants.{Memory}
 use Rattle.query_file.specs.QueryLine.{LineParts, HasParts, ForParts, length_of, NeedsManyStates}
 use Rattle.query_file.specs.QueryLine.{IsFirstFault, IsLineOf}
 
@@ -63,16 +66,17 @@ IsFirstInOrder before line (TooManyLabels count) = ForParts line (λ parts.
     (e : Expression) × HasExpression before parts e × (atoms e ≡ count) × (64 < count))
 IsFirstInOrder before line TooManyStates = ForParts line (λ parts.
     (e : Expression) × HasFewLabels before parts e × NeedsManyStates e)
+IsFirstInOrder before line (NotContained p q w) = ForParts line (λ parts.
+    (e : Expression) × HasFewStates before parts e × (parts.mode ≡ Simple)
+    × IsLeastTriple (In e) p q w)
 IsFirstInOrder before line Memory = ⊥
-IsFirstInOrder before line NotYet = ForParts line (λ parts.
-    (e : Expression) × HasFewStates before parts e × (parts.mode ≡ Simple))
 
 -- the line, which follows these queries, has none of the faults, and is that of this query
 pub record IsLineInOrder (before : List Query) (line : List ℕ) (query : Query) : Type 0 where
   pub parts : LineParts
   pub has : HasParts line parts
   pub states : HasFewStates before parts query.expr
-  pub arbitrary : parts.mode ≡ Arbitrary
+  pub contained : parts.mode ≡ Simple → Contained (In query.expr)
   pub name : query.name ≡ parts.name
   pub size : length_of parts.size ≡ Some query.window.size
   pub slide : length_of parts.slide ≡ Some query.window.slide

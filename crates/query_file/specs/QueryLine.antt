@@ -9,17 +9,20 @@ use Rattle.rpq_base.specs.Names.{IsName}
 use Rattle.rpq_base.specs.declared.data.TheConstants.{MAX_TIME}
 use Rattle.path_syntax.specs.Expression.{Expression}
 use Rattle.path_syntax.specs.Faults.{IsOutcome}
+use Rattle.path_syntax.specs.Language.{In}
 use Rattle.path_syntax.specs.Size.{atoms}
 use Rattle.dfa_build.specs.Marked.{ArePositionsOf}
 use Rattle.dfa_build.specs.Positions.{PositionsValue}
 use Rattle.dfa_build.specs.Subset.{HasManySets}
+use Rattle.containment_test.specs.Containment.{IsLeastTriple}
 use Rattle.rpq_model.specs.declared.mode.Mode.{Mode}
 use Rattle.rpq_model.specs.declared.mode.Mode.TheVariants.{Arbitrary, Simple}
 use Rattle.rpq_model.specs.Query.{Query}
 use Rattle.query_file.specs.declared.fault.QueryKind.{QueryKind}
 use Rattle.query_file.specs.declared.fault.QueryKind.TheVariants.{Shape, Number, Twice, TooMany}
 use Rattle.query_file.specs.declared.fault.QueryKind.TheVariants.{NoQuery, Expr, TooManyLabels}
-use Rattle.query_file.specs.declared.fault.QueryKind.TheVariants.{TooManyStates, Memory, NotYet}
+use Rattle.query_file.specs.declared.fault.QueryKind.TheVariants.{TooManyStates, NotContained}
+use Rattle.query_file.specs.declared.fault.QueryKind.TheVariants.{Memory}
 
 -- the word for the paths that a query takes, with its colon
 abbrev pub mode_text : Mode → List ℕ
@@ -83,8 +86,10 @@ HasFault before line (Expr fault) = ForParts line (λ parts. IsOutcome parts.exp
 HasFault before line (TooManyLabels count) =
     ForExpression line (λ e. (atoms e ≡ count) × (64 < count))
 HasFault before line TooManyStates = ForExpression line NeedsManyStates
+HasFault before line (NotContained p q w) = ForParts line (λ parts.
+    (e : Expression) × (parts.mode ≡ Simple) × IsOutcome parts.expr (Ok e)
+    × IsLeastTriple (In e) p q w)
 HasFault before line Memory = ⊥
-HasFault before line NotYet = ForParts line (λ parts. parts.mode ≡ Simple)
 
 -- the number of the kind: of the faults of a line the one of the least number is told
 abbrev pub number_of : QueryKind → ℕ
@@ -96,8 +101,8 @@ number_of NoQuery = 5
 number_of (Expr fault) = 6
 number_of (TooManyLabels count) = 7
 number_of TooManyStates = 8
+number_of (NotContained p q w) = 9
 number_of Memory = 10
-number_of NotYet = 11
 
 -- the line has the fault, and none of a lesser number
 pub record IsFirstFault (before : List Query) (line : List ℕ) (kind : QueryKind) : Type 0 where

@@ -5,9 +5,10 @@ ghost use Rattle.query_file.specs.declared.fault.QueryKind.{QueryKind};
 ghost use Rattle.query_file.specs.FaultTexts.{query_kind_text, query_fault_text};
 ghost use Rattle.query_file.specs.Kinds.{kind_of_expr, kind_of_build};
 
+use crate::word_text::WordText;
 use dfa_build::BuildFault;
 use path_syntax::BadExpr;
-use rpq_base::{Memory, Name};
+use rpq_base::{Memory, Name, Word};
 use std::alloc::{AllocError, AllocFailed};
 use std::error::Error;
 use std::fmt;
@@ -31,10 +32,12 @@ pub enum QueryKind {
     TooManyLabels(u64),
     /// Words reach too many sets of the expression's positions.
     TooManyStates,
+    /// The query takes simple paths, and its language doesn't have the property of containment: the
+    /// least three words that show it, as in [`containment_test::Verdict`]. To tell them as text is
+    /// an error where a name isn't UTF-8.
+    NotContained { p: Word, q: Word, w: Word },
     /// Memory ran out.
     Memory,
-    /// The query takes simple paths, which isn't done yet.
-    NotYet,
 }
 
 /// The first line of a queries file that has a fault, counted from 1, and what is wrong with it.
@@ -106,8 +109,11 @@ impl fmt::Display for QueryKind {
             QueryKind::Expr(fault) => write!(f, "{fault}"),
             QueryKind::TooManyLabels(count) => write!(f, "{count} labels"),
             QueryKind::TooManyStates => f.write_str("too many states"),
+            QueryKind::NotContained { p, q, w } => {
+                let (p, q, w) = (WordText(p), WordText(q), WordText(w));
+                write!(f, "not contained {p} {q} {w}")
+            }
             QueryKind::Memory => f.write_str("out of memory"),
-            QueryKind::NotYet => f.write_str("not yet"),
         }
     }
 }

@@ -17,7 +17,8 @@ pub fn queries_by_parts()
 {}
 
 /// The first fault of a line is the first in the order of the kinds, each of which says what holds
-/// where no kind before it applies.
+/// where no kind before it applies. A line without a fault has none in that order, and so, where
+/// its query takes simple paths, the language has the property of containment.
 pub fn faults_in_order()
     ensures { FaultsInOrder }
 {}

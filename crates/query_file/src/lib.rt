@@ -1,4 +1,4 @@
-//! The queries file: its queries, each with its automaton, or its first fault.
+//! The queries file: its queries, each with its automaton and its verdict, or its first fault.
 //!
 //! A file is read line by line. Blank lines and comments give nothing and are counted; every other
 //! line is `query NAME window SIZE slide SLIDE MODE EXPR`, where MODE is `arbitrary:` or `simple:`
@@ -6,7 +6,9 @@
 //! [`read_queries`] answers exactly what `specs/Queries` says that the bytes give, unless memory
 //! runs out: the queries in their order, or the first line that has a fault, with the first of its
 //! faults in the order of [`QueryKind`]. Each query comes with the least automaton that accepts the
-//! nonempty words of its expression, and [`Compiled`] keeps that it is that one.
+//! nonempty words of its expression, and with the verdict whether its language has the property of
+//! containment; [`Compiled`] keeps that they are these. A query that takes simple paths is accepted
+//! exactly where its language has the property, since there simple paths do what all paths do.
 //!
 //! Each line is gone through a fixed number of times, and its name compared with those before it,
 //! of which there are at most 64; the automata cost what their making costs in the crates below.
@@ -21,6 +23,7 @@ mod laws;
 mod line_text;
 mod query;
 mod read;
+mod word_text;
 
 pub use compiled::Compiled;
 pub use fault::{QueryFault, QueryKind};

@@ -6,17 +6,23 @@ ghost use Rattle.rpq_base.specs.declared.data.TheConstants.{MAX_TIME as GREATEST
 ghost use Rattle.std.specs.List.{list_any};
 ghost use Rattle.rpq_base.specs.Same.{same_name};
 ghost use Rattle.rpq_base.specs.Names.{IsName};
-ghost use Rattle.query_file.specs.Compiled.{IsAutomatonOf};
+ghost use Rattle.query_file.specs.Compiled.{IsCompiled};
 ghost use Rattle.query_file.specs.QueryLine.{length_of};
 ghost use Rattle.query_file.specs.InOrder.{IsTaken, IsFirstInOrder, IsLineInOrder};
 ghost use Rattle.query_file.specs.Takes.{defs};
-ghost use Rattle.query_file.specs.Places.{HasNoPlace, IsDefinitionOf};
+ghost use Rattle.query_file.specs.Places.{HasNoPlace, IsDefinitionOf, IsRefusedBy};
 ghost use Rattle.path_syntax.specs.Size.{nodes};
+ghost use Rattle.dfa_table.specs.Runs.{Accepts};
+ghost use Rattle.containment_test.specs.Verdict.{IsVerdict};
+ghost use Rattle.containment_test.specs.declared.verdict.Verdict.TheVariants.{Yes};
+ghost use Rattle.rpq_model.specs.declared.mode.Mode.{Mode as ModeOf};
 
 use crate::automaton::automaton_of;
 use crate::compiled::Compiled;
 use crate::fault::QueryKind;
 use crate::line_text::line_text;
+use containment_test::{Verdict, contained};
+use dfa_table::Dfa;
 use path_syntax::read_expr;
 use rpq_base::{Copied, MAX_TIME, Name, NameFault};
 use rpq_model::{Mode, QueryDef, Window};
@@ -26,22 +32,35 @@ use text_parts::read_number;
 /// The most queries that a file has.
 const MAX_QUERIES: usize = 64;
 
-/// The query of a line that follows these queries, with its automaton, or its first fault.
+/// The query of a line that follows these queries, with its automaton and its verdict, or its first
+/// fault.
 pub fn read_query(alloc: Global, line: &[u8], before: &[Compiled]) -> Result<Compiled, QueryKind>
     requires { length line.now < 2 ^ 24 + 1 }
     ensures ok { IfOk result (λ found.
         IsLineInOrder (defs before.now) line.now found.def) }
-    ensures automaton { IfOk result (λ found. IsAutomatonOf found.def found.dfa) }
+    ensures compiled { IfOk result (λ found. IsCompiled found) }
     ensures err { IfErr result (λ kind. kind ≢ QueryKind.Memory →
         IsFirstInOrder (defs before.now) line.now kind) }
     ensures room { OnOk result (length before.now < 64) }
 {
     let def = read_definition(alloc, line, before)?;
     let dfa = automaton_of(alloc, &def.expr)?;
-    if def.mode == Mode::Simple {
-        return Err(QueryKind::NotYet);
+    let verdict = accepted_verdict(alloc, def.mode, &dfa)?;
+    Ok(Compiled { def, dfa, verdict })
+}
+
+/// The verdict on the words that the automaton accepts. A query of this mode that takes simple
+/// paths is refused by another than `Yes`.
+fn accepted_verdict(alloc: Global, mode: Mode, dfa: &Dfa) -> Result<Verdict, QueryKind>
+    ensures verdict { IfOk result (λ verdict. IsVerdict (Accepts dfa.now) verdict) }
+    ensures accepted { IfOk result (λ verdict. mode ≡ ModeOf.Simple → verdict ≡ Yes) }
+    ensures refused { IfErr result (λ kind. kind ≢ QueryKind.Memory →
+        IsRefusedBy (Accepts dfa.now) mode kind) }
+{
+    match contained(alloc, dfa)? {
+        Verdict::No { p, q, w } if mode == Mode::Simple => Err(QueryKind::NotContained { p, q, w }),
+        verdict => Ok(verdict),
     }
-    Ok(Compiled { def, dfa })
 }
 
 /// The query that a line defines which follows these queries, whatever its mode and its automaton.

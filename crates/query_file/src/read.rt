@@ -3,14 +3,14 @@
 ghost use Rattle.std.specs.Prelude.{◌≡◌, ◌≢◌, ◌+◌, ◌<◌, ◌≤◌, ◌^◌, Ok, Err, map, length, All, List};
 ghost use Rattle.std.specs.Prelude.{IfOk, IfErr, OnOk, Result, IsTrue, ◌↔◌, ◌⊎◌};
 ghost use Rattle.std.specs.Prelude.{MatchResult};
-ghost use Rattle.rpq_model.specs.declared.mode.Mode.TheVariants.{Arbitrary};
+ghost use Rattle.containment_laws.specs.Accepted.{IsAccepted};
 ghost use Rattle.rpq_model.specs.Query.{Query};
 ghost use Rattle.query_file.specs.declared.fault.QueryKind.{QueryKind};
 ghost use Rattle.query_file.specs.declared.fault.QueryFault.{QueryFault as FaultOf};
 ghost use Rattle.query_file.specs.Queries.{Queries, IsPassedOver, IsQueryLine};
 ghost use Rattle.query_file.specs.QueryLine.{IsFirstFault};
 ghost use Rattle.query_file.specs.Takes.{defs, Takes};
-ghost use Rattle.query_file.specs.Compiled.{IsAutomatonOf};
+ghost use Rattle.query_file.specs.Compiled.{IsCompiled};
 
 use crate::compiled::Compiled;
 use crate::fault::{QueryFault, QueryKind};
@@ -18,7 +18,8 @@ use crate::query::read_query;
 use std::alloc::Global;
 use text_parts::{is_blank_line, is_comment, split_line, without_return};
 
-/// The queries of a queries file with these bytes, each with its automaton, or the first fault.
+/// The queries of a queries file with these bytes, each with its automaton and its verdict, or the
+/// first fault.
 ///
 /// The lines are gone through from the first on, up to the first that has a fault, and of its
 /// faults the first in the order of [`QueryKind`] is told. Blank lines and comments count as lines.
@@ -34,10 +35,9 @@ pub fn read_queries(alloc: Global, bytes: &[u8]) -> Result<Vec<Compiled>, QueryF
     ensures exact { (outcome : Result (List Query) FaultOf) → Queries bytes.now outcome →
         MatchResult result (λ found. outcome ≡ Ok (map (λ each. each.def) found.items))
         (λ fault. (fault.kind ≡ QueryKind.Memory) ⊎ (outcome ≡ Err fault)) }
-    ensures automata { IfOk result (λ found.
-        All (λ each. IsAutomatonOf each.def each.dfa) found.items) }
     ensures few { IfOk result (λ found. (1 ≤ length found.items) × (length found.items ≤ 64)) }
-    ensures arbitrary { IfOk result (λ found. All (λ each. each.def.mode ≡ Arbitrary) found.items) }
+    ensures compiled { IfOk result (λ found. All IsCompiled found.items) }
+    ensures accepted { IfOk result (λ found. All (λ each. IsAccepted each.def) found.items) }
 {
     let mut queries = Vec::new(alloc);
     let mut rest = bytes;
@@ -66,10 +66,8 @@ fn take_line(alloc: Global, line: &[u8], queries: &mut Vec<Compiled>) -> Result<
     ensures err { IfErr result (λ kind. kind ≢ QueryKind.Memory →
         IsQueryLine line.now × IsFirstFault (defs queries.old.items) line.now kind) }
     ensures few { length queries.old.items ≤ 64 → OnOk result (length queries.new.items ≤ 64) }
-    ensures arbitrary { All (λ each. each.def.mode ≡ Arbitrary) queries.old.items →
-        OnOk result (All (λ each. each.def.mode ≡ Arbitrary) queries.new.items) }
-    ensures automata { All (λ each. IsAutomatonOf each.def each.dfa) queries.old.items →
-        OnOk result (All (λ each. IsAutomatonOf each.def each.dfa) queries.new.items) }
+    ensures compiled { All IsCompiled queries.old.items →
+        OnOk result (All IsCompiled queries.new.items) }
 {
     if is_passed_over(line) {
         return Ok(());

@@ -1,11 +1,11 @@
-//! The program `rpq QUERIES STREAM`: it makes the real files and streams, calls [`run`], and ends
-//! with its status.
+//! The program `rpq`: it makes the real files and streams, calls [`run`] with the words of the
+//! command line, and ends with its status.
 #![tactic(auto)]
 
 ghost use Rattle.std.specs.Prelude.{◌≡◌};
 ghost use Rattle.std.specs.Process.{exit_status};
 
-use rpq_io::{Files, HostFiles, HostSink, Place};
+use rpq_io::{Files, HostFiles, HostSink, OpenGate, Place};
 use rpq_run::{Report, run, status};
 use std::alloc::Global;
 use std::env;
@@ -31,11 +31,19 @@ fn main(rt: HostRuntime) -> ExitCode {
         Err(error) if error.kind() == ErrorKind::OutOfMemory => {
             return ExitCode::from(status::MEMORY);
         }
-        // A word that isn't UTF-8 names no file that is taken: the run refuses its words.
+        // A word that isn't UTF-8 can't be handed on: the run refuses the words, as it does none.
         Err(_) => Vec::new(alloc),
     };
     let mut files = HostFiles::new(alloc, &rt);
     let mut events = HostSink::new(Place::Output(rt.stdout()));
     let mut errors = HostSink::new(Place::Errors(rt.stderr()));
-    exit_code(run(&rt, alloc, &words, &mut files, &mut events, &mut errors))
+    exit_code(run(
+        &rt,
+        alloc,
+        &words,
+        &mut files,
+        &mut events,
+        &mut errors,
+        &OpenGate,
+    ))
 }

@@ -17,7 +17,8 @@ pub fn answer_contained(alloc: Global, out: &mut Output, fields: Fields) -> anyh
     }
 }
 
-fn put_verdict(out: &mut Output, verdict: &Verdict) -> anyhow::Result<()> {
+/// Puts `yes`, or `no` and the three words.
+pub fn put_verdict(out: &mut Output, verdict: &Verdict) -> anyhow::Result<()> {
     match verdict {
         Verdict::Yes => out.put("yes"),
         Verdict::No { p, q, w } => {

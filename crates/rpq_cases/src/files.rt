@@ -1,13 +1,14 @@
 //! Queries files.
 
 use crate::automata::put_automaton;
+use crate::containment::put_verdict;
 use crate::fields::{Fields, decoded};
 use crate::output::Output;
 use query_file::{Compiled, read_queries};
 use rpq_model::Mode;
 use std::alloc::Global;
 
-/// The queries of a queries file, each with its automaton, or the first fault.
+/// The queries of a queries file, each with its automaton and its verdict, or the first fault.
 pub fn answer_file(alloc: Global, out: &mut Output, fields: Fields) -> anyhow::Result<()> {
     match read_queries(alloc, &decoded(alloc, fields.rest())?) {
         Ok(queries) => {
@@ -17,12 +18,7 @@ pub fn answer_file(alloc: Global, out: &mut Output, fields: Fields) -> anyhow::R
             }
             Ok(())
         }
-        Err(fault) => {
-            out.put("line ")?;
-            out.put_shown(&fault.line)?;
-            out.put(": ")?;
-            out.put_shown(&fault.kind)
-        }
+        Err(fault) => out.put_bytes(fault.to_string(alloc)?.as_bytes()),
     }
 }
 
@@ -36,5 +32,7 @@ fn put_query(out: &mut Output, query: &Compiled) -> anyhow::Result<()> {
         Mode::Arbitrary => " arbitrary ",
         Mode::Simple => " simple ",
     })?;
-    put_automaton(out, &query.dfa)
+    put_automaton(out, &query.dfa)?;
+    out.put(" ")?;
+    put_verdict(out, &query.verdict)
 }

@@ -20,13 +20,19 @@
 //! - `contained EXPR`: `yes` where its language has the property of containment, else `no` and the
 //!   least three words that show it; or the fault.
 //! - `file TEXT`: the queries of a queries file, `|` behind each: its name, the size and the slide
-//!   of its window, its mode and its automaton; or the first fault with the number of its line.
+//!   of its window, its mode, its automaton, and `yes` or `no` with three words, as by `contained`;
+//!   or the first fault with the number of its line.
 //! - `words EXPR WORDS`: for each word `+` where the matcher takes it, else `-`, and then the
 //!   same of the automaton.
 //! - `word WORD`: the word as it is written.
 //! - `answers SIZE SLIDE MODE EXPR TUPLES`: the answers of the query after each tuple, `;` behind
 //!   each.
 //! - `events SIZE SLIDE MODE EXPR TUPLES`: what each tuple changes of them, `;` behind each.
+//! - `rows SIZE SLIDE MODE EXPR TUPLES`: the answers after each tuple with their ends, `;` behind
+//!   each.
+//! - `engine WORKERS TEXT TUPLES`: what each tuple changes of the answers of the queries of a queries
+//!   file, `;` behind each, for an engine with so many workers; then its position, and for each
+//!   query `|` and the answers with their ends.
 //! - `live SIZE SLIDE CLOCK TUPLES`: the places of the live entries, from 0, with their edges.
 //! - `clock TUPLES`: the clock of the history.
 //! - `tuple LINE`: the tuple of a line as it is written, `nothing`, or the fault of the line.
@@ -49,6 +55,7 @@
 mod automata;
 mod commands;
 mod containment;
+mod engines;
 mod expressions;
 mod fields;
 mod files;
@@ -63,9 +70,17 @@ use output::Output;
 use request::Request;
 use std::alloc::Global;
 use std::io::{BufRead, BufReader};
+use std::random::RandomSource;
+use std::thread::Threads;
 
 /// Answers one request.
-fn answer(alloc: Global, out: &mut Output, request: Request, fields: Fields) -> anyhow::Result<()> {
+fn answer<R: RandomSource + Threads + Sync>(
+    rt: &R,
+    alloc: Global,
+    out: &mut Output,
+    request: Request,
+    fields: Fields,
+) -> anyhow::Result<()> {
     match request {
         Request::Read => expressions::answer_read(alloc, out, fields),
         Request::Copy => expressions::answer_copy(alloc, out, fields),
@@ -78,6 +93,8 @@ fn answer(alloc: Global, out: &mut Output, request: Request, fields: Fields) -> 
         Request::Word => expressions::answer_word(alloc, out, fields),
         Request::Answers => queries::answer_answers(alloc, out, fields),
         Request::Events => queries::answer_events(alloc, out, fields),
+        Request::Rows => queries::answer_rows(alloc, out, fields),
+        Request::Engine => engines::answer_engine(rt, alloc, out, fields),
         Request::Live => queries::answer_live(alloc, out, fields),
         Request::Clock => queries::answer_clock(alloc, out, fields),
         Request::Tuple => texts::answer_tuple(alloc, out, fields),
@@ -94,10 +111,15 @@ fn answer(alloc: Global, out: &mut Output, request: Request, fields: Fields) -> 
 }
 
 /// Answers one line.
-fn answer_line(alloc: Global, out: &mut Output, line: &[u8]) -> anyhow::Result<()> {
+fn answer_line<R: RandomSource + Threads + Sync>(
+    rt: &R,
+    alloc: Global,
+    out: &mut Output,
+    line: &[u8],
+) -> anyhow::Result<()> {
     let mut fields = Fields::new(line);
     match Request::named(fields.next()) {
-        Some(request) => answer(alloc, out, request, fields)?,
+        Some(request) => answer(rt, alloc, out, request, fields)?,
         None => out.put_bytes(line)?,
     }
     out.put("\n")
@@ -107,7 +129,7 @@ fn main(rt: HostRuntime) -> anyhow::Result<()> {
     let alloc = rt.alloc();
     let mut out = Output::new(alloc);
     for line in BufReader::new(alloc, rt.reader())?.lines(alloc) {
-        answer_line(alloc, &mut out, line?.as_bytes())?;
+        answer_line(&rt, alloc, &mut out, line?.as_bytes())?;
     }
     rt.print(out.as_str())?;
     Ok(())

@@ -8,7 +8,9 @@ use crate::fields::{Fields, decoded, parts};
 use crate::output::Output;
 use anyhow::ensure;
 use rpq_base::{Act, Edge, Entry, Event, MAX_TIME, Name, Pair, copy_all};
-use rpq_model::{Mode, QueryDef, Window, changes, clock, live_entries, plain_answers};
+use rpq_model::{
+    Ended, Mode, QueryDef, Window, changes, clock, live_entries, plain_answers, plain_rows,
+};
 use std::alloc::Global;
 use tuple_text::read_tuple;
 
@@ -38,7 +40,7 @@ fn query_of(alloc: Global, fields: &mut Fields) -> anyhow::Result<QueryDef> {
 }
 
 /// The entries of stream 1 that tuples are.
-fn entries_of(alloc: Global, tuples: &[u8]) -> anyhow::Result<Vec<Entry>> {
+pub fn entries_of(alloc: Global, tuples: &[u8]) -> anyhow::Result<Vec<Entry>> {
     let mut entries = Vec::new(alloc);
     for line in &parts(alloc, tuples, b';')? {
         if let Some(tuple) = read_tuple(alloc, &decoded(alloc, line)?)? {
@@ -66,10 +68,30 @@ fn put_pairs(out: &mut Output, pairs: &[Pair]) -> anyhow::Result<()> {
     out.put(";")
 }
 
-fn put_pair(out: &mut Output, pair: &Pair) -> anyhow::Result<()> {
+pub fn put_pair(out: &mut Output, pair: &Pair) -> anyhow::Result<()> {
     out.put_bytes(pair.from.as_bytes())?;
     out.put(">")?;
     out.put_bytes(pair.to.as_bytes())
+}
+
+/// The answers of a query with their ends, after each tuple.
+pub fn answer_rows(alloc: Global, out: &mut Output, mut fields: Fields) -> anyhow::Result<()> {
+    let query = query_of(alloc, &mut fields)?;
+    let entries = entries_of(alloc, fields.rest())?;
+    for count in 1..=entries.len() {
+        put_ended(out, &plain_rows(alloc, &query, &entries[..count])?)?;
+    }
+    Ok(())
+}
+
+fn put_ended(out: &mut Output, rows: &[Ended]) -> anyhow::Result<()> {
+    for row in rows {
+        out.put(" ")?;
+        put_pair(out, &row.pair)?;
+        out.put("@")?;
+        out.put_shown(&row.until)?;
+    }
+    out.put(";")
 }
 
 /// What each tuple changes of the answers of a query.
@@ -84,7 +106,7 @@ pub fn answer_events(alloc: Global, out: &mut Output, mut fields: Fields) -> any
     Ok(())
 }
 
-fn put_events(out: &mut Output, events: &[Event]) -> anyhow::Result<()> {
+pub fn put_events(out: &mut Output, events: &[Event]) -> anyhow::Result<()> {
     for event in events {
         out.put(if event.added { " +" } else { " -" })?;
         out.put_shown(&event.query)?;

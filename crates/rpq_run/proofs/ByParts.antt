@@ -1,5 +1,6 @@
 -- The tuples of a stream, by its parts.
-use Rattle.std.proofs.Common.{◌≡◌, ℕ, ◌+◌, ◌<◌, ◌≤◌, List, [], ◌∷◌, ◌++◌, length, take, map, Option, Result, Ok, Err, refl, ap, sym, subst, ◌∙◌, arith, inl, inr, ◌⊎◌}
+use Rattle.std.proofs.Common.{◌≡◌, ℕ, ◌+◌, ◌<◌, ◌≤◌, List, [], ◌∷◌, ◌++◌, length, take, map, Option}
+use Rattle.std.proofs.Common.{Result, Ok, Err, refl, ap, sym, subst, ◌∙◌, arith, inl, inr, ◌⊎◌}
 use Rattle.std.specs.Prelude.{◌↔◌, option_to_list}
 use Rattle.std.specs.List.{All, flat_map}
 use Rattle.std.proofs.lemmas.Bool.{cases_lt, le-leb}
@@ -12,7 +13,8 @@ use Rattle.tuple_text.specs.Reading.{line_tuple}
 use Rattle.rpq_run.specs.declared.report.StreamEnd.{StreamEnd}
 use Rattle.rpq_run.specs.declared.report.StreamEnd.TheVariants.{Whole, Line, LongLine}
 use Rattle.rpq_run.specs.Limits.{line_limit, byte_limit}
-use Rattle.rpq_run.specs.StreamText.{StreamTuples, tuples_with, tuples_before, numbered, line_gives, tuples_of_lines, cut_end, tuples_from}
+use Rattle.rpq_run.specs.StreamText.{StreamTuples, tuples_with, tuples_before, numbered, line_gives}
+use Rattle.rpq_run.specs.StreamText.{tuples_of_lines, cut_end, tuples_from}
 use Rattle.rpq_run.specs.Laws.{IsEndOf, AreReadByParts, StreamByParts}
 use Rattle.rpq_run.proofs.StreamTexts.{first_gives, no_lines, long_line, within, beyond, cut_is}
 

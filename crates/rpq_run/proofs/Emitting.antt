@@ -1,18 +1,14 @@
--- The block of a history's last entry follows the text of the entries before it.
-use Rattle.std.proofs.Common.{◌≡◌, ℕ, ◌+◌, ◌-◌, List, [], ◌∷◌, ◌++◌, length, get_or, refl, ap, sym, subst, ◌∙◌, arith, length-append}
+-- What the last entry of a history is, once it was put there.
+use Rattle.std.proofs.Common.{◌≡◌, ℕ, ◌+◌, ◌-◌, List, [], ◌∷◌, ◌++◌, length, get_or, refl, ap, ◌∙◌}
+use Rattle.std.proofs.Common.{arith, length-append}
 use Rattle.rpq_base.specs.declared.data.Entry.{Entry}
-use Rattle.rpq_base.specs.declared.data.Event.{Event}
-use Rattle.rpq_model.specs.Query.{Query}
-use Rattle.rpq_model.specs.QueryEvents.{AreEventsUnder}
-use Rattle.rpq_run.specs.Text.{block, IsText}
-use Rattle.rpq_run.proofs.Texts.{text_push}
 
 last_of : (before : List Entry) (entry other : Entry) → get_or (before ++ entry ∷ []) (length before) other ≡ entry
 last_of [] entry other = refl
 last_of (first ∷ before) entry other = last_of before entry other
 
 -- the last entry of a history
-last_entry : (history before : List Entry) (entry last : Entry) → history ≡ before ++ entry ∷ []
+pub last_entry : (history before : List Entry) (entry last : Entry) → history ≡ before ++ entry ∷ []
     → last ≡ get_or history (length history - 1) last → last ≡ entry
 last_entry history before entry last is last_is =
     let place : length (before ++ entry ∷ []) - 1 ≡ length before = omega
@@ -21,16 +17,16 @@ last_entry history before entry last is last_is =
     ∙ (ap (λ (h : List Entry). get_or h (length h - 1) last) is
     ∙ (ap (λ n. get_or (before ++ entry ∷ []) n last) place ∙ last_of before entry last))
 
-pub next_text : (queries : List Query) (history before : List Entry) (entry last : Entry)
-    (events : List Event) → history ≡ before ++ entry ∷ [] → last ≡ get_or history (length history - 1) last
-    → AreEventsUnder 0 queries before history events → (text : List ℕ) → IsText queries before text
-    → IsText queries history (text ++ block queries (length history) last events)
-next_text queries history before entry last events is last_is brings text is_text =
-    let pushed = text_push queries before text entry events is_text
-    (subst (λ (h : List Entry). AreEventsUnder 0 queries before h events) is brings) in
-    let here : last ≡ entry = last_entry history before entry last is last_is in
-    let place : length before + 1 ≡ length history = omega (arith, ap length is, length-append before (entry ∷ [])) in
-    subst (λ (h : List Entry). IsText queries h (text ++ block queries (length history) last events)) (sym is)
-    (subst (λ (e : Entry). IsText queries (before ++ entry ∷ [])
-    (text ++ block queries (length history) e events)) (sym here)
-    (subst (λ (n : ℕ). IsText queries (before ++ entry ∷ []) (text ++ block queries n entry events)) place pushed))
+-- the entry at the place before the length
+pub index_is : (history : List Entry) (last : Entry) (position : ℕ) → position ≡ length history
+    → last ≡ get_or history (position - 1) last → last ≡ get_or history (length history - 1) last
+index_is history last position all is = is ∙ ap (λ n. get_or history (n - 1) last) all
+
+-- the position of an entry more
+pub place_is : (history before : List Entry) (entry : Entry) (position : ℕ) → history ≡ before ++ entry ∷ []
+    → position ≡ length history → position ≡ length before + 1
+place_is history before entry position is all = omega (
+  arith,
+  ap (λ (h : List Entry). length h) is,
+  length-append before (entry ∷ []),
+)

@@ -1,9 +1,11 @@
 -- Lines that are written one after another.
-use Rattle.std.proofs.Common.{◌≡◌, ℕ, ◌+◌, ◌<◌, ◌≤◌, List, [], ◌∷◌, ◌++◌, length, length-append, Result, Ok, Err, take, drop, get_or, Option, refl, ap, sym, subst, ◌∙◌, append_assoc, arith}
+use Rattle.std.proofs.Common.{◌≡◌, ℕ, ◌+◌, ◌<◌, ◌≤◌, List, [], ◌∷◌, ◌++◌, length, length-append}
+use Rattle.std.proofs.Common.{Result, Ok, Err, take, drop, get_or, Option, refl, ap, sym, subst}
+use Rattle.std.proofs.Common.{◌∙◌, append_assoc, arith}
 use Rattle.std.specs.List.{flat_map}
 use Rattle.std.specs.Prelude.{IsOk, IsErr}
 use Rattle.std.specs.Io.KnownBytes.{append_known}
-use Rattle.std.proofs.lemmas.List.{append-nil, take-append-drop, drop_more, drop_all}
+use Rattle.std.proofs.lemmas.List.{append-nil, take-append-drop, take_more, drop_more, drop_all}
 use Rattle.std.proofs.lemmas.List.Concat.{flat_map-append}
 use Rattle.rpq_io.specs.Counts.{Rose, CountsFault}
 use Rattle.rpq_io.specs.Writes.{WritesProperPrefix}
@@ -16,17 +18,14 @@ abbrev pub Is : List ℕ → List ℕ → Type 0
 Is text all = all ≡ text
 
 module _ {Sink T E : Type 0} (written : Sink → Option (List ℕ)) (faults : Sink → ℕ) where
-  -- an equal text
-  pub tells_same : (text other : List ℕ) (old new : Sink) (result : Result T E) → text ≡ other
-      → Tells written faults text old new result → Tells written faults other old new result
-  tells_same text other old new result same told = subst (λ t. Tells written faults t old new result) same told
-
   -- what was written, whether a write failed or not
   pub told_prefix : (text : List ℕ) (old new : Sink) (result : Result T E)
       → Tells written faults text old new result → GrewByPrefix (Is text) (written old) (written new)
   told_prefix text old new (Ok x) told = record
       { front = text; rest = []; of_kind = append-nil text; written = told.whole refl }
-  told_prefix text old new (Err e) told = told.prefix refl
+  told_prefix text old new (Err e) told =
+      let part = told.part refl in
+      record { front = part.front; rest = part.rest; of_kind = sym part.cut; written = part.written }
 
   told_whole : (text : List ℕ) (old new : Sink) (result : Result T E)
       → Tells written faults text old new result → ¬ Rose (faults old) (faults new)
@@ -46,80 +45,81 @@ pub counted_after : (fault : Type 0) (before between after : ℕ) → between �
     → CountsFault fault between after → CountsFault fault before after
 counted_after fault before between after same counts = subst (λ n. CountsFault fault n after) same counts
 
+-- of two texts that are nothing together the first is nothing
+nil_front : (front more : List ℕ) → front ++ more ≡ [] → front ≡ []
+nil_front [] more none = refl
+nil_front (byte ∷ front) more none = absurd cc
+
+-- an equal text
+pub tells_as : {Sink T E : Type 0} {written : Sink → Option (List ℕ)} {faults : Sink → ℕ}
+    {text other : List ℕ} {old new : Sink} {result : Result T E} → text ≡ other
+    → Tells written faults text old new result → Tells written faults other old new result
+tells_as {written = written} {faults = faults} {old = old} {new = new} {result = result} same told =
+    subst (λ t. Tells written faults t old new result) same told
+
 -- the first of two texts fails
-pub tells_first : {Sink T E U F : Type 0} (written : Sink → Option (List ℕ)) (faults : Sink → ℕ)
-    (text more : List ℕ) (old new : Sink) (first : Result T E) (result : Result U F)
-    → IsErr first → IsErr result → Tells written faults text old new first
-    → Tells written faults (text ++ more) old new result
-tells_first written faults text more old new (Ok x) result failed fails told = absurd (cc failed)
-tells_first written faults text more old new (Err e) (Ok x) failed fails told = absurd (cc fails)
-tells_first written faults text more old new (Err e) (Err f) failed fails told =
-    let part = told.prefix refl in
+pub tells_failed : {Sink T E U F : Type 0} {written : Sink → Option (List ℕ)} {faults : Sink → ℕ}
+    {text : List ℕ} {old new : Sink} {error : E} {result : Result U F} (more : List ℕ) → IsErr result
+    → Tells {T = T} written faults text old new (Err error) → Tells written faults (text ++ more) old new result
+tells_failed {result = Ok x} more fails told = absurd (cc fails)
+tells_failed {result = Err f} more fails told =
+    let part = told.part refl in
     record {
       whole = λ ok. absurd (cc ok);
-      prefix = λ _. record {
+      part = λ _. record {
         front = part.front;
         rest = part.rest ++ more;
-        of_kind = sym (append_assoc part.front part.rest more) ∙ ap (λ t. t ++ more) part.of_kind;
+        cut = ap (λ t. t ++ more) part.cut ∙ append_assoc part.front part.rest more;
+        proper = λ none. part.proper (nil_front part.rest more none);
         written = part.written;
       };
-      counted = told.counted;
+      counted = record {
+        never_falls = told.counted.never_falls;
+        rose = λ _. told.counted.rose refl;
+        quiet = λ fine. absurd (fine refl);
+      };
     }
 
 -- a text, and then another
-pub tells_second : {Sink T E U F : Type 0} (written : Sink → Option (List ℕ)) (faults : Sink → ℕ)
-    (text more : List ℕ) (old between new : Sink) (first : Result T E) (result : Result U F)
-    → IsOk first → (IsErr first → ⊥) → Tells written faults text old between first
-    → Tells written faults more between new result → Tells written faults (text ++ more) old new result
-tells_second written faults text more old between new first result done no_fault told later =
-    let whole = told.whole done in
-    let same = told.counted.quiet no_fault in
+pub tells_then : {Sink T E U F : Type 0} {written : Sink → Option (List ℕ)} {faults : Sink → ℕ}
+    {text more : List ℕ} {old between new : Sink} {done : T} {result : Result U F}
+    → Tells {E = E} written faults text old between (Ok done) → Tells written faults more between new result
+    → Tells written faults (text ++ more) old new result
+tells_then {written = written} {faults = faults} {text = text} {more = more} {old = old} {between = between}
+    {new = new} {result = result} told later =
+    let whole = told.whole refl in
+    let same = told.counted.quiet (λ err. cc err) in
     record {
       whole = λ ok. later.whole ok ∙ (ap (λ (w : Option (List ℕ)). append_known w more) whole
           ∙ append_known-append (written old) text more);
-      prefix = λ err.
-          let part = later.prefix err in
+      part = λ err.
+          let part = later.part err in
           record {
             front = text ++ part.front;
             rest = part.rest;
-            of_kind = append_assoc text part.front part.rest ∙ ap (λ t. text ++ t) part.of_kind;
+            cut = ap (λ t. text ++ t) part.cut ∙ sym (append_assoc text part.front part.rest);
+            proper = part.proper;
             written = part.written ∙ (ap (λ (w : Option (List ℕ)). append_known w part.front) whole
                 ∙ append_known-append (written old) text part.front);
           };
       counted = counted_after (IsErr result) (faults old) (faults between) (faults new) same later.counted;
     }
 
--- a line that is put
-pub tells_put : {Sink T E : Type 0} (written : Sink → Option (List ℕ)) (faults : Sink → ℕ)
-    (line : List ℕ) (old new : Sink) (result : Result T E)
-    → (IsOk result → written new ≡ append_known (written old) line)
-    → (IsErr result → WritesProperPrefix line (written old) (written new))
-    → CountsFault (IsErr result) (faults old) (faults new) → Tells written faults line old new result
-tells_put written faults line old new result whole part counts = record {
-  whole = whole;
-  prefix = λ err.
-      let front = part err in
-      record { front = front.front; rest = front.rest; of_kind = sym front.cut; written = front.written };
-  counted = counts;
-}
-
--- one of some lines fails, after those before it
-pub tells_in_turn : {Sink T E U F : Type 0} (written : Sink → Option (List ℕ)) (faults : Sink → ℕ)
-    (done line more all : List ℕ) (old between new : Sink) (first : Result T E) (result : Result U F)
-    → done ++ (line ++ more) ≡ all → written between ≡ append_known (written old) done
-    → faults between ≡ faults old → IsErr first → IsErr result
-    → Tells written faults line between new first → Tells written faults all old new result
-tells_in_turn {Sink} {T} {E} {U} {F} written faults done line more all old between new first result is
-    so_far quiet failed fails told =
+-- one of some texts fails, after those before it
+pub tells_in_turn : {Sink T E U F : Type 0} {written : Sink → Option (List ℕ)} {faults : Sink → ℕ}
+    {text : List ℕ} {old between new : Sink} {error : E} {result : Result U F}
+    (done more all : List ℕ) → done ++ (text ++ more) ≡ all
+    → written between ≡ append_known (written old) done → faults between ≡ faults old → IsErr result
+    → Tells {T = T} written faults text between new (Err error) → Tells written faults all old new result
+tells_in_turn {Sink} {T} {E} {written = written} {faults = faults} {old = old} {between = between} done more all is
+    so_far quiet fails told =
     let fine : Result (Unit {0}) E = Ok tt in
     let before : Tells written faults done old between fine = record {
       whole = λ _. so_far;
-      prefix = λ err. absurd (cc err);
+      part = λ err. absurd (cc err);
       counted = record { never_falls = omega (arith, quiet); rose = λ err. absurd (cc err); quiet = λ _. quiet };
     } in
-    tells_same written faults (done ++ (line ++ more)) all old new result is
-    (tells_second written faults done (line ++ more) old between new fine result refl (λ err. cc err) before
-    (tells_first written faults line more between new first result failed fails told))
+    tells_as is (tells_then before (tells_failed more fails told))
 
 -- lines so far, and those of the ends that are left
 pub record HasToldEnds (ends : List StreamEnd) (place : ℕ) (before now : Option (List ℕ)) : Type 0 where
@@ -186,3 +186,28 @@ piece_fits {X} f xs i d line inside so_far fits =
       length-append next later,
       ap (λ (t : List ℕ). length t) so_far,
     )
+
+-- one of some texts of a list fails
+pub tells_element : {Sink T E U F X : Type 0} {written : Sink → Option (List ℕ)} {faults : Sink → ℕ}
+    {old between new : Sink} {error : E} {result : Result U F}
+    (f : X → List ℕ) (xs : List X) (i : ℕ) (d : X) → i < length xs → d ≡ get_or xs i d
+    → written between ≡ append_known (written old) (flat_map f (take i xs)) → faults between ≡ faults old
+    → IsErr result → Tells {T = T} written faults (f d) between new (Err error)
+    → Tells written faults (flat_map f xs) old new result
+tells_element f xs i d inside is so_far quiet fails told =
+    tells_in_turn (flat_map f (take i xs)) (flat_map f (drop (i + 1) xs)) (flat_map f xs) (split_at f xs i d inside is)
+    so_far quiet fails told
+
+-- one text more of a list is written
+pub elements_more : {X : Type 0} (f : X → List ℕ) (xs : List X) (i : ℕ) (d : X)
+    (before now next : Option (List ℕ)) → i < length xs → d ≡ get_or xs i d
+    → now ≡ append_known before (flat_map f (take i xs)) → next ≡ append_known now (f d)
+    → next ≡ append_known before (flat_map f (take (i + 1) xs))
+elements_more {X} f xs i d before now next inside is so_far written =
+    let more : take (i + 1) xs ≡ take i xs ++ d ∷ [] =
+    take_more xs i d inside ∙ ap (λ (x : X). take i xs ++ x ∷ []) (sym is) in
+    let all : flat_map f (take (i + 1) xs) ≡ flat_map f (take i xs) ++ f d =
+    ap (flat_map f) more ∙ (flat_map-append f (take i xs) (d ∷ [])
+    ∙ ap (λ (t : List ℕ). flat_map f (take i xs) ++ t) (append-nil (f d))) in
+    written ∙ (ap (λ (w : Option (List ℕ)). append_known w (f d)) so_far
+    ∙ (append_known-append before (flat_map f (take i xs)) (f d) ∙ ap (append_known before) (sym all)))

@@ -1,13 +1,13 @@
 -- What a sink grew by: texts and prefixes of texts.
-use Rattle.std.proofs.Common.{◌≡◌, ◌≢◌, ℕ, List, [], ◌++◌, Option, ap, sym, subst, ◌∙◌, append_assoc, ◌⊎◌, inl, inr}
+use Rattle.std.proofs.Common.{◌≡◌, ◌≢◌, ℕ, List, [], ◌++◌, Option, ap, sym, subst, ◌∙◌}
+use Rattle.std.proofs.Common.{append_assoc, ◌⊎◌, inl, inr}
 use Rattle.std.specs.Io.KnownBytes.{append_known}
 use Rattle.std.specs.List.{All}
 use Rattle.std.proofs.lemmas.List.{append-nil}
 use Rattle.rpq_base.specs.declared.data.Entry.{Entry}
 use Rattle.rpq_io.specs.Writes.{WritesProperPrefix}
 use Rattle.rpq_io.proofs.Bytes.{append_known-nil, append_known-append}
-use Rattle.rpq_model.specs.declared.mode.Mode.TheVariants.{Arbitrary}
-use Rattle.rpq_model.specs.AnswerLaws.{HistoriesHaveAnswers}
+use Rattle.containment_laws.specs.Accepted.{IsAccepted, AcceptedHaveEvents}
 use Rattle.rpq_model.specs.Query.{Query}
 use Rattle.rpq_run.specs.Statuses.{write_status, memory_status}
 use Rattle.rpq_run.specs.Text.{IsText}
@@ -64,9 +64,9 @@ module _ (IsText : List ℕ → Type 0) (before after : Option (List ℕ)) where
     memory = λ is. proper_is_prefix proper;
   }
 
--- the text of a history is a prefix of that of a longer one, whose queries take all paths
-pub prefix_of_longer : HistoriesHaveAnswers → (queries : List Query)
-    → All (λ query. query.mode ≡ Arbitrary) queries → (history more : List Entry) (before after : Option (List ℕ))
+-- the text of a history is a prefix of that of a longer one, where the queries are accepted
+pub prefix_of_longer : AcceptedHaveEvents → (queries : List Query)
+    → All IsAccepted queries → (history more : List Entry) (before after : Option (List ℕ))
     → Grew (IsText queries history) before after → GrewByPrefix (IsText queries (history ++ more)) before after
 prefix_of_longer have queries all history more before after whole =
     let later = text_goes_on have more queries all history whole.text whole.of_kind in

@@ -4,9 +4,11 @@ mod Grows
 mod Feeding
 mod Emitting
 mod ErrorTexts
-mod Evaluating
+mod WordPieces
+mod VerdictLines
 mod StreamTexts
 mod ByParts
 mod Reading
 mod Statuses
+mod Settings
 mod Tops

@@ -1,5 +1,7 @@
 -- What the next line of a reader makes of the tuples that were read.
-use Rattle.std.proofs.Common.{◌≡◌, ◌≢◌, ℕ, ◌+◌, ◌-◌, ◌<◌, ◌≤◌, Bool, true, false, List, [], ◌∷◌, ◌++◌, length, Option, Some, None, Ok, Err, refl, ap, sym, subst, ◌∙◌, append_assoc, arith, inl, inr, ◌⊎◌, length-append}
+use Rattle.std.proofs.Common.{◌≡◌, ◌≢◌, ℕ, ◌+◌, ◌-◌, ◌<◌, ◌≤◌, Bool, true, false, List, [], ◌∷◌}
+use Rattle.std.proofs.Common.{◌++◌, length, Option, Some, None, Ok, Err, refl, ap, sym, subst, ◌∙◌}
+use Rattle.std.proofs.Common.{append_assoc, arith, inl, inr, ◌⊎◌, length-append}
 use Rattle.std.specs.Prelude.{option_to_list, IfSome}
 use Rattle.std.specs.Io.KnownBytes.{prepend_known}
 use Rattle.std.proofs.lemmas.Bool.{le-leb}
@@ -13,16 +15,21 @@ use Rattle.text_parts.proofs.LineLengths.{line_length-nil, one_line}
 use Rattle.text_parts.proofs.Pieces.{text_push, ended_many, ended_only}
 use Rattle.rpq_base.specs.declared.data.Tuple.{Tuple}
 use Rattle.rpq_io.proofs.Bytes.{prepend_known-prepend, prepend_known-nil, of_known, of_all}
-use Rattle.rpq_io.specs.Reader.{ReaderState, HoldsNoAnswer, Had, GivesLine, IsAtEnd, LosesNothing, TakesNothing, IsLongStream, StaysSound}
+use Rattle.rpq_io.specs.Reader.{ReaderState, HoldsNoAnswer, Had, GivesLine, IsAtEnd, LosesNothing}
+use Rattle.rpq_io.specs.Reader.{TakesNothing, IsLongStream, StaysSound}
 use Rattle.tuple_text.specs.declared.read.BadLine.{BadLine}
 use Rattle.tuple_text.specs.Reading.{line_tuple}
 use Rattle.rpq_run.specs.declared.report.StreamEnd.{StreamEnd}
-use Rattle.rpq_run.specs.declared.report.StreamEnd.TheVariants.{Whole, Line, LongLine, LongStream, Read, Memory}
+use Rattle.rpq_run.specs.declared.report.StreamEnd.TheVariants.{Whole, Line, LongLine, LongStream}
+use Rattle.rpq_run.specs.declared.report.StreamEnd.TheVariants.{Read, Memory}
 use Rattle.rpq_run.specs.Limits.{line_limit, byte_limit}
-use Rattle.rpq_run.specs.StreamText.{StreamTuples, tuples_with, tuples_before, numbered, line_gives, tuples_of_lines, tuples_from}
+use Rattle.rpq_run.specs.StreamText.{StreamTuples, tuples_with, tuples_before, numbered, line_gives}
+use Rattle.rpq_run.specs.StreamText.{tuples_of_lines, tuples_from}
 use Rattle.rpq_run.specs.History.{IsPrefix, AreTaken, AreTuplesOfEnd}
 use Rattle.rpq_run.specs.Progress.{IsStreamReader, IsNew, passed, HasReadLines, HasReadAll, HasRead}
-use Rattle.rpq_run.proofs.StreamTexts.{first_gives, no_lines, tuples_after, faulty_first, faulty_last, good_last, nothing_left, long_first, long_stream}
+use Rattle.rpq_run.proofs.StreamTexts.{first_gives, no_lines, tuples_after, faulty_first}
+use Rattle.rpq_run.proofs.StreamTexts.{faulty_last, good_last, nothing_left, long_first}
+use Rattle.rpq_run.proofs.StreamTexts.{long_stream}
 
 -- a new reader gave no line
 pub new_reader : {S : Type 0} (left : S → Option (List ℕ)) (reader : ReaderState S) → IsNew reader

@@ -1,28 +1,37 @@
 -- The status of a run, and when it is done.
-use Rattle.std.proofs.Common.{◌≡◌, ◌≢◌, ℕ, zero, suc, ◌+◌, ◌<◌, ◌≤◌, Bool, true, false, ◌==◌, ◌||◌, cond, List, [], ◌∷◌, ◌++◌, length, get_or, Option, Some, None, refl, ap, sym, subst, ◌∙◌, arith, inl, inr, ◌⊎◌, length-append}
+use Rattle.std.proofs.Common.{◌≡◌, ◌≢◌, ℕ, zero, suc, ◌+◌, ◌<◌, ◌≤◌, Bool, true, false, ◌==◌, ◌||◌}
+use Rattle.std.proofs.Common.{cond, List, [], ◌∷◌, ◌++◌, length, get_or, Option, Some, None, refl}
+use Rattle.std.proofs.Common.{ap, sym, subst, ◌∙◌, arith, inl, inr, ◌⊎◌, length-append}
 use Rattle.std.specs.Prelude.{IfSome, IsSomeAnd, MatchBool, Contains, slice_get, unwrap_or}
 use Rattle.std.specs.List.{All, list_any}
 use Rattle.std.proofs.lemmas.Bool.{cases_eq}
-use Rattle.std.proofs.lemmas.List.Elements.{All-nil, All-cons, All-head}
+use Rattle.std.proofs.lemmas.List.Elements.{All-nil, All-cons, All-head, All-tail}
+use Rattle.std.proofs.lemmas.Option.{slice_get-get_or}
 use Rattle.rpq_base.specs.declared.data.Tuple.{Tuple}
 use Rattle.rpq_base.specs.declared.data.Entry.{Entry}
 use Rattle.rpq_io.specs.Counts.{Rose, CountsFault}
 use Rattle.rpq_io.proofs.Counting.{counts_as}
 use Rattle.query_file.specs.declared.fault.QueryFault.{QueryFault}
+use Rattle.rpq_words.specs.Settings.{Settings}
 use Rattle.rpq_run.specs.declared.report.Which.TheVariants.{Queries, Stream}
 use Rattle.rpq_run.specs.declared.report.Why.{Why}
 use Rattle.rpq_run.specs.declared.report.Why.TheVariants.{Write, Memory as MemoryOfAll}
 use Rattle.rpq_run.specs.declared.report.SinkName.{SinkName}
 use Rattle.rpq_run.specs.declared.report.SinkName.TheVariants.{Events}
 use Rattle.rpq_run.specs.declared.report.StartFault.{StartFault}
-use Rattle.rpq_run.specs.declared.report.StartFault.TheVariants.{Queries as QueriesFault, Open, Read as ReadAtStart, Long, NotYet, Memory as MemoryAtStart}
+use Rattle.rpq_run.specs.declared.report.StartFault.TheVariants.{Words, Queries as QueriesFault}
+use Rattle.rpq_run.specs.declared.report.StartFault.TheVariants.{Open, Read as ReadAtStart, Long}
+use Rattle.rpq_run.specs.declared.report.StartFault.TheVariants.{NotYet, Memory as MemoryAtStart}
 use Rattle.rpq_run.specs.declared.report.StreamEnd.{StreamEnd}
-use Rattle.rpq_run.specs.declared.report.StreamEnd.TheVariants.{Whole, Line, LongLine, LongStream, Read, Full, Closed, Memory}
-use Rattle.rpq_run.specs.Limits.{byte_limit, history_limit}
+use Rattle.rpq_run.specs.declared.report.StreamEnd.TheVariants.{Whole, Line, LongLine, LongStream}
+use Rattle.rpq_run.specs.declared.report.StreamEnd.TheVariants.{Read, Full, Closed, Memory}
+use Rattle.rpq_run.specs.Given.{file_names}
+use Rattle.rpq_run.specs.Limits.{byte_limit}
 use Rattle.rpq_run.specs.StreamText.{StreamTuples, tuples_with, tuples_from}
 use Rattle.rpq_run.specs.Files.{IsTooLong, IsFaultyFile, IsFaultless, IsWholeStream, tuple_count}
 use Rattle.rpq_run.specs.History.{own_tuples, AreTuplesOfEnd, IsStreamOf, AreStreamsOf}
-use Rattle.rpq_run.specs.Statuses.{status_of_start, status_of_end, arose, first_arisen, IsStatusOf, write_status, memory_status}
+use Rattle.rpq_run.specs.Statuses.{status_of_start, status_of_end, arose, first_arisen, IsStatusOf}
+use Rattle.rpq_run.specs.Statuses.{write_status, memory_status}
 use Rattle.rpq_run.specs.Ends.{IsReadEnd, IsEndInTurn, IsEndAfterWrite}
 use Rattle.rpq_run.specs.Turns.{failed_sinks, status_after}
 use Rattle.rpq_run.specs.Run.{IsRefusedFor, IsOpeningOf, AreSourcesOf, IsFaultOfFile}
@@ -189,14 +198,25 @@ events_quietly ends failed status before after is counts done =
     let no_write : arose ends failed 6 ≡ false = (none_arose ends failed first).write in
     absurd cc)
 
+-- a check in which no write failed is done, or wants memory
+pub checked_or_memory : (failed : List SinkName) (status before after : ℕ)
+    → CountsFault (Contains failed Events) before after → IsStatusOf [] failed status
+    → ¬ Rose before after → (status ≡ 0) ⊎ (status ≡ 8)
+checked_or_memory failed status before after counts is writes =
+    let none : failed ≡ [] = no_events failed (λ has. writes (counts.rose has)) in
+    elim (cases_eq status 8) [
+      | inl eight ↦ inr eight
+      | inr other ↦ inl (is.others other ∙ ap (λ (fs : List SinkName). first_arisen [] fs) none)
+    ]
+
 -- and no read of the one source
-pub reads_quietly : {S : Type 0} (left : S → Option (List ℕ)) (faults : S → ℕ)
+pub reads_quietly : {S : Type 0} (left : S → Option (List ℕ)) (faults : S → ℕ) (limit : ℕ)
     (file : Option (List ℕ)) (history : List Entry) (ends : List StreamEnd) (sources : List S)
     (failed : List SinkName) (status : ℕ)
-    → AreStreamsOf left faults history_limit (file ∷ []) sources history ends
+    → AreStreamsOf left faults limit (file ∷ []) sources history ends
     → IsStatusOf ends failed status → status ≡ 0 → All (λ source. faults source ≡ 0) sources
-reads_quietly {S} left faults file history ends sources failed status are is done =
-    let only = is_only left faults history_limit file sources history ends are in
+reads_quietly {S} left faults limit file history ends sources failed status are is done =
+    let only = is_only left faults limit file sources history ends are in
     let first : first_arisen ends failed ≡ 0 = sym (is.others (λ e. absurd (omega (arith, e, done)))) ∙ done in
     let none : arose (only.end ∷ []) failed 5 ≡ false =
     subst (λ (es : List StreamEnd). arose es failed 5 ≡ false) only.one_end (none_arose ends failed first).read in
@@ -218,12 +238,12 @@ faultless None tuples end whole is = absurd whole
 faultless (Some text) tuples end whole is = sym (ap (λ (ts : StreamTuples). ts.end) is) ∙ whole
 
 -- a history that is full has all tuples of such a stream
-not_full : (file : Option (List ℕ)) (left : Option (List ℕ)) (history : List Entry)
-    → IsWholeStream file → tuple_count file ≤ history_limit → All (λ (e : Entry). e.stream ≡ 1) history
+not_full : (limit : ℕ) (file : Option (List ℕ)) (left : Option (List ℕ)) (history : List Entry)
+    → IsWholeStream file → tuple_count file ≤ limit → All (λ (e : Entry). e.stream ≡ 1) history
     → IfSome file (λ text. AreTuplesOfEnd byte_limit text left (own_tuples 1 history) Full)
-    → length history ≡ history_limit → ⊥
-not_full None left history whole few all tied full = whole
-not_full (Some text) left history whole few all tied full = too_many tied.rest tied.proper tied.cut
+    → length history ≡ limit → ⊥
+not_full limit None left history whole few all tied full = whole
+not_full limit (Some text) left history whole few all tied full = too_many tied.rest tied.proper tied.cut
   where
     too_many : (rest : List Tuple) → rest ≢ []
         → (tuples_from 1 byte_limit text).tuples ≡ own_tuples 1 history ++ rest → ⊥
@@ -245,46 +265,46 @@ tied_tuples None left tuples end has whole tied = absurd whole
 tied_tuples (Some text) left tuples end has whole tied = faultless (Some text) tuples end whole (has text tied)
 
 -- how the stream of such a run ends, where no count rose
-ends_well : (end : StreamEnd) (file left : Option (List ℕ)) (history : List Entry)
-    → IsWholeStream file → tuple_count file ≤ history_limit → All (λ (e : Entry). e.stream ≡ 1) history
+ends_well : (limit : ℕ) (end : StreamEnd) (file left : Option (List ℕ)) (history : List Entry)
+    → IsWholeStream file → tuple_count file ≤ limit → All (λ (e : Entry). e.stream ≡ 1) history
     → IfSome file (λ text. AreTuplesOfEnd byte_limit text left (own_tuples 1 history) end)
-    → (end ≡ Full → length history ≡ history_limit) → (end ≡ Read → ⊥)
+    → (end ≡ Full → length history ≡ limit) → (end ≡ Read → ⊥)
     → ((why : Why) → end ≡ Closed why → ⊥)
     → (first_arisen (end ∷ []) [] ≡ 0) ⊎ (first_arisen (end ∷ []) [] ≡ 8)
-ends_well Whole file left history whole few all tied full read closed = inl refl
-ends_well (Line number fault) file left history whole few all tied full read closed = absurd
+ends_well limit Whole file left history whole few all tied full read closed = inl refl
+ends_well limit (Line number fault) file left history whole few all tied full read closed = absurd
     (cc (tied_tuples file left (own_tuples 1 history) (Line number fault) (λ text is. is) whole tied))
-ends_well (LongLine number) file left history whole few all tied full read closed = absurd
+ends_well limit (LongLine number) file left history whole few all tied full read closed = absurd
     (cc (tied_tuples file left (own_tuples 1 history) (LongLine number) (λ text is. is) whole tied))
-ends_well LongStream file left history whole few all tied full read closed = absurd
+ends_well limit LongStream file left history whole few all tied full read closed = absurd
     (cc (tied_tuples file left (own_tuples 1 history) LongStream (λ text is. is) whole tied))
-ends_well Read file left history whole few all tied full read closed = absurd (read refl)
-ends_well Full file left history whole few all tied full read closed = absurd
-    (not_full file left history whole few all tied (full refl))
-ends_well (Closed why) file left history whole few all tied full read closed = absurd (closed why refl)
-ends_well Memory file left history whole few all tied full read closed = inr refl
+ends_well limit Read file left history whole few all tied full read closed = absurd (read refl)
+ends_well limit Full file left history whole few all tied full read closed = absurd
+    (not_full limit file left history whole few all tied (full refl))
+ends_well limit (Closed why) file left history whole few all tied full read closed = absurd (closed why refl)
+ends_well limit Memory file left history whole few all tied full read closed = inr refl
 
 -- a run over a whole stream is done, or wants memory, where no count rose
-pub done_or_memory : {S : Type 0} (left : S → Option (List ℕ)) (faults : S → ℕ)
+pub done_or_memory : {S : Type 0} (left : S → Option (List ℕ)) (faults : S → ℕ) (limit : ℕ)
     (file : Option (List ℕ)) (before after : ℕ) (history : List Entry) (ends : List StreamEnd)
     (sources : List S) (failed : List SinkName) (status : ℕ)
-    → AreStreamsOf left faults history_limit (file ∷ []) sources history ends
+    → AreStreamsOf left faults limit (file ∷ []) sources history ends
     → All (λ (e : Entry). e.stream ≡ 1) history
     → CountsFault (Contains failed Events) before after
     → ((why : Why) → Contains ends (Closed why) → (why ≡ Write) × Contains failed Events)
-    → IsStatusOf ends failed status → IsWholeStream file → tuple_count file ≤ history_limit
+    → IsStatusOf ends failed status → IsWholeStream file → tuple_count file ≤ limit
     → All (λ source. ¬ Rose 0 (faults source)) sources → ¬ Rose before after
     → (status ≡ 0) ⊎ (status ≡ 8)
-done_or_memory {S} left faults file before after history ends sources failed status are all counts
+done_or_memory {S} left faults limit file before after history ends sources failed status are all counts
     closed is whole few reads writes =
-    let only = is_only left faults history_limit file sources history ends are in
+    let only = is_only left faults limit file sources history ends are in
     let none : failed ≡ [] = no_events failed (λ has. writes (counts.rose has)) in
     let read : ¬ Rose 0 (faults only.source) = All-head (λ source. ¬ Rose 0 (faults source)) only.source []
     (subst (λ (ss : List S). All (λ source. ¬ Rose 0 (faults source)) ss) only.one_source reads) in
     let same : first_arisen ends failed ≡ first_arisen (only.end ∷ []) [] =
     ap (λ (es : List StreamEnd). first_arisen es failed) only.one_end
     ∙ ap (λ (fs : List SinkName). first_arisen (only.end ∷ []) fs) none in
-    let well = ends_well only.end file (left only.source) history whole few all only.stream.tied
+    let well = ends_well limit only.end file (left only.source) history whole few all only.stream.tied
     only.stream.full (λ e. read (only.stream.read.rose e))
     (λ why e. writes (counts.rose (closed why (subst (λ (es : List StreamEnd). Contains es (Closed why))
     (sym {A = List StreamEnd} only.one_end)
@@ -309,49 +329,53 @@ not_faulty None fault faulty some = some
 not_faulty (Some bytes) fault faulty some = some.no_fault fault faulty.1.1
 
 -- a run that doesn't begin with a faultless queries file, and where no count rose, wants memory
-pub wants_memory : {S : Type 0} (left : S → Option (List ℕ)) (faults : S → ℕ)
-    (queries_name stream_name : List ℕ) (queries : Option (List ℕ)) (sources : List S)
-    (rose : List ℕ → Type 0) (fault : StartFault)
-    → IsRefusedFor queries fault → AreSourcesOf left faults queries fault sources
+pub wants_memory : {S : Type 0} (left : S → Option (List ℕ)) (faults : S → ℕ) (given : Settings)
+    (queries : Option (List ℕ)) (sources : List S) (rose : List ℕ → Type 0) (fault : StartFault)
+    → IsRefusedFor given queries fault → AreSourcesOf left faults queries fault sources
     → IsSomeAnd queries IsFaultless
-    → ((name : List ℕ) → IsOpeningOf queries_name stream_name name fault → rose name)
-    → (rose queries_name → ⊥) → (rose stream_name → ⊥)
+    → ((name : List ℕ) → IsOpeningOf given name fault → rose name)
+    → All (λ name. ¬ rose name) (file_names given)
     → All (λ source. ¬ Rose 0 (faults source)) sources
     → (status_of_start fault ≡ 0) ⊎ (status_of_start fault ≡ 8)
-wants_memory left faults queries_name stream_name queries sources rose
-    (QueriesFault fault) cause of some openings first second read = absurd (not_faulty queries fault cause some)
-wants_memory left faults queries_name stream_name queries sources rose
-    (Open Queries) cause of some openings first second read = absurd (first (openings queries_name refl))
-wants_memory left faults queries_name stream_name queries sources rose
-    (Open (Stream number)) cause of some openings first second read = absurd (second (openings stream_name refl))
-wants_memory {S} left faults queries_name stream_name queries sources rose
-    (ReadAtStart which) cause of some openings first second read =
+wants_memory left faults given queries sources rose Words cause of some openings quiet read = absurd cause
+wants_memory left faults given queries sources rose (QueriesFault fault) cause of some openings quiet read =
+    absurd (not_faulty queries fault cause some)
+wants_memory left faults given queries sources rose (Open Queries) cause of some openings quiet read =
+    absurd (All-head (λ name. ¬ rose name) given.queries given.streams quiet (openings given.queries refl))
+wants_memory left faults given queries sources rose (Open (Stream zero)) cause of some openings quiet read =
+    absurd (omega (arith, cause.0.first))
+wants_memory left faults given queries sources rose (Open (Stream (suc place))) cause of some openings quiet read =
+    let inside : place < length given.streams = omega (arith, cause.0.last) in
+    let others = All-tail (λ name. ¬ rose name) given.queries given.streams quiet in
+    absurd (others place [] inside
+    (openings (get_or given.streams place []) (slice_get-get_or given.streams place [] inside)))
+wants_memory {S} left faults given queries sources rose (ReadAtStart which) cause of some openings quiet read =
     absurd (All-head (λ source. ¬ Rose 0 (faults source)) of.0 []
     (subst (λ (ss : List S). All (λ source. ¬ Rose 0 (faults source)) ss) of.1 read) of.2)
-wants_memory left faults queries_name stream_name queries sources rose
-    (Long Queries) cause of some openings first second read = absurd (not_long queries cause some)
-wants_memory left faults queries_name stream_name queries sources rose
-    (Long (Stream number)) cause of some openings first second read = absurd cause
-wants_memory left faults queries_name stream_name queries sources rose NotYet cause of some openings
-    first second read = absurd cause
-wants_memory left faults queries_name stream_name queries sources rose MemoryAtStart cause of some
-    openings first second read = inr refl
+wants_memory left faults given queries sources rose (Long Queries) cause of some openings quiet read =
+    absurd (not_long queries cause some)
+wants_memory left faults given queries sources rose (Long (Stream number)) cause of some openings quiet read =
+    absurd cause
+wants_memory left faults given queries sources rose NotYet cause of some openings quiet read = absurd cause
+wants_memory left faults given queries sources rose MemoryAtStart cause of some openings quiet read = inr refl
 
 -- the refusal for a fault of the queries file
-pub refused_by_file : (file : Option (List ℕ)) (fault : StartFault)
-    → IsFaultOfFile Queries file fault → IsRefusedFor file fault
-refused_by_file file (QueriesFault fault) is = is.1
-refused_by_file file (Open Queries) is = tt
-refused_by_file file (Open (Stream number)) is = absurd cc
-refused_by_file file (ReadAtStart Queries) is = tt
-refused_by_file file (ReadAtStart (Stream number)) is = absurd cc
-refused_by_file file (Long Queries) is = is.1
-refused_by_file file (Long (Stream number)) is = absurd (cc is.0)
-refused_by_file file NotYet is = absurd is
-refused_by_file file MemoryAtStart is = tt
+pub refused_by_file : (given : Settings) (file : Option (List ℕ)) (fault : StartFault)
+    → IsFaultOfFile Queries file fault → IsRefusedFor given file fault
+refused_by_file given file Words is = absurd is
+refused_by_file given file (QueriesFault fault) is = is.1
+refused_by_file given file (Open Queries) is = tt
+refused_by_file given file (Open (Stream number)) is = absurd cc
+refused_by_file given file (ReadAtStart Queries) is = tt
+refused_by_file given file (ReadAtStart (Stream number)) is = absurd cc
+refused_by_file given file (Long Queries) is = is.1
+refused_by_file given file (Long (Stream number)) is = absurd (cc is.0)
+refused_by_file given file NotYet is = absurd is
+refused_by_file given file MemoryAtStart is = tt
 
 -- no run that doesn't begin is done
 pub not_done : (fault : StartFault) → status_of_start fault ≡ 0 → ⊥
+not_done Words is = absurd cc
 not_done (QueriesFault fault) is = absurd cc
 not_done (Open which) is = absurd cc
 not_done (ReadAtStart which) is = absurd cc

@@ -1,5 +1,7 @@
 -- The tuples of a text, of which the first lines are known.
-use Rattle.std.proofs.Common.{◌≡◌, ℕ, suc, ◌+◌, ◌-◌, ◌<◌, ◌≤◌, List, [], ◌∷◌, ◌++◌, length, take, Option, Result, Ok, Err, refl, ap, sym, subst, ◌∙◌, arith, inl, inr, length-append}
+use Rattle.std.proofs.Common.{◌≡◌, ℕ, suc, ◌+◌, ◌-◌, ◌<◌, ◌≤◌, List, [], ◌∷◌, ◌++◌, length, take}
+use Rattle.std.proofs.Common.{Option, Result, Ok, Err, refl, ap, sym, subst, ◌∙◌, arith, inl, inr}
+use Rattle.std.proofs.Common.{length-append}
 use Rattle.std.specs.Prelude.{option_to_list}
 use Rattle.std.specs.List.{All}
 use Rattle.std.proofs.lemmas.Bool.{cases_lt, lt-ltb, le-ltb, le-leb, lt-leb}
@@ -13,7 +15,8 @@ use Rattle.rpq_base.specs.declared.data.Tuple.{Tuple}
 use Rattle.rpq_run.specs.declared.report.StreamEnd.{StreamEnd}
 use Rattle.rpq_run.specs.declared.report.StreamEnd.TheVariants.{Whole, LongLine, LongStream}
 use Rattle.rpq_run.specs.Limits.{line_limit}
-use Rattle.rpq_run.specs.StreamText.{StreamTuples, tuples_with, tuples_before, line_gives, line_before, tuples_of_lines, cut_end, cut_tuples, tuples_from}
+use Rattle.rpq_run.specs.StreamText.{StreamTuples, tuples_with, tuples_before, line_gives}
+use Rattle.rpq_run.specs.StreamText.{line_before, tuples_of_lines, cut_end, cut_tuples, tuples_from}
 
 -- the tuples of lines, the first of which gives this
 pub first_gives : (line : List ℕ) (lines : List (List ℕ)) (number : ℕ) (end : StreamEnd)

@@ -1,13 +1,11 @@
 -- The text of a history with one entry more, and of a longer history.
-use Rattle.std.proofs.Common.{◌≡◌, ℕ, ◌+◌, List, [], ◌∷◌, ◌++◌, length, refl, ap, sym, subst, ◌∙◌, append_assoc, arith}
+use Rattle.std.proofs.Common.{◌≡◌, ℕ, ◌+◌, List, [], ◌∷◌, ◌++◌, length, refl, ap, sym, subst, ◌∙◌}
+use Rattle.std.proofs.Common.{append_assoc, arith}
 use Rattle.std.specs.List.{All}
 use Rattle.std.proofs.lemmas.List.{append-nil}
-use Rattle.std.proofs.lemmas.List.Elements.{All-head, All-tail}
 use Rattle.rpq_base.specs.declared.data.Entry.{Entry}
 use Rattle.rpq_base.specs.declared.data.Event.{Event}
-use Rattle.rpq_model.specs.declared.mode.Mode.TheVariants.{Arbitrary}
-use Rattle.rpq_model.specs.AnswerLaws.{HistoriesHaveAnswers}
-use Rattle.rpq_model.specs.Events.{changes}
+use Rattle.containment_laws.specs.Accepted.{IsAccepted, AcceptedHaveEvents}
 use Rattle.rpq_model.specs.Query.{Query}
 use Rattle.rpq_model.specs.QueryEvents.{AreEventsUnder}
 use Rattle.rpq_model.proofs.EachEntry.{each_are_one, each_as_many, each_push}
@@ -51,23 +49,9 @@ text_push queries history text entry found is_text brings =
           ∙ sym (blocks_push history events queries 1 entry found many)),
     )
 
--- queries that take all paths have their events from one history to another
-under_some : HistoriesHaveAnswers → (queries : List Query)
-    → All (λ query. query.mode ≡ Arbitrary) queries → (number : ℕ) (before after : List Entry)
-    → (events : List Event) × AreEventsUnder number queries before after events
-under_some have [] all number before after = ([], refl)
-under_some have (query ∷ queries) all number before after =
-    let arbitrary = All-head (λ (q : Query). q.mode ≡ Arbitrary) query queries all in
-    let old = have query before arbitrary in
-    let new = have query after arbitrary in
-    let own = changes number old.0 new.0 in
-    let others = under_some have queries (All-tail (λ (q : Query). q.mode ≡ Arbitrary) query queries
-    all) (number + 1) before after in
-    (own ++ others.0, (own, others.0, (old.0, new.0, old.1, new.1, refl), others.1, refl))
-
 -- a text of a history is at the front of one of each longer history
-pub text_goes_on : HistoriesHaveAnswers → (more : List Entry) (queries : List Query)
-    → All (λ query. query.mode ≡ Arbitrary) queries → (history : List Entry) (text : List ℕ)
+pub text_goes_on : AcceptedHaveEvents → (more : List Entry) (queries : List Query)
+    → All IsAccepted queries → (history : List Entry) (text : List ℕ)
     → IsText queries history text → (rest : List ℕ) × IsText queries (history ++ more) (text ++ rest)
 text_goes_on have [] queries all history text is_text = (
   [],
@@ -75,7 +59,7 @@ text_goes_on have [] queries all history text is_text = (
       (subst (IsText queries history) (sym (append-nil text)) is_text),
 )
 text_goes_on have (entry ∷ more) queries all history text is_text =
-    let found = under_some have queries all 0 history (history ++ entry ∷ []) in
+    let found = have queries all 0 history (history ++ entry ∷ []) in
     let next = block queries (length history + 1) entry found.0 in
     let later = text_goes_on have more queries all (history ++ entry ∷ []) (text ++ next)
     (text_push queries history text entry found.0 is_text found.1) in (
@@ -90,7 +74,7 @@ pub no_text : (queries : List Query) → IsText queries [] []
 no_text queries = ([], tt, refl)
 
 -- each history has one text
-pub one_text : HistoriesHaveAnswers → EveryHistoryHasOneText
+pub one_text : AcceptedHaveEvents → EveryHistoryHasOneText
 one_text have queries all history =
     let text = text_goes_on have history queries all [] [] (no_text queries) in (
       text.0,

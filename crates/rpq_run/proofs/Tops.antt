@@ -1,27 +1,30 @@
 -- What a run says of its queries, of its files and of its streams.
-use Rattle.std.proofs.Common.{◌≡◌, ℕ, Bool, true, false, ◌==◌, ◌&&◌, List, [], ◌∷◌, length, map, Option, Some, None, refl, subst, arith}
-use Rattle.std.specs.Prelude.{not, IfSome, IsSomeAnd, MatchBool, String}
-use Rattle.std.specs.Global.{Global}
-use Rattle.std.specs.List.{All}
-use Rattle.std.proofs.lemmas.List.Elements.{All-map, All-same}
-use Rattle.std.proofs.lemmas.Bool.Decides.{Decides-eqb}
+use Rattle.std.proofs.Common.{◌≡◌, ℕ, Bool, true, false, List, [], ◌∷◌, length, map, Option, Some}
+use Rattle.std.proofs.Common.{None, refl, ap, sym, subst, ◌∙◌, arith}
+use Rattle.std.specs.Prelude.{IfSome, IsSomeAnd, MatchBool}
+use Rattle.std.specs.List.{All, flat_map}
+use Rattle.std.proofs.lemmas.List.{length-map}
+use Rattle.std.proofs.lemmas.List.Elements.{All-map}
 use Rattle.rpq_base.specs.declared.data.Entry.{Entry}
 use Rattle.rpq_io.specs.Counts.{CountsFault}
 use Rattle.rpq_io.specs.Files.{KeepsFiles}
-use Rattle.rpq_io.proofs.Counting.{counts_none}
 use Rattle.rpq_model.specs.Query.{Query}
+use Rattle.rpq_words.specs.Settings.{Settings}
 use Rattle.rpq_run.specs.declared.report.StartFault.{StartFault}
 use Rattle.rpq_run.specs.declared.report.StreamEnd.{StreamEnd}
-use Rattle.rpq_run.specs.Limits.{history_limit}
 use Rattle.rpq_run.specs.Files.{HasQueries, IsQueriesFile, ForQueries}
-use Rattle.rpq_run.specs.History.{IsStreamOf}
+use Rattle.rpq_run.specs.Given.{is_not_yet}
+use Rattle.rpq_run.specs.History.{IsNumberOf, IsStreamOf, AreStreamsOf}
 use Rattle.rpq_run.specs.Ends.{IsEndInTurn, IsEndAfterWrite}
 use Rattle.rpq_run.specs.Text.{IsText}
+use Rattle.rpq_run.specs.Verdicts.{AreVerdicts}
 use Rattle.rpq_run.specs.Written.{WritesByStatus}
 use Rattle.rpq_run.specs.Turns.{IsWithin, failed_sinks, status_after}
 use Rattle.rpq_run.specs.ErrorLines.{run_lines, TellsLines}
-use Rattle.rpq_run.specs.Run.{word, is_option, are_words, stream_names, IsOpeningOf, ReadsFiles}
-use Rattle.rpq_run.specs.RunsStreams.{IsNumberOf, RunsStreams}
+use Rattle.rpq_run.specs.Run.{IsBegun, ReadsFiles}
+use Rattle.rpq_run.specs.RunsCheck.{RunsCheck}
+use Rattle.rpq_run.specs.RunsStreams.{RunsStreams}
+use Rattle.rpq_run.specs.Statuses.{first_arisen}
 use Rattle.rpq_run.proofs.Statuses.{only_stream, events_failed, full_quietly, closed_for_write}
 
 -- what holds of the queries that a file gives
@@ -35,83 +38,39 @@ pub is_queries_file : (file : Option (List ℕ)) (queries : List Query)
 is_queries_file None queries is = tt
 is_queries_file (Some bytes) queries is = (queries, is)
 
--- what a run does to the files, whose names are the words
-pub reads_files : {F : Type 0} (holds : F → List ℕ → Option (List ℕ)) (unread unmade : F → List ℕ
-    → ℕ) (made : F → List (List ℕ)) (words : List (String Global)) (queries stream : List ℕ)
-    (start : Option StartFault) (old new : F) → queries ≡ word words 1 → stream ≡ word words 2
-    → KeepsFiles holds made old new → ((name : List ℕ) → unmade new name ≡ unmade old name)
-    → ((name : List ℕ) → CountsFault (IsSomeAnd start (IsOpeningOf queries stream name))
-    (unread old name) (unread new name)) → ReadsFiles holds unread unmade made words start old new
-reads_files holds unread unmade made words queries stream start old new first second kept
-    unmade_stays openings = record {
-      kept = kept;
-      unmade_stays = unmade_stays;
-      openings = λ name.
-          subst (λ (q : List ℕ). CountsFault (IsSomeAnd start (IsOpeningOf q (word words 2) name))
-          (unread old name) (unread new name)) first
-          (subst (λ (s : List ℕ). CountsFault (IsSomeAnd start (IsOpeningOf queries s name))
-          (unread old name) (unread new name)) second (openings name));
-    }
-
--- files that aren't touched
-pub reads_nothing : {F : Type 0} (holds : F → List ℕ → Option (List ℕ)) (unread unmade : F → List ℕ
-    → ℕ) (made : F → List (List ℕ)) (words : List (String Global)) (start : Option StartFault) (files : F)
-    → ((name : List ℕ) → IsSomeAnd start (IsOpeningOf (word words 1) (word words 2) name) → ⊥)
-    → ReadsFiles holds unread unmade made words start files files
-reads_nothing holds unread unmade made words start files none = record {
-  kept = record { bytes = λ name. refl; names = refl };
-  unmade_stays = λ name. refl;
-  openings = λ name. counts_none (IsSomeAnd start (IsOpeningOf (word words 1) (word words 2) name))
-      (unread files name) (unread files name) (none name) refl;
-}
-
-first_of_three : (a b c : Bool) → (a && b && c) ≡ true → a ≡ true
-first_of_three true b c is = refl
-first_of_three false true true is = absurd cc
-first_of_three false true false is = absurd cc
-first_of_three false false c is = absurd cc
-
--- the only stream's name
-pub one_name : (words : List (String Global)) → are_words words ≡ true → stream_names words ≡ word words 2 ∷ []
-one_name [] are = absurd cc
-one_name (program ∷ []) are = absurd cc
-one_name (program ∷ queries ∷ []) are = absurd cc
-one_name (program ∷ queries ∷ stream ∷ []) are = refl
-one_name (program ∷ queries ∷ stream ∷ more ∷ words) are =
-    let all = program ∷ queries ∷ stream ∷ more ∷ words in
-    let three : (length all == 3) ≡ true = first_of_three (length all == 3)
-    (not (is_option (word all 1))) (not (is_option (word all 2))) are in
-    absurd (omega (arith, (Decides-eqb (length all) 3).0 three))
-
--- words of which names were taken
-pub are_taken : (words : List (String Global)) → (are_words words ≡ false → ⊥) → are_words words ≡ true
-are_taken words taken = by (are_words words) taken
-  where
-    by : (b : Bool) → (b ≡ false → ⊥) → b ≡ true
-    by true not_bad = refl
-    by false not_bad = absurd (not_bad refl)
+-- one file is that of one stream
+pub one_file : (given : Settings) (holds : List ℕ → Option (List ℕ)) (stream : Option (List ℕ))
+    → map holds given.streams ≡ stream ∷ [] → length given.streams ≡ 1
+one_file given holds stream content =
+    sym (length-map given.streams holds) ∙ ap (λ (fs : List (Option (List ℕ))). length fs) content
 
 -- the run over one stream, whose end and whose failed write are these
 pub runs_streams : {S K : Type 0} (left : S → Option (List ℕ)) (faults : S → ℕ)
-    (written : K → Option (List ℕ)) (failures : K → ℕ) (file : Option (List ℕ)) (queries : List Query)
+    (written : K → Option (List ℕ)) (failures : K → ℕ)
+    (given : Settings) (holds : List ℕ → Option (List ℕ)) (queries : List Query)
     (stream : Option (List ℕ)) (events_old events_new errors_old errors_new : K)
     (history : List Entry) (end : StreamEnd) (source : S) (failed : Bool)
-    → IfSome file (λ bytes. HasQueries bytes queries)
-    → IsStreamOf left faults 1 history_limit stream source history end → IsWithin history_limit history
+    → IfSome (holds given.queries) (λ bytes. HasQueries bytes queries)
+    → map holds given.streams ≡ stream ∷ []
+    → IsStreamOf left faults 1 given.history stream source history end → IsWithin given.history history
     → MatchBool failed (IsEndAfterWrite end) (IsEndInTurn end)
     → WritesByStatus (status_after failed end) (IsText queries history) (written events_old) (written events_new)
     → CountsFault (failed ≡ true) (failures events_old) (failures events_new)
     → TellsLines written failures (run_lines (end ∷ []) (failed_sinks failed) (status_after failed end))
     errors_old errors_new
-    → RunsStreams left faults written failures file (stream ∷ []) events_old events_new errors_old errors_new
+    → RunsStreams left faults written failures given holds events_old events_new errors_old errors_new
     (status_after failed end) history (end ∷ []) (source ∷ [])
-runs_streams left faults written failures file queries stream events_old events_new errors_old errors_new
-    history end source failed has is within ends text counts told = record {
-      understood = is_queries_file file queries has;
-      each_stream = only_stream left faults history_limit stream source history end is;
+runs_streams left faults written failures given holds queries stream events_old events_new errors_old errors_new
+    history end source failed has content is within ends text counts told =
+    let one : length given.streams ≡ 1 = one_file given holds stream content in
+    record {
+      understood = is_queries_file (holds given.queries) queries has;
+      each_stream = subst (λ (fs : List (Option (List ℕ))). AreStreamsOf left faults given.history fs
+          (source ∷ []) history (end ∷ [])) (sym content)
+          (only_stream left faults given.history stream source history end is);
       no_other = λ k d inside. record {
         first = omega (arith, within.numbers k d inside);
-        last = omega (arith, within.numbers k d inside);
+        last = omega (arith, within.numbers k d inside, one);
       };
       few = within.few;
       failed = failed_sinks failed;
@@ -119,17 +78,66 @@ runs_streams left faults written failures file queries stream events_old events_
       full = full_quietly failed end ends;
       closed = closed_for_write failed end ends;
       status_is = record { memory = λ eight. eight; others = λ other. refl };
-      text = for_queries file queries (λ all. WritesByStatus (status_after failed end) (IsText all history)
-          (written events_old) (written events_new)) has text;
+      text = for_queries (holds given.queries) queries (λ all. WritesByStatus (status_after failed end)
+          (IsText all history) (written events_old) (written events_new)) has text;
+      told = told;
+    }
+
+-- the check of queries, in which a write failed or not
+pub runs_check : {S K : Type 0} (written : K → Option (List ℕ)) (failures : K → ℕ)
+    (given : Settings) (holds : List ℕ → Option (List ℕ)) (queries : List Query)
+    (events_old events_new errors_old errors_new : K) (failed : Bool)
+    → IfSome (holds given.queries) (λ bytes. HasQueries bytes queries)
+    → WritesByStatus (first_arisen [] (failed_sinks failed)) (AreVerdicts queries) (written events_old) (written events_new)
+    → CountsFault (failed ≡ true) (failures events_old) (failures events_new)
+    → TellsLines written failures (run_lines [] (failed_sinks failed) (first_arisen [] (failed_sinks failed)))
+    errors_old errors_new
+    → RunsCheck {S = S} written failures given holds events_old events_new errors_old errors_new
+    (first_arisen [] (failed_sinks failed)) [] [] []
+runs_check written failures given holds queries events_old events_new errors_old errors_new failed has text
+    counts told = record {
+      understood = is_queries_file (holds given.queries) queries has;
+      no_history = refl;
+      no_stream = refl;
+      no_source = refl;
+      failed = failed_sinks failed;
+      events_failed = events_failed failed (failures events_old) (failures events_new) counts;
+      status_is = record { memory = λ eight. eight; others = λ other. refl };
+      text = for_queries (holds given.queries) queries (λ all. WritesByStatus (first_arisen [] (failed_sinks failed))
+          (AreVerdicts all) (written events_old) (written events_new)) has text;
       told = told;
     }
 
 -- entries of one stream's number
-pub one_number : (history : List Entry) → All (λ (e : Entry). IsNumberOf 1 e.stream) history
-    → All (λ (e : Entry). e.stream ≡ 1) history
-one_number history all = λ k d inside. omega (arith, (all k d inside).first, (all k d inside).last)
+pub one_number : (history : List Entry) (count : ℕ) → count ≡ 1
+    → All (λ (e : Entry). IsNumberOf count e.stream) history → All (λ (e : Entry). e.stream ≡ 1) history
+one_number history count one all = λ k d inside. omega (arith, one, (all k d inside).first, (all k d inside).last)
 
--- what holds of the values of a function holds of the list of them
-pub all_mapped : {X Y : Type 0} (P : Y → Type 0) (f : X → Y) (xs : List X) (ys : List Y)
-    → ys ≡ map f xs → All (λ x. P (f x)) xs → All P ys
-all_mapped P f xs ys are all = All-same P ys (map f xs) are (All-map P f xs all)
+-- of two facts the one that holds where a test passes, and where it fails
+pub match_true : (test : Bool) (P Q : Type 0) → test ≡ true → P → MatchBool test P Q
+match_true true P Q passes p = p
+match_true false P Q passes p = absurd (cc passes)
+
+pub match_false : (test : Bool) (P Q : Type 0) → test ≡ false → Q → MatchBool test P Q
+match_false true P Q fails q = absurd (cc fails)
+match_false false P Q fails q = q
+
+-- a run begins by the settings of its words
+pub begun_by : (words : Option Settings) (given : Settings) (P : Settings → Type 0) → words ≡ Some given
+    → is_not_yet given ≡ false → P given → IsBegun words P
+begun_by words given P are so_far holds = subst (λ (w : Option Settings). IsBegun w P) (sym are) (so_far, holds)
+
+-- what holds of the settings of words
+pub for_given : (words : Option Settings) (given : Settings) (P : Settings → Type 0) → words ≡ Some given
+    → P given → IfSome words P
+for_given words given P are holds = subst (λ (w : Option Settings). IfSome w P) (sym are) holds
+
+-- what a run that begins does to the files
+pub reads_files : {F : Type 0} (holds : F → List ℕ → Option (List ℕ)) (unread unmade : F → List ℕ → ℕ)
+    (made : F → List (List ℕ)) (words : Option Settings) (start : Option StartFault) (old new : F)
+    → start ≡ None → KeepsFiles holds made old new → ((name : List ℕ) → unmade new name ≡ unmade old name)
+    → ((name : List ℕ) → CountsFault ⊥ (unread old name) (unread new name))
+    → ReadsFiles holds unread unmade made words start old new
+reads_files holds unread unmade made words start old new begins kept unmade_stays openings =
+    subst (λ (s : Option StartFault). ReadsFiles holds unread unmade made words s old new) (sym begins)
+    (record { kept = kept; unmade_stays = unmade_stays; openings = openings })

@@ -5,15 +5,19 @@ use Rattle.std.specs.Io.KnownBytes.{append_known}
 use Rattle.std.specs.Prelude.{Option}
 use Rattle.tuple_text.specs.FaultTexts.{fault_text}
 use Rattle.query_file.specs.FaultTexts.{query_kind_text}
+use Rattle.rpq_words.specs.Usage.{usage}
 use Rattle.rpq_io.specs.Counts.{Rose}
 use Rattle.rpq_run.specs.declared.report.Which.{Which}
 use Rattle.rpq_run.specs.declared.report.Which.TheVariants.{Queries, Stream}
 use Rattle.rpq_run.specs.declared.report.SinkName.{SinkName}
 use Rattle.rpq_run.specs.declared.report.SinkName.TheVariants.{Events}
 use Rattle.rpq_run.specs.declared.report.StartFault.{StartFault}
-use Rattle.rpq_run.specs.declared.report.StartFault.TheVariants.{Queries as QueriesFault, Open, Read as ReadAtStart, Long, NotYet, Memory as MemoryAtStart}
+use Rattle.rpq_run.specs.declared.report.StartFault.TheVariants.{Words, Queries as QueriesFault}
+use Rattle.rpq_run.specs.declared.report.StartFault.TheVariants.{Open, Read as ReadAtStart, Long}
+use Rattle.rpq_run.specs.declared.report.StartFault.TheVariants.{NotYet, Memory as MemoryAtStart}
 use Rattle.rpq_run.specs.declared.report.StreamEnd.{StreamEnd}
-use Rattle.rpq_run.specs.declared.report.StreamEnd.TheVariants.{Whole, Line, LongLine, LongStream, Read, Full, Closed, Memory}
+use Rattle.rpq_run.specs.declared.report.StreamEnd.TheVariants.{Whole, Line, LongLine, LongStream}
+use Rattle.rpq_run.specs.declared.report.StreamEnd.TheVariants.{Read, Full, Closed, Memory}
 use Rattle.rpq_run.specs.Statuses.{memory_status}
 use Rattle.rpq_run.specs.Written.{GrewByPrefix}
 
@@ -27,8 +31,10 @@ unfoldable pub query_text : ℕ → List ℕ → List ℕ
 query_text line text =
     codes "rpq: queries line " ++ (decimal line ++ (codes ": " ++ (text ++ codes "\n")))
 
--- the line of a run that didn't begin
+-- the line of a run that didn't begin; where the words are refused, a second one says how the
+-- command is used
 abbrev pub start_line : StartFault → List ℕ
+start_line Words = codes "rpq: words\n" ++ (usage ++ codes "\n")
 start_line (QueriesFault fault) = query_text fault.line (query_kind_text fault.kind)
 start_line (Open which) = codes "rpq: read failed: " ++ file_text which ++ codes "\n"
 start_line (ReadAtStart which) = codes "rpq: read failed: " ++ file_text which ++ codes "\n"

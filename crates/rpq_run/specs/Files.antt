@@ -1,12 +1,14 @@
 -- The files of a run.
-use Rattle.std.specs.Prelude.{◌≡◌, ◌≢◌, ℕ, ◌<◌, ◌≤◌, List, length, map, sum, All, Option, Ok, Err, option_map, unwrap_or, IfSome, IsSomeAnd}
+use Rattle.std.specs.Prelude.{◌≡◌, ◌≢◌, ℕ, ◌<◌, ◌≤◌, List, length, map, sum, All, Option, Ok, Err}
+use Rattle.std.specs.Prelude.{option_map, unwrap_or, IfSome, IsSomeAnd}
 use Rattle.std.specs.Io.KnownBytes.{prepend_known}
 use Rattle.rpq_model.specs.Query.{Query}
 use Rattle.query_file.specs.declared.fault.QueryFault.{QueryFault}
 use Rattle.query_file.specs.declared.fault.QueryKind.TheVariants.{Memory}
 use Rattle.query_file.specs.Queries.{Queries}
+use Rattle.rpq_words.specs.Settings.{Settings}
 use Rattle.rpq_run.specs.declared.report.StreamEnd.TheVariants.{Whole}
-use Rattle.rpq_run.specs.Limits.{file_limit, history_limit}
+use Rattle.rpq_run.specs.Limits.{file_limit}
 use Rattle.rpq_run.specs.StreamText.{stream_tuples}
 
 -- a queries file has these bytes, which are not too many, and these queries
@@ -51,9 +53,8 @@ IsWholeStream file = IsSomeAnd file (λ text. (stream_tuples text).end ≡ Whole
 abbrev pub tuple_count : Option (List ℕ) → ℕ
 tuple_count file = unwrap_or (option_map (λ text. length (stream_tuples text).tuples) file) 0
 
--- the bytes of all files are told and have no fault, and a history can hold the streams' tuples
-pub record CanBeDone (queries : Option (List ℕ)) (streams : List (Option (List ℕ)))
-    : Type 0 where
-  pub understood : IsSomeAnd queries IsFaultless
-  pub whole : All IsWholeStream streams
-  pub few : sum (map tuple_count streams) ≤ history_limit
+-- the bytes of all files are told and have no fault, and the history can hold the streams' tuples
+pub record CanBeDone (given : Settings) (holds : List ℕ → Option (List ℕ)) : Type 0 where
+  pub understood : IsSomeAnd (holds given.queries) IsFaultless
+  pub whole : All IsWholeStream (map holds given.streams)
+  pub few : sum (map tuple_count (map holds given.streams)) ≤ given.history

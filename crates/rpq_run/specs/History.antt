@@ -1,14 +1,21 @@
 -- How the history of a run is tied to the bytes of its streams.
-use Rattle.std.specs.Prelude.{◌≡◌, ◌≢◌, ℕ, ◌+◌, ◌==◌, List, [], ◌++◌, length, map, filter, slice_get, Option, Some, IfSome}
+use Rattle.std.specs.Prelude.{◌≡◌, ◌≢◌, ℕ, ◌+◌, ◌≤◌, ◌==◌, List, [], ◌++◌, length, map, filter}
+use Rattle.std.specs.Prelude.{slice_get, Option, Some, IfSome}
 use Rattle.std.specs.Io.KnownBytes.{prepend_known}
 use Rattle.rpq_base.specs.declared.data.Tuple.{Tuple}
 use Rattle.rpq_base.specs.declared.data.Entry.{Entry}
 use Rattle.rpq_io.specs.Counts.{CountsFault}
 use Rattle.rpq_run.specs.declared.report.StreamEnd.{StreamEnd}
-use Rattle.rpq_run.specs.declared.report.StreamEnd.TheVariants.{Whole, Line, LongLine, LongStream, Read, Full, Closed, Memory}
+use Rattle.rpq_run.specs.declared.report.StreamEnd.TheVariants.{Whole, Line, LongLine, LongStream}
+use Rattle.rpq_run.specs.declared.report.StreamEnd.TheVariants.{Read, Full, Closed, Memory}
 use Rattle.rpq_run.specs.Limits.{byte_limit}
 use Rattle.text_parts.specs.EndedLines.{ended_lines}
 use Rattle.rpq_run.specs.StreamText.{tuples_with, tuples_of_lines, tuples_from}
+
+-- the number of one of so many streams, which count from 1
+pub record IsNumberOf (count number : ℕ) : Type 0 where
+  pub first : 1 ≤ number
+  pub last : number ≤ count
 
 -- the tuples of the stream with this number in the history, in order
 abbrev pub own_tuples : ℕ → List Entry → List Tuple

@@ -1,5 +1,6 @@
 -- What the definitions are meant to say, as laws.
-use Rattle.std.specs.Prelude.{◌≡◌, ℕ, ◌+◌, ◌<◌, ◌≤◌, ◌⊎◌, ◌↔◌, List, [], ◌∷◌, ◌++◌, length, take, map, All, Option, Some, slice_get, option_to_list, Ok, Err}
+use Rattle.std.specs.Prelude.{◌≡◌, ℕ, ◌+◌, ◌<◌, ◌≤◌, ◌⊎◌, ◌↔◌, List, [], ◌∷◌, ◌++◌, length, take}
+use Rattle.std.specs.Prelude.{map, All, Option, Some, slice_get, option_to_list, Ok, Err}
 use Rattle.std.specs.List.{flat_map}
 use Rattle.text_parts.specs.Lines.{raw_lines, without_return}
 use Rattle.text_parts.specs.EndedLines.{ended_lines, open_line}
@@ -9,7 +10,7 @@ use Rattle.rpq_base.specs.declared.data.Pair.{Pair}
 use Rattle.rpq_base.specs.declared.data.Event.{Event}
 use Rattle.tuple_text.specs.declared.read.BadLine.{BadLine}
 use Rattle.tuple_text.specs.Reading.{line_tuple}
-use Rattle.rpq_model.specs.declared.mode.Mode.TheVariants.{Arbitrary}
+use Rattle.containment_laws.specs.Accepted.{IsAccepted}
 use Rattle.rpq_model.specs.Events.{IsHeld}
 use Rattle.rpq_model.specs.Answers.{IsAnswer}
 use Rattle.rpq_model.specs.Query.{Query, path_query}
@@ -19,12 +20,12 @@ use Rattle.rpq_run.specs.declared.report.StreamEnd.TheVariants.{Whole, Line, Lon
 use Rattle.rpq_run.specs.Limits.{line_limit, byte_limit}
 use Rattle.rpq_run.specs.StreamText.{tuples_with, cut_end, stream_tuples}
 use Rattle.rpq_run.specs.Text.{IsText}
+use Rattle.rpq_run.specs.Verdicts.{IsVerdictLine, AreVerdicts}
 
--- each history has exactly one text, where the queries take all paths
+-- each history has exactly one text, where the queries are accepted
 abbrev pub EveryHistoryHasOneText : Type 0
 EveryHistoryHasOneText =
-    (queries : List Query) → All (λ query. query.mode ≡ Arbitrary) queries →
-    (history : List Entry) →
+    (queries : List Query) → All IsAccepted queries → (history : List Entry) →
     (text : List ℕ) × IsText queries history text
     × ((other : List ℕ) → IsText queries history other → other ≡ text)
 
@@ -76,3 +77,10 @@ pub record IsStreamByParts (text : List ℕ) (tuples : List Tuple) (end : Stream
 abbrev pub StreamByParts : Type 0
 StreamByParts =
     (text : List ℕ) (tuples : List Tuple) (end : StreamEnd) → IsStreamByParts text tuples end
+
+-- a query has one verdict line at most, and queries have one text of them
+pub record OneVerdictText : Type 0 where
+  pub line : (query : Query) (first second : List ℕ) →
+      IsVerdictLine query first → IsVerdictLine query second → first ≡ second
+  pub text : (queries : List Query) (first second : List ℕ) →
+      AreVerdicts queries first → AreVerdicts queries second → first ≡ second

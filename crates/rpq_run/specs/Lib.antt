@@ -1,6 +1,9 @@
 pub mod Limits
+pub mod Given
 pub mod StreamText
 pub mod Text
+pub mod Verdicts
+pub mod WordTexts
 pub mod Files
 pub mod History
 pub mod Statuses
@@ -9,6 +12,10 @@ pub mod Written
 pub mod Progress
 pub mod Turns
 pub mod ErrorLines
-pub mod Run
 pub mod RunsStreams
+pub mod RunsCheck
+pub mod Run
+pub mod Ready
+pub mod Room
 pub mod Laws
+pub mod Examples

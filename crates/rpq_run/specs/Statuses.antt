@@ -5,13 +5,20 @@ use Rattle.rpq_run.specs.declared.report.Why.TheVariants.{Write, Memory as Memor
 use Rattle.rpq_run.specs.declared.report.SinkName.{SinkName}
 use Rattle.rpq_run.specs.declared.report.SinkName.TheVariants.{Events}
 use Rattle.rpq_run.specs.declared.report.StartFault.{StartFault}
-use Rattle.rpq_run.specs.declared.report.StartFault.TheVariants.{Queries, Open, Read as ReadAtStart, Long, NotYet, Memory as MemoryAtStart}
+use Rattle.rpq_run.specs.declared.report.StartFault.TheVariants.{Words, Queries, Open}
+use Rattle.rpq_run.specs.declared.report.StartFault.TheVariants.{Read as ReadAtStart, Long, NotYet}
+use Rattle.rpq_run.specs.declared.report.StartFault.TheVariants.{Memory as MemoryAtStart}
 use Rattle.rpq_run.specs.declared.report.StreamEnd.{StreamEnd}
-use Rattle.rpq_run.specs.declared.report.StreamEnd.TheVariants.{Whole, Line, LongLine, LongStream, Read, Full, Closed, Memory}
+use Rattle.rpq_run.specs.declared.report.StreamEnd.TheVariants.{Whole, Line, LongLine, LongStream}
+use Rattle.rpq_run.specs.declared.report.StreamEnd.TheVariants.{Read, Full, Closed, Memory}
 
 -- all was done
 abbrev pub done_status : ℕ
 done_status = 0
+
+-- the words have no settings
+abbrev pub words_status : ℕ
+words_status = 1
 
 -- the queries file has a fault
 abbrev pub queries_status : ℕ
@@ -37,12 +44,13 @@ limit_status = 7
 abbrev pub memory_status : ℕ
 memory_status = 8
 
--- the words aren't taken so far
+-- the settings of the words aren't taken so far
 abbrev pub not_yet_status : ℕ
 not_yet_status = 9
 
 -- the status of a run that didn't begin
 abbrev pub status_of_start : StartFault → ℕ
+status_of_start Words = words_status
 status_of_start (Queries fault) = queries_status
 status_of_start (Open which) = read_status
 status_of_start (ReadAtStart which) = read_status

@@ -1,6 +1,7 @@
 -- The tuples of a stream's text, and how it ends: they are those of the lines before the first
 -- faulty one.
-use Rattle.std.specs.Prelude.{ℕ, ◌+◌, nat_lt, nat_le, List, [], ◌∷◌, ◌++◌, length, take, Option, option_to_list, Result, Ok, Err, if◌then◌else◌}
+use Rattle.std.specs.Prelude.{ℕ, ◌+◌, nat_lt, nat_le, List, [], ◌∷◌, ◌++◌, length, take, Option}
+use Rattle.std.specs.Prelude.{option_to_list, Result, Ok, Err, if◌then◌else◌}
 use Rattle.text_parts.specs.Lines.{raw_lines, without_return}
 use Rattle.text_parts.specs.EndedLines.{ended_lines, open_line}
 use Rattle.rpq_base.specs.declared.data.Tuple.{Tuple}

@@ -1,53 +1,32 @@
 -- One turn after another: an entry follows a history, is evaluated and written. Only private
 -- contracts cite this file.
-use Rattle.std.specs.Prelude.{◌≡◌, ℕ, Bool, if◌then◌else◌, ◌+◌, ◌<◌, ◌≤◌, Vec, List, [], ◌∷◌, ◌++◌, length, All, Option, IfSome}
-use Rattle.std.specs.Global.{Global}
-use Rattle.std.specs.List.{AllZip}
-use Rattle.std.specs.List.Sorted.{IsStrictlySortedBy}
-use Rattle.rpq_base.specs.Order.{pair_cmp}
+use Rattle.std.specs.Prelude.{◌≡◌, ℕ, Bool, if◌then◌else◌, ◌+◌, ◌<◌, ◌≤◌, List, [], ◌∷◌, ◌++◌}
+use Rattle.std.specs.Prelude.{length, All, Option, IfSome}
+use Rattle.path_engine.specs.Engine.{StandsFor, definitions}
 use Rattle.rpq_base.specs.Plain.{IsPlain}
 use Rattle.rpq_base.specs.declared.data.Entry.{Entry}
-use Rattle.rpq_base.specs.declared.data.Pair.{Pair}
-use Rattle.rpq_base.specs.declared.data.Event.{Event}
 use Rattle.rpq_io.specs.Reader.{ReaderState}
-use Rattle.rpq_model.specs.Answers.{AreAnswers}
-use Rattle.rpq_model.specs.Events.{changes}
-use Rattle.rpq_model.specs.Query.{Query, path_query}
-use Rattle.rpq_run.specs.declared.evaluator.Evaluator.{Evaluator}
+use Rattle.rpq_run.specs.declared.named_engine.NamedEngine.{NamedEngine}
 use Rattle.rpq_run.specs.declared.report.SinkName.{SinkName}
 use Rattle.rpq_run.specs.declared.report.SinkName.TheVariants.{Events}
 use Rattle.rpq_run.specs.declared.report.StreamEnd.{StreamEnd}
 use Rattle.rpq_run.specs.declared.report.StreamEnd.TheVariants.{Full}
-use Rattle.rpq_run.specs.Limits.{query_limit}
 use Rattle.rpq_run.specs.History.{own_tuples, AreTuplesOfEnd}
 use Rattle.rpq_run.specs.Progress.{IsStreamReader, IsInStep, passed}
 use Rattle.rpq_run.specs.Statuses.{first_arisen}
 use Rattle.rpq_run.specs.Text.{IsText}
 use Rattle.rpq_run.specs.Written.{Grew}
 
--- each of the queries has its answers over the history, in order
-abbrev pub AreAnswersOfEach : List Query → List Entry → List (Vec Pair Global) → Type 0
-AreAnswersOfEach queries history answers =
-    AllZip (λ query pairs. AreAnswers (path_query query) history pairs.items) queries answers
+-- the queries are those of the engine, which has from 1 to 64 workers
+pub record IsNamed (named : NamedEngine) : Type 0 where
+  pub queries : named.queries.items ≡ definitions named.engine
+  pub some : 1 ≤ named.workers
+  pub few : named.workers ≤ 64
 
--- the changes from old answers to new ones of each of some queries, the first of which has this
--- number
-abbrev pub changes_of_each : ℕ → List (Vec Pair Global) → List (Vec Pair Global) → List Event
-changes_of_each number [] news = []
-changes_of_each number (old ∷ olds) [] = []
-changes_of_each number (old ∷ olds) (new ∷ news) =
-    changes number old.items new.items ++ changes_of_each (number + 1) olds news
-
--- an evaluator has a list of pairs for each of its queries, in order
-pub record IsEvaluator (evaluator : Evaluator) : Type 0 where
-  pub few : length evaluator.queries.items ≤ query_limit
-  pub as_many : length evaluator.answers.items ≡ length evaluator.queries.items
-  pub sorted : All (λ pairs. IsStrictlySortedBy pair_cmp pairs.items) evaluator.answers.items
-
--- the evaluator stands for the history: it has each query's answers over it
-pub record StandsFor (evaluator : Evaluator) (history : List Entry) : Type 0 where
-  pub sound : IsEvaluator evaluator
-  pub answers : AreAnswersOfEach evaluator.queries.items history evaluator.answers.items
+-- and the engine stands for the history
+pub record KeepsUp (named : NamedEngine) (history : List Entry) : Type 0 where
+  pub is_named : IsNamed named
+  pub stands : StandsFor named.engine history
 
 -- a history of stream 1 alone, with at most so many entries
 pub record IsWithin (limit : ℕ) (history : List Entry) : Type 0 where
@@ -75,24 +54,24 @@ pub record EndsSo {S : Type 0} (left : S → Option (List ℕ)) (old new : Reade
   pub full : end ≡ Full → length after ≡ limit
   pub limits : new.byte_limit ≡ old.byte_limit
 
--- the evaluator went on from one history to a longer one, and what was written since a start, where
+-- the engine went on from one history to a longer one, and what was written since a start, where
 -- it was the text of the one, is now that of the other
-pub record Emits (old new : Evaluator) (before after : List Entry)
+pub record Emits (old new : NamedEngine) (before after : List Entry)
     (written_before written_after : Option (List ℕ)) : Type 0 where
   pub queries : new.queries.items ≡ old.queries.items
-  pub stands : StandsFor new after
+  pub keeps_up : KeepsUp new after
   pub text : (start : Option (List ℕ))
       → Grew (IsText old.queries.items before) start written_before
       → Grew (IsText old.queries.items after) start written_after
 
--- where the text of the history before its last entry was written since some start, this was
--- written since then
-abbrev pub Continues : Evaluator → List Entry → Option (List ℕ) → (Option (List ℕ) → Type 0)
-    → Type 0
-Continues evaluator history written P =
-    (before : List Entry) (entry : Entry) (start : Option (List ℕ)) → history ≡ before ++ entry ∷ []
-    → StandsFor evaluator before → Grew (IsText evaluator.queries.items before) start written
-    → P start
+-- where the engine keeps up with the entries before the one at this position, and since some start
+-- their text was written, this is so of them and the start
+abbrev pub Continues : NamedEngine → ℕ → Option (List ℕ)
+    → (List Entry → Option (List ℕ) → Type 0) → Type 0
+Continues named position written P =
+    (before : List Entry) (start : Option (List ℕ)) → position ≡ length before + 1
+    → KeepsUp named before → Grew (IsText named.queries.items before) start written
+    → P before start
 
 -- the sinks of which a write failed: the events, if a write of them did
 abbrev pub failed_sinks : Bool → List SinkName

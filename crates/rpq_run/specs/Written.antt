@@ -2,6 +2,7 @@
 use Rattle.std.specs.Prelude.{◌≡◌, ◌≢◌, ℕ, List, [], ◌++◌, Option, Result, IsOk, IsErr}
 use Rattle.std.specs.Io.KnownBytes.{append_known}
 use Rattle.rpq_io.specs.Counts.{CountsFault}
+use Rattle.rpq_io.specs.Writes.{WritesProperPrefix}
 use Rattle.rpq_run.specs.Statuses.{write_status, memory_status}
 
 -- a text of this kind was written, all of it
@@ -34,10 +35,10 @@ pub record WritesByStatus (status : ℕ) (IsText : List ℕ → Type 0) (before 
   pub write : status ≡ write_status → GrewByProperPrefix IsText before after
   pub memory : status ≡ memory_status → GrewByPrefix IsText before after
 
--- a call that was to write this text on a sink answered this: the text was written, or a prefix of
--- it with an error, which the sink's count shows
+-- a call that was to write this text on a sink answered this: the text was written, or a proper
+-- prefix of it with an error, which the sink's count shows
 pub record Tells {Sink T E : Type 0} (written : Sink → Option (List ℕ)) (faults : Sink → ℕ)
     (text : List ℕ) (old new : Sink) (result : Result T E) : Type 0 where
   pub whole : IsOk result → written new ≡ append_known (written old) text
-  pub prefix : IsErr result → GrewByPrefix (λ all. all ≡ text) (written old) (written new)
+  pub part : IsErr result → WritesProperPrefix text (written old) (written new)
   pub counted : CountsFault (IsErr result) (faults old) (faults new)

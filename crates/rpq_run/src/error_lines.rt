@@ -3,34 +3,20 @@
 ghost use Rattle.std.specs.Prelude.{◌≡◌, ◌+◌, ◌≤◌, ◌++◌, length, decimal};
 ghost use Rattle.std.specs.List.{flat_map};
 ghost use Rattle.path_syntax.specs.FaultTexts.{bad_expr_text};
-ghost use Rattle.query_file.specs.FaultTexts.{query_kind_text};
 ghost use Rattle.tuple_text.specs.FaultTexts.{fault_text};
-ghost use Rattle.rpq_run.specs.ErrorLines.{file_text, query_text, start_line, line_text, end_line, write_line, memory_line};
+ghost use Rattle.rpq_run.specs.ErrorLines.{file_text, query_text, line_text, end_line, write_line};
+ghost use Rattle.rpq_run.specs.ErrorLines.{memory_line};
+ghost use Rattle.rpq_run.specs.WordTexts.{not_contained_front};
 
-use crate::report::{SinkName, StartFault, StreamEnd, Which};
+use crate::report::{SinkName, StreamEnd, Which};
 use crate::status;
 use arrayvec::ArrayString;
 use itoa::Buffer;
 use path_syntax::BadExpr;
-use query_file::QueryKind;
 use tuple_text::BadLine;
 
 /// A line with its line feed, or nothing.
 pub type Line = ArrayString<256>;
-
-/// The line of a run that didn't begin.
-pub fn start_line(fault: &StartFault) -> Line
-    ensures { result.bytes ≡ start_line fault.now }
-{
-    match fault {
-        StartFault::Queries(fault) => query_line(fault.line, &fault.kind),
-        StartFault::Open(which) => file_line("rpq: read failed: ", *which, "\n"),
-        StartFault::Read(which) => file_line("rpq: read failed: ", *which, "\n"),
-        StartFault::Long(which) => file_line("rpq: ", *which, ": too long\n"),
-        StartFault::NotYet => line_of(&["rpq: not yet\n"]),
-        StartFault::Memory => line_of(&["rpq: memory\n"]),
-    }
-}
 
 /// The line of a stream's end, if it has one.
 #[tactic(auto, unfolding(crate::specs::ErrorLines::end_line))]
@@ -69,36 +55,16 @@ pub fn memory_line(status: u8) -> Line
     }
 }
 
-/// What is wrong with a line of the queries file.
-fn query_line(line: u64, kind: &QueryKind) -> Line
-    ensures { result.bytes ≡ query_text line (query_kind_text kind.now) }
-{
-    match kind {
-        QueryKind::Shape => query_line_of(line, "shape", ""),
-        QueryKind::Number => query_line_of(line, "number", ""),
-        QueryKind::Twice(_) => query_line_of(line, "name twice", ""),
-        QueryKind::TooMany => query_line_of(line, "too many queries", ""),
-        QueryKind::NoQuery => query_line_of(line, "no query", ""),
-        QueryKind::Expr(fault) => expr_line(line, *fault),
-        QueryKind::TooManyLabels(count) => {
-            query_line_of(line, Buffer::new().format(*count), " labels")
-        }
-        QueryKind::TooManyStates => query_line_of(line, "too many states", ""),
-        QueryKind::Memory => query_line_of(line, "out of memory", ""),
-        QueryKind::NotYet => query_line_of(line, "not yet", ""),
-    }
-}
-
 /// What is wrong with the expression in a line of the queries file.
-fn expr_line(line: u64, fault: BadExpr) -> Line
+pub fn expr_line(line: u64, fault: BadExpr) -> Line
     ensures { result.bytes ≡ query_text line (bad_expr_text fault) }
 {
     match fault {
         BadExpr::Unexpected(place) => place_line(line, "unexpected byte ", place),
-        BadExpr::Ended => query_line_of(line, "expression ended", ""),
-        BadExpr::TooLarge => query_line_of(line, "expression too large", ""),
+        BadExpr::Ended => query_line(line, "expression ended", ""),
+        BadExpr::TooLarge => query_line(line, "expression too large", ""),
         BadExpr::LongName(place) => place_line(line, "long label ", place),
-        BadExpr::Memory => query_line_of(line, "out of memory", ""),
+        BadExpr::Memory => query_line(line, "out of memory", ""),
     }
 }
 
@@ -108,12 +74,12 @@ fn place_line(line: u64, text: &str, place: u32) -> Line
     ensures { result.bytes ≡ query_text line (text.now ++ decimal place) }
 {
     let mut digits = Buffer::new();
-    query_line_of(line, text, digits.format(u64::from(place)))
+    query_line(line, text, digits.format(u64::from(place)))
 }
 
 /// A text and then another, said of a line of the queries file.
 #[tactic(auto, unfolding(crate::specs::ErrorLines::query_text))]
-fn query_line_of(line: u64, text: &str, more: &str) -> Line
+pub fn query_line(line: u64, text: &str, more: &str) -> Line
     requires { length text.now + length more.now ≤ 100 }
     ensures { result.bytes ≡ query_text line (text.now ++ more.now) }
 {
@@ -145,6 +111,15 @@ fn number_line(stream: u32, line: u64, text: &str, number: u32) -> Line
     stream_line(stream, line, text, digits.format(u64::from(number)))
 }
 
+/// The beginning of the line on a query whose language lacks the property of containment; the three
+/// words that show it are to follow.
+pub fn not_contained_front(line: u64) -> Line
+    ensures { result.bytes ≡ not_contained_front line }
+{
+    let mut digits = Buffer::new();
+    line_of(&["rpq: queries line ", digits.format(line), ": not contained"])
+}
+
 /// A text and then another, said of a line of a stream.
 #[tactic(auto, unfolding(crate::specs::ErrorLines::line_text))]
 fn stream_line(stream: u32, line: u64, text: &str, more: &str) -> Line
@@ -168,7 +143,7 @@ fn stream_line(stream: u32, line: u64, text: &str, more: &str) -> Line
 }
 
 /// A file between two texts.
-fn file_line(before: &str, which: Which, after: &str) -> Line
+pub fn file_line(before: &str, which: Which, after: &str) -> Line
     requires { length before.now + length after.now ≤ 100 }
     ensures { result.bytes ≡ before.now ++ file_text which ++ after.now }
 {
@@ -183,7 +158,7 @@ fn file_line(before: &str, which: Which, after: &str) -> Line
 }
 
 /// The pieces, one after another.
-fn line_of(pieces: &[&str]) -> Line
+pub fn line_of(pieces: &[&str]) -> Line
     requires { length (flat_map (λ piece. piece.now) pieces.now) ≤ 256 }
     ensures { result.bytes ≡ flat_map (λ piece. piece.now) pieces.now }
 {

@@ -1,20 +1,77 @@
-//! The lines on errors, each of which goes out in one write where the sink takes it whole.
+//! The lines on errors, each of which goes out in one write where it has room and the sink takes it
+//! whole.
 
-ghost use Rattle.std.specs.Prelude.{◌≡◌, ◌≤◌, length};
+ghost use Rattle.std.specs.Prelude.{◌≤◌, ◌++◌, codes, length};
 ghost use Rattle.std.specs.List.{flat_map};
-ghost use Rattle.rpq_run.specs.ErrorLines.{start_line, end_lines, write_line, run_lines};
+ghost use Rattle.query_file.specs.FaultTexts.{query_kind_text};
+ghost use Rattle.rpq_run.specs.ErrorLines.{query_text, start_line, end_lines, write_line};
+ghost use Rattle.rpq_run.specs.ErrorLines.{run_lines};
 ghost use Rattle.rpq_run.specs.Limits.{stream_limit};
+ghost use Rattle.rpq_run.specs.WordTexts.{not_contained_front, spaced_word};
 ghost use Rattle.rpq_run.specs.Written.{Tells};
 
-use crate::error_lines::{Line, end_line, memory_line, start_line, write_line};
+use crate::error_lines::{
+    Line, end_line, expr_line, file_line, line_of, memory_line, not_contained_front, query_line,
+    write_line,
+};
 use crate::report::{FIRST_STREAM, SinkName, StartFault, StreamEnd};
+use crate::word_texts::end_with_words;
+use itoa::Buffer;
+use query_file::{QueryFault, QueryKind};
+use rpq_base::Word;
 use rpq_io::{Sink, Write, put_all};
+use rpq_words::usage_line;
 
 /// Writes the line of a run that didn't begin.
 pub fn tell_start<S: Sink>(errors: &mut S, fault: &StartFault) -> Result<(), Write>
     ensures { Tells S.written S.faults (start_line fault.now) errors.old errors.new result }
 {
-    put_line(errors, &start_line(fault))
+    match fault {
+        StartFault::Words => put_line(errors, &line_of(&["rpq: words\n", usage_line(), "\n"])),
+        StartFault::Queries(fault) => tell_query(errors, fault),
+        StartFault::Open(which) => put_line(errors, &file_line("rpq: read failed: ", *which, "\n")),
+        StartFault::Read(which) => put_line(errors, &file_line("rpq: read failed: ", *which, "\n")),
+        StartFault::Long(which) => put_line(errors, &file_line("rpq: ", *which, ": too long\n")),
+        StartFault::NotYet => put_line(errors, &line_of(&["rpq: not yet\n"])),
+        StartFault::Memory => put_line(errors, &line_of(&["rpq: memory\n"])),
+    }
+}
+
+/// Writes the line of a fault of the queries file.
+fn tell_query<S: Sink>(errors: &mut S, fault: &QueryFault) -> Result<(), Write>
+    ensures { Tells S.written S.faults
+        (query_text fault.now.line (query_kind_text fault.now.kind))
+        errors.old errors.new result }
+{
+    let line = fault.line;
+    match &fault.kind {
+        QueryKind::Shape => put_line(errors, &query_line(line, "shape", "")),
+        QueryKind::Number => put_line(errors, &query_line(line, "number", "")),
+        QueryKind::Twice(_) => put_line(errors, &query_line(line, "name twice", "")),
+        QueryKind::TooMany => put_line(errors, &query_line(line, "too many queries", "")),
+        QueryKind::NoQuery => put_line(errors, &query_line(line, "no query", "")),
+        QueryKind::Expr(fault) => put_line(errors, &expr_line(line, *fault)),
+        QueryKind::TooManyLabels(count) => {
+            let mut digits = Buffer::new();
+            put_line(errors, &query_line(line, digits.format(*count), " labels"))
+        }
+        QueryKind::TooManyStates => put_line(errors, &query_line(line, "too many states", "")),
+        QueryKind::NotContained { p, q, w } => tell_not_contained(errors, line, &[p, q, w]),
+        QueryKind::Memory => put_line(errors, &query_line(line, "out of memory", "")),
+    }
+}
+
+/// Writes that the query in this line of the queries file takes simple paths and its language lacks
+/// the property of containment, which these words show. They may be longer than a line has room
+/// for, so they go out piece by piece.
+fn tell_not_contained<S: Sink>(errors: &mut S, line: u64, words: &[&Word]) -> Result<(), Write>
+    ensures { Tells S.written S.faults
+        (not_contained_front line
+        ++ (flat_map (λ word. spaced_word word.now) words.now ++ codes "\n"))
+        errors.old errors.new result }
+{
+    put_line(errors, &not_contained_front(line))?;
+    end_with_words(errors, words)
 }
 
 /// Writes the lines of a run that began: those of its streams' ends, those of the sinks of which a

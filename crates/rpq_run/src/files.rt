@@ -1,12 +1,13 @@
-//! The two files of a run: the queries file is read and understood, and the stream opened.
+//! The files of a run: the queries file is read and understood, and the stream opened.
 
-ghost use Rattle.std.specs.Prelude.{◌≡◌, ◌≢◌, ◌≤◌, ◌<◌, ℕ, List, [], length, map, option_to_list, All, IfOk, IfErr, IsErrAnd, IfSome};
+ghost use Rattle.std.specs.Prelude.{◌≡◌, ◌≢◌, ◌<◌, ℕ, List, length, option_to_list, IfOk, IfErr};
+ghost use Rattle.std.specs.Prelude.{IsErrAnd, IfSome};
 ghost use Rattle.rpq_io.specs.Counts.{CountsOpening};
 ghost use Rattle.rpq_io.specs.Files.{KeepsFiles};
-ghost use Rattle.rpq_model.specs.declared.mode.Mode.TheVariants.{Arbitrary};
 ghost use Rattle.query_file.specs.declared.fault.QueryKind.{QueryKind};
-ghost use Rattle.rpq_run.specs.Limits.{file_limit, query_limit};
+ghost use Rattle.rpq_run.specs.Limits.{file_limit};
 ghost use Rattle.rpq_run.specs.Files.{HasQueries};
+ghost use Rattle.rpq_run.specs.Ready.{AreUnderstood, definitions_of};
 ghost use Rattle.rpq_run.specs.Run.{IsFaultOfFile, AreSourcesOf, IsNewReader};
 
 use crate::limits::{BYTE_LIMIT, FILE_LIMIT, LINE_LIMIT};
@@ -14,7 +15,6 @@ use crate::report::{StartFault, Which};
 use query_file::{Compiled, QueryFault, QueryKind, read_queries};
 use rpq_base::Memory;
 use rpq_io::{AllFault, Files, LineReader, OpenFault, read_all};
-use rpq_model::QueryDef;
 use std::alloc::Global;
 
 /// Why a run doesn't begin, and the source of which a read failed, if one did.
@@ -70,17 +70,15 @@ fn whole_file<F: Files>(
     }
 }
 
-/// The queries of the queries file of this name.
+/// The queries of the queries file of this name, each with its automaton and verdict.
 pub fn queries_of_file<F: Files>(
     alloc: Global,
     files: &mut F,
     name: &str,
-) -> Result<Vec<QueryDef>, Refusal<F::Source>>
-    ensures queries { IfOk result (λ queries.
-        IfSome (F.holds files.old name.now) (λ bytes. HasQueries bytes queries.items)) }
-    ensures few { IfOk result (λ queries. length queries.items ≤ query_limit) }
-    ensures arbitrary { IfOk result (λ queries.
-        All (λ query. query.mode ≡ Arbitrary) queries.items) }
+) -> Result<Vec<Compiled>, Refusal<F::Source>>
+    ensures queries { IfOk result (λ queries. IfSome (F.holds files.old name.now)
+        (λ bytes. HasQueries bytes (definitions_of queries.items))) }
+    ensures understood { IfOk result (λ queries. AreUnderstood queries.items) }
     ensures cause { IfErr result (λ refusal.
         IsFaultOfFile Which.Queries (F.holds files.old name.now) refusal.fault) }
     ensures source { IfErr result (λ refusal. AreSourcesOf F.Source.left F.Source.faults
@@ -95,13 +93,9 @@ pub fn queries_of_file<F: Files>(
         Ok(bytes) => bytes,
         Err(refusal) => return Err(refusal),
     };
-    let compiled = match read_queries(alloc, &bytes) {
-        Ok(compiled) => compiled,
-        Err(fault) => return Err(without_source(start_fault(fault))),
-    };
-    match definitions(alloc, compiled) {
+    match read_queries(alloc, &bytes) {
         Ok(queries) => Ok(queries),
-        Err(Memory) => Err(without_source(StartFault::Memory)),
+        Err(fault) => Err(without_source(start_fault(fault))),
     }
 }
 
@@ -114,13 +108,6 @@ fn start_fault(fault: QueryFault) -> StartFault
         QueryKind::Memory => StartFault::Memory,
         _ => StartFault::Queries(fault),
     }
-}
-
-/// The definitions of the queries.
-fn definitions(alloc: Global, compiled: Vec<Compiled>) -> Result<Vec<QueryDef>, Memory>
-    ensures { IfOk result (λ queries. queries.items ≡ map (λ each. each.def) compiled.items) }
-{
-    Ok(compiled.into_iter().map(|each| each.def).collect(alloc)?)
 }
 
 /// A reader of the lines of the stream of this name, which has read nothing yet.

@@ -1,4 +1,4 @@
-//! How much is taken: of a file, of a line, of a stream and of a history.
+//! How much is taken: of a file, of a line and of a stream.
 
 /// A file that is read whole has fewer bytes than this.
 pub const FILE_LIMIT: u64 = 1 << 24;
@@ -8,6 +8,3 @@ pub const LINE_LIMIT: usize = 1024;
 
 /// A stream has fewer bytes than this.
 pub const BYTE_LIMIT: u64 = 1 << 40;
-
-/// The most entries of a history.
-pub const HISTORY_LIMIT: usize = 1_000_000;

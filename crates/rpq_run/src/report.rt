@@ -39,6 +39,8 @@ impl SinkName {
 /// Why a run didn't begin.
 #[derive(Debug, Drop)]
 pub enum StartFault {
+    /// The words of the command line have no settings.
+    Words,
     /// The queries file has this fault.
     Queries(QueryFault),
     /// The opening of this file failed.
@@ -47,7 +49,8 @@ pub enum StartFault {
     Read(Which),
     /// This file, which is read whole, has too many bytes.
     Long(Which),
-    /// The words aren't taken so far.
+    /// The settings of the words aren't taken so far: they have asks, generated tuples or more than
+    /// one stream.
     NotYet,
     /// Memory ran out.
     Memory,
@@ -59,6 +62,7 @@ impl StartFault {
         ensures { result ≡ status_of_start self.now }
     {
         match self {
+            StartFault::Words => status::WORDS,
             StartFault::Queries(_) => status::QUERIES,
             StartFault::Open(_) | StartFault::Read(_) => status::READ,
             StartFault::Long(_) => status::LIMIT,
@@ -118,14 +122,15 @@ impl StreamEnd {
 ///
 /// | Status | Where |
 /// |---|---|
-/// | 0 | the stream was read to its end |
+/// | 0 | the stream was read to its end, or the queries were checked |
+/// | 1 | the words have no settings |
 /// | 2 | the queries file has a fault |
 /// | 4 | a line of the stream is faulty or too long |
 /// | 5 | a file couldn't be opened or read |
 /// | 6 | a write of the events failed |
 /// | 7 | the history is full, or the stream or the queries file has too many bytes |
 /// | 8 | memory ran out |
-/// | 9 | the words aren't taken so far |
+/// | 9 | the settings of the words aren't taken so far |
 ///
 /// After the start it is the first of 8, 6, 7, 5 and 4 that arose, else 0. The numbers have names
 /// in [`status`](crate::status).
@@ -136,7 +141,7 @@ pub struct Report<F: Files> {
     pub start: Option<StartFault>,
     /// The entries that were taken, in order.
     pub history: Vec<Entry>,
-    /// How each stream ended, in order. Where the run didn't begin, there is none.
+    /// How each stream ended, in order. Where the run didn't begin, or is a check, there is none.
     pub streams: Vec<StreamEnd>,
     /// The source of each stream, as the run leaves it; where a read of the queries file failed,
     /// that file's source.

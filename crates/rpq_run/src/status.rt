@@ -1,7 +1,10 @@
 //! The statuses with which a run ends.
 
-/// The stream was read to its end.
+/// All was done: the stream was read to its end, or the queries were checked.
 pub const DONE: u8 = 0;
+
+/// The words of the command line have no settings.
+pub const WORDS: u8 = 1;
 
 /// The queries file has a fault.
 pub const QUERIES: u8 = 2;
@@ -21,5 +24,5 @@ pub const LIMIT: u8 = 7;
 /// Memory ran out.
 pub const MEMORY: u8 = 8;
 
-/// The words aren't taken so far.
+/// The settings of the words aren't taken so far.
 pub const NOT_YET: u8 = 9;

@@ -1,6 +1,7 @@
 //! The tuples of a stream, one after another.
 
-ghost use Rattle.std.specs.Prelude.{◌≡◌, ◌<◌, ◌≤◌, ◌∷◌, ◌++◌, [], ◌⊎◌, ℕ, List, Option, option_to_list, length, IfOk, IfErr, OnOk, IfSome};
+ghost use Rattle.std.specs.Prelude.{◌≡◌, ◌<◌, ◌≤◌, ◌∷◌, ◌++◌, [], ◌⊎◌, ℕ, List, Option};
+ghost use Rattle.std.specs.Prelude.{option_to_list, length, IfOk, IfErr, OnOk, IfSome};
 ghost use Rattle.rpq_base.specs.Plain.{IsPlainTuple};
 ghost use Rattle.rpq_base.specs.declared.data.Tuple.{Tuple as TupleRead};
 ghost use Rattle.rpq_io.specs.Counts.{CountsFault};

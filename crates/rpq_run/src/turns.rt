@@ -1,28 +1,33 @@
 //! The turns of a stream: each takes one tuple into the history, evaluates the queries and writes
 //! the entry's block.
 
-ghost use Rattle.std.specs.Prelude.{◌≡◌, ◌≢◌, ◌<◌, ◌≤◌, true, ℕ, List, length, All, Option, OnOk, OnErr, IfErr, IsErrAnd, MatchBool, IfSome};
+ghost use Rattle.std.specs.Prelude.{◌≡◌, ◌<◌, ◌≤◌, ◌^◌, ◌∷◌, ◌++◌, [], true, ℕ, List, length, All};
+ghost use Rattle.std.specs.Prelude.{Option, OnOk, OnErr, IfErr, IsErrAnd, MatchBool, IfSome};
+ghost use Rattle.containment_laws.specs.Accepted.{IsAccepted};
 ghost use Rattle.rpq_base.specs.Plain.{IsPlain};
 ghost use Rattle.rpq_base.specs.declared.data.Entry.{Entry as EntryTaken};
 ghost use Rattle.rpq_base.specs.declared.data.Tuple.{Tuple as TupleRead};
 ghost use Rattle.rpq_io.specs.Counts.{CountsFault};
-ghost use Rattle.rpq_model.specs.declared.mode.Mode.TheVariants.{Arbitrary};
 ghost use Rattle.rpq_run.specs.declared.report.Why.{Why as WhyClosed};
 ghost use Rattle.rpq_run.specs.Ends.{IsEndInTurn, IsEndAfterWrite};
 ghost use Rattle.rpq_run.specs.History.{AreTuplesOfEnd};
 ghost use Rattle.rpq_run.specs.Progress.{IsStreamReader, HasRead};
 ghost use Rattle.rpq_run.specs.Text.{IsText};
-ghost use Rattle.rpq_run.specs.Turns.{IsEvaluator, StandsFor, IsWithin, TakesOne, EndsSo, Emits, Continues, status_after};
+ghost use Rattle.rpq_run.specs.Turns.{IsNamed, KeepsUp, IsWithin, TakesOne, EndsSo, Emits};
+ghost use Rattle.rpq_run.specs.Turns.{Continues, status_after};
 ghost use Rattle.rpq_run.specs.Written.{Grew, GrewByProperPrefix, WritesByStatus};
 
 use crate::block::block_text;
-use crate::evaluator::Evaluator;
+use crate::context::Context;
+use crate::named_engine::NamedEngine;
 use crate::report::{FIRST_STREAM, StreamEnd, Why};
 use crate::stream::next_tuple;
+use containment_laws::accepted_queries_have_events;
+use path_engine::FeedFault;
 use rpq_base::{Entry, Memory};
-use rpq_io::{LineReader, Sink, Source, Write, put_all};
-use rpq_model::histories_have_answers;
+use rpq_io::{Gate, LineReader, Sink, Source, Write, put_all};
 use std::alloc::Global;
+use std::thread::Threads;
 
 /// Why an entry isn't evaluated and written whole.
 #[derive(Clone, Copy, Debug, PartialEq, Eq)]
@@ -44,6 +49,17 @@ impl From<Memory> for EmitFault {
     }
 }
 
+impl From<FeedFault> for EmitFault {
+    ghost use Rattle.std.specs.Prelude.{◌≡◌};
+    ghost use Rattle.rpq_run.specs.declared.turns.EmitFault.TheVariants.{Memory};
+
+    ghost from_gives = { λ _ fault. fault ≡ Memory };
+
+    fn from(_: FeedFault) -> Self {
+        Self::Memory
+    }
+}
+
 /// Why there are no more turns: how the stream ended, and whether a write of the events failed
 /// before.
 #[derive(Clone, Copy, Debug, PartialEq, Eq)]
@@ -54,24 +70,25 @@ pub struct StreamStop {
 
 /// One turn: takes the next tuple, where the history has fewer entries than its limit, and emits
 /// it. After a failed write the stream is read on to its next tuple, its end or its fault.
-pub fn turn<S: Source, K: Sink>(
-    alloc: Global,
-    evaluator: &mut Evaluator,
+pub fn turn<R: Threads + Sync, G: Gate, S: Source, K: Sink>(
+    context: &Context<'_, R, G>,
+    named: &mut NamedEngine,
     history: &mut Vec<Entry>,
     reader: &mut LineReader<S>,
     limit: usize,
     events: &mut K,
 ) -> Result<(), StreamStop>
     requires sound { IsStreamReader S.left reader.old }
-    requires stands { StandsFor evaluator.old history.old.items }
-    requires arbitrary { All (λ query. query.mode ≡ Arbitrary) evaluator.old.queries.items }
+    requires keeps_up { KeepsUp named.old history.old.items }
+    requires accepted { All IsAccepted named.old.queries.items }
     requires within { IsWithin limit history.old.items }
+    requires short { limit ≤ 2 ^ 30 }
     ensures within { IsWithin limit history.new.items }
 
     // One tuple was taken and written.
     ensures taken { OnOk result
         (TakesOne S.left reader.old reader.new history.old.items history.new.items) }
-    ensures emitted { OnOk result (Emits evaluator.old evaluator.new history.old.items
+    ensures emitted { OnOk result (Emits named.old named.new history.old.items
         history.new.items (K.written events.old) (K.written events.new)) }
 
     // There was no further turn, or none to its end.
@@ -80,27 +97,34 @@ pub fn turn<S: Source, K: Sink>(
     ensures ends { IfErr result (λ stop. MatchBool stop.failed
         (IsEndAfterWrite stop.end) (IsEndInTurn stop.end)) }
     ensures text { IfErr result (λ stop. (start : Option (List ℕ))
-        → Grew (IsText evaluator.old.queries.items history.old.items) start (K.written events.old)
+        → Grew (IsText named.old.queries.items history.old.items) start (K.written events.old)
         → WritesByStatus (status_after stop.failed stop.end)
-        (IsText evaluator.old.queries.items history.new.items) start (K.written events.new)) }
+        (IsText named.old.queries.items history.new.items) start (K.written events.new)) }
 
     ensures read { CountsFault (IsErrAnd result (λ stop. stop.end ≡ StreamEnd.Read))
         (S.faults reader.old.source) (S.faults reader.new.source) }
     ensures write { CountsFault (IsErrAnd result (λ stop. stop.failed ≡ true))
         (K.faults events.old) (K.faults events.new) }
 {
-    histories_have_answers();
-    if let Err(end) = take(alloc, history, reader, limit) {
+    accepted_queries_have_events();
+    if let Err(end) = take(context.alloc, history, reader, limit) {
         return Err(StreamStop { end, failed: false });
     }
-    match emit(alloc, evaluator, history.as_slice(), events) {
+    let position = history.len();
+    match emit(
+        context,
+        named,
+        position as u64,
+        &history[position - 1],
+        events,
+    ) {
         Ok(()) => Ok(()),
         Err(EmitFault::Memory) => {
             let end = StreamEnd::Memory;
             Err(StreamStop { end, failed: false })
         }
         Err(EmitFault::Write) => {
-            let end = end_after_write(alloc, reader);
+            let end = end_after_write(context.alloc, reader);
             Err(StreamStop { end, failed: true })
         }
     }
@@ -140,37 +164,34 @@ fn take<S: Source>(
     Ok(())
 }
 
-/// Evaluates the queries over the history with its last entry, and writes that entry's block.
-fn emit<K: Sink>(
-    alloc: Global,
-    evaluator: &mut Evaluator,
-    history: &[Entry],
+/// Feeds the entry at this position, counted from 1, to the engine, and writes the entry's block.
+fn emit<R: Threads + Sync, G: Gate, K: Sink>(
+    context: &Context<'_, R, G>,
+    named: &mut NamedEngine,
+    position: u64,
+    entry: &Entry,
     events: &mut K,
 ) -> Result<(), EmitFault>
-    requires sound { IsEvaluator evaluator.old }
-    requires some { 0 < length history.now }
-    requires plain { All IsPlain history.now }
-    ensures stands { OnOk result (StandsFor evaluator.new history.now) }
-    ensures ok { OnOk result (Continues evaluator.old history.now (K.written events.old) (λ start.
-        Grew (IsText evaluator.old.queries.items history.now) start (K.written events.new))) }
+    requires is_named { IsNamed named.old }
+    requires short { named.old.engine.position < 2 ^ 30 }
+    requires plain { IsPlain entry.now }
+    ensures keeps_up { (before : List EntryTaken) → KeepsUp named.old before
+        → OnOk result (KeepsUp named.new (before ++ entry.now ∷ [])) }
+    ensures ok { OnOk result (Continues named.old position (K.written events.old) (λ before start.
+        Grew (IsText named.old.queries.items (before ++ entry.now ∷ [])) start
+        (K.written events.new))) }
     ensures write { result ≡ Err EmitFault.Write
-        → Continues evaluator.old history.now (K.written events.old) (λ start.
-        GrewByProperPrefix (IsText evaluator.old.queries.items history.now) start
+        → Continues named.old position (K.written events.old) (λ before start.
+        GrewByProperPrefix (IsText named.old.queries.items (before ++ entry.now ∷ [])) start
         (K.written events.new)) }
     ensures memory { result ≡ Err EmitFault.Memory → K.written events.new ≡ K.written events.old }
     ensures counted { CountsFault (result ≡ Err EmitFault.Write)
         (K.faults events.old) (K.faults events.new) }
-    ensures queries { evaluator.new.queries.items ≡ evaluator.old.queries.items }
+    ensures queries { named.new.queries.items ≡ named.old.queries.items }
 {
-    let found = evaluator.feed(alloc, history)?;
-    let entry = &history[history.len() - 1];
-    let block = block_text(
-        alloc,
-        history.len() as u64,
-        entry,
-        &found,
-        &evaluator.queries,
-    )?;
+    let workers = named.workers;
+    let found = named.engine.feed(context.rt, entry, workers, context.gate)?;
+    let block = block_text(context.alloc, position, entry, &found, &named.queries)?;
     match put_all(events, &block) {
         Ok(()) => Ok(()),
         Err(Write) => Err(EmitFault::Write),

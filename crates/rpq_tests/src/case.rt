@@ -1,9 +1,11 @@
 //! A case: what a run over files and sinks in memory is given, and what it is to answer.
 
-use rpq_io::{MemoryFiles, MemorySink};
+use rpq_io::{MemoryFiles, MemorySink, OpenGate};
 use rpq_run::run;
 use std::alloc::{AllocError, Global};
+use std::random::RandomSource;
 use std::test::Fail;
+use std::thread::Threads;
 
 /// A query for two labels in sequence, with a wide window.
 pub const SEQUENCE: &str = "query q window 100 slide 10 arbitrary: a/b\n";
@@ -60,7 +62,11 @@ pub fn path<'a>() -> Case<'a> {
 }
 
 /// Whether the runs of all the cases answer what they are to.
-pub fn all_hold<R>(rt: &R, alloc: Global, cases: &[Case]) -> Result<bool, Fail> {
+pub fn all_hold<R: Threads + RandomSource + Sync>(
+    rt: &R,
+    alloc: Global,
+    cases: &[Case],
+) -> Result<bool, Fail> {
     for case in cases {
         if !holds(rt, alloc, case)? {
             return Ok(false);
@@ -71,7 +77,11 @@ pub fn all_hold<R>(rt: &R, alloc: Global, cases: &[Case]) -> Result<bool, Fail> 
 
 /// Whether the runs of all the cases answer what they are to, in whatever pieces the files are
 /// read.
-pub fn hold_in_pieces<R>(rt: &R, alloc: Global, cases: &[Case]) -> Result<bool, Fail> {
+pub fn hold_in_pieces<R: Threads + RandomSource + Sync>(
+    rt: &R,
+    alloc: Global,
+    cases: &[Case],
+) -> Result<bool, Fail> {
     for case in cases {
         for read_piece in [4096usize, 1, 2, 3, 7] {
             let case = Case {
@@ -87,12 +97,24 @@ pub fn hold_in_pieces<R>(rt: &R, alloc: Global, cases: &[Case]) -> Result<bool, 
 }
 
 /// Whether the run of the case answers what it is to.
-pub fn holds<R>(rt: &R, alloc: Global, case: &Case) -> Result<bool, Fail> {
+pub fn holds<R: Threads + RandomSource + Sync>(
+    rt: &R,
+    alloc: Global,
+    case: &Case,
+) -> Result<bool, Fail> {
     let words = words_of(alloc, case.words)?;
     let mut files = files_of(alloc, case)?;
     let mut events = sink(alloc, case.room, case.write_piece, case.failing_writes)?;
     let mut errors = sink(alloc, 4096, 4096, case.failing_error_writes)?;
-    let report = run(rt, alloc, &words, &mut files, &mut events, &mut errors);
+    let report = run(
+        rt,
+        alloc,
+        &words,
+        &mut files,
+        &mut events,
+        &mut errors,
+        &OpenGate,
+    );
     let written = events.bytes() == case.events.as_bytes();
     let told = errors.bytes() == case.errors.as_bytes();
     Ok(report.status == case.status && written && told)

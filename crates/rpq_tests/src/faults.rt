@@ -1,4 +1,4 @@
-//! Faults of the files and the sinks, and words that aren't taken.
+//! Faults of the files and the sinks.
 
 use crate::case::{Case, all_hold, path};
 use std::test::Fail;
@@ -115,40 +115,6 @@ fn faults_of_the_sinks(rt: HostRuntime) -> Result<(), Fail> {
             events: "",
             errors: "rpq: stream 1 line 1: fields 2\n",
             ..path()
-        },
-    ];
-    assert!(rt; all_hold(&rt, rt.alloc(), &cases)?);
-    Ok(())
-}
-
-#[test]
-fn other_words_are_not_taken(rt: HostRuntime) -> Result<(), Fail> {
-    let refused = Case {
-        status: 9,
-        events: "",
-        errors: "rpq: not yet\n",
-        ..path()
-    };
-    let cases = [
-        Case {
-            words: &[],
-            ..refused
-        },
-        Case {
-            words: &["q"],
-            ..refused
-        },
-        Case {
-            words: &["q", "s", "s"],
-            ..refused
-        },
-        Case {
-            words: &["-q", "s"],
-            ..refused
-        },
-        Case {
-            words: &["q", "-s"],
-            ..refused
         },
     ];
     assert!(rt; all_hold(&rt, rt.alloc(), &cases)?);

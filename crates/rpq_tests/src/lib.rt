@@ -17,3 +17,7 @@ mod faults;
 mod queries;
 #[cfg(test)]
 mod streams;
+#[cfg(test)]
+mod turns;
+#[cfg(test)]
+mod words;

@@ -2,7 +2,9 @@
 
 use crate::case::{Case, all_hold, hold_in_pieces, holds, path, text_with};
 use std::alloc::Global;
+use std::random::RandomSource;
 use std::test::Fail;
+use std::thread::Threads;
 
 #[test]
 fn path_queries(rt: HostRuntime) -> Result<(), Fail> {
@@ -10,11 +12,26 @@ fn path_queries(rt: HostRuntime) -> Result<(), Fail> {
         queries: "query q window 100 slide 10 arbitrary: a*\n",
         ..path()
     };
+    let simple = Case {
+        queries: "query q window 100 slide 10 simple: a+\n",
+        ..path()
+    };
     let cases = [
         Case {
             stream: "1 x a y\n",
             events: "@1 1 1 x a y +\n+ q x y\n",
             ..star
+        },
+        Case {
+            stream: "1 x a y\n",
+            events: "@1 1 1 x a y +\n+ q x y\n",
+            ..simple
+        },
+        // By simple paths a vertex is no answer with itself.
+        Case {
+            stream: "1 x a y\n2 y a x\n",
+            events: "@1 1 1 x a y +\n+ q x y\n@2 1 2 y a x +\n+ q y x\n",
+            ..simple
         },
         Case {
             stream: "1 x a y\n2 y a x\n",
@@ -105,8 +122,20 @@ fn refused_queries_files(rt: HostRuntime) -> Result<(), Fail> {
             ..refused
         },
         Case {
-            queries: "query q window 10 slide 5 simple: a+\n",
-            errors: "rpq: queries line 1: not yet\n",
+            queries: "query q window 10 slide 5 simple: a/b\n",
+            errors: "rpq: queries line 1: not contained () a b\n",
+            ..refused
+        },
+        Case {
+            queries: "# one that is taken\nquery q window 10 slide 5 simple: a+\nquery r window 10 slide 5 simple: x/\"a|\\\"b\\\\\"/c\n",
+            errors: "rpq: queries line 3: not contained () x \"a|\\\"b\\\\\"/c\n",
+            ..refused
+        },
+        // A line with words goes out word by word.
+        Case {
+            queries: "query q window 10 slide 5 simple: a/b\n",
+            failing_error_writes: &[3],
+            errors: "rpq: queries line 1: not contained ()",
             ..refused
         },
         // A fault of the errors changes no status.
@@ -123,7 +152,7 @@ fn refused_queries_files(rt: HostRuntime) -> Result<(), Fail> {
 
 /// Whether a query of this expression, with so many copies of the text in its middle, ends a run
 /// over no tuple with this status and tells this.
-fn query_ends<R>(
+fn query_ends<R: Threads + RandomSource + Sync>(
     rt: &R,
     alloc: Global,
     expr: (&str, &str, usize, &str),

@@ -2,7 +2,9 @@
 
 use crate::case::{Case, SHORT_WINDOW, hold_in_pieces, holds, path, text_with};
 use std::alloc::Global;
+use std::random::RandomSource;
 use std::test::Fail;
+use std::thread::Threads;
 
 /// The case of a stream for the query whose window soon passes.
 fn short<'a>(stream: &'a str, events: &'a str) -> Case<'a> {
@@ -123,7 +125,7 @@ fn faulty_lines(rt: HostRuntime) -> Result<(), Fail> {
 
 /// Whether a stream of one line, with so many copies of the text in its middle, ends with this
 /// status and tells this.
-fn line_ends<R>(
+fn line_ends<R: Threads + RandomSource + Sync>(
     rt: &R,
     alloc: Global,
     line: (&str, &str, usize, &str),

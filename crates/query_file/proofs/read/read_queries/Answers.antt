@@ -1,13 +1,16 @@
 use Rattle.std.proofs.Common.{◌≡◌, ◌≢◌, ℕ, ◌+◌, List, [], ◌∷◌, length, Ok, refl, ap, subst, arith}
 use Rattle.std.proofs.lemmas.Bool.Decides.{nat_tests}
 use Rattle.std.proofs.lemmas.List.{nil_from_length}
-use Rattle.query_file.specs.Compiled.{CompiledValue}
+use Rattle.std.proofs.lemmas.List.Elements.{All-weaker}
+use Rattle.containment_laws.specs.Accepted.{IsAccepted}
+use Rattle.query_file.specs.Compiled.{CompiledValue, IsCompiled}
 use Rattle.query_file.specs.declared.fault.QueryKind.TheVariants.{NoQuery}
 use Rattle.query_file.specs.Queries.{IsQueryLine, fault_at}
 use Rattle.query_file.specs.QueryLine.{IsFirstFault}
 use Rattle.query_file.specs.Takes.{defs, Takes}
 use Rattle.query_file.proofs.OneOutcome.{answered, one_outcome}
 use Rattle.query_file.proofs.Taking.{turn, stop, end, no_end}
+use Rattle.query_file.proofs.Verdicts.{accepted_of}
 use Rattle.query_file.proofs.read.read_queries.Goals as goal
 
 none_of : (list : List CompiledValue) → defs list ≡ [] → list ≡ []
@@ -36,8 +39,7 @@ loop-line-preserved c =
           c.in-Some.ensures.first (subst (λ (l : List ℕ). Takes (defs loop.queries.items) l (defs after)) c.without_return.ensures.line taken.ok);
       counted = omega (arith, shorter, counted);
       few = taken.few so_far.few;
-      arbitrary = taken.arbitrary so_far.arbitrary;
-      automata = taken.automata so_far.automata;
+      compiled = taken.compiled so_far.compiled;
     }
 
 pub returns-then-is_empty-clause-fault : goal.returns-then-is_empty-clause-fault
@@ -63,3 +65,9 @@ returns-then-is_empty-clause-exact c = λ outcome is.
 pub returns-clause-exact : goal.returns-clause-exact
 returns-clause-exact c = λ outcome is.
     one_outcome c.args.bytes.now outcome (Ok (defs c.loop-line.queries.items)) is (returns-clause-queries c)
+
+pub returns-clause-accepted : goal.returns-clause-accepted
+returns-clause-accepted c =
+    let loop = c.loop-line in
+    let all : List CompiledValue = loop.queries.items in
+    All-weaker IsCompiled (λ (each : CompiledValue). IsAccepted each.def) accepted_of all loop.invariant.compiled

@@ -1,8 +1,7 @@
-use Rattle.std.proofs.Common.{◌≡◌, ◌+◌, ◌≤◌, [], length}
+use Rattle.std.proofs.Common.{◌+◌, ◌≤◌, [], length}
 use Rattle.std.specs.List.{All}
 use Rattle.text_parts.specs.Lines.{lines}
-use Rattle.rpq_model.specs.declared.mode.Mode.TheVariants.{Arbitrary}
-use Rattle.query_file.specs.Compiled.{IsAutomatonOf}
+use Rattle.query_file.specs.Compiled.{IsCompiled}
 use Rattle.query_file.specs.Takes.{defs, GivesSo}
 use Rattle.query_file.proofs.read.read_queries.Given as goal
 
@@ -12,8 +11,7 @@ invariant-loop-line l = record {
   so_far : GivesSo (defs l.queries.items) l.count (lines l.rest) [] 0 (lines l.bytes);
   counted : l.count + length l.rest ≤ length l.bytes;
   few : length l.queries.items ≤ 64;
-  arbitrary : All (λ each. each.def.mode ≡ Arbitrary) l.queries.items;
-  automata : All (λ each. IsAutomatonOf each.def each.dfa) l.queries.items;
+  compiled : All IsCompiled l.queries.items;
 }
 
 -- the bytes that are left

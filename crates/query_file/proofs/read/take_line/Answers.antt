@@ -1,8 +1,7 @@
-use Rattle.std.proofs.Common.{◌≡◌, List, [], ◌∷◌, ◌++◌, sym, ap, subst, ◌∙◌}
+use Rattle.std.proofs.Common.{List, [], ◌∷◌, ◌++◌, sym, ap, subst, ◌∙◌}
 use Rattle.std.proofs.lemmas.Bool.{false≢true}
 use Rattle.std.proofs.lemmas.List.Elements.{All-nil, All-cons, All-append, All-same}
-use Rattle.rpq_model.specs.declared.mode.Mode.TheVariants.{Arbitrary}
-use Rattle.query_file.specs.Compiled.{CompiledValue, IsAutomatonOf}
+use Rattle.query_file.specs.Compiled.{CompiledValue, IsCompiled}
 use Rattle.query_file.specs.InOrder.{IsFirstInOrder, IsLineInOrder}
 use Rattle.query_file.specs.Takes.{defs, Takes, PassesOver, TakesOne}
 use Rattle.query_file.proofs.Exits.{err_out}
@@ -34,19 +33,9 @@ returns-clause-ok c =
     (TakesOne one.def (λ over. absurd (false≢true (sym c.if-is_passed_over.false ∙ c.is_passed_over.ensures.1 over)))
     (line_of (defs before) line one.def is))
 
-pub returns-clause-arbitrary : goal.returns-clause-arbitrary
-returns-clause-arbitrary c = λ all.
-    let P : CompiledValue → Type 0 = λ each. each.def.mode ≡ Arbitrary in
+pub returns-clause-compiled : goal.returns-clause-compiled
+returns-clause-compiled c = λ all.
     let one : CompiledValue = c.in_ok-query.query in
     let before : List CompiledValue = c.args.queries.now.items in
-    let is = c.in_ok-query.ensures.ok in
-    All-same P c.push.new.self.items (before ++ one ∷ []) c.in_ok-push.ensures.items
-    (All-append P before (one ∷ []) all (All-cons P one [] (is.mode ∙ is.arbitrary) (All-nil P)))
-
-pub returns-clause-automata : goal.returns-clause-automata
-returns-clause-automata c = λ all.
-    let P : CompiledValue → Type 0 = λ each. IsAutomatonOf each.def each.dfa in
-    let one : CompiledValue = c.in_ok-query.query in
-    let before : List CompiledValue = c.args.queries.now.items in
-    All-same P c.push.new.self.items (before ++ one ∷ []) c.in_ok-push.ensures.items
-    (All-append P before (one ∷ []) all (All-cons P one [] c.in_ok-query.ensures.automaton (All-nil P)))
+    All-same IsCompiled c.push.new.self.items (before ++ one ∷ []) c.in_ok-push.ensures.items
+    (All-append IsCompiled before (one ∷ []) all (All-cons IsCompiled one [] c.in_ok-query.ensures.compiled (All-nil IsCompiled)))

@@ -9,9 +9,9 @@ returns-in-Unexpected c = c.place_line.ensures
     ∙ ap (λ (f : BadExpr). query_text c.args.line (bad_expr_text f)) (sym c.in-Unexpected.is)
 
 pub returns-in-Ended : goal.returns-in-Ended
-returns-in-Ended c = c.query_line_of.ensures
+returns-in-Ended c = c.query_line.ensures
     ∙ ap (λ (f : BadExpr). query_text c.args.line (bad_expr_text f)) (sym c.in-Ended.is)
 
 pub returns-in-TooLarge : goal.returns-in-TooLarge
-returns-in-TooLarge c = c.query_line_of-in-TooLarge.ensures
+returns-in-TooLarge c = c.query_line-in-TooLarge.ensures
     ∙ ap (λ (f : BadExpr). query_text c.args.line (bad_expr_text f)) (sym c.in-TooLarge.is)

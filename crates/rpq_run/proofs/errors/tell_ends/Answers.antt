@@ -1,4 +1,5 @@
-use Rattle.std.proofs.Common.{◌≡◌, ℕ, ◌+◌, true, List, ◌++◌, Err, drop, get_or, refl, ap, sym, ◌∙◌, rules, arith}
+use Rattle.std.proofs.Common.{◌≡◌, ℕ, ◌+◌, true, List, ◌++◌, drop, get_or, refl, ap, sym, ◌∙◌}
+use Rattle.std.proofs.Common.{rules, arith}
 use Rattle.std.specs.Io.KnownBytes.{append_known}
 use Rattle.std.proofs.lemmas.List.{get_or_default}
 use Rattle.rpq_run.specs.declared.report.StreamEnd.TheVariants.{Whole}
@@ -20,9 +21,8 @@ returns-in_err-put_line g c =
     ap (λ (l : List ℕ). told.done ++ (l ++ more)) line_is
     ∙ (ap (λ (t : List ℕ). told.done ++ t) (sym (ends_from ends place end c.loop-place-test.true
     (get_or_default ends place Whole end c.loop-place-test.true))) ∙ told.cut) in
-    tells_in_turn g.S.Sink.written g.S.Sink.faults told.done line more (end_lines 1 ends) c.args.errors.now
-    c.loop-place.errors c.put_line.new.errors (Err c.in_err-put_line.field-0.0) c.from_residual.result
-    all told.written c.loop-place.invariant.quiet refl (search rules) c.in_err-put_line.ensures
+    tells_in_turn told.done more (end_lines 1 ends) all told.written c.loop-place.invariant.quiet (search rules)
+    c.in_err-put_line.ensures
 
 pub loop-place-preserved : goal.loop-place-preserved
 loop-place-preserved g c =

@@ -1,7 +1,8 @@
 use Rattle.std.proofs.Common.{◌≡◌, ◌-◌}
 use Rattle.rpq_run.specs.Progress.{IsStreamReader, IsInStep, passed}
+use Rattle.rpq_run.specs.Ready.{definitions_of}
 use Rattle.rpq_run.specs.Text.{IsText}
-use Rattle.rpq_run.specs.Turns.{StandsFor, IsWithin}
+use Rattle.rpq_run.specs.Turns.{KeepsUp, IsWithin}
 use Rattle.rpq_run.specs.Written.{Grew}
 use Rattle.rpq_run.proofs.run_stream.run_stream.Given as goal
 
@@ -10,10 +11,10 @@ abbrev pub invariant-loop-end : goal.invariant-loop-end
 invariant-loop-end g l = record {
   sound : IsStreamReader g.S.Source.left l.reader;
   in_step : IsInStep g.S.Source.left (g.S.Source.left l.fn.reader.source) l.history.items l.reader;
-  queries : l.evaluator.queries.items ≡ l.fn.queries.items;
-  stands : StandsFor l.evaluator l.history.items;
+  queries : l.named.queries.items ≡ definitions_of l.fn.queries.items;
+  keeps_up : KeepsUp l.named l.history.items;
   within : IsWithin l.limit l.history.items;
-  written : Grew (IsText l.fn.queries.items l.history.items) (g.K.Sink.written l.fn.events)
+  written : Grew (IsText (definitions_of l.fn.queries.items) l.history.items) (g.K.Sink.written l.fn.events)
       (g.K.Sink.written l.events);
   read_quietly : g.S.Source.faults l.reader.source ≡ g.S.Source.faults l.fn.reader.source;
   written_quietly : g.K.Sink.faults l.events ≡ g.K.Sink.faults l.fn.events;

@@ -1,4 +1,5 @@
-use Rattle.std.proofs.Common.{◌≡◌, ◌≤◌, ◌+◌, ◌++◌, ℕ, List, Option, Result, Ok, Err, length, ap, sym, subst, ◌∙◌, inl, inr, ◌⊎◌}
+use Rattle.std.proofs.Common.{◌≡◌, ◌≤◌, ◌+◌, ◌++◌, ℕ, List, Option, Result, Ok, Err, length, ap}
+use Rattle.std.proofs.Common.{sym, subst, ◌∙◌, inl, inr, ◌⊎◌}
 use Rattle.std.specs.Prelude.{option_to_list, OnOk, IfSome}
 use Rattle.std.proofs.lemmas.Result.{IfOk-weaker, IfErr-weaker}
 use Rattle.rpq_base.specs.declared.data.Tuple.{Tuple}
@@ -10,7 +11,9 @@ use Rattle.rpq_run.specs.Limits.{line_limit}
 use Rattle.rpq_run.specs.History.{AreTuplesOfEnd}
 use Rattle.rpq_run.specs.Ends.{IsFaultOf}
 use Rattle.rpq_run.specs.Progress.{HasRead}
-use Rattle.rpq_run.proofs.Reading.{short_line, goes_forward, gives_good, gives_bad, ends_whole, ends_long_line, ends_long_stream, ends_read, ends_memory, ends_front}
+use Rattle.rpq_run.proofs.Reading.{short_line, goes_forward, gives_good, gives_bad, ends_whole}
+use Rattle.rpq_run.proofs.Reading.{ends_long_line, ends_long_stream, ends_read, ends_memory}
+use Rattle.rpq_run.proofs.Reading.{ends_front}
 use Rattle.rpq_run.proofs.stream.read_line.Goals as goal
 
 on_ok : {T E P : Type 0} (r : Result T E) → P → OnOk r P

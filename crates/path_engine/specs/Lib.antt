@@ -1,0 +1,4 @@
+pub mod Deadlines
+pub mod Engine
+pub mod EngineCode
+pub mod Evaluation

@@ -1,0 +1,23 @@
+//! Why an entry isn't answered.
+
+ghost use Rattle.std.specs.Prelude.{◌≡◌};
+ghost use Rattle.path_engine.specs.declared.fault.FeedFault.{FeedFault};
+
+use rpq_base::Memory;
+
+/// Why an entry isn't answered.
+#[derive(Clone, Copy, Debug, PartialEq, Eq)]
+pub enum FeedFault {
+    /// Memory ran out, and the engine is spent.
+    Memory,
+    /// The engine was spent before.
+    Spent,
+}
+
+impl From<Memory> for FeedFault {
+    ghost from_gives = { λ _ fault. fault ≡ FeedFault.Memory };
+
+    fn from(_: Memory) -> Self {
+        Self::Memory
+    }
+}
