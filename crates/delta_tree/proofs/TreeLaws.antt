@@ -1,11 +1,11 @@
 -- The laws of trees.
-use Rattle.std.proofs.Common.{◌≡◌, ◌≢◌, ◌<◌, ◌≤◌, ℕ, zero, suc, ◌⊎◌, inl, inr, ◌↔◌, List, [], ◌∷◌, ◌++◌, Option, None, Some, refl, sym, ap, subst, ◌∙◌, reverse, Contains, arith}
+use Rattle.std.proofs.Common.{◌≡◌, ◌<◌, ◌≤◌, ℕ, ◌⊎◌, inl, inr, List, [], ◌∷◌, ◌++◌, Option, None, Some, refl, sym, ap, subst, ◌∙◌, reverse, arith}
 use Rattle.std.proofs.lemmas.List.{reverse-reverse, reverse-append}
 use Rattle.std.proofs.lemmas.List.Elements.{Contains-append_cases}
 use Rattle.edge_store.specs.declared.edge.EdgeId.{EdgeId}
 use Rattle.delta_tree.specs.declared.node.NodeId.{NodeId}
 use Rattle.delta_tree.specs.Nodes.{Node, TreeValue, node_of, root_id, IsBefore, IsTree}
-use Rattle.delta_tree.specs.Paths.{LeadsUp, IsPathTo, IsBelow}
+use Rattle.delta_tree.specs.Paths.{LeadsUp, IsBelow}
 use Rattle.delta_tree.specs.Laws.{EachNodeHasAPath, PathsAreOne, PathsAreWalks, IsWalk, BelowGoesByParents, ParentsComeFirst, RootHasNoNode, PutsAreOfOneNode, ExpiryGoesByValue}
 use Rattle.delta_tree.proofs.Ids.{changed_there, changed_else}
 use Rattle.delta_tree.proofs.Queue.{the_one}

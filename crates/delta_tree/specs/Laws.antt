@@ -3,7 +3,7 @@ use Rattle.std.specs.Prelude.{◌≡◌, ◌≢◌, ℕ, ◌<◌, ◌≤◌, ◌
 use Rattle.edge_store.specs.declared.edge.EdgeId.{EdgeId}
 use Rattle.delta_tree.specs.declared.node.NodeId.{NodeId}
 use Rattle.delta_tree.specs.Nodes.{Node, TreeValue, node_of, root_id, IsTree}
-use Rattle.delta_tree.specs.Paths.{LeadsUp, IsPathTo, IsBelow}
+use Rattle.delta_tree.specs.Paths.{IsPathTo, IsBelow}
 use Rattle.delta_tree.specs.Changes.{Puts, Expires}
 
 -- ---- paths

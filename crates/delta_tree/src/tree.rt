@@ -27,7 +27,7 @@ pub struct Tree {
     root: u32,
     puts: u128,
     nodes: IndexMap<NodeId, Node>,
-    /// Each node with a value that is at most its own, and beside them nodes that are gone.
+    /// Each node with a value that it has or had, for the order in which they leave.
     dues: BinaryHeap<Due>,
 }
 
@@ -109,7 +109,8 @@ impl Tree {
 
     /// Hangs `step.to` below `step.from` by the edge, with this value; where it stands already, it
     /// leaves the place at which it hung. The value is at most that of `step.from` and above that
-    /// of `step.to`. The only error is [`NoMemory`], after which nothing has changed.
+    /// of `step.to`. Its stamp is the number of puts made before, of which there are fewer than
+    /// 2^127. The only error is [`NoMemory`], after which nothing has changed.
     pub fn put(&mut self, step: Try, value: u64) -> Result<(), NoMemory>
         requires from { Carries self.old step.from value }
         requires raises { Raises self.old step.to value }
@@ -178,9 +179,9 @@ impl Tree {
         Ok(up)
     }
 
-    /// Takes exactly the nodes out on whose path from the root the edge stands, and answers them,
-    /// each after its parent. The only error is [`NoMemory`], after which nothing has changed. This
-    /// costs a step for each node of the tree, and sorts them where a node hangs by this edge.
+    /// Takes exactly the nodes out on whose path from the root the edge stands, and answers them.
+    /// The only error is [`NoMemory`], after which nothing has changed. This costs a step for each
+    /// node of the tree, and sorts them where a node hangs by this edge.
     pub fn cut_below(&mut self, edge: EdgeId) -> Result<Vec<NodeId>, NoMemory>
         ensures cut { IfOk result (λ cut. AreBelow self.old edge cut.items) }
         ensures gone { OnOk result (Cuts self.old self.new edge) }

@@ -1,4 +1,4 @@
-use Rattle.std.proofs.Common.{◌≡◌, ◌≤◌, inr, Some, sym, ◌∙◌, arith}
+use Rattle.std.proofs.Common.{◌≡◌, inr, Some, sym, ◌∙◌, arith}
 use Rattle.delta_tree.specs.Nodes.{node_of}
 use Rattle.delta_tree.specs.Changes.{put_node}
 use Rattle.delta_tree.proofs.Ids.{changed_there}

@@ -1,0 +1,14 @@
+mod Told
+mod Led
+mod Values
+mod Stores
+mod Steps
+mod Ways
+mod Until
+mod Finals
+mod Ending
+mod Bests
+mod Numbers
+mod ByNumbers
+mod Following
+mod Index

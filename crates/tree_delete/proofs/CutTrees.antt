@@ -1,0 +1,327 @@
+-- A tree after a cut, and after the search that follows it.
+use Rattle.std.proofs.Common.{◌≡◌, ◌≢◌, ℕ, zero, suc, ◌≤◌, ◌+◌, ◌⊎◌, inl, inr, ⊎_elim, Bool, true, false, cond, List, [], ◌∷◌, length, slice_index_or, remove, Option, Some, None, refl, sym, ap, subst, ◌∙◌, arith, Contains, IsPermutation}
+use Rattle.std.specs.Prelude.{All, AllPairs, sum_by}
+use Rattle.std.specs.List.{IsDistinct}
+use Rattle.std.proofs.lemmas.Bool.{true≢false}
+use Rattle.std.proofs.lemmas.Option.{none-some}
+use Rattle.std.proofs.lemmas.List.Elements.{Contains-get_or, All-from_recursion, All-tail, All-head, All-weaker}
+use Rattle.std.proofs.lemmas.List.Sorted.{IsPermutation-remove, Contains-permutation, sum_by-IsPermutation}
+use Rattle.std.proofs.lemmas.List.Sums.{sum_by-cons}
+use Rattle.edge_store.specs.declared.edge.EdgeId.{EdgeId}
+use Rattle.edge_store.specs.Edges.{Edges, outs_of, same_edge}
+use Rattle.edge_store.specs.Edges as store
+use Rattle.delta_tree.specs.declared.node.NodeId.{NodeId}
+use Rattle.delta_tree.specs.declared.node.Try.{Try}
+use Rattle.delta_tree.specs.declared.node.Node.{Node}
+use Rattle.delta_tree.specs.Nodes.{TreeValue, node_of, value_of, node_id, root_id, same_node, IsTree}
+use Rattle.delta_tree.specs.Paths.{LeadsUp, IsBelow}
+use Rattle.delta_tree.specs.Changes.{Carries, Cuts, AreBelow, IsSameBeside}
+use Rattle.delta_tree.proofs.Ids.{same_node_is, same_node_laws, same_edge_is, same_edge_itself}
+use Rattle.tree_insert.specs.Best.{IsAtLeast, IsWay}
+use Rattle.tree_insert.specs.Trees.{HasOwnWays, IsOptimal, HasBest, IsLater, Keeps, IsRisen, CountsOuts, count_outs}
+use Rattle.tree_insert.proofs.Bests.{below_some, greatest_reached, greatest_is}
+use Rattle.tree_insert.proofs.Members.{contains_head, contains_tail, contains_cases, contains_none}
+use Rattle.tree_insert.proofs.Nodes.{value_is, node_reached, value_reached}
+use Rattle.tree_insert.proofs.SameEdges.{edge_cases}
+use Rattle.tree_insert.proofs.Paths.{path_there}
+use Rattle.tree_insert.proofs.Optimal.{reached_of_optimal}
+use Rattle.tree_delete.specs.Entries.{HasEntries, count_ins}
+use Rattle.tree_delete.specs.Laws.{NoCutNoStep, RemovalsAreRemovals}
+use Rattle.tree_delete.specs.Removal.{IsRemoved, KeepsApart, CountsCut}
+
+-- ---- lists of places
+
+contains_or_not : (ids : List NodeId) (id : NodeId) → Contains ids id ⊎ (Contains ids id → ⊥)
+contains_or_not [] id = inr (λ there. contains_none id there)
+contains_or_not (first ∷ ids) id = by (same_node first id) refl (contains_or_not ids id)
+  where
+    by : (b : Bool) → same_node first id ≡ b → Contains ids id ⊎ (Contains ids id → ⊥) →
+        Contains (first ∷ ids) id ⊎ (Contains (first ∷ ids) id → ⊥)
+    by true is further =
+        inl (subst (λ (x : NodeId). Contains (first ∷ ids) x) (same_node_is first id is)
+        (contains_head first ids))
+    by false is further =
+        ⊎_elim (λ (there : Contains ids id). inl (contains_tail first ids id there))
+        (λ (none : Contains ids id → ⊥). inr (λ there. ⊎_elim
+        (λ (same : first ≡ id). true≢false
+        (sym (ap (same_node first) (sym same) ∙ same_node_laws.refl first) ∙ is))
+        none
+        (contains_cases first ids id there)))
+        further
+
+-- places that are told apart are distinct
+distinct_apart : (ids : List NodeId) → IsDistinct same_node ids → AllPairs ◌≢◌ ids
+unfolding IsDistinct
+distinct_apart [] once i j d less within = absurd (omega (arith, within))
+distinct_apart (first ∷ ids) once zero zero d less within = absurd (omega (arith, less))
+distinct_apart (first ∷ ids) once zero (suc j) d less within = λ same.
+    let other = slice_index_or ids j d in
+    let differ : same_node first other ≡ false =
+    All-from_recursion (λ (x : NodeId). same_node first x ≡ false) ids once.0 j d
+    (omega (arith, within)) in
+    true≢false (sym (ap (same_node first) (sym same) ∙ same_node_laws.refl first) ∙ differ)
+distinct_apart (first ∷ ids) once (suc i) zero d less within = absurd (omega (arith, less))
+distinct_apart (first ∷ ids) once (suc i) (suc j) d less within =
+    distinct_apart ids once.1 i j d (omega (arith, less)) (omega (arith, within))
+
+-- a sum over distinct members is at most that over all
+sum_within : (f : NodeId → ℕ) (some all : List NodeId) → AllPairs ◌≢◌ some →
+    All (Contains all) some → sum_by f some ≤ sum_by f all
+sum_within f [] all apart there = omega arith
+sum_within f (first ∷ some) all apart there =
+    let has = All-head (Contains all) first some there in
+    let rest = remove all has.0 in
+    let moved : IsPermutation all (first ∷ rest) =
+    IsPermutation-remove all has.0 first has.1 (sym has.2) in
+    let others : All (Contains rest) some = λ k d within.
+    let other = slice_index_or some k d in
+    let at : Contains all other = All-tail (Contains all) first some there k d within in
+    ⊎_elim
+    (λ (same : first ≡ other). absurd
+    (apart 0 (suc k) d (omega arith) (omega (arith, within)) same))
+    (λ (found : Contains rest other). found)
+    (contains_cases first rest other (Contains-permutation all (first ∷ rest) other moved at))
+    in
+    let further : sum_by f some ≤ sum_by f rest =
+    sum_within f some rest
+    (λ i j d less within. apart (suc i) (suc j) d (omega (arith, less)) (omega (arith, within)))
+    others in
+    omega (
+      arith,
+      further,
+      sum_by-cons f first some,
+      sum_by-cons f first rest,
+      sum_by-IsPermutation
+          f all (first ∷ rest) moved,
+    )
+
+-- ---- the values before and after
+
+module _ (before values : EdgeId → Option ℕ) (edge : EdgeId)
+    (removed : IsRemoved before values edge) where
+  -- an edge that has a value is another one, and had it
+  was_there : (each : EdgeId) (number : ℕ) → IsAtLeast number (values each) →
+      IsAtLeast number (before each)
+  was_there each number reached = ⊎_elim
+      (λ (same : each ≡ edge). absurd
+      (subst (IsAtLeast number) (ap values same ∙ removed.gone) reached))
+      (λ (apart : each ≢ edge). subst (IsAtLeast number) (removed.others each apart) reached)
+      (edge_cases each edge)
+
+  -- on a path without the edge the values stay
+  stay_there : (path : List EdgeId) (number : ℕ) → (Contains path edge → ⊥) →
+      All (λ (each : EdgeId). IsAtLeast number (before each)) path →
+      All (λ (each : EdgeId). IsAtLeast number (values each)) path
+  stay_there path number none all k d within =
+      let each = slice_index_or path k d in
+      let apart : each ≢ edge =
+      λ same. none (subst (Contains path) same (Contains-get_or path k d within)) in
+      subst (IsAtLeast number) (sym (removed.others each apart)) (all k d within)
+
+  module _ (step : ℕ → ℕ → Option ℕ) where
+    way_was : (root vertex state number : ℕ) (path : List EdgeId) →
+        IsWay values step root vertex state number path →
+        IsWay before step root vertex state number path
+    way_was root vertex state number path way = record {
+      some = way.some;
+      leads = way.leads;
+      least = All-weaker (λ (each : EdgeId). IsAtLeast number (values each))
+          (λ (each : EdgeId). IsAtLeast number (before each))
+          (λ each reached. was_there each number reached) path way.least;
+    }
+
+    module _ (old middle : TreeValue) (is : IsTree old) (optimal : IsOptimal before step old)
+        (cuts : Cuts old middle edge) (beside : IsSameBeside old middle) where
+      -- ---- the tree after the cut
+
+      -- a node that stayed stood before, apart from the edge
+      stood : (id : NodeId) (node : Node) → node_of middle id ≡ Some node →
+          (node_of old id ≡ Some node) × (IsBelow old edge id → ⊥)
+      stood id node there =
+          let apart : IsBelow old edge id → ⊥ =
+          λ below. none-some node (sym (cuts.gone id below) ∙ there) in
+          (sym (cuts.kept id apart) ∙ there, apart)
+
+      leads_before : (id : NodeId) (path : List EdgeId) → LeadsUp middle id path →
+          LeadsUp old id path
+      leads_before id [] leads = leads ∙ ap (λ (at : ℕ). node_id at 0) beside.root
+      leads_before id (each ∷ path) leads =
+          (leads.0, (stood id leads.0 leads.1).0, leads.2, leads_before leads.0.parent path leads.3)
+
+      -- a path of a node that stayed is a way still
+      way_stays : (id : NodeId) (node : Node) (path : List EdgeId) → node_of old id ≡ Some node →
+          (IsBelow old edge id → ⊥) → LeadsUp old id path →
+          IsWay values step old.root id.vertex id.state node.value path
+      way_stays id node path there apart leads =
+          let way = optimal.paths id node path there leads in
+          record {
+            some = way.some;
+            leads = way.leads;
+            least = stay_there path node.value (λ has. apart (path, leads, has)) way.least;
+          }
+
+      pub cut_ways : HasOwnWays values step middle
+      cut_ways id node path there leads =
+          let was = stood id node there in
+          subst (λ (root : ℕ). IsWay values step root id.vertex id.state node.value path)
+          (sym beside.root)
+          (way_stays id node path was.0 was.1 (leads_before id path leads))
+
+      carried_before : (id : NodeId) (number : ℕ) → Carries middle id number → Carries old id number
+      carried_before id number carries = ⊎_elim
+          (λ (root : id ≡ root_id middle). inl (root ∙ ap (λ (at : ℕ). node_id at 0) beside.root))
+          (λ (has : (node : Node) × (node_of middle id ≡ Some node) × (number ≤ node.value)). inr
+          (has.0, (stood id has.0 has.1).0, has.2))
+          carries
+
+      module _ (ids : List NodeId) (below : AreBelow old edge ids) where
+        -- the tries that could raise something lead to nodes that were cut
+        pub cut_best : (tries : List Try) → HasEntries values step middle ids tries →
+            HasBest values step middle tries
+        cut_best tries entries each number can = ⊎_elim
+            (λ (there : Contains ids each.to).
+            let from : node_id each.edge.from each.from.state ≡ each.from =
+            λ i. record { vertex = can.valid.joins.leaves i; state = each.from.state } in
+            entries each.to each.edge each.from.state number there (record {
+              to = can.valid.joins.ends;
+              leads = can.valid.leads;
+              carries = subst (λ (id : NodeId). Carries middle id number) (sym from) can.gives.from;
+              edge_is = can.gives.edge;
+            }))
+            (λ (none : Contains ids each.to → ⊥). absurd (can.lower (stays none)))
+            (contains_or_not ids each.to)
+          where
+            stays : (Contains ids each.to → ⊥) → IsAtLeast number (value_of middle each.to)
+            stays none =
+                let apart : IsBelow old edge each.to → ⊥ =
+                λ is_below. none ((below.exact each.to).1 is_below) in
+                let from : node_id each.edge.from each.from.state ≡ each.from =
+                λ i. record { vertex = can.valid.joins.leaves i; state = each.from.state } in
+                let to : node_id each.edge.to each.to.state ≡ each.to =
+                λ i. record { vertex = can.valid.joins.ends i; state = each.to.state } in
+                let was : IsAtLeast number (value_of old each.to) =
+                subst (λ (id : NodeId). IsAtLeast number (value_of old id)) to
+                (reached_of_optimal before step old optimal each.edge each.from.state number
+                each.to.state
+                (subst (λ (id : NodeId). Carries old id number) (sym from)
+                (carried_before each.from number can.gives.from))
+                (was_there each.edge number can.gives.edge) can.valid.leads) in
+                let node = node_reached old each.to number was in
+                value_reached middle each.to node.0 number (cuts.kept each.to apart ∙ node.1) node.2
+
+        -- ---- the tree after the search
+
+        module _ (new : TreeValue) (later : IsLater middle new) (keeps : Keeps middle new)
+            (after : IsOptimal values step new) where
+          root_is : new.root ≡ old.root
+          root_is = later.root ∙ beside.root
+
+          -- no value is above the one before
+          no_higher : (id : NodeId) (number : ℕ) → value_of new id ≡ Some number →
+              IsAtLeast number (value_of old id)
+          no_higher id number there =
+              let way =
+              greatest_is (value_of new id)
+              (λ (n : ℕ). (path : List EdgeId) × IsWay values step new.root id.vertex id.state n
+              path) number (after.best id) there in
+              let also =
+              way_was old.root id.vertex id.state number way.0
+              (subst (λ (root : ℕ). IsWay values step root id.vertex id.state number way.0)
+              root_is way.1) in
+              greatest_reached (value_of old id)
+              (λ (n : ℕ). (path : List EdgeId) × IsWay before step old.root id.vertex id.state n
+              path) number (optimal.best id) (way.0, also)
+
+          -- a node that stayed has the value that it had
+          same_value : (id : NodeId) (node : Node) → node_of old id ≡ Some node →
+              (IsBelow old edge id → ⊥) →
+              (now : Node) × (node_of new id ≡ Some now) × (node.value ≡ now.value)
+          same_value id node there apart =
+              let path = path_there old id node is there in
+              let way =
+              subst (λ (root : ℕ). IsWay values step root id.vertex id.state node.value path.0)
+              (sym root_is) (way_stays id node path.0 there apart path.1) in
+              let reached : IsAtLeast node.value (value_of new id) =
+              greatest_reached (value_of new id)
+              (λ (n : ℕ). (each : List EdgeId) × IsWay values step new.root id.vertex id.state n
+              each) node.value (after.best id) (path.0, way) in
+              let now = node_reached new id node.value reached in
+              let back : now.0.value ≤ node.value =
+              below_some (value_of old id) now.0.value node.value
+              (no_higher id now.0.value (value_is new id now.0 now.1))
+              (value_is old id node there) in
+              (now.0, now.1, omega (arith, now.2, back))
+
+          pub cut_keeps : KeepsApart old new edge
+          cut_keeps = record {
+            same = λ id node there apart.
+                let now = same_value id node there apart in
+                let in_middle = cuts.kept id apart ∙ there in
+                now.1 ∙ ap (λ (n : Node). Some n) (keeps.same id node now.0 in_middle now.1 now.2);
+            fresh = λ id now there all_below.
+                let bound =
+                keeps.fresh id now there
+                (λ each in_middle. let was =
+                stood id each in_middle in absurd (was.1 (all_below each was.0))) in
+                omega (arith, bound, beside.puts);
+          }
+
+          -- what is new or raised was cut
+          risen_cut : (id : NodeId) → IsRisen middle new id → Contains ids id
+          risen_cut id risen = ⊎_elim (λ (there : Contains ids id). there)
+              (λ (none : Contains ids id → ⊥).
+              let apart : IsBelow old edge id → ⊥ =
+              λ is_below. none ((below.exact id).1 is_below) in
+              let was =
+              node_reached old id risen.0.value
+              (no_higher id risen.0.value (value_is new id risen.0 risen.1)) in
+              absurd (omega (arith, risen.2 was.0 (cuts.kept id apart ∙ was.1), was.2)))
+              (contains_or_not ids id)
+
+          pub cut_counts : (store : Edges) (start between end : ℕ) →
+              between ≤ start + count_ins store ids → CountsOuts store middle new between end →
+              CountsCut store old edge start end
+          cut_counts store start between end first counts = record {
+            nodes = ids;
+            apart = distinct_apart ids below.once;
+            below = λ k d within. (below.exact (slice_index_or ids k d)).0
+                (Contains-get_or ids k d within);
+            few =
+                let outs : count_outs store counts.nodes ≤ count_outs store ids =
+                sum_within (λ (id : NodeId). length (outs_of store id.vertex)) counts.nodes ids
+                counts.apart
+                (All-weaker (IsRisen middle new) (Contains ids) risen_cut counts.nodes counts.risen)
+                in
+                omega (arith, first, counts.few, outs);
+          }
+
+-- ---- trees and stores
+
+-- a tree without nodes has no path
+pub bare_ways : (values : EdgeId → Option ℕ) (step : ℕ → ℕ → Option ℕ) (tree : TreeValue) →
+    ((id : NodeId) → node_of tree id ≡ None) → HasOwnWays values step tree
+bare_ways values step tree none id node path there leads =
+    absurd (none-some node (sym (none id) ∙ there))
+
+pub removals_are_removals : RemovalsAreRemovals
+removals_are_removals old new edge updates = record {
+  gone = updates edge ∙ ap (λ (b : Bool). cond b None (store.value_of old edge))
+      (same_edge_itself edge);
+  others = λ each apart. updates each ∙ ap (λ (b : Bool). cond b None (store.value_of old each))
+      (differ each apart);
+}
+  where
+    differ : (each : EdgeId) → each ≢ edge → same_edge edge each ≡ false
+    differ each apart = by (same_edge edge each) refl
+      where
+        by : (b : Bool) → same_edge edge each ≡ b → b ≡ false
+        by true is = absurd (apart (sym (same_edge_is edge each is)))
+        by false is = refl
+
+pub no_cut_no_step : NoCutNoStep
+no_cut_no_step store old edge start steps counts none = by counts.nodes counts.below counts.few
+  where
+    by : (nodes : List NodeId) → All (IsBelow old edge) nodes →
+        steps ≤ start + count_ins store nodes + count_outs store nodes → steps ≤ start
+    by [] below few = omega (arith, few)
+    by (id ∷ nodes) below few = absurd (none id (All-head (IsBelow old edge) id nodes below))

@@ -1,0 +1,3 @@
+mod BestEntries
+mod CutTrees
+mod TestTable

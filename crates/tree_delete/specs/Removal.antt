@@ -1,0 +1,41 @@
+-- What a removal of an edge changes in a tree.
+use Rattle.std.specs.Prelude.{◌≡◌, ◌≢◌, ℕ, ◌+◌, ◌≤◌, List, All, AllPairs, Option, None, Some}
+use Rattle.edge_store.specs.declared.edge.EdgeId.{EdgeId}
+use Rattle.edge_store.specs.Edges.{Edges}
+use Rattle.delta_tree.specs.declared.node.NodeId.{NodeId}
+use Rattle.delta_tree.specs.declared.node.Node.{Node}
+use Rattle.delta_tree.specs.Nodes.{TreeValue, node_of}
+use Rattle.delta_tree.specs.Paths.{IsBelow}
+use Rattle.tree_insert.specs.Trees.{IsOptimal, count_outs}
+use Rattle.tree_delete.specs.Entries.{count_ins}
+
+-- the edge has no value any more, and all others have the value that they had
+pub record IsRemoved (old new : EdgeId → Option ℕ) (edge : EdgeId) : Type 0 where
+  pub gone : new edge ≡ None
+  pub others : (each : EdgeId) → each ≢ edge → new each ≡ old each
+
+-- the tree was optimal before this edge was removed
+abbrev pub WasOptimalWith : (EdgeId → Option ℕ) → (ℕ → ℕ → Option ℕ) → TreeValue → EdgeId → Type 0
+WasOptimalWith values step tree edge =
+    (before : EdgeId → Option ℕ) × IsOptimal before step tree × IsRemoved before values edge
+
+-- a node on whose path the edge didn't stand stays as it was, with its value, its parent, its
+-- parent
+-- edge and its stamp; each other node has a stamp that is at least the number of puts before
+pub record KeepsApart (old new : TreeValue) (edge : EdgeId) : Type 0 where
+  pub same : (id : NodeId) (node : Node) →
+      node_of old id ≡ Some node → (IsBelow old edge id → ⊥) → node_of new id ≡ Some node
+  pub fresh : (id : NodeId) (after : Node) →
+      node_of new id ≡ Some after →
+      ((before : Node) → node_of old id ≡ Some before → IsBelow old edge id) →
+      old.puts ≤ after.stamp
+
+-- the steps are at most the edges that end at and leave the nodes on whose path the edge stood,
+-- each
+-- node once
+pub record CountsCut (store : Edges) (old : TreeValue) (edge : EdgeId) (start steps : ℕ)
+    : Type 0 where
+  pub nodes : List NodeId
+  pub apart : AllPairs ◌≢◌ nodes
+  pub below : All (IsBelow old edge) nodes
+  pub few : steps ≤ start + count_ins store nodes + count_outs store nodes

@@ -1,0 +1,88 @@
+//! The call after the removal of an edge.
+
+ghost use Rattle.std.specs.Prelude.{◌≡◌, ◌^◌, ◌<◌, IfOk, OnErr, OnOk, None};
+ghost use Rattle.edge_store.specs.Edges.{value_of};
+ghost use Rattle.dfa_table.specs.DfaValue.{step_of};
+ghost use Rattle.delta_tree.specs.declared.node.NodeId.{NodeId};
+ghost use Rattle.delta_tree.specs.Nodes.{IsTree, node_of};
+ghost use Rattle.delta_tree.specs.Changes.{AreBelow, Cuts, IsSameBeside};
+ghost use Rattle.tree_insert.specs.Trees.{HasOwnWays, IsLater, IsOptimal};
+ghost use Rattle.tree_delete.specs.Removal.{CountsCut, KeepsApart, WasOptimalWith};
+
+use crate::entries::best_entries;
+use delta_tree::{NodeId, Tree};
+use dfa_table::Dfa;
+use edge_store::{EdgeId, EdgeStore, NoMemory, Steps};
+use std::alloc::Global;
+use std::sync::ledger::Ledger;
+use tree_insert::Search;
+
+/// Cuts the nodes on whose path the edge stands. Where memory is lacking all nodes go, so that none
+/// stays on a path by this edge.
+fn cut(tree: &mut Tree, edge: EdgeId) -> Result<Vec<NodeId>, NoMemory>
+    requires { IsTree tree.old }
+    ensures below { IfOk result (λ cut. AreBelow tree.old edge cut.items) }
+    ensures cut { OnOk result (Cuts tree.old tree.new edge) }
+    ensures beside { IsSameBeside tree.old tree.new }
+    ensures empty { OnErr result ((id : NodeId) → node_of tree.new id ≡ None) }
+{
+    match tree.cut_below(edge) {
+        Ok(cut) => Ok(cut),
+        Err(NoMemory) => {
+            tree.expire(u64::MAX);
+            Err(NoMemory)
+        }
+    }
+}
+
+/// Makes a tree optimal that was so before the edge left the store, in the room of a search.
+///
+/// The nodes on whose path the edge stood are cut. For each of them the best way from a node that
+/// stayed is sought among the edges that end at its vertex; from there a search puts back those that
+/// other paths reach. Where memory is lacking, nodes are missing that paths reach.
+pub fn tree_remove_with<L: Ledger>(
+    search: &mut Search,
+    alloc: Global,
+    tree: &mut Tree,
+    store: &EdgeStore,
+    dfa: &Dfa,
+    edge: EdgeId,
+    steps: &mut Steps<L>,
+) -> Result<(), NoMemory>
+    requires puts { tree.old.puts < 2 ^ 126 }
+    requires before { WasOptimalWith (value_of store.now) (step_of dfa.now) tree.old edge }
+    ensures optimal { OnOk result (IsOptimal (value_of store.now) (step_of dfa.now) tree.new) }
+    ensures paths { HasOwnWays (value_of store.now) (step_of dfa.now) tree.new }
+    ensures keeps { OnOk result (KeepsApart tree.old tree.new edge) }
+    ensures later { IsLater tree.old tree.new }
+    ensures steps { OnOk result (CountsCut store.now tree.old edge steps.old steps.new) }
+{
+    let root = NodeId {
+        vertex: tree.root(),
+        state: 0,
+    };
+    let cut = cut(tree, edge)?;
+    let tries = best_entries(alloc, tree, store, dfa, root, &cut, steps)?;
+    search.relax(tree, store, dfa, &tries, steps)
+}
+
+/// Makes a tree optimal that was so before the edge left the store; see [`tree_remove_with`].
+pub fn tree_remove<L: Ledger>(
+    alloc: Global,
+    tree: &mut Tree,
+    store: &EdgeStore,
+    dfa: &Dfa,
+    edge: EdgeId,
+    steps: &mut Steps<L>,
+) -> Result<(), NoMemory>
+    requires puts { tree.old.puts < 2 ^ 126 }
+    requires before { WasOptimalWith (value_of store.now) (step_of dfa.now) tree.old edge }
+    ensures optimal { OnOk result (IsOptimal (value_of store.now) (step_of dfa.now) tree.new) }
+    ensures paths { HasOwnWays (value_of store.now) (step_of dfa.now) tree.new }
+    ensures keeps { OnOk result (KeepsApart tree.old tree.new edge) }
+    ensures later { IsLater tree.old tree.new }
+    ensures steps { OnOk result (CountsCut store.now tree.old edge steps.old steps.new) }
+{
+    let mut search = Search::new(alloc);
+    tree_remove_with(&mut search, alloc, tree, store, dfa, edge, steps)
+}

@@ -1,0 +1,136 @@
+//! The best entries of the nodes that were cut.
+
+ghost use Rattle.std.specs.Prelude.{◌≡◌, ℕ, ◌+◌, ◌<◌, ◌≤◌, ◌++◌, length, All, IfOk, IfSome, OnOk, Some};
+ghost use Rattle.edge_store.specs.declared.edge.EdgeId.{EdgeId};
+ghost use Rattle.edge_store.specs.Edges.{ins_of, value_of};
+ghost use Rattle.dfa_table.specs.DfaValue.{step_of};
+ghost use Rattle.delta_tree.specs.Nodes.{node_id, root_id};
+ghost use Rattle.delta_tree.specs.Changes.{Carries};
+ghost use Rattle.tree_insert.specs.Best.{IsAtLeast};
+ghost use Rattle.tree_insert.specs.Trees.{IsValid};
+ghost use Rattle.tree_delete.specs.Entries.{CanEnter, HasEntries, IsEntry, IsEntryBy, count_ins, steps_in, value_in};
+
+use crate::entry::{Entry, better};
+use delta_tree::{NodeId, Tree, Try};
+use dfa_table::Dfa;
+use edge_store::{EdgeId, EdgeStore, NoMemory, Steps};
+use std::alloc::Global;
+use std::sync::ledger::Ledger;
+use tree_insert::carried;
+
+/// The entry by an edge of this value from the state, where there is one.
+fn entry_from(
+    tree: &Tree,
+    dfa: &Dfa,
+    root: NodeId,
+    id: NodeId,
+    edge: EdgeId,
+    value: u64,
+    before: u32,
+) -> Option<Entry>
+    requires root { root ≡ root_id tree.now }
+    requires state { before < length dfa.now.rows }
+    ensures entry { IfSome result (IsEntryBy (step_of dfa.now) tree.now id edge value) }
+    ensures most { (number : ℕ) → number ≤ value →
+        Carries tree.now (node_id edge.from before) number →
+        step_of dfa.now before edge.label ≡ Some id.state → IsAtLeast number (value_in result) }
+{
+    if dfa.step(before, edge.label) != Some(id.state) {
+        return None;
+    }
+    let from = NodeId {
+        vertex: edge.from,
+        state: before,
+    };
+    let most = carried(tree, root, from)?;
+    Some(Entry {
+        step: Try { from, edge, to: id },
+        value: most.min(value),
+    })
+}
+
+/// The best entry by an edge of this value.
+fn entry_by(
+    tree: &Tree,
+    dfa: &Dfa,
+    root: NodeId,
+    id: NodeId,
+    edge: EdgeId,
+    value: u64,
+) -> Option<Entry>
+    requires { root ≡ root_id tree.now }
+    ensures entry { IfSome result (IsEntryBy (step_of dfa.now) tree.now id edge value) }
+    ensures most { (before number : ℕ) → number ≤ value →
+        Carries tree.now (node_id edge.from before) number →
+        step_of dfa.now before edge.label ≡ Some id.state → IsAtLeast number (value_in result) }
+{
+    let mut best = None;
+    for before in 0..dfa.states() {
+        best = better(best, entry_from(tree, dfa, root, id, edge, value, before));
+    }
+    best
+}
+
+/// The best entry of a node by the edges that end at its vertex, with a step for each edge.
+fn best_entry<L: Ledger>(
+    tree: &Tree,
+    store: &EdgeStore,
+    dfa: &Dfa,
+    root: NodeId,
+    id: NodeId,
+    steps: &mut Steps<L>,
+) -> Option<Entry>
+    requires { root ≡ root_id tree.now }
+    ensures entry { IfSome result
+        (IsEntry (value_of store.now) (step_of dfa.now) tree.now id) }
+    ensures most { (edge : EdgeId) (before number : ℕ) →
+        CanEnter (value_of store.now) (step_of dfa.now) tree.now id edge before number →
+        IsAtLeast number (value_in result) }
+    ensures counted { steps.new ≡ steps.old + length (ins_of store.now id.vertex) }
+{
+    let mut best = None;
+    for k in 0..store.in_len(id.vertex) {
+        let each = store.in_at(id.vertex, k, steps);
+        let edge = EdgeId {
+            from: each.from,
+            label: each.label,
+            to: id.vertex,
+        };
+        best = better(best, entry_by(tree, dfa, root, id, edge, each.value));
+    }
+    best
+}
+
+/// Adds the step of the entry, where there is one.
+fn add(tries: &mut Vec<Try>, entry: Option<Entry>) -> Result<(), NoMemory>
+    ensures { OnOk result (tries.new.items ≡ tries.old.items ++ steps_in entry) }
+{
+    if let Some(entry) = entry {
+        tries.push(entry.step)?;
+    }
+    Ok(())
+}
+
+/// The best entries of these nodes, for each that has one.
+pub(crate) fn best_entries<L: Ledger>(
+    alloc: Global,
+    tree: &Tree,
+    store: &EdgeStore,
+    dfa: &Dfa,
+    root: NodeId,
+    ids: &[NodeId],
+    steps: &mut Steps<L>,
+) -> Result<Vec<Try>, NoMemory>
+    requires { root ≡ root_id tree.now }
+    ensures valid { IfOk result (λ tries.
+        All (IsValid (value_of store.now) (step_of dfa.now) tree.now) tries.items) }
+    ensures best { IfOk result (λ tries.
+        HasEntries (value_of store.now) (step_of dfa.now) tree.now ids.now tries.items) }
+    ensures counted { steps.new ≤ steps.old + count_ins store.now ids.now }
+{
+    let mut tries = Vec::with_capacity(alloc, ids.len())?;
+    for id in ids {
+        add(&mut tries, best_entry(tree, store, dfa, root, *id, steps))?;
+    }
+    Ok(tries)
+}

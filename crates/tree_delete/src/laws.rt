@@ -1,0 +1,13 @@
+//! Laws of removals. The functions do nothing: their contracts are the laws.
+
+ghost use Rattle.tree_delete.specs.Laws.{NoCutNoStep, RemovalsAreRemovals};
+
+/// What the removal of a store does is a removal of the edge.
+pub fn removals_are_removals()
+    ensures { RemovalsAreRemovals }
+{}
+
+/// Where the edge stood on no path, no step is counted.
+pub fn no_cut_no_step()
+    ensures { NoCutNoStep }
+{}

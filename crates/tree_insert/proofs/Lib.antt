@@ -1,0 +1,12 @@
+pub mod Bests
+pub mod Members
+mod Tries
+mod TestTables
+pub mod Nodes
+mod UnderWay
+mod Outs
+pub mod OpenTries
+pub mod Paths
+pub mod SameEdges
+pub mod Optimal
+pub mod Expiry

@@ -1,0 +1,133 @@
+-- The tries that wait in a search.
+use Rattle.std.proofs.Common.{◌≡◌, ℕ, ◌≤◌, inl, inr, ⊎_elim, List, [], ◌∷◌, ◌++◌, refl, sym, subst, Contains, IsPermutation, arith}
+use Rattle.std.specs.Prelude.{All}
+use Rattle.std.proofs.lemmas.List.Elements.{All-contains, All-cons, Contains-append_cases, Contains-append_left, Contains-append_right, Contains-push, Contains-push_cases}
+use Rattle.std.proofs.lemmas.List.Sorted.{Contains-permutation, All-permutation, IsPermutation-sym}
+use Rattle.tree_insert.specs.declared.waiting.Waiting.{Waiting}
+use Rattle.tree_insert.specs.Waiting.{SearchValue, Gains, Takes}
+use Rattle.tree_insert.proofs.Members.{contains_head, contains_tail, contains_cases}
+
+-- a search with these tries
+abbrev pub search_of : List Waiting → List Waiting → ℕ → SearchValue
+search_of stack heap level = record { waiting = stack ++ heap; level = level }
+
+-- ---- one more
+
+pub gains_stack : (stack stack' heap : List Waiting) (level : ℕ) (new : Waiting) →
+    stack' ≡ stack ++ new ∷ [] →
+    Gains (search_of stack heap level) (search_of stack' heap level) (λ each. each ≡ new)
+gains_stack stack stack' heap level new is = record {
+  kept = λ each there. ⊎_elim
+      (λ (here : Contains stack each). subst (λ s. Contains (s ++ heap) each) (sym is)
+      (Contains-append_left (stack ++ new ∷ []) heap each
+      (Contains-append_left stack (new ∷ []) each here)))
+      (λ (other : Contains heap each). Contains-append_right stack' heap each other)
+      (Contains-append_cases stack heap each there);
+  only = λ each there. ⊎_elim
+      (λ (here : Contains stack' each). ⊎_elim
+      (λ (old : Contains stack each). inl (Contains-append_left stack heap each old))
+      (λ (same : new ≡ each). inr (sym same))
+      (Contains-push_cases stack new each (subst (λ s. Contains s each) is here)))
+      (λ (other : Contains heap each). inl (Contains-append_right stack heap each other))
+      (Contains-append_cases stack' heap each there);
+  level = refl;
+}
+
+pub gains_heap : (stack heap heap' : List Waiting) (level : ℕ) (new : Waiting) →
+    IsPermutation (new ∷ heap) heap' →
+    Gains (search_of stack heap level) (search_of stack heap' level) (λ each. each ≡ new)
+gains_heap stack heap heap' level new moved = record {
+  kept = λ each there. ⊎_elim
+      (λ (here : Contains stack each). Contains-append_left stack heap' each here)
+      (λ (other : Contains heap each). Contains-append_right stack heap' each
+      (Contains-permutation (new ∷ heap) heap' each moved (contains_tail new heap each other)))
+      (Contains-append_cases stack heap each there);
+  only = λ each there. ⊎_elim
+      (λ (here : Contains stack each). inl (Contains-append_left stack heap each here))
+      (λ (other : Contains heap' each). ⊎_elim (λ (same : new ≡ each). inr (sym same))
+      (λ (old : Contains heap each). inl (Contains-append_right stack heap each old))
+      (contains_cases new heap each
+      (Contains-permutation heap' (new ∷ heap) each (IsPermutation-sym (new ∷ heap) heap' moved)
+      other)))
+      (Contains-append_cases stack heap' each there);
+  level = refl;
+}
+
+pub heap_has : (stack heap heap' : List Waiting) (new : Waiting) →
+    IsPermutation (new ∷ heap) heap' → Contains (stack ++ heap') new
+heap_has stack heap heap' new moved =
+    Contains-append_right stack heap' new
+    (Contains-permutation (new ∷ heap) heap' new moved (contains_head new heap))
+
+pub heap_below : (heap heap' : List Waiting) (level : ℕ) (new : Waiting) →
+    IsPermutation (new ∷ heap) heap' → new.value ≤ level →
+    All (λ (each : Waiting). each.value ≤ level) heap →
+    All (λ (each : Waiting). each.value ≤ level) heap'
+heap_below heap heap' level new moved below all =
+    All-permutation (λ (each : Waiting). each.value ≤ level) (new ∷ heap) heap' moved
+    (All-cons (λ (each : Waiting). each.value ≤ level) new heap below all)
+
+-- ---- one less
+
+pub takes_stack : (stack stack' heap : List Waiting) (level : ℕ) (taken : Waiting) →
+    stack ≡ stack' ++ taken ∷ [] →
+    All (λ (each : Waiting). each.value ≡ level) stack →
+    Takes (search_of stack heap level) (search_of stack' heap level) taken
+takes_stack stack stack' heap level taken is all =
+    let there : Contains stack taken =
+    subst (λ s. Contains s taken) (sym is) (Contains-push stack' taken) in
+    let same : taken.value ≡ level =
+    All-contains (λ (each : Waiting). each.value ≡ level) stack taken all there in
+    record {
+      there = Contains-append_left stack heap taken there;
+      rest = λ each has. ⊎_elim
+          (λ (here : Contains stack each). ⊎_elim
+          (λ (old : Contains stack' each). contains_tail taken (stack' ++ heap) each
+          (Contains-append_left stack' heap each old))
+          (λ (it : taken ≡ each). subst (λ (x : Waiting). Contains (taken ∷ (stack' ++ heap)) x) it
+          (contains_head taken (stack' ++ heap)))
+          (Contains-push_cases stack' taken each (subst (λ s. Contains s each) is here)))
+          (λ (other : Contains heap each). contains_tail taken (stack' ++ heap) each
+          (Contains-append_right stack' heap each other))
+          (Contains-append_cases stack heap each has);
+      only = λ each has. ⊎_elim
+          (λ (here : Contains stack' each). Contains-append_left stack heap each
+          (subst (λ s. Contains s each) (sym is)
+          (Contains-append_left stack' (taken ∷ []) each here)))
+          (λ (other : Contains heap each). Contains-append_right stack heap each other)
+          (Contains-append_cases stack' heap each has);
+      level = sym same;
+      greatest = omega (arith, same);
+    }
+
+pub takes_heap : (stack stack' heap heap' : List Waiting) (level : ℕ) (taken : Waiting) →
+    stack ≡ stack' → IsPermutation heap (taken ∷ heap') →
+    All (λ (each : Waiting). each.value ≤ level) heap →
+    Takes (search_of stack heap level) (search_of stack' heap' taken.value) taken
+takes_heap stack stack' heap heap' level taken is moved all =
+    let back = IsPermutation-sym heap (taken ∷ heap') moved in
+    let there : Contains heap taken =
+    Contains-permutation (taken ∷ heap') heap taken back (contains_head taken heap') in
+    record {
+      there = Contains-append_right stack heap taken there;
+      rest = λ each has. ⊎_elim
+          (λ (here : Contains stack each). contains_tail taken (stack' ++ heap') each
+          (Contains-append_left stack' heap' each (subst (λ s. Contains s each) is here)))
+          (λ (other : Contains heap each). ⊎_elim
+          (λ (it : taken ≡ each). subst (λ (x : Waiting). Contains (taken ∷ (stack' ++ heap')) x) it
+          (contains_head taken (stack' ++ heap')))
+          (λ (old : Contains heap' each). contains_tail taken (stack' ++ heap') each
+          (Contains-append_right stack' heap' each old))
+          (contains_cases taken heap' each
+          (Contains-permutation heap (taken ∷ heap') each moved other)))
+          (Contains-append_cases stack heap each has);
+      only = λ each has. ⊎_elim
+          (λ (here : Contains stack' each). Contains-append_left stack heap each
+          (subst (λ s. Contains s each) (sym is) here))
+          (λ (other : Contains heap' each). Contains-append_right stack heap each
+          (Contains-permutation (taken ∷ heap') heap each back
+          (contains_tail taken heap' each other)))
+          (Contains-append_cases stack' heap' each has);
+      level = refl;
+      greatest = All-contains (λ (each : Waiting). each.value ≤ level) heap taken all there;
+    }

@@ -1,0 +1,42 @@
+use Rattle.std.proofs.Common.{◌≡◌, ◌≤◌, sym, subst}
+use Rattle.std.specs.BinaryHeap.{heap_items}
+use Rattle.tree_insert.specs.Waiting.{Gains}
+use Rattle.tree_insert.proofs.Tries.{search_of, gains_stack, gains_heap, heap_has, heap_below}
+use Rattle.tree_insert.proofs.search.Search.push.Goals as goal
+
+pub invariant_of-self-in-Continue-branch-2 : goal.invariant_of-self-in-Continue-branch-2
+invariant_of-self-in-Continue-branch-2 c = record {
+  order = c.in_ok-push-2.ensures.heap_order c.self.invariant.order;
+  now = c.self.invariant.now;
+  later = heap_below (heap_items c.self.inside.later) (heap_items c.push-else-waiting-self.new.self)
+      c.self.inside.level c.args.waiting
+      c.in_ok-push-2.ensures.permutation
+      (subst (λ search. c.args.waiting.value ≤ search.level) (sym c.self.view_is) c.requires)
+      c.self.invariant.later;
+}
+
+pub returns-in_ok-push-clause-gains : goal.returns-in_ok-push-clause-gains
+returns-in_ok-push-clause-gains c =
+    subst (λ old. Gains old
+    (search_of c.push.new.self.items (heap_items c.self.inside.later) c.self.inside.level)
+    (λ each. each ≡ c.args.waiting))
+    c.self.view_is
+    (gains_stack c.self.inside.now.items c.push.new.self.items (heap_items c.self.inside.later)
+    c.self.inside.level c.args.waiting
+    c.in_ok-push.ensures.items)
+
+pub returns-in_ok-push-2-clause-gains : goal.returns-in_ok-push-2-clause-gains
+returns-in_ok-push-2-clause-gains c =
+    subst (λ old. Gains old
+    (search_of c.self.inside.now.items (heap_items c.push-else-waiting-self.new.self)
+    c.self.inside.level) (λ each. each ≡ c.args.waiting))
+    c.self.view_is
+    (gains_heap c.self.inside.now.items (heap_items c.self.inside.later)
+    (heap_items c.push-else-waiting-self.new.self) c.self.inside.level c.args.waiting
+    c.in_ok-push-2.ensures.permutation)
+
+pub returns-in_ok-push-2-clause-added : goal.returns-in_ok-push-2-clause-added
+returns-in_ok-push-2-clause-added c =
+    heap_has c.self.inside.now.items (heap_items c.self.inside.later)
+    (heap_items c.push-else-waiting-self.new.self) c.args.waiting
+    c.in_ok-push-2.ensures.permutation

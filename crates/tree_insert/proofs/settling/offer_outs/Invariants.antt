@@ -1,0 +1,14 @@
+use Rattle.std.proofs.Common.{◌≡◌, ◌+◌}
+use Rattle.edge_store.specs.Edges.{outs_of, value_of}
+use Rattle.tree_insert.specs.Waiting.{Gains}
+use Rattle.tree_insert.specs.UnderWay.{Leaves}
+use Rattle.tree_insert.proofs.Outs.{AreServedUpTo}
+use Rattle.tree_insert.proofs.settling.offer_outs.Given as goal
+
+abbrev pub invariant-loop-k : goal.invariant-loop-k
+invariant-loop-k g l = record {
+  gains : Gains l.initial.search l.search (Leaves (value_of l.store) l.dfa l.rise.id l.rise.value);
+  served : AreServedUpTo l.dfa l.tree l.search.waiting l.rise.id l.rise.value l.rise.before
+      (outs_of l.store l.rise.id.vertex) l.k;
+  count : l.steps ≡ l.initial.steps + l.k;
+}

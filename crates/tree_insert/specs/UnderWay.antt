@@ -1,0 +1,143 @@
+-- A tree and the tries that wait while a search is under way.
+use Rattle.std.specs.Prelude.{◌≡◌, ◌≢◌, ℕ, ◌≤◌, ◌<◌, ◌+◌, ◌⊎◌, min, List, length, Contains, All, AllPairs, Option, Some}
+use Rattle.edge_store.specs.declared.edge.EdgeId.{EdgeId}
+use Rattle.edge_store.specs.declared.edge.Out.{Out}
+use Rattle.edge_store.specs.Edges.{Edges}
+use Rattle.dfa_table.specs.DfaValue.{DfaValue, step_of}
+use Rattle.delta_tree.specs.declared.node.NodeId.{NodeId}
+use Rattle.delta_tree.specs.declared.node.Try.{Try}
+use Rattle.delta_tree.specs.declared.node.Node.{Node}
+use Rattle.delta_tree.specs.Nodes.{TreeValue, node_id, node_of, value_of, IsTree}
+use Rattle.delta_tree.specs.Changes.{Carries, Raises}
+use Rattle.tree_insert.specs.declared.waiting.Waiting.{Waiting}
+use Rattle.tree_insert.specs.Best.{IsAtLeast}
+use Rattle.tree_insert.specs.Trees.{IsRisen, count_outs}
+use Rattle.tree_insert.specs.Waiting.{source_of, target_of}
+
+-- the parent edge of the node has at least the node's value, and the automaton's step with it leads
+-- from the state of the parent to that of the node
+pub record IsSupported (values : EdgeId → Option ℕ) (step : ℕ → ℕ → Option ℕ) (id : NodeId)
+    (node : Node) : Type 0 where
+  pub edge : IsAtLeast node.value (values node.edge)
+  pub leads : step node.parent.state node.edge.label ≡ Some id.state
+
+abbrev pub AreSupported : (EdgeId → Option ℕ) → (ℕ → ℕ → Option ℕ) → TreeValue → Type 0
+AreSupported values step tree =
+    (id : NodeId) (node : Node) → node_of tree id ≡ Some node → IsSupported values step id node
+
+-- a waiting try can be taken, and leads to one of the automaton's states
+pub record IsOpen (values : EdgeId → Option ℕ) (dfa : DfaValue) (tree : TreeValue)
+    (waiting : Waiting) : Type 0 where
+  pub source : Carries tree (source_of waiting) waiting.value
+  pub edge : IsAtLeast waiting.value (values waiting.edge)
+  pub leads : step_of dfa waiting.before waiting.edge.label ≡ Some waiting.state
+  pub some : 0 < waiting.state
+  pub within : waiting.state < length dfa.rows
+
+abbrev pub AreOpen : (EdgeId → Option ℕ) → DfaValue → TreeValue → List Waiting → Type 0
+AreOpen values dfa tree waits = (each : Waiting) → Contains waits each → IsOpen values dfa tree each
+
+-- the place has this value, or a try waits that gives it as much
+abbrev pub IsServed : TreeValue → List Waiting → NodeId → ℕ → Type 0
+IsServed tree waits id number =
+    IsAtLeast number (value_of tree id)
+    ⊎ ((each : Waiting) × Contains waits each × (target_of each ≡ id) × (number ≤ each.value))
+
+-- what the root and the nodes could give by the edges is there, or waits
+abbrev pub AreServed : (EdgeId → Option ℕ) → (ℕ → ℕ → Option ℕ) → TreeValue → List Waiting → Type 0
+AreServed values step tree waits =
+    (edge : EdgeId) (before number state : ℕ) →
+    Carries tree (node_id edge.from before) number → IsAtLeast number (values edge) →
+    step before edge.label ≡ Some state →
+    IsServed tree waits (node_id edge.to state) number
+
+-- the try by an edge of at least this value from the one state to the other
+pub record IsBetween (tree : TreeValue) (before : ℕ) (edge : EdgeId) (value state : ℕ)
+    (waiting : Waiting) : Type 0 where
+  pub lower : waiting.value ≤ value
+  pub source : Carries tree (source_of waiting) waiting.value
+  pub edge_is : waiting.edge ≡ edge
+  pub before_is : waiting.before ≡ before
+  pub state_is : waiting.state ≡ state
+
+-- a waiting try by the edge, from any state
+pub record IsBy (dfa : DfaValue) (tree : TreeValue) (edge : EdgeId) (value : ℕ)
+    (waiting : Waiting) : Type 0 where
+  pub lower : waiting.value ≤ value
+  pub source : Carries tree (source_of waiting) waiting.value
+  pub edge_is : waiting.edge ≡ edge
+  pub leads : step_of dfa waiting.before waiting.edge.label ≡ Some waiting.state
+  pub some : 0 < waiting.state
+  pub within : waiting.state < length dfa.rows
+
+-- a waiting try that is the given one
+pub record IsOfTry (values : EdgeId → Option ℕ) (tree : TreeValue) (step : Try)
+    (waiting : Waiting) : Type 0 where
+  pub source : Carries tree (source_of waiting) waiting.value
+  pub edge : IsAtLeast waiting.value (values waiting.edge)
+  pub edge_is : waiting.edge ≡ step.edge
+  pub before_is : waiting.before ≡ step.from.state
+  pub state_is : waiting.state ≡ step.to.state
+
+-- the try by an edge that leaves a node of this value
+pub record IsOut (dfa : DfaValue) (id : NodeId) (value : ℕ) (out : Out) (waiting : Waiting)
+    : Type 0 where
+  pub value_is : waiting.value ≡ min value out.value
+  pub edge : waiting.edge ≡ record { from = id.vertex; label = out.label; to = out.to }
+  pub before : waiting.before ≡ id.state
+  pub leads : step_of dfa id.state out.label ≡ Some waiting.state
+  pub some : 0 < waiting.state
+  pub within : waiting.state < length dfa.rows
+
+-- a try by an edge with a value that leaves a node of this value
+pub record Leaves (values : EdgeId → Option ℕ) (dfa : DfaValue) (id : NodeId) (value : ℕ)
+    (waiting : Waiting) : Type 0 where
+  pub lower : waiting.value ≤ value
+  pub edge : IsAtLeast waiting.value (values waiting.edge)
+  pub source : source_of waiting ≡ id
+  pub leads : step_of dfa waiting.before waiting.edge.label ≡ Some waiting.state
+  pub some : 0 < waiting.state
+  pub within : waiting.state < length dfa.rows
+
+-- what the edges from a node of this value could give, and not with the value that it had before,
+-- is
+-- there, or waits
+abbrev pub IsServedFrom : (EdgeId → Option ℕ) → (ℕ → ℕ → Option ℕ) → TreeValue → List Waiting →
+    NodeId → ℕ → Option ℕ → Type 0
+IsServedFrom values step tree waits id value before =
+    (edge : EdgeId) (number state : ℕ) →
+    edge.from ≡ id.vertex → number ≤ value → (IsAtLeast number before → ⊥) →
+    IsAtLeast number (values edge) → step id.state edge.label ≡ Some state →
+    IsServed tree waits (node_id edge.to state) number
+
+-- a node of a tree is that of another, or new or raised, with a stamp of its own
+abbrev pub IsSameOrFresh : TreeValue → TreeValue → NodeId → Node → Type 0
+IsSameOrFresh first tree id node =
+    (node_of first id ≡ Some node) ⊎ (Raises first id node.value × (first.puts ≤ node.stamp))
+
+-- the tree comes from another by raises
+pub record Rises (first tree : TreeValue) : Type 0 where
+  pub root : tree.root ≡ first.root
+  pub puts : first.puts ≤ tree.puts
+  pub nodes : (id : NodeId) (node : Node) →
+      node_of tree id ≡ Some node → IsSameOrFresh first tree id node
+  pub risen : (id : NodeId) (before : Node) →
+      node_of first id ≡ Some before →
+      (node : Node) × (node_of tree id ≡ Some node) × (before.value ≤ node.value)
+
+-- a tree that comes from another, each node of which its parent edge supports
+pub record IsUnderWay (values : EdgeId → Option ℕ) (step : ℕ → ℕ → Option ℕ)
+    (first tree : TreeValue) : Type 0 where
+  pub tree_is : IsTree tree
+  pub supported : AreSupported values step tree
+  pub rises : Rises first tree
+
+-- the steps so far are at most the edges that leave the nodes so far; these have at least the level
+-- as value, so that they aren't raised again
+pub record IsCounted (store : Edges) (first tree : TreeValue) (level start steps : ℕ)
+    : Type 0 where
+  pub nodes : List NodeId
+  pub apart : AllPairs ◌≢◌ nodes
+  pub risen : All (IsRisen first tree) nodes
+  pub firm : All (λ (id : NodeId). IsAtLeast level (value_of tree id)) nodes
+  pub few : steps ≤ start + count_outs store nodes

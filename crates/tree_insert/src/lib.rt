@@ -1,0 +1,34 @@
+//! Trees of best paths, kept so where edges come in and where their values rise.
+//!
+//! The best of a vertex and a state is the greatest number that all values of some path from the
+//! root reach, where the path leads the automaton from its start to the state: how long the vertex
+//! is reached at that state if nothing more comes. A tree is optimal where each of its nodes has its
+//! best as its value, and hangs on a path with that value as its least. The contract for the layers
+//! above: a tree that was optimal before an edge of its store was raised is so again after
+//! [`tree_raise`], and [`relax`] makes one optimal from all tries that could raise something; what
+//! isn't raised keeps its place and its stamp. `Tree::expire` with the number of the store's
+//! `expire` keeps a tree optimal ([`expiry_keeps_optimal`]).
+//!
+//! A search takes the try of the greatest value first, as Dijkstra's algorithm takes the nearest
+//! vertex, so that a node is raised once at most. It costs a step for each edge that leaves a node
+//! which is new or raised, and a step in a heap for each try of a lower value than the one before.
+//! Source: the trees of Pacaci, Bonifati and Özsu, SIGMOD 2020; that they keep the greatest value
+//! is this project's own.
+#![tactic(auto)]
+
+mod calls;
+mod laws;
+mod offers;
+mod search;
+mod settling;
+#[cfg(test)]
+mod tests;
+mod waiting;
+
+pub use calls::{relax, tree_raise};
+pub use laws::{
+    bare_is_optimal, best_is_settled, expiry_keeps_optimal, no_rise_no_step, one_best,
+    paths_are_ways, raises_are_raises,
+};
+pub use offers::carried;
+pub use search::Search;

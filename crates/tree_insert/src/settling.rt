@@ -1,0 +1,114 @@
+//! Taking the tries that wait until none is left.
+
+ghost use Rattle.std.specs.Prelude.{◌≡◌, ◌≢◌, ℕ, ◌+◌, ◌^◌, ◌<◌, ◌≤◌, [], ◌∷◌, length, OnOk, Some};
+ghost use Rattle.dfa_table.specs.DfaValue.{step_of};
+ghost use Rattle.edge_store.specs.Edges.{outs_of, value_of};
+ghost use Rattle.delta_tree.specs.Nodes.{TreeValue};
+ghost use Rattle.delta_tree.specs.Changes.{Raises};
+ghost use Rattle.tree_insert.specs.Trees.{CountsOuts};
+ghost use Rattle.tree_insert.specs.Waiting.{Gains, target_of};
+ghost use Rattle.tree_insert.specs.UnderWay.{AreOpen, AreServed, IsCounted, IsOpen, IsServedFrom, IsUnderWay, Leaves, Rises};
+
+use crate::offers::{is_below, offer_out};
+use crate::search::Search;
+use crate::waiting::{Rise, Waiting};
+use delta_tree::Tree;
+use dfa_table::Dfa;
+use edge_store::{EdgeStore, NoMemory, Steps};
+use std::sync::ledger::Ledger;
+
+/// Offers the tries by the edges that leave a node that rose, and counts a step for each edge.
+fn offer_outs<L: Ledger>(
+    search: &mut Search,
+    tree: &Tree,
+    store: &EdgeStore,
+    dfa: &Dfa,
+    rise: Rise,
+    steps: &mut Steps<L>,
+) -> Result<(), NoMemory>
+    requires state { rise.id.state < length dfa.now.rows }
+    requires level { rise.value ≤ search.old.level }
+    ensures gains { Gains search.old search.new
+        (Leaves (value_of store.now) dfa.now rise.id rise.value) }
+    ensures served { OnOk result
+        (IsServedFrom (value_of store.now) (step_of dfa.now) tree.now search.new.waiting rise.id
+        rise.value rise.before) }
+    ensures counted { steps.new ≤ steps.old + length (outs_of store.now rise.id.vertex) }
+{
+    let vertex = rise.id.vertex;
+    for k in 0..store.out_len(vertex) {
+        let out = store.out_at(vertex, k, steps);
+        offer_out(search, tree, dfa, rise, out)?;
+    }
+    Ok(())
+}
+
+/// Takes a try whose value is the level. Where it raises its target, the target gets its value, and
+/// the tries by the edges that leave the target are offered.
+fn follow<L: Ledger>(
+    search: &mut Search,
+    tree: &mut Tree,
+    store: &EdgeStore,
+    dfa: &Dfa,
+    taken: Waiting,
+    steps: &mut Steps<L>,
+) -> Result<(), NoMemory>
+    requires open { IsOpen (value_of store.now) dfa.now tree.old taken }
+    requires level { taken.value ≡ search.old.level }
+    requires puts { tree.old.puts < 2 ^ 127 }
+    ensures level { search.new.level ≡ search.old.level }
+    ensures puts { tree.new.puts ≤ tree.old.puts + 1 }
+    ensures tree { (first : TreeValue) →
+        IsUnderWay (value_of store.now) (step_of dfa.now) first tree.old →
+        IsUnderWay (value_of store.now) (step_of dfa.now) first tree.new }
+    ensures counted { (first : TreeValue) (start : ℕ) → Rises first tree.old →
+        IsCounted store.now first tree.old search.old.level start steps.old →
+        IsCounted store.now first tree.new search.new.level start steps.new }
+    ensures waiting { AreOpen (value_of store.now) dfa.now tree.old search.old.waiting →
+        AreOpen (value_of store.now) dfa.now tree.new search.new.waiting }
+    ensures served { OnOk result (
+        AreServed (value_of store.now) (step_of dfa.now) tree.old (taken ∷ search.old.waiting) →
+        AreServed (value_of store.now) (step_of dfa.now) tree.new search.new.waiting) }
+{
+    let before = tree.value_of(taken.edge.to, taken.state);
+    if !is_below(before, taken.value) {
+        return Ok(());
+    }
+    tree.put(taken.step(), taken.value)?;
+    let rise = Rise {
+        id: taken.target(),
+        before,
+        value: taken.value,
+    };
+    offer_outs(search, tree, store, dfa, rise, steps)
+}
+
+/// Takes the tries that wait, the greatest value first, until none is left.
+///
+/// A place is raised once at most: a try that is taken later has no greater value.
+pub(crate) fn settle<L: Ledger>(
+    search: &mut Search,
+    tree: &mut Tree,
+    store: &EdgeStore,
+    dfa: &Dfa,
+    steps: &mut Steps<L>,
+) -> Result<(), NoMemory>
+    requires puts { tree.old.puts < 2 ^ 126 }
+    requires tree { IsUnderWay (value_of store.now) (step_of dfa.now) tree.old tree.old }
+    requires open { AreOpen (value_of store.now) dfa.now tree.old search.old.waiting }
+    ensures tree { IsUnderWay (value_of store.now) (step_of dfa.now) tree.old tree.new }
+    ensures puts { tree.new.puts < tree.old.puts + 2 ^ 64 }
+    ensures counted { CountsOuts store.now tree.old tree.new steps.old steps.new }
+    ensures served { OnOk result (
+        AreServed (value_of store.now) (step_of dfa.now) tree.old search.old.waiting →
+        AreServed (value_of store.now) (step_of dfa.now) tree.new []) }
+{
+    for _turn in 0..u64::MAX {
+        let Some(taken) = search.take() else {
+            return Ok(());
+        };
+        follow(search, tree, store, dfa, taken, steps)?;
+    }
+    // Memory for as many tries isn't there.
+    Err(NoMemory)
+}
