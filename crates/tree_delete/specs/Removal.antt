@@ -20,8 +20,7 @@ WasOptimalWith values step tree edge =
     (before : EdgeId → Option ℕ) × IsOptimal before step tree × IsRemoved before values edge
 
 -- a node on whose path the edge didn't stand stays as it was, with its value, its parent, its
--- parent
--- edge and its stamp; each other node has a stamp that is at least the number of puts before
+-- parent edge and its stamp; each other node has a stamp that is at least the number of puts before
 pub record KeepsApart (old new : TreeValue) (edge : EdgeId) : Type 0 where
   pub same : (id : NodeId) (node : Node) →
       node_of old id ≡ Some node → (IsBelow old edge id → ⊥) → node_of new id ≡ Some node
@@ -31,8 +30,7 @@ pub record KeepsApart (old new : TreeValue) (edge : EdgeId) : Type 0 where
       old.puts ≤ after.stamp
 
 -- the steps are at most the edges that end at and leave the nodes on whose path the edge stood,
--- each
--- node once
+-- each node once
 pub record CountsCut (store : Edges) (old : TreeValue) (edge : EdgeId) (start steps : ℕ)
     : Type 0 where
   pub nodes : List NodeId

@@ -38,8 +38,9 @@ fn cut(tree: &mut Tree, edge: EdgeId) -> Result<Vec<NodeId>, NoMemory>
 /// Makes a tree optimal that was so before the edge left the store, in the room of a search.
 ///
 /// The nodes on whose path the edge stood are cut. For each of them the best way from a node that
-/// stayed is sought among the edges that end at its vertex; from there a search puts back those that
-/// other paths reach. Where memory is lacking, nodes are missing that paths reach.
+/// stayed is sought among the edges that end at its vertex; from there a search puts back those
+/// that other paths reach. The only error is [`NoMemory`], after which the paths of the tree are
+/// paths of the store, but nodes may be missing.
 pub fn tree_remove_with<L: Ledger>(
     search: &mut Search,
     alloc: Global,

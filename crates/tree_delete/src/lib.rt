@@ -3,9 +3,9 @@
 //! The contract for the layers above: a tree that was optimal before an edge left its store is so
 //! again after [`tree_remove`], and the nodes on whose path the edge didn't stand keep their place
 //! and their stamp. The nodes on whose path it stood are cut; for each of them the best way back
-//! from a node that stayed is sought among the edges that end at its vertex, and a search from these
-//! puts back what other paths reach. It costs a step for each edge that ends at or leaves a node that
-//! was cut, and none where the edge stood on no path.
+//! from a node that stayed is sought among the edges that end at its vertex, and a search from
+//! these puts back what other paths reach. It costs a step for each edge that ends at or leaves a
+//! node that was cut, and none where the edge stood on no path.
 #![tactic(auto)]
 
 mod calls;

@@ -138,7 +138,8 @@ fn comes_back<L: Ledger>(alloc: Global, blank: Blank) -> Result<bool, Fail>
     Ok(low && scene.tree.len() == 0)
 }
 
-/// Whether the removal of an edge on no path changes nothing, and that of a last edge takes its end.
+/// Whether the removal of an edge on no path changes nothing, and that of a last edge takes its
+/// end.
 fn loses_an_end<L: Ledger>(alloc: Global, blank: Blank) -> Result<bool, Fail>
     requires name { blank.name ≡ L.name }
     requires parts { blank.parts ≡ L.parts }

@@ -21,8 +21,7 @@ HasOwnWays values step tree =
     IsWay values step tree.root id.vertex id.state node.value path
 
 -- each vertex and state has its best as its value, so that a node stands exactly where a path
--- leads;
--- and the value of a node is the least on its own path, which leads there
+-- leads; and the value of a node is the least on its own path, which leads there
 pub record IsOptimal (values : EdgeId → Option ℕ) (step : ℕ → ℕ → Option ℕ) (tree : TreeValue)
     : Type 0 where
   pub best : (id : NodeId) →
@@ -34,8 +33,7 @@ pub record IsOptimal (values : EdgeId → Option ℕ) (step : ℕ → ℕ → Op
 -- ---- tries
 
 -- a try from the root or a node, by an edge with a value to the edge's target and the state to
--- which
--- the automaton's step with the edge's label leads
+-- which the automaton's step with the edge's label leads
 pub record IsValid (values : EdgeId → Option ℕ) (step : ℕ → ℕ → Option ℕ) (tree : TreeValue)
     (each : Try) : Type 0 where
   pub from : (each.from ≡ root_id tree) ⊎ IsSome (node_of tree each.from)
@@ -44,8 +42,7 @@ pub record IsValid (values : EdgeId → Option ℕ) (step : ℕ → ℕ → Opti
   pub leads : step each.from.state each.edge.label ≡ Some each.to.state
 
 -- a try gives its target a value that is at most that of its edge and, but for the root, that of
--- the
--- node from which it comes
+-- the node from which it comes
 pub record Gives (values : EdgeId → Option ℕ) (tree : TreeValue) (each : Try) (number : ℕ)
     : Type 0 where
   pub from : Carries tree each.from number

@@ -100,8 +100,7 @@ pub record Leaves (values : EdgeId → Option ℕ) (dfa : DfaValue) (id : NodeId
   pub within : waiting.state < length dfa.rows
 
 -- what the edges from a node of this value could give, and not with the value that it had before,
--- is
--- there, or waits
+-- is there, or waits
 abbrev pub IsServedFrom : (EdgeId → Option ℕ) → (ℕ → ℕ → Option ℕ) → TreeValue → List Waiting →
     NodeId → ℕ → Option ℕ → Type 0
 IsServedFrom values step tree waits id value before =

@@ -15,9 +15,9 @@ use std::alloc::Global;
 use std::sync::ledger::Ledger;
 
 impl Search {
-    /// Makes a tree optimal from a list that has, for each try that could raise its target, one that
-    /// gives this target as much. The only error is [`NoMemory`], after which the paths of the tree
-    /// are paths of the store, but not all are the best.
+    /// Makes a tree optimal from a list that has, for each try that could raise its target, one
+    /// that gives this target as much. The only error is [`NoMemory`], after which the paths of the
+    /// tree are paths of the store, but not all are the best.
     pub fn relax<L: Ledger>(
         &mut self,
         tree: &mut Tree,

@@ -2,9 +2,9 @@
 //!
 //! The best of a vertex and a state is the greatest number that all values of some path from the
 //! root reach, where the path leads the automaton from its start to the state: how long the vertex
-//! is reached at that state if nothing more comes. A tree is optimal where each of its nodes has its
-//! best as its value, and hangs on a path with that value as its least. The contract for the layers
-//! above: a tree that was optimal before an edge of its store was raised is so again after
+//! is reached at that state if nothing more comes. A tree is optimal where each of its nodes has
+//! its best as its value, and hangs on a path with that value as its least. The contract for the
+//! layers above: a tree that was optimal before an edge of its store was raised is so again after
 //! [`tree_raise`], and [`relax`] makes one optimal from all tries that could raise something; what
 //! isn't raised keeps its place and its stamp. `Tree::expire` with the number of the store's
 //! `expire` keeps a tree optimal ([`expiry_keeps_optimal`]).
