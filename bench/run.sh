@@ -1,12 +1,22 @@
 #!/usr/bin/env bash
-# Proves, builds and runs a benchmark on a copy of the crates, outside the gate:
-#   bench/run.sh edge_store
-# NAME.rattle is the program, and NAME the crate that it stands on. Other crates that it uses stand
-# in its line `//! needs: ..`, and its proofs in the folder NAME.proofs.
+# Measures rpq, outside the gate:
+#   bench/run.sh              times on streams of bench/workloads.py, as a table
+#   bench/run.sh --sqlite     against recursive SQL in sqlite, evaluated after each tuple
+#   bench/run.sh --workers    whether any number of workers gives the same bytes
+#   bench/run.sh NAME         the benchmark NAME.rattle of one crate: edge_store, tree_insert
+# The words of measure.py can follow, as --kinds uniform,so --tuples 10000.
+#
+# The benchmark of a crate is proved, built and run on a copy of the crates. NAME is the crate that
+# it stands on, other crates that it uses stand in its line `//! needs: ..`, and its proofs in the
+# folder NAME.proofs.
 set -eu
-name="$1"
 top="$(cd "$(dirname "$0")/.." && pwd)"
 command -v rt >/dev/null 2>&1 || PATH="$PATH:/opt/rattle/bin"
+name="${1:-}"
+if [ -z "$name" ] || [ "${name#--}" != "$name" ]; then
+    (cd "$top/crates/rpq" && rt run -- ../../examples/queries.txt /dev/null >/dev/null)
+    exec python3 "$top/bench/measure.py" "$top/crates/rpq/out/rpq" "$@"
+fi
 place="$(mktemp -d)"
 trap 'rm -rf "$place"' EXIT
 cp -a "$top/crates" "$top/crates.txt" "$top/HANDLES" "$place/"

@@ -23,7 +23,7 @@ use Rattle.delta_tree.specs.Paths.{LeadsUp, IsBelow, Hangs, hangs_by}
 use Rattle.delta_tree.specs.Changes.{AreBelow, Cuts}
 use Rattle.delta_tree.specs.Dues.{id_cmp}
 use Rattle.delta_tree.specs.Ranks.{rank, ranks_of, rank_cmp}
-use Rattle.delta_tree.proofs.Ids.{same_node_is, same_node_laws, same_edge_itself, some_is_one}
+use Rattle.delta_tree.proofs.Ids.{same_node_is, same_node_laws, same_edge_itself, some_is_one, nothing_once}
 use Rattle.delta_tree.proofs.Queue.{the_one}
 use Rattle.delta_tree.proofs.Trees.{same_found, below_parent, root_has_no_node}
 use Rattle.delta_tree.proofs.Ways.{parent_place, node_has_path}
@@ -358,11 +358,6 @@ no_edge tree edge kept none id node is by_edge =
         (sym (any_passes_from_place (hangs_by edge) tree.nodes k (id, node)
         (slice_get-get_or tree.nodes k (id, node) within ∙ ap Some at) passes)
         ∙ none)
-
--- of none, each is once
-nothing_once : IsDistinct same_node []
-unfolding IsDistinct
-nothing_once = tt
 
 -- where no node hangs by the edge, none is below it
 pub none_below : (tree : TreeValue) (edge : EdgeId) → IsTree tree →

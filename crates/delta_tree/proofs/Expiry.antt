@@ -1,14 +1,18 @@
 -- An expiry under way.
-use Rattle.std.proofs.Common.{◌≡◌, ◌<◌, ◌≤◌, ℕ, Bool, true, false, inl, inr, cond, nat_lt, List, ◌∷◌, Option, None, Some, refl, sym, ap, subst, ◌∙◌, Contains, IsPermutation, true≢false, arith}
-use Rattle.std.specs.List.{IsDistinct}
+use Rattle.std.proofs.Common.{◌≡◌, ◌<◌, ◌≤◌, ℕ, Bool, true, false, ◌&&◌, IsTrue, ◌↔◌, ◌⊎◌, inl, inr, cond, nat_lt, List, [], ◌∷◌, ◌++◌, Option, None, Some, refl, sym, ap, subst, ◌∙◌, Contains, IsPermutation, true≢false, arith}
+use Rattle.std.specs.List.{IsDistinct, list_any}
+use Rattle.std.specs.Bool.{OnTrue}
 use Rattle.std.specs.Map.{keys_of}
+use Rattle.std.proofs.lemmas.List.Elements.{Contains-append_left, Contains-push, Contains-push_cases}
+use Rattle.std.proofs.lemmas.Map.Keys.{IsDistinct-push}
+use Rattle.std.proofs.lemmas.Map.Views.{Contains-from_any}
 use Rattle.delta_tree.specs.declared.dues.Due.{Due}
 use Rattle.delta_tree.specs.declared.node.NodeId.{NodeId}
-use Rattle.delta_tree.specs.Nodes.{Node, same_node, node_in}
-use Rattle.delta_tree.specs.Changes.{living}
-use Rattle.delta_tree.specs.Dues.{due, IsNoted, IsQueue, KeepsDues}
-use Rattle.delta_tree.proofs.Ids.{same_node_is, same_node_laws}
-use Rattle.delta_tree.proofs.Trees.{living_stays}
+use Rattle.delta_tree.specs.Nodes.{Node, TreeValue, same_node, node_in, IsTree}
+use Rattle.delta_tree.specs.Changes.{living, AreDue, IsSameBeside}
+use Rattle.delta_tree.specs.Dues.{due, IsDueIn, IsKept, IsNoted, IsQueue, KeepsDues}
+use Rattle.delta_tree.proofs.Ids.{same_node_is, same_node_laws, changed_there, none_or_some, nothing_once}
+use Rattle.delta_tree.proofs.Trees.{expire_keeps, same_found, living_some, living_stays, living_gone}
 use Rattle.delta_tree.proofs.Queue.{keeps_others}
 
 -- the nodes above the clock are as they were, and each node that is left is noted
@@ -76,6 +80,18 @@ module _ (now : ℕ) (old new : List (NodeId × Node)) (id : NodeId)
             ],
           )
 
+  pub expiring_after : (first : List (NodeId × Node)) (dues rest last : List Due) (value : ℕ) →
+      IsExpiring now first old dues → IsPermutation dues (due id value ∷ rest) →
+      KeepsDues rest last →
+      ((node : Node) → node_in new id ≡ Some node → Contains last (due id node.value)) →
+      IsDistinct same_node (keys_of new) → IsQueue last → IsExpiring now first new last
+  expiring_after first dues rest last value expiring moved keeps here once order = record {
+    alive = λ each. alive_after each ∙ expiring.alive each;
+    once = once;
+    noted = noted_after dues rest last value expiring.noted moved keeps here;
+    order = order;
+  }
+
 -- where none is due any more, all that are left are above the clock
 pub all_alive : (now : ℕ) (old new : List (NodeId × Node)) (dues : List Due) →
     IsExpiring now old new dues →
@@ -89,3 +105,162 @@ all_alive now old new dues expiring later id = by (node_in new id) refl ∙ expi
         let (value, enough, there) = expiring.noted id node is in
         let above = later id value there in
         sym (living_stays now (Some node) node refl (omega (arith, enough, above)))
+
+-- and they are a tree
+pub kept_after : (now : ℕ) (old new : TreeValue) (dues last : List Due) → IsTree old →
+    IsExpiring now old.nodes new.nodes dues →
+    ((id : NodeId) (value : ℕ) → Contains dues (due id value) → now < value) →
+    IsSameBeside old new → last ≡ dues → IsQueue last → IsKept new last
+kept_after now old new dues last kept expiring later beside same order = record {
+  is_tree = expire_keeps old new now kept
+      (all_alive now old.nodes new.nodes dues expiring later) beside;
+  once = expiring.once;
+  noted = subst (IsNoted new.nodes) (sym same) expiring.noted;
+  order = order;
+}
+
+-- ---- the nodes that were taken out
+
+-- what is left stood before, and these are the nodes that are due and gone, each once
+pub record AreGone (now : ℕ) (old new : List (NodeId × Node)) (ids : List NodeId) : Type 0 where
+  pub stood : (id : NodeId) (node : Node) → node_in new id ≡ Some node →
+      node_in old id ≡ Some node
+  pub sound : (id : NodeId) → Contains ids id → IsDueIn old now id × (node_in new id ≡ None)
+  pub complete : (id : NodeId) → IsDueIn old now id → node_in new id ≡ None → Contains ids id
+  pub once : IsDistinct same_node ids
+
+-- none at first
+pub none_gone : (now : ℕ) (nodes : List (NodeId × Node)) → AreGone now nodes nodes []
+none_gone now nodes = record {
+  stood = λ id node is. is;
+  sound = λ id (k, within, is). absurd (omega (arith, within));
+  complete = λ id (node, is, _) none. absurd (none_or_some node (sym none ∙ is));
+  once = nothing_once;
+}
+
+module _ (now : ℕ) (first old new : List (NodeId × Node)) (id : NodeId)
+    (update : (each : NodeId) → node_in new each ≡ cond (same_node id each)
+    (living now (node_in old id)) (node_in old each)) (ids : List NodeId)
+    (gone : AreGone now first old ids) where
+  -- a place is the one that is looked at, or is as it was
+  place_cases : (each : NodeId) →
+      ((id ≡ each) × (node_in new each ≡ living now (node_in old each)))
+      ⊎ (node_in new each ≡ node_in old each)
+  place_cases each = by (same_node id each) refl
+    where
+      changed : (b : Bool) → same_node id each ≡ b →
+          node_in new each ≡ cond b (living now (node_in old id)) (node_in old each)
+      changed b is =
+          update each ∙ ap (λ b. cond b (living now (node_in old id)) (node_in old each)) is
+
+      by : (b : Bool) → same_node id each ≡ b →
+          ((id ≡ each) × (node_in new each ≡ living now (node_in old each)))
+          ⊎ (node_in new each ≡ node_in old each)
+      by true same =
+          let at : id ≡ each = same_node_is id each same in
+          inl (at, changed true same ∙ ap (λ place. living now (node_in old place)) at)
+      by false other = inr (changed false other)
+
+  stood_after : (each : NodeId) (node : Node) → node_in new each ≡ Some node →
+      node_in first each ≡ Some node
+  stood_after each node is = elim (place_cases each) [
+    | inl (at, here) ↦ gone.stood each node
+        (living_some now (node_in old each) node (sym here ∙ is)).0
+    | inr kept ↦ gone.stood each node (sym kept ∙ is)
+  ]
+
+  none_after : (each : NodeId) → node_in old each ≡ None → node_in new each ≡ None
+  none_after each none = elim (place_cases each) [
+    | inl (at, here) ↦ here ∙ ap (living now) none
+    | inr kept ↦ kept ∙ none
+  ]
+
+  -- where none is any more, none was before, or it is this place
+  none_before : (each : NodeId) → node_in new each ≡ None →
+      (node_in old each ≡ None) ⊎ (id ≡ each)
+  none_before each none = elim (place_cases each) [
+    | inl (at, here) ↦ inr at
+    | inr kept ↦ inl (sym kept ∙ none)
+  ]
+
+  -- one more, which is due
+  pub one_gone : IsDueIn old now id → AreGone now first new (ids ++ id ∷ [])
+  one_gone (node, is, reached) = record {
+    stood = stood_after;
+    sound = λ each has. elim (Contains-push_cases ids id each has) [
+      | inl before ↦
+          let (was, none) = gone.sound each before in (was, none_after each none)
+      | inr at ↦
+          subst (λ place. IsDueIn first now place × (node_in new place ≡ None)) at
+          ((node, gone.stood id node is, reached), none_here)
+    ];
+    complete = λ each was none. elim (none_before each none) [
+      | inl before ↦ Contains-append_left ids (id ∷ []) each (gone.complete each was before)
+      | inr at ↦ subst (Contains (ids ++ id ∷ [])) at (Contains-push ids id)
+    ];
+    once = IsDistinct-push same_node_laws ids id gone.once (apart (list_any (same_node id) ids) refl);
+  }
+    where
+      none_here : node_in new id ≡ None
+      none_here =
+          update id
+          ∙ changed_there (node_in old id) id id (living now (node_in old id)) refl
+          ∙ living_gone now (node_in old id) node is reached
+
+      apart : (b : Bool) → list_any (same_node id) ids ≡ b → b ≡ false
+      apart true has =
+          absurd (none_or_some node
+          (sym (gone.sound id (Contains-from_any same_node_is id ids has)).1 ∙ is))
+      apart false none = refl
+
+  -- none more, where none is due there
+  pub no_more_gone : (IsDueIn old now id → ⊥) → AreGone now first new ids
+  no_more_gone free = record {
+    stood = stood_after;
+    sound = λ each has. let (was, none) = gone.sound each has in (was, none_after each none);
+    complete = λ each was none. elim (none_before each none) [
+      | inl before ↦ gone.complete each was before
+      | inr at ↦ here each at was (node_in old each) refl
+    ];
+    once = gone.once;
+  }
+    where
+      here : (each : NodeId) → id ≡ each → IsDueIn first now each → (found : Option Node) →
+          node_in old each ≡ found → Contains ids each
+      here each at was None none = gone.complete each was none
+      here each at (node, is, reached) (Some other) there =
+          let same : node ≡ other =
+          same_found (node_in first each) node other is (gone.stood each other there) in
+          absurd (free (subst (IsDueIn old now) (sym at) (
+            other,
+            there,
+            subst (λ (n : Node). n.value ≤ now) same reached,
+          )))
+
+  -- one more where one was taken out
+  pub gone_after : (taken : Bool) (more : List NodeId) → IsTrue taken ↔ IsDueIn old now id →
+      more ≡ cond taken (ids ++ id ∷ []) ids → AreGone now first new more
+  gone_after true more taken is = subst (AreGone now first new) (sym is) (one_gone (taken.0 refl))
+  gone_after false more taken is =
+      subst (AreGone now first new) (sym is)
+      (no_more_gone (λ reached. true≢false (sym (taken.1 reached))))
+
+-- what follows from two facts where both of two tests pass
+pub on_both : {P Q R : Type 0} (first second : Bool) → OnTrue first P → OnTrue second Q →
+    (P → Q → R) → OnTrue (first && second) R
+on_both true true one other both = both one other
+on_both true false one other both = tt
+on_both false second one other both = tt
+
+-- where all that are left live, these are all that are due
+pub are_due : (now : ℕ) (tree : TreeValue) (new : List (NodeId × Node)) (ids : List NodeId) →
+    AreGone now tree.nodes new ids →
+    ((id : NodeId) → node_in new id ≡ living now (node_in tree.nodes id)) → AreDue tree now ids
+are_due now tree new ids gone alive = record {
+  exact = λ id. (
+    (λ has. (gone.sound id has).0),
+    (λ (node, is, reached). gone.complete id (node, is, reached)
+        (alive id ∙ living_gone now (node_in tree.nodes id) node is reached)),
+  );
+  once = gone.once;
+}

@@ -1,5 +1,5 @@
 -- Equal places of nodes, and look-ups by them.
-use Rattle.std.proofs.Common.{◌≡◌, ℕ, option_map, Bool, true, false, ◌&&◌, ◌==◌, cond, Option, None, Some, refl, sym, ap, ap₂, ◌∙◌, true≢false, eq-eqb, rules}
+use Rattle.std.proofs.Common.{◌≡◌, ℕ, option_map, Bool, true, false, ◌&&◌, ◌==◌, cond, [], Option, None, Some, refl, sym, ap, ap₂, ◌∙◌, true≢false, eq-eqb, rules}
 use Rattle.std.proofs.lemmas.Bool.{eqb-true}
 use Rattle.std.specs.Cmp.{IsEquivalence}
 use Rattle.std.specs.Cmp.Rules.{comparing}
@@ -114,3 +114,8 @@ same_edge_is a b is =
           i;
       to = eqb-true a.to b.to rest.1 i;
     }
+
+-- of no places, each is once
+pub nothing_once : IsDistinct same_node []
+unfolding IsDistinct
+nothing_once = tt

@@ -1,13 +1,14 @@
 -- The queue of the nodes that leave a tree.
-use Rattle.std.proofs.Common.{◌≡◌, ◌+◌, ◌≤◌, ◌<◌, ℕ, zero, suc, Bool, true, false, ◌⊎◌, inl, inr, cond, nat_lt, List, [], ◌∷◌, refl, sym, ap, subst, ◌∙◌, Some, is_some, Contains, IsPermutation, filter, true≢false, arith}
+use Rattle.std.proofs.Common.{◌≡◌, ◌+◌, ◌≤◌, ◌<◌, ℕ, zero, suc, Bool, true, false, ◌⊎◌, inl, inr, cond, nat_lt, List, [], ◌∷◌, refl, sym, ap, subst, ◌∙◌, Option, None, Some, IfSome, IfNone, is_some, Contains, IsPermutation, filter, true≢false, arith}
 use Rattle.std.proofs.lemmas.Bool.{lt-ltb, ltb-true}
 use Rattle.std.proofs.lemmas.List.Elements.{Contains-append_cases, Contains-append_right}
 use Rattle.std.proofs.lemmas.List.Sorted.{Contains-permutation, sum_by_pushed, sum_by_popped}
 use Rattle.delta_tree.specs.declared.dues.Due.{Due}
 use Rattle.delta_tree.specs.declared.node.NodeId.{NodeId}
-use Rattle.delta_tree.specs.Nodes.{Node, same_node, node_in}
+use Rattle.delta_tree.specs.Nodes.{Node, TreeValue, same_node, node_in}
+use Rattle.delta_tree.specs.Changes.{IsFloor}
 use Rattle.delta_tree.specs.Dues.{due, IsNoted, KeepsDues, pending}
-use Rattle.delta_tree.proofs.Ids.{same_node_is, some_is_one}
+use Rattle.delta_tree.proofs.Ids.{same_node_is, same_node_laws, some_is_one}
 
 -- the one element of a list
 pub the_one : {X : Type 0} (x y : X) → Contains (x ∷ []) y → x ≡ y
@@ -149,3 +150,34 @@ noted_retained nodes dues kept new noted is moved id node there =
           (subst (λ (l : List Due). Contains l (due id value)) (sym is)
           (passes_filter (stands nodes) dues (due id value) was (ap is_some there))),
     )
+
+-- ---- the least value
+
+-- where nothing is noted there is no node
+pub no_dues_no_nodes : (nodes : List (NodeId × Node)) (dues : List Due) → IsNoted nodes dues →
+    dues ≡ [] → nodes ≡ []
+no_dues_no_nodes [] dues noted none = refl
+no_dues_no_nodes ((id, node) ∷ nodes) dues noted none =
+    let (value, enough, there) =
+    noted id node (ap (λ b. cond b (Some node) (node_in nodes id)) (same_node_laws.refl id)) in
+    absurd (nothing (subst (λ (l : List Due). Contains l (due id value)) none there))
+  where
+    nothing : {each : Due} → Contains [] each → ⊥
+    nothing (k, within, is) = omega (arith, within)
+
+-- what no noted value is below, no node's is
+pub floor_of : (tree : TreeValue) (dues : List Due) (found : Option ℕ) →
+    IsNoted tree.nodes dues →
+    IfSome found (λ least. (id : NodeId) (value : ℕ) → Contains dues (due id value) →
+    least ≤ value) → IfSome found (IsFloor tree)
+floor_of tree dues None noted least = tt
+floor_of tree dues (Some number) noted least = λ id node is.
+    let (value, enough, there) = noted id node is in
+    let below = least id value there in
+    omega (arith, enough, below)
+
+-- where none is first, there is no node
+pub none_of : (nodes : List (NodeId × Node)) (dues : List Due) (found : Option ℕ) →
+    IsNoted nodes dues → IfNone found (dues ≡ []) → IfNone found (nodes ≡ [])
+none_of nodes dues None noted none = no_dues_no_nodes nodes dues noted none
+none_of nodes dues (Some number) noted none = tt

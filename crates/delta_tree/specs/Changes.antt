@@ -40,6 +40,25 @@ living now (Some node) = cond (nat_lt now node.value) (Some node) None
 abbrev pub Expires : TreeValue → TreeValue → ℕ → Type 0
 Expires old new now = (id : NodeId) → node_of new id ≡ living now (node_of old id)
 
+-- the nodes of all places but these are as they were
+abbrev pub ChangesAtMost : TreeValue → TreeValue → List NodeId → Type 0
+ChangesAtMost old new ids =
+    (id : NodeId) → (Contains ids id → ⊥) → node_of new id ≡ node_of old id
+
+-- a node stands there whose value is at most the clock
+abbrev pub IsDueAt : TreeValue → ℕ → NodeId → Type 0
+IsDueAt tree now id = (node : Node) × (node_of tree id ≡ Some node) × (node.value ≤ now)
+
+-- the list has exactly the nodes whose value is at most the clock, each once
+pub record AreDue (tree : TreeValue) (now : ℕ) (ids : List NodeId) : Type 0 where
+  pub exact : (id : NodeId) → Contains ids id ↔ IsDueAt tree now id
+  pub once : IsDistinct same_node ids
+
+-- no node's value is below the number
+abbrev pub IsFloor : TreeValue → ℕ → Type 0
+IsFloor tree number =
+    (id : NodeId) (node : Node) → node_of tree id ≡ Some node → number ≤ node.value
+
 -- the same root, and the same number of puts
 pub record IsSameBeside (old new : TreeValue) : Type 0 where
   pub root : new.root ≡ old.root

@@ -31,6 +31,10 @@ abbrev pub IsNoted : List (NodeId × Node) → List Due → Type 0
 IsNoted nodes dues = (id : NodeId) (node : Node) → node_in nodes id ≡ Some node →
     (value : ℕ) × (value ≤ node.value) × Contains dues (due id value)
 
+-- a node stands there whose value is at most the clock
+abbrev pub IsDueIn : List (NodeId × Node) → ℕ → NodeId → Type 0
+IsDueIn nodes now id = (node : Node) × (node_in nodes id ≡ Some node) × (node.value ≤ now)
+
 -- what was noted still is
 abbrev pub KeepsDues : List Due → List Due → Type 0
 KeepsDues old new = (each : Due) → Contains old each → Contains new each

@@ -20,6 +20,11 @@ IsPathTo tree id path = LeadsUp tree id (reverse path)
 abbrev pub IsBelow : TreeValue → EdgeId → NodeId → Type 0
 IsBelow tree edge id = (up : List EdgeId) × LeadsUp tree id up × Contains up edge
 
+-- a node stands there and hangs by this edge
+abbrev pub HangsBy : TreeValue → EdgeId → NodeId → Type 0
+HangsBy tree edge id =
+    (node : Node) × (node_of tree id ≡ Some node) × (node.edge ≡ edge)
+
 -- a node hangs by this edge, at the end of which it stands
 abbrev pub hangs_by : EdgeId → NodeId × Node → Bool
 hangs_by edge each = (each.0.vertex == edge.to) && same_edge each.1.edge edge

@@ -1,6 +1,6 @@
 //! The nodes of a tree in the order in which they leave it.
 
-ghost use Rattle.std.specs.Prelude.{◌≡◌, ℕ, ◌∷◌, ◌<◌, ◌≤◌, Contains, IfSome, IfNone, OnSome};
+ghost use Rattle.std.specs.Prelude.{◌≡◌, ℕ, [], ◌∷◌, ◌<◌, ◌≤◌, Contains, IfSome, IfNone, OnSome};
 ghost use Rattle.std.specs.BinaryHeap.{heap_items, heap_len, heap_capacity};
 ghost use Rattle.std.specs.List.Sorted.{IsPermutation};
 ghost use Rattle.delta_tree.specs.declared.node.NodeId.{NodeId};
@@ -46,4 +46,14 @@ pub(crate) fn next_due(dues: &mut BinaryHeap<Due>, now: u64) -> Option<NodeId>
         return None;
     }
     Some(dues.pop()?.id)
+}
+
+/// The least value with which a node was noted, or none where none is.
+pub(crate) fn first_due(dues: &BinaryHeap<Due>) -> Option<u64>
+    requires { IsQueue (heap_items dues.now) }
+    ensures none { IfNone result (heap_items dues.now ≡ []) }
+    ensures least { IfSome result (λ least. (id : NodeId) (value : ℕ) →
+        Contains (heap_items dues.now) (due id value) → least ≤ value) }
+{
+    Some(dues.peek()?.value.0)
 }

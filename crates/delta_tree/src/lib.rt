@@ -14,8 +14,9 @@
 //!
 //! A look-up and a put cost a hash. An expiry costs one comparison where no node goes, and else a
 //! step in a heap for each node that goes and for each one that was raised since it was last looked
-//! at. A cut goes over all nodes, and sorts them where a node hangs by its edge. A tree that loses
-//! most of its nodes gives their memory back.
+//! at; by [`Tree::least`] a caller knows before when none goes, and [`Tree::cut_due`] answers those
+//! that went. A cut goes over all nodes, and sorts them where a node hangs by its edge. A tree that
+//! loses most of its nodes gives their memory back.
 #![tactic(auto)]
 
 mod cut;

@@ -1,13 +1,14 @@
 //! The nodes of a tree, and the order in which they leave it.
 
-ghost use Rattle.std.specs.Prelude.{◌≡◌, ◌<◌, ◌≤◌, cond, Some, Contains, OnOk, OnErr, option_map};
+ghost use Rattle.std.specs.Prelude.{◌≡◌, ◌<◌, ◌≤◌, ◌↔◌, cond, [], ◌∷◌, ◌++◌, Some, Contains, IsTrue, OnOk, OnErr, option_map};
+ghost use Rattle.std.specs.Bool.{OnTrue};
 ghost use Rattle.std.specs.BinaryHeap.{heap_items, heap_len, heap_capacity};
 ghost use Rattle.std.specs.List.{IsDistinct};
 ghost use Rattle.std.specs.Map.{keys_of};
 ghost use Rattle.delta_tree.specs.declared.node.NodeId.{NodeId};
 ghost use Rattle.delta_tree.specs.Nodes.{Node, same_node, node_in};
 ghost use Rattle.delta_tree.specs.Changes.{living};
-ghost use Rattle.delta_tree.specs.Dues.{due, IsQueue, IsNoted, KeepsDues, pending};
+ghost use Rattle.delta_tree.specs.Dues.{due, IsDueIn, IsQueue, IsNoted, KeepsDues, pending};
 
 use crate::dues::{Due, note};
 use crate::node::{Node, NodeId};
@@ -62,13 +63,14 @@ pub(crate) fn give_back(nodes: &mut IndexMap<NodeId, Node>, dues: &mut BinaryHea
     }
 }
 
-/// Takes the node out where its value is at most `now`, and else notes it with its value.
+/// Takes the node out where its value is at most `now`, and else notes it with its value. Answers
+/// whether it took one out.
 pub(crate) fn drop_or_note(
     nodes: &mut IndexMap<NodeId, Node>,
     dues: &mut BinaryHeap<Due>,
     id: NodeId,
     now: u64,
-)
+) -> bool
     requires once { IsDistinct same_node (keys_of nodes.old.entries) }
     requires order { IsQueue (heap_items dues.old) }
     requires room { heap_len dues.old < heap_capacity dues.old }
@@ -81,13 +83,26 @@ pub(crate) fn drop_or_note(
     ensures kept { KeepsDues (heap_items dues.old) (heap_items dues.new) }
     ensures noted { (node : Node) → node_in nodes.new.entries id ≡ Some node →
         Contains (heap_items dues.new) (due id node.value) }
+    ensures dropped { IsTrue result ↔ IsDueIn nodes.old.entries now id }
 {
     match value_in(nodes, id) {
-        Some(value) if value > now => note(dues, id, value),
+        Some(value) if value > now => {
+            note(dues, id, value);
+            false
+        }
         Some(_) => {
             nodes.swap_remove(&id);
             give_back(nodes, dues);
+            true
         }
-        None => {}
+        None => false,
     }
+}
+
+/// Adds a place where it is wanted, and answers whether there was memory for it.
+pub(crate) fn add_where(wanted: bool, ids: &mut Vec<NodeId>, id: NodeId) -> bool
+    ensures { OnTrue result (ids.new.items
+        ≡ cond wanted (ids.old.items ++ id ∷ []) ids.old.items) }
+{
+    !wanted || ids.push(id).is_ok()
 }

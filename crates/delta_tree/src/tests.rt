@@ -75,8 +75,22 @@ fn grows_and_goes(alloc: Global) -> Result<bool, NoMemory> {
     Ok(grown && led && alone && stays && tree.len() == 0)
 }
 
+/// Whether a chain of two nodes tells by which edges they hang, and which of them go.
+fn tells_what_goes(alloc: Global) -> Result<bool, NoMemory> {
+    let mut tree = Tree::new(alloc, 1)?;
+    let bare = tree.least().is_none();
+    put_both(&mut tree, 15)?;
+    let hangs = tree.hangs_by(3, 1, edge(2, 3)) && !tree.hangs_by(3, 1, edge(1, 3));
+    let least = tree.least() == Some(15);
+    let early = tree.cut_due(14)?;
+    let gone = tree.cut_due(15)?;
+    let all = early.is_empty() && gone.len() == 2 && tree.len() == 0;
+    Ok(bare && hangs && least && all)
+}
+
 #[test]
 fn a_chain_grows_and_goes(rt: HostRuntime) -> Result<(), Fail> {
     assert!(rt; grows_and_goes(rt.alloc())?);
+    assert!(rt; tells_what_goes(rt.alloc())?);
     Ok(())
 }

@@ -1,18 +1,18 @@
 //! A tree of nodes below a root.
 
 ghost use Rattle.std.specs.Prelude.{◌≡◌, ◌+◌, ◌<◌, ◌^◌, ◌↔◌, [], length, slice_get, Contains};
-ghost use Rattle.std.specs.Prelude.{IfOk, IfSome, IsSome, OnErr, OnOk, None, Some};
+ghost use Rattle.std.specs.Prelude.{IfOk, IfNone, IfSome, IsSome, IsTrue, OnErr, OnOk, None, Some};
 ghost use Rattle.delta_tree.specs.Nodes.{IsTree, GivesNodes, Joins};
 ghost use Rattle.delta_tree.specs.Nodes.{node_id, node_of, value_of, ids_of};
-ghost use Rattle.delta_tree.specs.Paths.{IsPathTo, LeadsUp, IsBelow};
+ghost use Rattle.delta_tree.specs.Paths.{IsPathTo, LeadsUp, IsBelow, HangsBy};
 ghost use Rattle.delta_tree.specs.declared.node.NodeId.{NodeId};
 ghost use Rattle.delta_tree.specs.Changes.{Carries, Raises, Puts, put_node, Expires};
-ghost use Rattle.delta_tree.specs.Changes.{IsSameBeside, Cuts, AreBelow};
+ghost use Rattle.delta_tree.specs.Changes.{IsSameBeside, Cuts, AreBelow, AreDue, IsFloor};
 
 use crate::cut::{hangs, has_edge, retain_dues, take_out};
-use crate::dues::{Due, next_due};
+use crate::dues::{Due, first_due, next_due};
 use crate::node::{Node, NodeId, Try};
-use crate::nodes::{drop_or_note, give_back, set_node, value_in};
+use crate::nodes::{add_where, drop_or_note, give_back, set_node, value_in};
 use crate::ranks::in_order;
 use edge_store::{EdgeId, NoMemory};
 use indexmap::{IndexMap, IndexSet};
@@ -142,6 +142,46 @@ impl Tree {
     {
         while let Some(id) = next_due(&mut self.dues, now) {
             drop_or_note(&mut self.nodes, &mut self.dues, id, now);
+        }
+    }
+
+    /// Takes exactly the nodes out whose value is at most `now`, as [`Tree::expire`] does, and
+    /// answers them. The only error is [`NoMemory`], after which they are out too.
+    pub fn cut_due(&mut self, now: u64) -> Result<Vec<NodeId>, NoMemory>
+        ensures cut { IfOk result (λ cut. AreDue self.old now cut.items) }
+        ensures gone { Expires self.old self.new now }
+        ensures beside { IsSameBeside self.old self.new }
+    {
+        let mut cut = Vec::new(self.alloc);
+        // Where memory for the answer is lacking, the nodes go all the same.
+        let mut whole = true;
+        while let Some(id) = next_due(&mut self.dues, now) {
+            let gone = drop_or_note(&mut self.nodes, &mut self.dues, id, now);
+            whole &= add_where(gone, &mut cut, id);
+        }
+        if whole { Ok(cut) } else { Err(NoMemory) }
+    }
+
+    /// A number that no node's value is below, or none where there is no node, by one look at the
+    /// heap: the least value that a node has, or had before it was raised.
+    pub fn least(&self) -> Option<u64>
+        ensures none { IfNone result (self.now.nodes ≡ []) }
+        ensures floor { IfSome result (IsFloor self.now) }
+    {
+        first_due(&self.dues)
+    }
+
+    /// Whether the node of this vertex with this state hangs by the edge, by one look-up.
+    pub fn hangs_by(&self, v: u32, s: u32, edge: EdgeId) -> bool
+        ensures { IsTrue result ↔ HangsBy self.now edge (node_id v s) }
+    {
+        let id = NodeId {
+            vertex: v,
+            state: s,
+        };
+        match self.nodes.get(&id) {
+            Some(node) => node.edge == edge,
+            None => false,
         }
     }
 

@@ -96,6 +96,15 @@ impl EdgeStore {
         }
     }
 
+    /// Takes all edges out. This takes no memory.
+    pub fn clear(&mut self)
+        ensures { IsEmpty self.new }
+    {
+        self.outs.clear();
+        self.ins.clear();
+        self.dues.clear();
+    }
+
     /// Gives the edge this value.
     fn put(&mut self, edge: EdgeId, value: u64) -> Result<(), NoMemory>
         ensures updates { OnOk result (Updates self.old self.new edge (Some value)) }

@@ -1,1 +1,9 @@
-mod Evaluating
+pub mod Stepping
+pub mod Telling
+pub mod Kept
+pub mod Answered
+pub mod Each
+pub mod Choosing
+pub mod Shown
+pub mod Starting
+pub mod Feeding

@@ -1,4 +1,6 @@
-pub mod Deadlines
 pub mod Engine
 pub mod EngineCode
-pub mod Evaluation
+pub mod Keeping
+pub mod Answering
+pub mod Sound
+pub mod Showing

@@ -1,18 +1,26 @@
 //! The engine.
 
 ghost use Rattle.std.specs.Prelude.{◌≡◌, ◌≤◌, ◌<◌, ◌+◌, ◌^◌, ◌++◌, ◌∷◌, ◌↔◌, [], List, true, false};
-ghost use Rattle.std.specs.Prelude.{length, All, Err, IfOk, OnOk, OnErr};
+ghost use Rattle.std.specs.Prelude.{length, All, Err, IfOk, OnOk, OnErr, Some, slice_get};
 ghost use Rattle.rpq_base.specs.declared.data.Entry.{Entry as EntryTaken};
 ghost use Rattle.rpq_model.specs.QueryEvents.{AreEntryEvents};
 ghost use Rattle.answer_view.specs.View.{IsViewOf};
-ghost use Rattle.path_engine.specs.Engine.{StandsFor, definitions};
+ghost use Rattle.query_file.specs.Compiled.{CompiledValue};
+ghost use Rattle.path_engine.specs.Engine.{StandsFor, IsForestFor, definitions, forests};
+ghost use Rattle.path_engine.specs.Keeping.{KeepsPlaces};
 ghost use Rattle.path_engine.specs.declared.fault.FeedFault.{FeedFault as WhyNot};
 
-use crate::evaluation::{answers_of_each, definitions_of, go_on};
+use crate::answering::{Crew, answer_each, slide_of};
+use crate::ends::ends_for;
 use crate::fault::FeedFault;
-use answer_view::{View, plain_view};
+use crate::index::{Index, indexes_of};
+use crate::showing::rows_of_each;
+use answer_view::View;
+use delta_forest::{Forest, kept_is_best};
+use index_laws::{index_keeps_bests, stores_follow};
+use name_table::Names;
 use query_file::Compiled;
-use rpq_base::{Entry, Event, Memory, Pair};
+use rpq_base::{Entry, Event, Memory};
 use rpq_io::Gate;
 use std::alloc::Global;
 use std::marker::Model;
@@ -33,16 +41,18 @@ pub struct Engine {
     position: u64,
     /// Whether an entry was begun and not answered to its end.
     spent: bool,
-    /// The entries that were begun, in order.
-    entries: Vec<Entry>,
-    /// For each query the pairs that answer it over the entries that were answered.
-    answers: Vec<Vec<Pair>>,
+    /// The names of the vertices, with their numbers.
+    names: Names,
+    /// How many names have numbers.
+    named: u32,
+    /// For each query its index.
+    indexes: Vec<Index>,
 }
 
 impl Model for Engine {
     ghost use Rattle.path_engine.specs.Engine.{EngineValue};
     ghost use Rattle.path_engine.specs.EngineCode.{engine_code};
-    ghost use Rattle.path_engine.specs.Evaluation.{lists, IsSound};
+    ghost use Rattle.path_engine.specs.Sound.{IsSound};
 
     ghost Value = { EngineValue };
 
@@ -52,17 +62,17 @@ impl Model for Engine {
       queries = engine.queries.items;
       position = engine.position;
       spent = engine.spent;
-      entries = engine.entries.items;
-      answers = lists engine.answers.items;
+      names = engine.names;
+      indexes = engine.indexes.items;
     } };
 
     ghost invariant = { λ engine. IsSound (record {
       queries = engine.queries.items;
       position = engine.position;
       spent = engine.spent;
-      entries = engine.entries.items;
-      answers = lists engine.answers.items;
-    }) };
+      names = engine.names;
+      indexes = engine.indexes.items;
+    }) engine.named };
 }
 
 impl Engine {
@@ -78,14 +88,16 @@ impl Engine {
         ensures queries { IfOk result (λ engine. engine.queries ≡ queries.items) }
         ensures stands { IfOk result (λ engine. StandsFor engine []) }
     {
-        let answers = answers_of_each(alloc, &queries, &[])?;
+        let indexes = indexes_of(alloc, &queries)?;
+        let names = Names::new(rt, alloc)?;
         Ok(Engine {
             alloc,
             queries,
             position: 0,
             spent: false,
-            entries: Vec::new(alloc),
-            answers,
+            names,
+            named: 0,
+            indexes,
         })
     }
 
@@ -93,8 +105,9 @@ impl Engine {
     /// the next, by at most so many workers, of which the gate is told.
     ///
     /// The errors are [`FeedFault::Memory`], after which the engine is spent, and
-    /// [`FeedFault::Spent`] at each call after it, which changes nothing. Each query is evaluated
-    /// over the whole history, in this thread alone.
+    /// [`FeedFault::Spent`] at each call after it, which changes nothing. It costs what the entry
+    /// changes in the forest of each query; large changes alone are shared by the workers, and those
+    /// of the first entries.
     pub fn feed<R: Threads + Sync, G: Gate>(
         &mut self,
         rt: &R,
@@ -110,6 +123,7 @@ impl Engine {
         ensures events { (history : List EntryTaken) → StandsFor self.old history →
             IfOk result (λ events.
             AreEntryEvents (definitions self.old) history entry.now events.items) }
+        ensures keeps { OnOk result (KeepsPlaces entry.now.tuple.act self.old self.new) }
         ensures numbers { IfOk result (λ events.
             All (λ event. event.query < length self.old.queries) events.items) }
         ensures queries { self.new.queries ≡ self.old.queries }
@@ -122,14 +136,25 @@ impl Engine {
         if self.spent {
             return Err(FeedFault::Spent);
         }
+        stores_follow();
         // until the entry is answered to its end
         self.spent = true;
-        let events = go_on(
+        let act = &entry.tuple.act;
+        let ends = ends_for(&mut self.names, &mut self.named, &self.queries, act)?;
+        let crew = Crew {
+            workers,
+            young: self.position < 16,
+        };
+        let events = answer_each(
+            rt,
             self.alloc,
             &self.queries,
-            &mut self.entries,
-            &mut self.answers,
+            &mut self.indexes,
+            &self.names,
+            ends,
             entry,
+            crew,
+            gate,
         )?;
         self.position += 1;
         self.spent = false;
@@ -153,14 +178,42 @@ impl Engine {
     /// The answers of each query with their ends. The only error is [`Memory`], and the engine goes
     /// on after it.
     ///
-    /// It takes what [`plain_view`] takes, which goes through all simple paths for a query that
-    /// takes these.
+    /// It goes through the vertices that each name reaches, and takes a step in a tree for each
+    /// answer.
     pub fn view(&self) -> Result<Arc<View>, Memory>
         requires unspent { self.now.spent ≡ false }
         ensures { (history : List EntryTaken) → StandsFor self.now history →
             IfOk result (λ view. IsViewOf (definitions self.now) history view.value) }
     {
-        let queries = definitions_of(self.alloc, &self.queries)?;
-        plain_view(self.alloc, &queries, &self.entries)
+        let rows = rows_of_each(
+            self.alloc,
+            &self.queries,
+            &self.indexes,
+            &self.names,
+            self.named,
+        )?;
+        View::new(self.alloc, self.position, rows)
+    }
+
+    /// The forest of the query with this number.
+    pub fn forest(&self, q: u32) -> &Forest
+        requires unspent { self.now.spent ≡ false }
+        requires some { q < length self.now.queries }
+        ensures forest { slice_get (forests self.now) q ≡ Some result.now }
+        ensures stands { (history : List EntryTaken) → StandsFor self.now history →
+            (query : CompiledValue) → slice_get self.now.queries q ≡ Some query →
+            IsForestFor query history self.now.names result.now }
+    {
+        let _slide = slide_of(&self.queries[q as usize]);
+        kept_is_best();
+        index_keeps_bests();
+        &self.indexes[q as usize].forest
+    }
+
+    /// The names of the vertices, with their numbers.
+    pub fn names(&self) -> &Names
+        ensures { result.now ≡ self.now.names }
+    {
+        &self.names
     }
 }

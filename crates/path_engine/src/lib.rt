@@ -6,19 +6,22 @@
 //! on that contract alone, and never on how the answers are found. Where memory runs out, the
 //! engine is spent: it answers no entry any more.
 //!
-//! The answers are found by the plain evaluation, which goes through the whole history at each
-//! entry, in polynomial time. A query that takes simple paths is taken only where its language has
-//! the property of containment, and then its answers are those of all paths, without the pairs of
-//! one vertex.
+//! Each query has an index: the clock of its window, and a forest of best paths over the edges that
+//! its window holds, by the numbers of the names. An entry first takes away what the clock reaches,
+//! and then raises or removes its edge; the ends that both change are the events. A query that
+//! takes simple paths is taken only where its language has the property of containment, and then
+//! its answers are those of all paths, without the pairs of one vertex.
 #![tactic(auto)]
 
+mod answering;
+mod automaton;
+mod ends;
 mod engine;
-mod evaluation;
 mod fault;
-mod laws;
+mod index;
+mod showing;
 #[cfg(test)]
 mod tests;
 
 pub use engine::Engine;
 pub use fault::FeedFault;
-pub use laws::live_below_window_deadline;

@@ -14,8 +14,8 @@ use Rattle.delta_tree.specs.declared.node.NodeId.{NodeId}
 use Rattle.delta_tree.specs.declared.node.Try.{Try}
 use Rattle.delta_tree.specs.declared.node.Node.{Node}
 use Rattle.delta_tree.specs.Nodes.{TreeValue, node_of, value_of, node_id, root_id, same_node, IsTree}
-use Rattle.delta_tree.specs.Paths.{LeadsUp, IsBelow}
-use Rattle.delta_tree.specs.Changes.{Carries, Cuts, AreBelow, IsSameBeside}
+use Rattle.delta_tree.specs.Paths.{HangsBy, LeadsUp, IsBelow}
+use Rattle.delta_tree.specs.Changes.{Carries, ChangesAtMost, Cuts, AreBelow, IsSameBeside}
 use Rattle.delta_tree.proofs.Ids.{same_node_is, same_node_laws, same_edge_is, same_edge_itself}
 use Rattle.tree_insert.specs.Best.{IsAtLeast, IsWay}
 use Rattle.tree_insert.specs.Trees.{HasOwnWays, IsOptimal, HasBest, IsLater, Keeps, IsRisen, CountsOuts, count_outs}
@@ -23,10 +23,10 @@ use Rattle.tree_insert.proofs.Bests.{below_some, greatest_reached, greatest_is}
 use Rattle.tree_insert.proofs.Members.{contains_head, contains_tail, contains_cases, contains_none}
 use Rattle.tree_insert.proofs.Nodes.{value_is, node_reached, value_reached}
 use Rattle.tree_insert.proofs.SameEdges.{edge_cases}
-use Rattle.tree_insert.proofs.Paths.{path_there}
-use Rattle.tree_insert.proofs.Optimal.{reached_of_optimal}
+use Rattle.tree_insert.proofs.Paths.{path_there, supported_of_ways}
+use Rattle.tree_insert.proofs.Optimal.{optimal_of_served, reached_of_optimal}
 use Rattle.tree_delete.specs.Entries.{HasEntries, count_ins}
-use Rattle.tree_delete.specs.Laws.{NoCutNoStep, RemovalsAreRemovals}
+use Rattle.tree_delete.specs.Laws.{NoCutNoStep, RemovalElsewhereKeepsOptimal, RemovalsAreRemovals}
 use Rattle.tree_delete.specs.Removal.{IsRemoved, KeepsApart, CountsCut}
 
 -- ---- lists of places
@@ -266,6 +266,23 @@ module _ (before values : EdgeId → Option ℕ) (edge : EdgeId)
                 omega (arith, bound, beside.puts);
           }
 
+          -- what wasn't cut is as it was, and where no node stood none stands
+          pub cut_changes : ChangesAtMost old new ids
+          cut_changes id none = by (node_of old id) refl (node_of new id) refl
+            where
+              apart : IsBelow old edge id → ⊥
+              apart is_below = none ((below.exact id).1 is_below)
+
+              by : (was : Option Node) → node_of old id ≡ was → (now : Option Node) →
+                  node_of new id ≡ now → node_of new id ≡ node_of old id
+              by (Some node) there now is = cut_keeps.same id node there apart ∙ sym there
+              by None there None is = is ∙ sym there
+              by None there (Some node) is =
+                  let was =
+                  node_reached old id node.value (no_higher id node.value (value_is new id node is))
+                  in
+                  absurd (none-some was.0 (sym there ∙ was.1))
+
           -- what is new or raised was cut
           risen_cut : (id : NodeId) → IsRisen middle new id → Contains ids id
           risen_cut id risen = ⊎_elim (λ (there : Contains ids id). there)
@@ -294,6 +311,38 @@ module _ (before values : EdgeId → Option ℕ) (edge : EdgeId)
                 in
                 omega (arith, first, counts.few, outs);
           }
+
+-- ---- an edge by which no node hangs
+
+-- on a path, a node hangs by each edge
+hangs_on_path : (tree : TreeValue) (edge : EdgeId) (id : NodeId) (path : List EdgeId) →
+    LeadsUp tree id path → Contains path edge → (at : NodeId) × HangsBy tree edge at
+hangs_on_path tree edge id [] leads there = absurd (contains_none edge there)
+hangs_on_path tree edge id (each ∷ path) leads there = ⊎_elim
+    (λ (same : each ≡ edge). (id, (leads.0, leads.1, leads.2 ∙ same)))
+    (λ (further : Contains path edge).
+    hangs_on_path tree edge leads.0.parent path leads.3 further)
+    (contains_cases each path edge there)
+
+pub removal_elsewhere_keeps_optimal : RemovalElsewhereKeepsOptimal
+removal_elsewhere_keeps_optimal before after step tree edge is optimal removed none =
+    optimal_of_served after step tree is
+    (supported_of_ways after step tree is
+    (cut_ways before after edge removed step tree tree is optimal nothing_cut
+    (record { root = refl; puts = refl })))
+    (λ each at number state carries reached leads.
+    inl (reached_of_optimal before step tree optimal each at number state carries
+    (was_there before after edge removed each number reached) leads))
+  where
+    free : (id : NodeId) → IsBelow tree edge id → ⊥
+    free id below =
+        let hangs = hangs_on_path tree edge id below.0 below.1 below.2 in none hangs.0 hangs.1
+
+    nothing_cut : Cuts tree tree edge
+    nothing_cut = record {
+      gone = λ id below. absurd (free id below);
+      kept = λ id _. refl;
+    }
 
 -- ---- trees and stores
 

@@ -5,7 +5,7 @@ ghost use Rattle.edge_store.specs.Edges.{value_of};
 ghost use Rattle.dfa_table.specs.DfaValue.{step_of};
 ghost use Rattle.delta_tree.specs.declared.node.NodeId.{NodeId};
 ghost use Rattle.delta_tree.specs.Nodes.{IsTree, node_of};
-ghost use Rattle.delta_tree.specs.Changes.{AreBelow, Cuts, IsSameBeside};
+ghost use Rattle.delta_tree.specs.Changes.{AreBelow, ChangesAtMost, Cuts, IsSameBeside};
 ghost use Rattle.tree_insert.specs.Trees.{HasOwnWays, IsLater, IsOptimal};
 ghost use Rattle.tree_delete.specs.Removal.{CountsCut, KeepsApart, WasOptimalWith};
 
@@ -39,8 +39,9 @@ fn cut(tree: &mut Tree, edge: EdgeId) -> Result<Vec<NodeId>, NoMemory>
 ///
 /// The nodes on whose path the edge stood are cut. For each of them the best way from a node that
 /// stayed is sought among the edges that end at its vertex; from there a search puts back those
-/// that other paths reach. The only error is [`NoMemory`], after which the paths of the tree are
-/// paths of the store, but nodes may be missing.
+/// that other paths reach. Answers the nodes that were cut, also those that came back. The only
+/// error is [`NoMemory`], after which the paths of the tree are paths of the store, but nodes may
+/// be missing.
 pub fn tree_remove_with<L: Ledger>(
     search: &mut Search,
     alloc: Global,
@@ -49,7 +50,7 @@ pub fn tree_remove_with<L: Ledger>(
     dfa: &Dfa,
     edge: EdgeId,
     steps: &mut Steps<L>,
-) -> Result<(), NoMemory>
+) -> Result<Vec<NodeId>, NoMemory>
     requires puts { tree.old.puts < 2 ^ 126 }
     requires before { WasOptimalWith (value_of store.now) (step_of dfa.now) tree.old edge }
     ensures optimal { OnOk result (IsOptimal (value_of store.now) (step_of dfa.now) tree.new) }
@@ -57,6 +58,8 @@ pub fn tree_remove_with<L: Ledger>(
     ensures keeps { OnOk result (KeepsApart tree.old tree.new edge) }
     ensures later { IsLater tree.old tree.new }
     ensures steps { OnOk result (CountsCut store.now tree.old edge steps.old steps.new) }
+    ensures cut { IfOk result (λ cut. AreBelow tree.old edge cut.items) }
+    ensures others { IfOk result (λ cut. ChangesAtMost tree.old tree.new cut.items) }
 {
     let root = NodeId {
         vertex: tree.root(),
@@ -64,7 +67,8 @@ pub fn tree_remove_with<L: Ledger>(
     };
     let cut = cut(tree, edge)?;
     let tries = best_entries(alloc, tree, store, dfa, root, &cut, steps)?;
-    search.relax(tree, store, dfa, &tries, steps)
+    search.relax(tree, store, dfa, &tries, steps)?;
+    Ok(cut)
 }
 
 /// Makes a tree optimal that was so before the edge left the store; see [`tree_remove_with`].
@@ -85,5 +89,6 @@ pub fn tree_remove<L: Ledger>(
     ensures steps { OnOk result (CountsCut store.now tree.old edge steps.old steps.new) }
 {
     let mut search = Search::new(alloc);
-    tree_remove_with(&mut search, alloc, tree, store, dfa, edge, steps)
+    tree_remove_with(&mut search, alloc, tree, store, dfa, edge, steps)?;
+    Ok(())
 }

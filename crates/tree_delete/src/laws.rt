@@ -1,6 +1,6 @@
 //! Laws of removals. The functions do nothing: their contracts are the laws.
 
-ghost use Rattle.tree_delete.specs.Laws.{NoCutNoStep, RemovalsAreRemovals};
+ghost use Rattle.tree_delete.specs.Laws.{NoCutNoStep, RemovalElsewhereKeepsOptimal, RemovalsAreRemovals};
 
 /// What the removal of a store does is a removal of the edge.
 pub fn removals_are_removals()
@@ -10,4 +10,9 @@ pub fn removals_are_removals()
 /// Where the edge stood on no path, no step is counted.
 pub fn no_cut_no_step()
     ensures { NoCutNoStep }
+{}
+
+/// Where no node of an optimal tree hangs by an edge that is removed, the tree is so still.
+pub fn removal_elsewhere_keeps_optimal()
+    ensures { RemovalElsewhereKeepsOptimal }
 {}

@@ -5,7 +5,9 @@
 //! and their stamp. The nodes on whose path it stood are cut; for each of them the best way back
 //! from a node that stayed is sought among the edges that end at its vertex, and a search from
 //! these puts back what other paths reach. It costs a step for each edge that ends at or leaves a
-//! node that was cut, and none where the edge stood on no path.
+//! node that was cut, and none where the edge stood on no path. [`tree_remove_with`] answers the
+//! nodes that were cut, and no call is needed where no node hangs by the edge
+//! ([`removal_elsewhere_keeps_optimal`]).
 #![tactic(auto)]
 
 mod calls;
@@ -16,4 +18,4 @@ mod laws;
 mod tests;
 
 pub use calls::{tree_remove, tree_remove_with};
-pub use laws::{no_cut_no_step, removals_are_removals};
+pub use laws::{no_cut_no_step, removal_elsewhere_keeps_optimal, removals_are_removals};

@@ -13,13 +13,14 @@ use Rattle.tree_insert.specs.declared.waiting.Waiting.{Waiting}
 use Rattle.tree_insert.specs.Best.{IsAtLeast, IsWay, IsBest, IsLeast}
 use Rattle.tree_insert.specs.Local.{HaveWays, AreSettled}
 use Rattle.tree_insert.specs.Trees.{HasOwnWays, IsOptimal, Gives, HasAll, HasBest, IsRaised}
+use Rattle.tree_insert.specs.Laws.{RaiseElsewhereKeepsOptimal}
 use Rattle.tree_insert.specs.UnderWay.{AreSupported, IsServed, AreServed}
 use Rattle.tree_insert.proofs.Bests.{weaker, at_least, below_some, greatest_reached, best_of_settled, settled_of_best, paths_are_ways}
 use Rattle.tree_insert.proofs.Bests as bests
 use Rattle.tree_insert.proofs.SameEdges.{edge_cases}
 use Rattle.tree_insert.proofs.Members.{contains_none}
 use Rattle.tree_insert.proofs.Nodes.{value_is, node_is, raises_or_reached, raises_apart}
-use Rattle.tree_insert.proofs.Paths.{path_there, ways_of_supported}
+use Rattle.tree_insert.proofs.Paths.{path_there, ways_of_supported, supported_of_ways}
 
 -- the values of a tree by vertices and states
 abbrev pub values_in : TreeValue → ℕ → ℕ → Option ℕ
@@ -235,3 +236,19 @@ module _ (before values : EdgeId → Option ℕ) (step : ℕ → ℕ → Option 
       inl (reached_of_optimal before step tree optimal each at number state carries
       (subst (IsAtLeast number) (raised.others each apart) reached) leads))
       (edge_cases each edge)
+
+pub raise_elsewhere_keeps_optimal : RaiseElsewhereKeepsOptimal
+raise_elsewhere_keeps_optimal before after step tree edge is optimal raised none =
+    optimal_of_served after step tree is
+    (supported_of_ways after step tree is
+    (ways_of_raised before after step tree edge raised optimal.paths))
+    (served_of_raised before after step tree edge raised [] optimal
+    (λ at number state reached carries leads. absurd (none (record {
+      id = node_id edge.from at;
+      place = ⊎_elim (λ (root : node_id edge.from at ≡ root_id tree). inl root)
+          (λ (has : (node : Node) × (node_of tree (node_id edge.from at) ≡ Some node) ×
+          (number ≤ node.value)). inr (ap is_some has.1)) carries;
+      leaves = refl;
+      state = state;
+      leads = leads;
+    }))))

@@ -1,7 +1,7 @@
 -- A search under way.
 use Rattle.std.proofs.Common.{◌≡◌, ◌≢◌, ℕ, ◌≤◌, ◌<◌, ◌+◌, inl, inr, ⊎_elim, List, [], ◌∷◌, ◌++◌, length, Option, Some, refl, sym, ap, subst, ◌∙◌, arith, Contains, All}
 use Rattle.std.proofs.lemmas.Option.{same_Some}
-use Rattle.std.proofs.lemmas.List.Elements.{All-head, All-nil, All-push, All-weaker, All-get_or}
+use Rattle.std.proofs.lemmas.List.Elements.{All-head, All-nil, All-push, All-weaker, All-get_or, Contains-append_left, Contains-push}
 use Rattle.std.proofs.lemmas.List.Quantifiers.{all_pairs_push}
 use Rattle.std.proofs.lemmas.List.Sums.{sum_by_push}
 use Rattle.edge_store.specs.declared.edge.EdgeId.{EdgeId}
@@ -10,7 +10,7 @@ use Rattle.dfa_table.specs.DfaValue.{DfaValue}
 use Rattle.delta_tree.specs.declared.node.NodeId.{NodeId}
 use Rattle.delta_tree.specs.declared.node.Node.{Node}
 use Rattle.delta_tree.specs.Nodes.{TreeValue, node_of, value_of, node_id}
-use Rattle.delta_tree.specs.Changes.{Carries, Raises, Puts}
+use Rattle.delta_tree.specs.Changes.{Carries, ChangesAtMost, Raises, Puts}
 use Rattle.tree_insert.specs.declared.waiting.Waiting.{Waiting}
 use Rattle.tree_insert.specs.Best.{IsAtLeast}
 use Rattle.tree_insert.specs.Trees.{count_outs, IsRisen, CountsOuts, Keeps}
@@ -19,7 +19,7 @@ use Rattle.tree_insert.specs.Waiting.{SearchValue, Gains, Takes, source_of, targ
 use Rattle.tree_insert.specs.UnderWay.{IsSupported, AreSupported, IsOpen, AreOpen, IsServed, IsServedFrom, AreServed, Leaves, Rises, IsCounted}
 use Rattle.tree_insert.proofs.Bests.{weaker}
 use Rattle.tree_insert.proofs.Members.{contains_cases, contains_none}
-use Rattle.tree_insert.proofs.Nodes.{value_reached, node_reached, raises_apart, raises_or_reached, put_here, put_node_cases, put_rises, put_reached, put_carries, put_carried}
+use Rattle.tree_insert.proofs.Nodes.{value_reached, node_reached, raises_apart, raises_or_reached, put_here, put_cases, put_node_cases, put_rises, put_reached, put_carries, put_carried}
 
 -- ---- tries that wait
 
@@ -29,6 +29,7 @@ gains_kind old new kind other gains same = record {
   kept = gains.kept;
   only = λ each there. ⊎_elim (λ was. inl was) (λ is. inr (same each is)) (gains.only each there);
   level = gains.level;
+  risen = gains.risen;
 }
 
 pub gains_none : (search : SearchValue) (kind : Waiting → Type 0) → Gains search search kind
@@ -36,6 +37,7 @@ gains_none search kind = record {
   kept = λ each there. there;
   only = λ each there. inl there;
   level = refl;
+  risen = refl;
 }
 
 pub gains_twice : (old middle new : SearchValue) (kind : Waiting → Type 0) → Gains old middle kind →
@@ -44,6 +46,7 @@ gains_twice old middle new kind first second = record {
   kept = λ each there. second.kept each (first.kept each there);
   only = λ each there. ⊎_elim (λ was. first.only each was) (λ is. inr is) (second.only each there);
   level = second.level ∙ first.level;
+  risen = second.risen ∙ first.risen;
 }
 
 pub served_more : (tree : TreeValue) (waits more : List Waiting) (id : NodeId) (number : ℕ) →
@@ -206,72 +209,90 @@ served_without values step tree taken waits served there edge before number stat
     (contains_cases taken waits has.0 has.1))
     (served edge before number state carries reached leads)
 
--- ---- steps
+-- ---- the nodes that rose, and steps
 
 pub counted_none : (store : Edges) (tree : TreeValue) (level start : ℕ) →
-    IsCounted store tree tree level start start
+    IsCounted store tree tree [] level start start
 counted_none store tree level start = record {
-  nodes = [];
   apart = λ i j d less within. absurd (omega (arith, within));
   risen = All-nil (IsRisen tree tree);
   firm = All-nil (λ (id : NodeId). IsAtLeast level (value_of tree id));
   few = omega arith;
 }
 
-pub counted_lower : (store : Edges) (first tree : TreeValue) (level lower start steps : ℕ) →
-    lower ≤ level → IsCounted store first tree level start steps →
-    IsCounted store first tree lower start steps
-counted_lower store first tree level lower start steps below counted = record {
-  nodes = counted.nodes;
+pub counted_lower : (store : Edges) (first tree : TreeValue) (nodes : List NodeId)
+    (level lower start steps : ℕ) → lower ≤ level →
+    IsCounted store first tree nodes level start steps →
+    IsCounted store first tree nodes lower start steps
+counted_lower store first tree nodes level lower start steps below counted = record {
   apart = counted.apart;
   risen = counted.risen;
   firm = All-weaker (λ (id : NodeId). IsAtLeast level (value_of tree id))
       (λ (id : NodeId). IsAtLeast lower (value_of tree id))
-      (λ id reached. weaker (value_of tree id) level lower reached below) counted.nodes
+      (λ id reached. weaker (value_of tree id) level lower reached below) nodes
       counted.firm;
   few = counted.few;
 }
 
-pub counted_more : (store : Edges) (first old new : TreeValue) (to : NodeId) (node : Node)
-    (start steps more : ℕ) → IsCounted store first old node.value start steps →
-    Rises first old → Puts old new to node → Raises old to node.value →
-    more ≤ steps + length (outs_of store to.vertex) →
-    IsCounted store first new node.value start more
-counted_more store first old new to node start steps more counted rises puts raises bound = record {
-  nodes = counted.nodes ++ to ∷ [];
-  apart = all_pairs_push ◌≢◌ counted.nodes to counted.apart
-      (λ k d within same. raises_apart old to node.value raises
-      (subst (λ (id : NodeId). IsAtLeast node.value (value_of old id)) same
-      (All-get_or (λ (id : NodeId). IsAtLeast node.value (value_of old id)) counted.nodes k d within
-      counted.firm)));
-  risen = All-push (IsRisen first new) counted.nodes to
-      (All-weaker (IsRisen first old) (IsRisen first new)
-      (λ id risen. risen_more first old new to id node puts raises risen) counted.nodes
-      counted.risen) (
-        node,
-        put_here old new to node puts,
-        λ before was. let now =
-            rises.risen to before was in omega (arith, raises now.0 now.1, now.2),
-      );
-  firm = All-push (λ (id : NodeId). IsAtLeast node.value (value_of new id)) counted.nodes to
-      (All-weaker (λ (id : NodeId). IsAtLeast node.value (value_of old id))
-      (λ (id : NodeId). IsAtLeast node.value (value_of new id))
-      (λ id reached. put_reached old new to node puts raises id node.value reached) counted.nodes
-      counted.firm)
-      (value_reached new to node node.value (put_here old new to node puts) (omega arith));
-  few = omega (
-    arith,
-    counted.few,
-    bound,
-    sum_by_push (λ (id : NodeId). length (outs_of store id.vertex))
-        counted.nodes to,
-  );
-}
+module _ (store : Edges) (first old new : TreeValue) (nodes : List NodeId) (to : NodeId)
+    (node : Node) (puts : Puts old new to node) where
+  -- what changes beside the nodes so far is the place of a put
+  pub changes_more : ChangesAtMost first old nodes → ChangesAtMost first new (nodes ++ to ∷ [])
+  changes_more changes id apart = ⊎_elim
+      (λ (same : to ≡ id).
+      absurd (apart (subst (Contains (nodes ++ to ∷ [])) same (Contains-push nodes to))))
+      (λ (kept : node_of new id ≡ node_of old id).
+      kept ∙ changes id (λ there. apart (Contains-append_left nodes (to ∷ []) id there)))
+      (put_cases old new to node puts id)
 
-pub counts_outs : (store : Edges) (first tree : TreeValue) (level start steps : ℕ) →
-    IsCounted store first tree level start steps → CountsOuts store first tree start steps
-counts_outs store first tree level start steps counted = record {
-  nodes = counted.nodes;
+  module _ (start : ℕ) (raises : Raises old to node.value) where
+    -- a put keeps what was counted
+    pub counted_put : (level steps : ℕ) → IsCounted store first old nodes level start steps →
+        IsCounted store first new nodes level start steps
+    counted_put level steps counted = record {
+      apart = counted.apart;
+      risen = All-weaker (IsRisen first old) (IsRisen first new)
+          (λ id risen. risen_more first old new to id node puts raises risen) nodes counted.risen;
+      firm = All-weaker (λ (id : NodeId). IsAtLeast level (value_of old id))
+          (λ (id : NodeId). IsAtLeast level (value_of new id))
+          (λ id reached. put_reached old new to node puts raises id level reached) nodes
+          counted.firm;
+      few = counted.few;
+    }
+
+    pub counted_more : (steps more : ℕ) → IsCounted store first old nodes node.value start steps →
+        Rises first old → more ≤ steps + length (outs_of store to.vertex) →
+        IsCounted store first new (nodes ++ to ∷ []) node.value start more
+    counted_more steps more counted rises bound =
+        let kept = counted_put node.value steps counted in
+        record {
+          apart = all_pairs_push ◌≢◌ nodes to counted.apart
+              (λ k d within same. raises_apart old to node.value raises
+              (subst (λ (id : NodeId). IsAtLeast node.value (value_of old id)) same
+              (All-get_or (λ (id : NodeId). IsAtLeast node.value (value_of old id)) nodes k d within
+              counted.firm)));
+          risen = All-push (IsRisen first new) nodes to kept.risen (
+            node,
+            put_here old new to node puts,
+            λ before was. let now =
+                rises.risen to before was in omega (arith, raises now.0 now.1, now.2),
+          );
+          firm = All-push (λ (id : NodeId). IsAtLeast node.value (value_of new id)) nodes to
+              kept.firm
+              (value_reached new to node node.value (put_here old new to node puts) (omega arith));
+          few = omega (
+            arith,
+            counted.few,
+            bound,
+            sum_by_push (λ (id : NodeId). length (outs_of store id.vertex)) nodes to,
+          );
+        }
+
+pub counts_outs : (store : Edges) (first tree : TreeValue) (nodes : List NodeId)
+    (level start steps : ℕ) → IsCounted store first tree nodes level start steps →
+    CountsOuts store first tree start steps
+counts_outs store first tree nodes level start steps counted = record {
+  nodes = nodes;
   apart = counted.apart;
   risen = counted.risen;
   few = counted.few;
@@ -316,11 +337,18 @@ served_taken values step tree old new taken takes served edge before number stat
 
 pub counted_taken : (store : Edges) (first tree : TreeValue) (old new : SearchValue)
     (taken : Waiting) (start steps : ℕ) → Takes old new taken →
-    IsCounted store first tree old.level start steps →
-    IsCounted store first tree new.level start steps
+    IsCounted store first tree old.risen old.level start steps →
+    IsCounted store first tree new.risen new.level start steps
 counted_taken store first tree old new taken start steps takes counted =
-    counted_lower store first tree old.level new.level start steps
-    (omega (arith, takes.level, takes.greatest)) counted
+    subst (λ (nodes : List NodeId). IsCounted store first tree nodes new.level start steps)
+    (sym takes.risen)
+    (counted_lower store first tree old.risen old.level new.level start steps
+    (omega (arith, takes.level, takes.greatest)) counted)
+
+pub changes_taken : (first tree : TreeValue) (old new : SearchValue) (taken : Waiting) →
+    Takes old new taken → ChangesAtMost first tree old.risen → ChangesAtMost first tree new.risen
+changes_taken first tree old new taken takes changes =
+    subst (ChangesAtMost first tree) (sym takes.risen) changes
 
 pub open_none : (values : EdgeId → Option ℕ) (dfa : DfaValue) (tree : TreeValue)
     (waits : List Waiting) → waits ≡ [] → AreOpen values dfa tree waits

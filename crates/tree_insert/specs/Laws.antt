@@ -3,11 +3,11 @@ use Rattle.std.specs.Prelude.{◌≡◌, ℕ, ◌≤◌, ◌↔◌, List, [], Op
 use Rattle.edge_store.specs.declared.edge.EdgeId.{EdgeId}
 use Rattle.edge_store.specs.Edges.{Edges, Updates, above, raised, value_of}
 use Rattle.delta_tree.specs.declared.node.NodeId.{NodeId}
-use Rattle.delta_tree.specs.Nodes.{TreeValue}
+use Rattle.delta_tree.specs.Nodes.{TreeValue, IsTree}
 use Rattle.delta_tree.specs.Changes.{Expires}
 use Rattle.tree_insert.specs.Best.{IsRoute, IsWay, IsBest, IsLeast}
 use Rattle.tree_insert.specs.Local.{HaveWays, AreSettled}
-use Rattle.tree_insert.specs.Trees.{CountsOuts, IsOptimal, IsRaised, IsRisen}
+use Rattle.tree_insert.specs.Trees.{CountsOuts, GoesOn, IsOptimal, IsRaised, IsRisen}
 
 -- a vertex and a state have one best at most
 abbrev pub OneBest : Type 0
@@ -45,6 +45,13 @@ BareIsOptimal = (values : EdgeId → Option ℕ) (step : ℕ → ℕ → Option 
     ((edge : EdgeId) (value state : ℕ) →
     values edge ≡ Some value → edge.from ≡ tree.root → step 0 edge.label ≡ Some state → ⊥) →
     IsOptimal values step tree
+
+-- where an edge that is raised goes on from no place of the tree, the tree is optimal still
+abbrev pub RaiseElsewhereKeepsOptimal : Type 0
+RaiseElsewhereKeepsOptimal = (before after : EdgeId → Option ℕ) (step : ℕ → ℕ → Option ℕ)
+    (tree : TreeValue) (edge : EdgeId) →
+    IsTree tree → IsOptimal before step tree → IsRaised before after edge →
+    (GoesOn step tree edge → ⊥) → IsOptimal after step tree
 
 -- what the raise of a store does is a raise of the edge
 abbrev pub RaisesAreRaises : Type 0

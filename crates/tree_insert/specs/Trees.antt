@@ -79,6 +79,15 @@ abbrev pub WasOptimal : (EdgeId → Option ℕ) → (ℕ → ℕ → Option ℕ)
 WasOptimal values step tree edge =
     (before : EdgeId → Option ℕ) × IsOptimal before step tree × IsRaised before values edge
 
+-- the edge leaves the vertex of the root or of a node, and the automaton has a step by its label
+-- from the state there
+pub record GoesOn (step : ℕ → ℕ → Option ℕ) (tree : TreeValue) (edge : EdgeId) : Type 0 where
+  pub id : NodeId
+  pub place : (id ≡ root_id tree) ⊎ IsSome (node_of tree id)
+  pub leaves : id.vertex ≡ edge.from
+  pub state : ℕ
+  pub leads : step id.state edge.label ≡ Some state
+
 -- ---- what a search changes
 
 -- the same root, and no fewer puts, but fewer than 2 ^ 64 more

@@ -131,11 +131,10 @@ pub record IsUnderWay (values : EdgeId → Option ℕ) (step : ℕ → ℕ → O
   pub supported : AreSupported values step tree
   pub rises : Rises first tree
 
--- the steps so far are at most the edges that leave the nodes so far; these have at least the level
--- as value, so that they aren't raised again
-pub record IsCounted (store : Edges) (first tree : TreeValue) (level start steps : ℕ)
-    : Type 0 where
-  pub nodes : List NodeId
+-- the steps so far are at most the edges that leave the nodes that rose so far; these have at least
+-- the level as value, so that they aren't raised again
+pub record IsCounted (store : Edges) (first tree : TreeValue) (nodes : List NodeId)
+    (level start steps : ℕ) : Type 0 where
   pub apart : AllPairs ◌≢◌ nodes
   pub risen : All (IsRisen first tree) nodes
   pub firm : All (λ (id : NodeId). IsAtLeast level (value_of tree id)) nodes

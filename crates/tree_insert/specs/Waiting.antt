@@ -1,5 +1,5 @@
 -- Tries that wait to be taken.
-use Rattle.std.specs.Prelude.{◌≡◌, ℕ, ◌≤◌, ◌⊎◌, List, ◌∷◌, All, Contains}
+use Rattle.std.specs.Prelude.{◌≡◌, ℕ, ◌≤◌, ◌⊎◌, List, [], ◌∷◌, ◌++◌, All, Contains}
 use Rattle.std.specs.declared.cmp.Ordering.{Ordering}
 use Rattle.std.specs.Ordering.{nat_cmp, ordering_then}
 use Rattle.std.specs.BinaryHeap.{IsHeap}
@@ -40,10 +40,20 @@ waiting_cmp first second =
 
 -- ---- a search
 
--- the tries that wait, and a value that none of them is above
+-- the tries that wait, a value that none of them is above, and the nodes that were made or raised
+-- since the search began
 pub record SearchValue : Type 0 where
   pub waiting : List Waiting
   pub level : ℕ
+  pub risen : List NodeId
+
+-- with one node more that was made or raised
+abbrev pub with_risen : SearchValue → NodeId → SearchValue
+with_risen search id = record {
+  waiting = search.waiting;
+  level = search.level;
+  risen = search.risen ++ id ∷ [];
+}
 
 -- the tries of the level on a stack, and those of at most the level in a heap
 pub record IsSearch (stack heap : List Waiting) (level : ℕ) : Type 0 where
@@ -51,11 +61,12 @@ pub record IsSearch (stack heap : List Waiting) (level : ℕ) : Type 0 where
   pub now : All (λ each. each.value ≡ level) stack
   pub later : All (λ each. each.value ≤ level) heap
 
--- what waited goes on to wait, and beside it only tries of this kind; the level stays
+-- what waited goes on to wait, and beside it only tries of this kind; all else stays
 pub record Gains (old new : SearchValue) (kind : Waiting → Type 0) : Type 0 where
   pub kept : (each : Waiting) → Contains old.waiting each → Contains new.waiting each
   pub only : (each : Waiting) → Contains new.waiting each → Contains old.waiting each ⊎ kind each
   pub level : new.level ≡ old.level
+  pub risen : new.risen ≡ old.risen
 
 -- the try waited and is taken, the others go on to wait; its value is the level now, and none is
 -- above it
@@ -64,4 +75,5 @@ pub record Takes (old new : SearchValue) (taken : Waiting) : Type 0 where
   pub rest : (each : Waiting) → Contains old.waiting each → Contains (taken ∷ new.waiting) each
   pub only : (each : Waiting) → Contains new.waiting each → Contains old.waiting each
   pub level : new.level ≡ taken.value
+  pub risen : new.risen ≡ old.risen
   pub greatest : taken.value ≤ old.level

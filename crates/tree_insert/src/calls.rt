@@ -1,9 +1,10 @@
 //! The calls: from a list of tries, and after the raise of an edge.
 
-ghost use Rattle.std.specs.Prelude.{◌≡◌, ◌+◌, ◌^◌, ◌<◌, All, OnOk};
+ghost use Rattle.std.specs.Prelude.{◌≡◌, ◌+◌, ◌≢◌, ◌^◌, ◌<◌, All, AllPairs, OnOk};
 ghost use Rattle.edge_store.specs.Edges.{value_of};
 ghost use Rattle.dfa_table.specs.DfaValue.{step_of};
-ghost use Rattle.tree_insert.specs.Trees.{CountsOuts, HasAll, HasBest, HasOwnWays, IsLater, IsOptimal, IsValid, Keeps, WasOptimal};
+ghost use Rattle.delta_tree.specs.Changes.{ChangesAtMost};
+ghost use Rattle.tree_insert.specs.Trees.{CountsOuts, HasAll, HasBest, HasOwnWays, IsLater, IsOptimal, IsRisen, IsValid, Keeps, WasOptimal};
 
 use crate::offers::{offer_edge, offer_tries};
 use crate::search::Search;
@@ -36,6 +37,9 @@ impl Search {
         ensures keeps { Keeps tree.old tree.new }
         ensures later { IsLater tree.old tree.new }
         ensures steps { CountsOuts store.now tree.old tree.new steps.old steps.new }
+        ensures risen { OnOk result (All (IsRisen tree.old tree.new) self.new.risen) }
+        ensures once { OnOk result (AllPairs ◌≢◌ self.new.risen) }
+        ensures others { OnOk result (ChangesAtMost tree.old tree.new self.new.risen) }
     {
         self.clear();
         offer_tries(self, tree, store, dfa, tries)?;
@@ -60,6 +64,9 @@ impl Search {
         ensures keeps { Keeps tree.old tree.new }
         ensures later { IsLater tree.old tree.new }
         ensures steps { CountsOuts store.now tree.old tree.new steps.old steps.new }
+        ensures risen { OnOk result (All (IsRisen tree.old tree.new) self.new.risen) }
+        ensures once { OnOk result (AllPairs ◌≢◌ self.new.risen) }
+        ensures others { OnOk result (ChangesAtMost tree.old tree.new self.new.risen) }
     {
         self.clear();
         offer_edge(self, tree, store, dfa, edge)?;

@@ -1,6 +1,6 @@
 //! Laws of the best and of trees. The functions do nothing: their contracts are the laws.
 
-ghost use Rattle.tree_insert.specs.Laws.{BareIsOptimal, BestIsSettled, ExpiryKeepsOptimal, NoRiseNoStep, OneBest, PathsAreWays, RaisesAreRaises};
+ghost use Rattle.tree_insert.specs.Laws.{BareIsOptimal, BestIsSettled, ExpiryKeepsOptimal, NoRiseNoStep, OneBest, PathsAreWays, RaiseElsewhereKeepsOptimal, RaisesAreRaises};
 
 /// A vertex and a state have one best at most.
 pub fn one_best()
@@ -25,6 +25,11 @@ pub fn expiry_keeps_optimal()
 /// A tree without nodes is optimal where no edge leaves its root with a step from the start.
 pub fn bare_is_optimal()
     ensures { BareIsOptimal }
+{}
+
+/// Where an edge that is raised goes on from no place of an optimal tree, the tree is so still.
+pub fn raise_elsewhere_keeps_optimal()
+    ensures { RaiseElsewhereKeepsOptimal }
 {}
 
 /// What the raise of a store does is a raise of the edge.

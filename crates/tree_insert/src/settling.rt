@@ -1,11 +1,11 @@
 //! Taking the tries that wait until none is left.
 
-ghost use Rattle.std.specs.Prelude.{◌≡◌, ◌≢◌, ℕ, ◌+◌, ◌^◌, ◌<◌, ◌≤◌, [], ◌∷◌, length, OnOk, Some};
+ghost use Rattle.std.specs.Prelude.{◌≡◌, ◌≢◌, ℕ, ◌+◌, ◌^◌, ◌<◌, ◌≤◌, [], ◌∷◌, length, All, AllPairs, OnOk, Some};
 ghost use Rattle.dfa_table.specs.DfaValue.{step_of};
 ghost use Rattle.edge_store.specs.Edges.{outs_of, value_of};
 ghost use Rattle.delta_tree.specs.Nodes.{TreeValue};
-ghost use Rattle.delta_tree.specs.Changes.{Raises};
-ghost use Rattle.tree_insert.specs.Trees.{CountsOuts};
+ghost use Rattle.delta_tree.specs.Changes.{ChangesAtMost, Raises};
+ghost use Rattle.tree_insert.specs.Trees.{CountsOuts, IsRisen};
 ghost use Rattle.tree_insert.specs.Waiting.{Gains, target_of};
 ghost use Rattle.tree_insert.specs.UnderWay.{AreOpen, AreServed, IsCounted, IsOpen, IsServedFrom, IsUnderWay, Leaves, Rises};
 
@@ -62,8 +62,11 @@ fn follow<L: Ledger>(
         IsUnderWay (value_of store.now) (step_of dfa.now) first tree.old →
         IsUnderWay (value_of store.now) (step_of dfa.now) first tree.new }
     ensures counted { (first : TreeValue) (start : ℕ) → Rises first tree.old →
-        IsCounted store.now first tree.old search.old.level start steps.old →
-        IsCounted store.now first tree.new search.new.level start steps.new }
+        IsCounted store.now first tree.old search.old.risen search.old.level start steps.old →
+        IsCounted store.now first tree.new search.new.risen search.new.level start steps.new }
+    ensures others { OnOk result ((first : TreeValue) →
+        ChangesAtMost first tree.old search.old.risen →
+        ChangesAtMost first tree.new search.new.risen) }
     ensures waiting { AreOpen (value_of store.now) dfa.now tree.old search.old.waiting →
         AreOpen (value_of store.now) dfa.now tree.new search.new.waiting }
     ensures served { OnOk result (
@@ -74,9 +77,11 @@ fn follow<L: Ledger>(
     if !is_below(before, taken.value) {
         return Ok(());
     }
+    let id = taken.target();
     tree.put(taken.step(), taken.value)?;
+    search.add_risen(id)?;
     let rise = Rise {
-        id: taken.target(),
+        id,
         before,
         value: taken.value,
     };
@@ -96,9 +101,13 @@ pub(crate) fn settle<L: Ledger>(
     requires puts { tree.old.puts < 2 ^ 126 }
     requires tree { IsUnderWay (value_of store.now) (step_of dfa.now) tree.old tree.old }
     requires open { AreOpen (value_of store.now) dfa.now tree.old search.old.waiting }
+    requires begins { search.old.risen ≡ [] }
     ensures tree { IsUnderWay (value_of store.now) (step_of dfa.now) tree.old tree.new }
     ensures puts { tree.new.puts < tree.old.puts + 2 ^ 64 }
     ensures counted { CountsOuts store.now tree.old tree.new steps.old steps.new }
+    ensures risen { All (IsRisen tree.old tree.new) search.new.risen }
+    ensures once { AllPairs ◌≢◌ search.new.risen }
+    ensures others { OnOk result (ChangesAtMost tree.old tree.new search.new.risen) }
     ensures served { OnOk result (
         AreServed (value_of store.now) (step_of dfa.now) tree.old search.old.waiting →
         AreServed (value_of store.now) (step_of dfa.now) tree.new []) }

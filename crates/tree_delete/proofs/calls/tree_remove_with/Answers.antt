@@ -1,12 +1,11 @@
 use Rattle.std.proofs.Common.{◌≤◌, ◌+◌, List, sym, subst}
-use Rattle.std.proofs.lemmas.Result.{on_ok_weaker}
 use Rattle.edge_store.specs.Edges.{value_of}
 use Rattle.dfa_table.specs.DfaValue.{step_of}
 use Rattle.delta_tree.specs.declared.node.NodeId.{NodeId}
 use Rattle.delta_tree.specs.declared.node.Try.{Try}
-use Rattle.tree_insert.specs.Trees.{HasBest, IsOptimal}
+use Rattle.tree_insert.specs.Trees.{HasBest}
 use Rattle.tree_delete.specs.Entries.{HasEntries, count_ins}
-use Rattle.tree_delete.proofs.CutTrees.{cut_ways, cut_best, cut_keeps, cut_counts}
+use Rattle.tree_delete.proofs.CutTrees.{cut_ways, cut_best, cut_changes, cut_keeps, cut_counts}
 use Rattle.tree_delete.proofs.calls.tree_remove_with.Goals as goal
 
 pub returns-in_err-tries-clause-paths : goal.returns-in_err-tries-clause-paths
@@ -36,28 +35,28 @@ relax-requires-clause-best g c =
 
 pub returns-clause-keeps : goal.returns-clause-keeps
 returns-clause-keeps g c =
-    let values = value_of c.args.store.now in
-    let step = step_of c.args.dfa.now in
-    on_ok_weaker c.relax.result
-    (λ (after : IsOptimal values step c.relax.new.tree).
-    cut_keeps c.requires.before.0 values c.args.edge c.requires.before.2 step c.args.tree.now
+    cut_keeps c.requires.before.0 (value_of c.args.store.now) c.args.edge c.requires.before.2
+    (step_of c.args.dfa.now) c.args.tree.now
     c.cut.new.tree c.root.ensures.tree c.requires.before.1
     c.in_ok-cut.ensures.cut c.cut.ensures.beside c.in_ok-cut.cut.items c.in_ok-cut.ensures.below
-    c.relax.new.tree c.relax.ensures.later c.relax.ensures.keeps after)
-    c.relax.ensures.optimal
+    c.relax.new.tree c.relax.ensures.later c.relax.ensures.keeps c.in_ok-relax.ensures.optimal
 
 pub returns-clause-steps : goal.returns-clause-steps
 returns-clause-steps g c =
-    let values = value_of c.args.store.now in
-    let step = step_of c.args.dfa.now in
-    on_ok_weaker c.relax.result
-    (λ (after : IsOptimal values step c.relax.new.tree).
-    cut_counts c.requires.before.0 values c.args.edge c.requires.before.2 step c.args.tree.now
+    cut_counts c.requires.before.0 (value_of c.args.store.now) c.args.edge c.requires.before.2
+    (step_of c.args.dfa.now) c.args.tree.now
     c.cut.new.tree c.root.ensures.tree c.requires.before.1
     c.in_ok-cut.ensures.cut c.cut.ensures.beside c.in_ok-cut.cut.items c.in_ok-cut.ensures.below
-    c.relax.new.tree c.relax.ensures.later c.relax.ensures.keeps after c.args.store.now
-    c.args.steps.now c.best_entries.new.steps c.relax.new.steps
+    c.relax.new.tree c.relax.ensures.later c.relax.ensures.keeps c.in_ok-relax.ensures.optimal
+    c.args.store.now c.args.steps.now c.best_entries.new.steps c.relax.new.steps
     (subst (λ (ids : List NodeId). c.best_entries.new.steps ≤ c.args.steps.now + count_ins
     c.args.store.now ids) c.deref.ensures.value c.best_entries.ensures.counted)
-    c.relax.ensures.steps)
-    c.relax.ensures.optimal
+    c.relax.ensures.steps
+
+pub returns-clause-others : goal.returns-clause-others
+returns-clause-others g c =
+    cut_changes c.requires.before.0 (value_of c.args.store.now) c.args.edge c.requires.before.2
+    (step_of c.args.dfa.now) c.args.tree.now
+    c.cut.new.tree c.root.ensures.tree c.requires.before.1
+    c.in_ok-cut.ensures.cut c.cut.ensures.beside c.in_ok-cut.cut.items c.in_ok-cut.ensures.below
+    c.relax.new.tree c.relax.ensures.later c.relax.ensures.keeps c.in_ok-relax.ensures.optimal

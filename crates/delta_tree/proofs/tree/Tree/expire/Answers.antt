@@ -1,11 +1,9 @@
-use Rattle.std.proofs.Common.{sym, ap, subst, ◌∙◌, arith}
+use Rattle.std.proofs.Common.{ap, ◌∙◌, arith}
 use Rattle.std.specs.BinaryHeap.{heap_items}
 use Rattle.delta_tree.specs.Nodes.{TreeValue, node_of}
 use Rattle.delta_tree.specs.Changes.{living}
-use Rattle.delta_tree.specs.Dues.{IsNoted}
-use Rattle.delta_tree.proofs.Expiry.{alive_after, noted_after, all_alive}
+use Rattle.delta_tree.proofs.Expiry.{expiring_after, all_alive, kept_after}
 use Rattle.delta_tree.proofs.Queue.{pending_taken}
-use Rattle.delta_tree.proofs.Trees.{expire_keeps}
 use Rattle.delta_tree.proofs.tree.Tree.expire.Goals as goal
 
 pub loop-id-smaller : goal.loop-id-smaller
@@ -21,24 +19,17 @@ loop-id-smaller c =
 pub loop-id-preserved : goal.loop-id-preserved
 loop-id-preserved c =
     let (value, reached, moved) = c.in-Some.ensures.taken in
-    let (expiring, root, puts) = c.loop-id.invariant in (
-      record {
-        alive = λ id.
-            alive_after c.args.now c.loop-id.self-inside.nodes.entries
-            c.drop_or_note.new.nodes.entries c.in-Some.id c.drop_or_note.ensures.nodes id
-            ∙ expiring.alive id;
-        once = c.drop_or_note.ensures.once;
-        noted =
-            noted_after c.args.now c.loop-id.self-inside.nodes.entries
-            c.drop_or_note.new.nodes.entries c.in-Some.id c.drop_or_note.ensures.nodes
-            (heap_items c.loop-id.self-inside.dues) (heap_items c.next_due.new.dues)
-            (heap_items c.drop_or_note.new.dues) value expiring.noted moved
-            c.drop_or_note.ensures.kept c.drop_or_note.ensures.noted;
-        order = c.drop_or_note.ensures.order;
-      },
-      root,
-      puts,
-    )
+    record {
+      expiring =
+          expiring_after c.args.now c.loop-id.self-inside.nodes.entries
+          c.drop_or_note.new.nodes.entries c.in-Some.id c.drop_or_note.ensures.nodes
+          c.self.inside.nodes.entries (heap_items c.loop-id.self-inside.dues)
+          (heap_items c.next_due.new.dues) (heap_items c.drop_or_note.new.dues) value
+          c.loop-id.invariant.expiring moved c.drop_or_note.ensures.kept
+          c.drop_or_note.ensures.noted c.drop_or_note.ensures.once c.drop_or_note.ensures.order;
+      root = c.loop-id.invariant.root;
+      puts = c.loop-id.invariant.puts;
+    }
 
 pub invariant_of-self : goal.invariant_of-self
 invariant_of-self c =
@@ -50,24 +41,17 @@ invariant_of-self c =
     let new : TreeValue = record {
       root = c.loop-id.self-inside.root;
       nodes = c.loop-id.self-inside.nodes.entries;
-      puts =
-          c.loop-id.self-inside.puts;
+      puts = c.loop-id.self-inside.puts;
     } in
-    record {
-      is_tree = expire_keeps old new c.args.now c.self.invariant.is_tree
-          (all_alive c.args.now c.self.inside.nodes.entries c.loop-id.self-inside.nodes.entries
-          (heap_items c.loop-id.self-inside.dues)
-          c.loop-id.invariant.0 c.in_default.ensures.later)
-          (record { root = c.loop-id.invariant.1; puts = c.loop-id.invariant.2 });
-      once = c.loop-id.invariant.0.once;
-      noted = subst (IsNoted c.loop-id.self-inside.nodes.entries) (sym c.in_default.ensures.same)
-          c.loop-id.invariant.0.noted;
-      order = c.next_due.ensures.order;
-    }
+    kept_after c.args.now old new (heap_items c.loop-id.self-inside.dues)
+    (heap_items c.next_due.new.dues) c.self.invariant.is_tree c.loop-id.invariant.expiring
+    c.in_default.ensures.later
+    (record { root = c.loop-id.invariant.root; puts = c.loop-id.invariant.puts })
+    c.in_default.ensures.same c.next_due.ensures.order
 
 pub returns-clause-gone : goal.returns-clause-gone
 returns-clause-gone c id =
     all_alive c.args.now c.self.inside.nodes.entries c.loop-id.self-inside.nodes.entries
     (heap_items c.loop-id.self-inside.dues)
-    c.loop-id.invariant.0 c.in_default.ensures.later id
+    c.loop-id.invariant.expiring c.in_default.ensures.later id
     ∙ ap (λ (tree : TreeValue). living c.args.now (node_of tree id)) c.self.view_is

@@ -1,22 +1,42 @@
-use Rattle.std.proofs.Common.{List, [], length, map, ap, subst, arith}
-use Rattle.rpq_base.specs.declared.data.Entry.{Entry}
+use Rattle.std.proofs.Common.{◌≡◌, ℕ, false, List, [], length, ap, refl, sym, subst, arith}
 use Rattle.query_file.specs.Compiled.{CompiledValue}
-use Rattle.path_engine.specs.Evaluation.{lists, AreAnswersOfEach}
-use Rattle.path_engine.proofs.Evaluating.{def_of, answers_sorted, answers_as_many}
+use Rattle.path_engine.specs.Engine.{EngineValue, StandsFor}
+use Rattle.path_engine.proofs.Each.{AreIndexes}
+use Rattle.path_engine.proofs.Feeding.{starts}
 use Rattle.path_engine.proofs.engine.Engine.new.Goals as goal
 
 pub invariant_of-result : goal.invariant_of-result
 invariant_of-result g c =
-    let queries = c.args.queries.items in
-    let answers = lists c.in_ok-answers.answers.items in
-    let are : AreAnswersOfEach (map def_of queries) [] answers =
-    subst (λ (qs : List CompiledValue). AreAnswersOfEach (map def_of qs) [] answers)
-    c.deref.ensures.value c.in_ok-answers.ensures in
+    let engine : EngineValue = record {
+      queries = c.args.queries.items;
+      position = 0;
+      spent = false;
+      names = c.in_ok-names.names;
+      indexes = c.in_ok-indexes.indexes.items;
+    } in
+    let indexes = subst (λ (queries : List CompiledValue).
+    AreIndexes [] [] queries c.in_ok-indexes.indexes.items) c.deref.ensures.value
+    c.in_ok-indexes.ensures in
+    let stands : StandsFor engine [] = starts engine refl refl c.in_ok-names.ensures indexes in
     record {
       some = c.requires.some;
       few = c.requires.few;
-      as_many = answers_as_many queries [] answers are;
-      sorted = answers_sorted (map def_of queries) [] answers are;
+      named = sym (ap (λ (all : List (List ℕ)). length all) c.in_ok-names.ensures);
       short = omega arith;
-      counted = λ unspent. ap (λ (xs : List Entry). length xs) c.new.ensures.items;
+      stands = λ unspent. ([], stands);
     }
+
+pub returns-clause-stands : goal.returns-clause-stands
+returns-clause-stands g c =
+    let engine : EngineValue = record {
+      queries = c.args.queries.items;
+      position = 0;
+      spent = false;
+      names = c.in_ok-names.names;
+      indexes = c.in_ok-indexes.indexes.items;
+    } in
+    let indexes = subst (λ (queries : List CompiledValue).
+    AreIndexes [] [] queries c.in_ok-indexes.indexes.items) c.deref.ensures.value
+    c.in_ok-indexes.ensures in
+    let stands : StandsFor engine [] = starts engine refl refl c.in_ok-names.ensures indexes in
+    stands

@@ -1,0 +1,167 @@
+#!/usr/bin/env python3
+"""Times rpq on streams of workloads.py, outside the gate.
+
+    measure.py PROGRAM [--kinds uniform,so] [--queries all,q1] [--tuples 10000,30000,100000,300000]
+    measure.py PROGRAM --sqlite
+    measure.py PROGRAM --workers
+
+The first form prints for each stream the seconds, the tuples a second, the microseconds a tuple and
+the peak of memory. The second one answers a stream of 2,000 tuples over 200 vertices by rpq and by
+recursive SQL in sqlite, evaluated again after each tuple, and compares the pairs at the end and the
+times. The third one asks whether 20,000 tuples give the same bytes with 1, 2 and 8 workers.
+"""
+
+import argparse
+import hashlib
+import os
+import resource
+import sqlite3
+import subprocess
+import sys
+import tempfile
+import time
+
+import workloads
+
+FOLDER = os.path.join(tempfile.gettempdir(), "rpq-workloads")
+
+
+def files(kind, tuples, query, vertices=None):
+    """The paths of a queries file and of a stream, which is made where it isn't there."""
+    folder = os.path.join(FOLDER, f"{vertices or 'usual'}")
+    path = os.path.join(folder, f"{kind}-{tuples}.txt")
+    if not os.path.exists(path):
+        workloads.write(kind, tuples, folder, vertices)
+    name = f"{kind}.queries" if query == "all" else f"{kind}.{query}.queries"
+    return os.path.join(folder, name), path
+
+
+def run(words):
+    """Seconds, peak memory in MB, the digest of the output, and the lines that are pairs now."""
+    start = time.monotonic()
+    process = subprocess.Popen(words, stdout=subprocess.PIPE, stderr=subprocess.PIPE)
+    digest = hashlib.sha256()
+    for block in iter(lambda: process.stdout.read(1 << 20), b""):
+        digest.update(block)
+    error = process.stderr.read()
+    _, status, used = os.wait4(process.pid, 0)
+    seconds = time.monotonic() - start
+    if status != 0:
+        sys.exit(f"{' '.join(words)}: status {status >> 8}: {error.decode()}")
+    return seconds, used.ru_maxrss / 1024, digest.hexdigest()
+
+
+def table(program, kinds, queries, sizes):
+    print("| stream | queries | tuples | seconds | tuples a second | us a tuple | MB |")
+    print("|---|---|---|---|---|---|---|")
+    for kind in kinds:
+        for query in queries:
+            for tuples in sizes:
+                words = [program, *files(kind, tuples, query)]
+                runs = sorted(run(words) for _ in range(3))
+                seconds, memory, _ = runs[1]
+                print(
+                    f"| {kind} | {query} | {tuples} | {seconds:.2f} | {tuples / seconds:,.0f} "
+                    f"| {seconds / tuples * 1e6:.2f} | {memory:.0f} |",
+                    flush=True,
+                )
+
+
+# The automaton of a/b*: steps from a state by a label to a state, and the final states.
+STEPS = [(0, "a", 1), (1, "b", 1)]
+FINAL = [1]
+
+REACHED = """
+WITH RECURSIVE reached(source, vertex, state) AS (
+    SELECT edge.source, edge.target, step.next FROM edge
+    JOIN step ON step.state = 0 AND step.label = edge.label
+    UNION
+    SELECT reached.source, edge.target, step.next FROM reached
+    JOIN edge ON edge.source = reached.vertex
+    JOIN step ON step.state = reached.state AND step.label = edge.label
+)
+SELECT DISTINCT source, vertex FROM reached JOIN final ON final.state = reached.state
+"""
+
+
+def by_sqlite(path, window, slide):
+    """The lines that rpq would write for a/b* as query q2, by SQL evaluated after each tuple."""
+    base = sqlite3.connect(":memory:")
+    base.executescript(
+        "CREATE TABLE edge(source, label, target, deadline, PRIMARY KEY(source, label, target));"
+        "CREATE TABLE step(state, label, next); CREATE TABLE final(state);"
+        "CREATE INDEX by_deadline ON edge(deadline);"
+    )
+    base.executemany("INSERT INTO step VALUES (?, ?, ?)", STEPS)
+    base.executemany("INSERT INTO final VALUES (?)", [(state,) for state in FINAL])
+    clock, held, lines = 0, set(), []
+    for line in open(path):
+        at, source, label, target, sign = line.split()
+        clock = max(clock, int(at))
+        base.execute("DELETE FROM edge WHERE deadline <= ?", (clock,))
+        if sign == "-":
+            base.execute(
+                "DELETE FROM edge WHERE source = ? AND label = ? AND target = ?",
+                (source, label, target),
+            )
+        else:
+            deadline = -(-(int(at) + window) // slide) * slide
+            if deadline > clock:
+                base.execute(
+                    "INSERT INTO edge VALUES (?, ?, ?, ?) ON CONFLICT DO UPDATE "
+                    "SET deadline = max(deadline, excluded.deadline)",
+                    (source, label, target, deadline),
+                )
+        pairs = set(base.execute(REACHED))
+        for pair in sorted(held - pairs):
+            lines.append(("-", *pair))
+        for pair in sorted(pairs - held):
+            lines.append(("+", *pair))
+        held = pairs
+    return lines
+
+
+def against_sqlite(program):
+    queries, stream = files("uniform", 2000, "q2", vertices=200)
+    _, window, slide, _ = workloads.KINDS["uniform"]
+    start = time.monotonic()
+    expected = by_sqlite(stream, window, slide)
+    slow = time.monotonic() - start
+    fast = min(run([program, queries, stream])[0] for _ in range(5))
+    output = subprocess.run([program, queries, stream], capture_output=True, text=True).stdout
+    changes = [line.split() for line in output.splitlines()]
+    found = [(words[0], words[-2], words[-1]) for words in changes if words[0] in "+-"]
+    print(f"sqlite {slow:.2f} s, rpq {fast:.4f} s, {slow / fast:,.0f} times")
+    print(f"{len(expected)} changes by sqlite, {len(found)} by rpq")
+
+
+def same_by_workers(program):
+    for kind in workloads.KINDS:
+        words = [program, *files(kind, 20000, "all")]
+        digests = {run([*words, "--workers", count])[2] for count in ("1", "2", "8")}
+        print(f"{kind}: {'the same bytes' if len(digests) == 1 else 'DIFFERENT'}")
+
+
+def main():
+    words = argparse.ArgumentParser(
+        description=__doc__, formatter_class=argparse.RawDescriptionHelpFormatter
+    )
+    words.add_argument("program")
+    words.add_argument("--kinds", default=",".join(workloads.KINDS))
+    words.add_argument("--queries", default="all,q1,q4,q9,q11")
+    words.add_argument("--tuples", default="10000,30000,100000,300000")
+    words.add_argument("--sqlite", action="store_true")
+    words.add_argument("--workers", action="store_true")
+    given = words.parse_args()
+    program = os.path.abspath(given.program)
+    if given.sqlite:
+        against_sqlite(program)
+    elif given.workers:
+        same_by_workers(program)
+    else:
+        sizes = [int(size) for size in given.tuples.split(",")]
+        table(program, given.kinds.split(","), given.queries.split(","), sizes)
+
+
+if __name__ == "__main__":
+    main()

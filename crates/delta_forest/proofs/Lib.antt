@@ -1,0 +1,11 @@
+pub mod Lookups
+pub mod Ends
+pub mod Bests
+pub mod Sources
+pub mod Elsewhere
+pub mod Following
+pub mod Logs
+pub mod Indexed
+pub mod Holding
+pub mod Chains
+pub mod Gathering

@@ -1,0 +1,12 @@
+use Rattle.delta_forest.proofs.Indexed.{kept_new}
+use Rattle.delta_forest.proofs.forest.Forest.new.Goals as goal
+
+pub invariant_of-result : goal.invariant_of-result
+invariant_of-result c =
+    let state = c.in-Ok.state in
+    let new = c.in-Ok.ensures in
+    record {
+      finals_are = c.in_ok-finals.ensures;
+      kept = λ unbroken. kept_new c.args.dfa c.in_ok-finals.finals.items state.store state.calls
+          state.index new.store new.sources new.holders;
+    }

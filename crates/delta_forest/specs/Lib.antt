@@ -1,0 +1,6 @@
+pub mod Forest
+pub mod Changes
+pub mod Laws
+pub mod Keeping
+pub mod Candidates
+pub mod Settling

@@ -1,0 +1,72 @@
+//! A change, taken by the store and then by the trees that it may touch.
+
+ghost use Rattle.std.specs.Prelude.{◌≤◌, ◌<◌, ◌^◌, Bool, OnOk};
+ghost use Rattle.delta_forest.specs.Changes.{TakesChange};
+ghost use Rattle.delta_forest.specs.Keeping.{AreFinals, IsKept};
+ghost use Rattle.delta_forest.specs.Settling.{Advances, forest_of};
+
+use crate::candidates::candidates;
+use crate::index::State;
+use crate::settling::settle_all;
+use dfa_table::Dfa;
+use edge_store::{EdgeStore, NoMemory};
+use rpq_io::Gate;
+use source_tree::Change;
+use std::alloc::Global;
+use std::thread::Threads;
+use tree_delete::removal_elsewhere_keeps_optimal;
+use tree_insert::raise_elsewhere_keeps_optimal;
+
+/// The store takes the change.
+fn take(store: &mut EdgeStore, change: Change) -> Result<(), NoMemory>
+    ensures { OnOk result (TakesChange change store.old store.new) }
+{
+    match change {
+        Change::Raise { edge, value } => {
+            store.raise(edge, value)?;
+            Ok(())
+        }
+        Change::Remove(edge) => {
+            store.remove(edge);
+            Ok(())
+        }
+        Change::Expire(now) => {
+            store.expire(now);
+            Ok(())
+        }
+    }
+}
+
+/// The store takes the change, and then the trees that it may touch, by so many workers. The only
+/// error is [`NoMemory`], after which the state is of no use.
+pub(crate) fn advance<R: Threads + Sync, G: Gate>(
+    rt: &R,
+    alloc: Global,
+    dfa: &Dfa,
+    finals: &[u32],
+    state: &mut State,
+    change: Change,
+    workers: u32,
+    gate: &G,
+) -> Result<(), NoMemory>
+    requires some { 1 ≤ workers }
+    requires few { workers ≤ 64 }
+    requires finals { AreFinals dfa.now finals.now }
+    requires calls { state.old.calls < 2 ^ 60 }
+    requires kept { IsKept dfa.now finals.now state.old.store state.old.calls state.old.index }
+    ensures kept { OnOk result
+        (IsKept dfa.now finals.now state.new.store state.new.calls state.new.index) }
+    ensures advances { (before after : Bool) → OnOk result (Advances change
+        (forest_of dfa.now before state.old) (forest_of dfa.now after state.new)) }
+{
+    raise_elsewhere_keeps_optimal();
+    removal_elsewhere_keeps_optimal();
+    state.found.touched.clear();
+    state.found.log.clear();
+    take(&mut state.store, change)?;
+    let roots = candidates(alloc, &mut state.index, dfa, change)?;
+    state.index.sources.change_each(rt, workers, gate, &roots, &state.store, dfa, finals, change)?;
+    settle_all(&mut state.index, &mut state.found, &roots)?;
+    state.calls += 1;
+    Ok(())
+}

@@ -1,0 +1,222 @@
+//! The roots whose trees a change may touch.
+
+ghost use Rattle.std.specs.Prelude.{◌≡◌, ◌<◌, ◌↔◌, ℕ, length, List, Contains, IfOk, IsSome, IsTrue, OnOk, Some};
+ghost use Rattle.edge_store.specs.Edges.{Edges};
+ghost use Rattle.dfa_table.specs.DfaValue.{IsDfa, step_of};
+ghost use Rattle.delta_tree.specs.Nodes.{node_id};
+ghost use Rattle.delta_forest.specs.Keeping.{IsKept};
+ghost use Rattle.delta_forest.specs.Candidates.{Adds, AddsSource, AreCandidates, AreInOrder, AreRaised, AreTaken, IsHeldBy, IsHungAt, IsHungBy, IsRemovedAt, StartsBy};
+
+use crate::index::Index;
+use delta_tree::NodeId;
+use dfa_table::Dfa;
+use edge_store::{EdgeId, NoMemory};
+use source_index::{Dues, Holders};
+use source_table::SourceTable;
+use source_tree::{Change, SourceTree};
+use std::alloc::Global;
+
+/// The roots in order, each once.
+fn in_order(mut roots: Vec<u32>) -> Vec<u32>
+    ensures { AreInOrder (Contains roots.items) result.items }
+{
+    roots.sort_unstable();
+    roots.dedup();
+    roots
+}
+
+/// A new source for the root, where it has none.
+fn add_source(alloc: Global, sources: &mut SourceTable, root: u32) -> Result<(), NoMemory>
+    ensures { OnOk result (AddsSource sources.old sources.new root) }
+{
+    if sources.get(root).is_some() {
+        return Ok(());
+    }
+    let source = SourceTree::new(alloc, root)?;
+    sources.add(source)?;
+    Ok(())
+}
+
+/// Whether the automaton has a step by the label from its start.
+fn starts_by(dfa: &Dfa, label: u32) -> bool
+    ensures { IsTrue result ↔ IsSome (step_of dfa.now 0 label) }
+{
+    dfa.states() > 0 && dfa.step(0, label).is_some()
+}
+
+/// Adds the roots that are held where the edge leaves, with this state, if there is a step by it.
+fn add_held_at(
+    holders: &Holders,
+    dfa: &Dfa,
+    edge: EdgeId,
+    state: u32,
+    roots: &mut Vec<u32>,
+) -> Result<(), NoMemory>
+    requires { state < length dfa.now.rows }
+    ensures { OnOk result (Adds roots.old.items roots.new.items
+        (IsHeldBy holders.now (step_of dfa.now) edge state)) }
+{
+    if dfa.step(state, edge.label).is_some() {
+        let place = NodeId {
+            vertex: edge.from,
+            state,
+        };
+        roots.extend_from_slice(holders.at(place))?;
+    }
+    Ok(())
+}
+
+/// Adds the roots that are held where the edge leaves, with a state with a step by it.
+fn add_held(
+    holders: &Holders,
+    dfa: &Dfa,
+    edge: EdgeId,
+    roots: &mut Vec<u32>,
+) -> Result<(), NoMemory>
+    ensures { OnOk result (Adds roots.old.items roots.new.items
+        (λ root. (state : ℕ) × IsHeldBy holders.now (step_of dfa.now) edge state root)) }
+{
+    for state in 0..dfa.states() {
+        add_held_at(holders, dfa, edge, state, roots)?;
+    }
+    Ok(())
+}
+
+/// Adds the vertex that the edge leaves, with a new source where it has none, if the automaton has
+/// a step by the edge from its start.
+fn add_start(
+    alloc: Global,
+    sources: &mut SourceTable,
+    dfa: &Dfa,
+    edge: EdgeId,
+    roots: &mut Vec<u32>,
+) -> Result<(), NoMemory>
+    ensures { OnOk result (StartsBy sources.old sources.new (step_of dfa.now) edge
+        roots.old.items roots.new.items) }
+{
+    if starts_by(dfa, edge.label) {
+        add_source(alloc, sources, edge.from)?;
+        roots.push(edge.from)?;
+        return Ok(());
+    }
+    Ok(())
+}
+
+/// Whether the tree of the root hangs there by the edge.
+fn hangs(sources: &SourceTable, root: u32, id: NodeId, edge: EdgeId) -> bool
+    ensures { IsTrue result ↔ IsHungAt sources.now edge id root }
+{
+    match sources.get(root) {
+        Some(source) => source.hangs_by(id.vertex, id.state, edge),
+        None => false,
+    }
+}
+
+/// Adds the root, where its tree hangs there by the edge.
+fn add_if_hung(
+    sources: &SourceTable,
+    edge: EdgeId,
+    id: NodeId,
+    root: u32,
+    roots: &mut Vec<u32>,
+) -> Result<(), NoMemory>
+    ensures { OnOk result (Adds roots.old.items roots.new.items
+        (λ each. (each ≡ root) × IsHungAt sources.now edge id each)) }
+{
+    if hangs(sources, root, id, edge) {
+        roots.push(root)?;
+        return Ok(());
+    }
+    Ok(())
+}
+
+/// Adds the roots that are held at the place, where their trees hang by the edge.
+fn add_hung(
+    sources: &SourceTable,
+    holders: &Holders,
+    edge: EdgeId,
+    id: NodeId,
+    roots: &mut Vec<u32>,
+) -> Result<(), NoMemory>
+    ensures { OnOk result (Adds roots.old.items roots.new.items
+        (IsHungBy sources.now holders.now edge id)) }
+{
+    for root in holders.at(id) {
+        add_if_hung(sources, edge, id, *root, roots)?;
+    }
+    Ok(())
+}
+
+/// Those that the raise of an edge may touch.
+fn raised(
+    alloc: Global,
+    sources: &mut SourceTable,
+    holders: &Holders,
+    dfa: &Dfa,
+    edge: EdgeId,
+) -> Result<Vec<u32>, NoMemory>
+    ensures { IfOk result (λ roots.
+        AreRaised sources.old sources.new holders.now (step_of dfa.now) edge roots.items) }
+{
+    let mut roots = Vec::new(alloc);
+    add_start(alloc, sources, dfa, edge, &mut roots)?;
+    add_held(holders, dfa, edge, &mut roots)?;
+    Ok(in_order(roots))
+}
+
+/// Those that its removal may touch.
+fn removed(
+    alloc: Global,
+    sources: &SourceTable,
+    holders: &Holders,
+    dfa: &Dfa,
+    edge: EdgeId,
+) -> Result<Vec<u32>, NoMemory>
+    ensures valid { IsDfa dfa.now }
+    ensures roots { IfOk result (λ roots. AreInOrder
+        (IsRemovedAt sources.now holders.now (length dfa.now.rows) edge) roots.items) }
+{
+    let mut roots = Vec::new(alloc);
+    for state in 0..dfa.states() {
+        let place = NodeId {
+            vertex: edge.to,
+            state,
+        };
+        add_hung(sources, holders, edge, place, &mut roots)?;
+    }
+    Ok(in_order(roots))
+}
+
+/// Those whose numbers are at most the clock, which they lose.
+fn expired(alloc: Global, dues: &mut Dues, now: u64) -> Result<Vec<u32>, NoMemory>
+    ensures { IfOk result (λ roots. AreTaken dues.old dues.new now roots.items) }
+{
+    let mut roots = Vec::new(alloc);
+    for _ in 0..u64::MAX {
+        match dues.take(now) {
+            Some(root) => roots.push(root)?,
+            None => return Ok(in_order(roots)),
+        }
+    }
+    Err(NoMemory)
+}
+
+/// The roots whose trees the change may touch, in order, each once. A vertex that the change may
+/// give nodes and that has no source gets one.
+pub(crate) fn candidates(
+    alloc: Global,
+    index: &mut Index,
+    dfa: &Dfa,
+    change: Change,
+) -> Result<Vec<u32>, NoMemory>
+    ensures { (finals : List ℕ) (store : Edges) (calls : ℕ) →
+        IsKept dfa.now finals store calls index.old →
+        IfOk result (λ roots.
+        AreCandidates change (step_of dfa.now) finals index.old index.new roots.items) }
+{
+    match change {
+        Change::Raise { edge, .. } => raised(alloc, &mut index.sources, &index.holders, dfa, edge),
+        Change::Remove(edge) => removed(alloc, &index.sources, &index.holders, dfa, edge),
+        Change::Expire(now) => expired(alloc, &mut index.dues, now),
+    }
+}

@@ -1,0 +1,251 @@
+//! The forest.
+
+ghost use Rattle.std.specs.Prelude.{◌≡◌, ℕ, ◌+◌, ◌^◌, ◌<◌, ◌≤◌, [], true, false, IfOk, IsTrue, OnErr, OnOk, length};
+ghost use Rattle.edge_store.specs.Edges.{IsEmpty};
+ghost use Rattle.delta_forest.specs.Forest.{IsIndexed, kept};
+ghost use Rattle.delta_forest.specs.Changes.{AreEndChangesOf, AreReachedFrom, AreTouched, KeepsTrees, TakesChange};
+ghost use Rattle.dfa_table.specs.DfaValue.{is_final};
+ghost use Rattle.delta_forest.specs.Candidates.{Adds};
+ghost use Rattle.delta_forest.specs.Keeping.{AreFinals};
+ghost use Rattle.delta_forest.specs.Settling.{IsNewState};
+
+use crate::advancing::advance;
+use crate::index::{Findings, Index, State};
+use dfa_table::Dfa;
+use edge_store::{EdgeStore, NoMemory};
+use rpq_base::Memory;
+use rpq_io::Gate;
+use source_index::{Dues, Holders};
+use source_table::SourceTable;
+use source_tree::{Change, EndChange, Reached};
+use std::alloc::Global;
+use std::marker::Model;
+use std::thread::Threads;
+
+/// A store of edges, and for each source the tree of the best paths.
+///
+/// Contracts see it as `ForestValue` of `specs/`. Where memory runs out, it is broken, and of no use
+/// until it is cleared.
+#[derive(Drop)]
+pub struct Forest {
+    alloc: Global,
+    dfa: Dfa,
+    /// The final states of the automaton.
+    finals: Vec<u32>,
+    state: State,
+    /// Whether a change was begun and not taken to its end.
+    broken: bool,
+}
+
+impl Model for Forest {
+    ghost use Rattle.delta_forest.specs.Forest.{ForestValue};
+    ghost use Rattle.delta_forest.specs.Settling.{IsIntact, forest_of};
+
+    ghost Value = { ForestValue };
+
+    ghost view = { λ forest. forest_of forest.dfa forest.broken forest.state };
+
+    ghost invariant = { λ forest.
+        IsIntact forest.dfa forest.finals.items forest.broken forest.state };
+}
+
+/// Adds the state, where it is final.
+fn add_final(dfa: &Dfa, state: u32, finals: &mut Vec<u32>) -> Result<(), Memory>
+    requires { state < length dfa.now.rows }
+    ensures { OnOk result (Adds finals.old.items finals.new.items
+        (λ each. (each ≡ state) × IsTrue (is_final dfa.now each))) }
+{
+    if dfa.is_final(state) {
+        finals.push(state)?;
+        return Ok(());
+    }
+    Ok(())
+}
+
+/// The final states of an automaton.
+fn finals_of(alloc: Global, dfa: &Dfa) -> Result<Vec<u32>, Memory>
+    ensures { IfOk result (λ finals. AreFinals dfa.now finals.items) }
+{
+    let mut finals = Vec::new(alloc);
+    for state in 0..dfa.states() {
+        add_final(dfa, state, &mut finals)?;
+    }
+    Ok(finals)
+}
+
+/// Nothing was changed yet.
+fn new_state(alloc: Global) -> Result<State, NoMemory>
+    ensures { IfOk result IsNewState }
+{
+    let store = EdgeStore::new(alloc)?;
+    let index = Index {
+        sources: SourceTable::new(alloc),
+        holders: Holders::new(alloc),
+        dues: Dues::new(alloc),
+    };
+    let found = Findings {
+        touched: Vec::new(alloc),
+        log: Vec::new(alloc),
+    };
+    Ok(State {
+        store,
+        index,
+        found,
+        calls: 0,
+    })
+}
+
+/// The state as it was when nothing was changed yet.
+fn clear_state(state: &mut State)
+    ensures { IsNewState state.new }
+{
+    state.store.clear();
+    state.index.sources.clear();
+    state.index.holders.clear();
+    state.index.dues.clear();
+    state.found.touched.clear();
+    state.found.log.clear();
+    state.calls = 0;
+}
+
+impl Forest {
+    /// A forest without edges over this automaton. The only error is [`Memory`].
+    pub fn new(alloc: Global, dfa: Dfa) -> Result<Forest, Memory>
+        ensures dfa { IfOk result (λ forest. forest.dfa ≡ dfa) }
+        ensures empty { IfOk result (λ forest. IsEmpty forest.store) }
+        ensures bare { IfOk result (λ forest. forest.trees ≡ []) }
+        ensures calls { IfOk result (λ forest. forest.calls ≡ 0) }
+        ensures unbroken { IfOk result (λ forest. forest.broken ≡ false) }
+        ensures touched { IfOk result (λ forest. forest.touched ≡ []) }
+        ensures log { IfOk result (λ forest. forest.log ≡ []) }
+    {
+        let finals = finals_of(alloc, &dfa)?;
+        match new_state(alloc) {
+            Ok(state) => Ok(Forest {
+                alloc,
+                dfa,
+                finals,
+                state,
+                broken: false,
+            }),
+            Err(NoMemory) => Err(Memory),
+        }
+    }
+
+    /// Takes a change: first the store does, then by so many workers the trees that it may touch.
+    /// The trees are cut into chunks of as many as their number divided by that of the workers,
+    /// rounded up; each worker tells the gate before it begins. Where there is no tree, none does.
+    ///
+    /// The only error is [`Memory`], after which the forest is broken. It may have taken fewer than
+    /// 2^60 changes since it was made or cleared.
+    pub fn apply<R: Threads + Sync, G: Gate>(
+        &mut self,
+        rt: &R,
+        change: Change,
+        workers: u32,
+        gate: &G,
+    ) -> Result<(), Memory>
+        requires unbroken { self.old.broken ≡ false }
+        requires some { 1 ≤ workers }
+        requires few { workers ≤ 64 }
+        requires calls { self.old.calls < 2 ^ 60 }
+        ensures store { OnOk result (TakesChange change self.old.store self.new.store) }
+        ensures indexed { OnOk result (IsIndexed self.new) }
+        ensures keeps { OnOk result (KeepsTrees change self.old self.new) }
+        ensures touched { OnOk result (AreTouched change self.old self.new self.new.touched) }
+        ensures log { OnOk result (AreEndChangesOf self.old self.new self.new.log) }
+        ensures calls { OnOk result (self.new.calls ≡ self.old.calls + 1) }
+        ensures dfa { self.new.dfa ≡ self.old.dfa }
+        ensures unbroken { OnOk result (self.new.broken ≡ false) }
+        ensures broken { OnErr result (self.new.broken ≡ true) }
+    {
+        // until the change is taken to its end
+        self.broken = true;
+        match advance(
+            rt,
+            self.alloc,
+            &self.dfa,
+            &self.finals,
+            &mut self.state,
+            change,
+            workers,
+            gate,
+        ) {
+            Ok(()) => {
+                self.broken = false;
+                Ok(())
+            }
+            Err(NoMemory) => Err(Memory),
+        }
+    }
+
+    /// Whether memory ran out in a change. While it hasn't, all trees are optimal for the store.
+    pub fn broken(&self) -> bool
+        ensures broken { result ≡ self.now.broken }
+        ensures indexed { result ≡ false → IsIndexed self.now }
+    {
+        self.broken
+    }
+
+    /// What is kept for a root, a vertex and a state: the greatest number that all values of some
+    /// path from the root to the vertex reach, where the path leads the automaton from its start to
+    /// the state. None where there is no such path. This costs two look-ups.
+    pub fn kept(&self, x: u32, v: u32, s: u32) -> Option<u64>
+        ensures { result ≡ kept self.now x v s }
+    {
+        match self.state.index.sources.get(x) {
+            Some(source) => source.value_of(v, s),
+            None => None,
+        }
+    }
+
+    /// The vertices that the root reaches with a final state, in rising order, each with the
+    /// greatest value that is kept for it and a final state. The only error is [`Memory`].
+    pub fn reached(&self, x: u32) -> Result<Vec<Reached>, Memory>
+        requires { self.now.broken ≡ false }
+        ensures { IfOk result (λ reached. AreReachedFrom self.now x reached.items) }
+    {
+        let Some(source) = self.state.index.sources.get(x) else {
+            return Ok(Vec::new(self.alloc));
+        };
+        match source.reached() {
+            Ok(reached) => Ok(reached),
+            Err(NoMemory) => Err(Memory),
+        }
+    }
+
+    /// The automaton.
+    pub fn dfa(&self) -> &Dfa
+        ensures { result.now ≡ self.now.dfa }
+    {
+        &self.dfa
+    }
+
+    /// The roots whose trees the last change touched, in rising order.
+    pub fn touched(&self) -> &[u32]
+        ensures { result.now ≡ self.now.touched }
+    {
+        &self.state.found.touched
+    }
+
+    /// The ends that the last change changed, in no order.
+    pub fn log(&self) -> &[EndChange]
+        ensures { result.now ≡ self.now.log }
+    {
+        &self.state.found.log
+    }
+
+    /// Makes the forest what [`Forest::new`] made it.
+    pub fn clear(&mut self)
+        ensures dfa { self.new.dfa ≡ self.old.dfa }
+        ensures empty { IsEmpty self.new.store }
+        ensures bare { self.new.trees ≡ [] }
+        ensures calls { self.new.calls ≡ 0 }
+        ensures unbroken { self.new.broken ≡ false }
+        ensures touched { self.new.touched ≡ [] }
+        ensures log { self.new.log ≡ [] }
+    {
+        clear_state(&mut self.state);
+        self.broken = false;
+    }
+}

@@ -1,0 +1,92 @@
+-- The pairs that are added for the changes in a list.
+use Rattle.std.proofs.Common.{◌≡◌, ℕ, Bool, true, false, List, get_or, [], Some, sym, ap, subst, ◌∙◌, inl, inr, ⊎_elim}
+use Rattle.std.specs.Prelude.{Contains}
+use Rattle.std.specs.BTreeSet.{insert_key}
+use Rattle.std.proofs.lemmas.Bool.{both_ways}
+use Rattle.std.proofs.lemmas.List.Quantifiers.{position-Some}
+use Rattle.rpq_base.specs.Order.{pair_cmp}
+use Rattle.rpq_base.specs.Same.{same_name}
+use Rattle.rpq_base.specs.declared.data.Pair.{Pair}
+use Rattle.rpq_base.proofs.Equality.{names as name_test}
+use Rattle.rpq_base.proofs.Orders.{pair_cmp_exact}
+use Rattle.rpq_base.proofs.Members.{HasOneMore, insert_members, none_in}
+use Rattle.rpq_model.specs.Relations.{Adds}
+use Rattle.name_table.specs.Names.{number_of}
+use Rattle.source_tree.specs.declared.change.EndChange.{EndChange}
+use Rattle.end_events.specs.Pairs.{gives_event, IsGiven}
+
+-- names with one number are one
+pub one_name : (names : List (List ℕ)) (first second : List ℕ) (number : ℕ) →
+    number_of names first ≡ Some number → number_of names second ≡ Some number → first ≡ second
+one_name names first second number is other =
+    let here = position-Some (λ each. same_name first each) names number [] is in
+    let there = position-Some (λ each. same_name second each) names number [] other in
+    let at : List ℕ = get_or names number [] in
+    (name_test first at).0 here.1 ∙ sym ((name_test second at).0 there.1)
+
+-- pairs with the same numbers are one
+one_pair : (names : List (List ℕ)) (root vertex : ℕ) (first second : Pair) →
+    number_of names first.from ≡ Some root → number_of names first.to ≡ Some vertex →
+    number_of names second.from ≡ Some root → number_of names second.to ≡ Some vertex → first ≡ second
+one_pair names root vertex first second from to other_from other_to =
+    let from_is = one_name names first.from second.from root from other_from in
+    let to_is = one_name names first.to second.to vertex to other_to in
+    λ i. record { from = from_is i; to = to_is i }
+
+-- what a list gives, one with more gives too
+still_given : (apart added : Bool) (names : List (List ℕ)) (before : List EndChange) (each : EndChange) (after : List EndChange) (pair : Pair) →
+    HasOneMore before each after → IsGiven apart added names before pair → IsGiven apart added names after pair
+still_given apart added names before each after pair one given = record {
+  each = given.each;
+  member = one.still given.each given.member;
+  from = given.from;
+  to = given.to;
+  gives = given.gives;
+}
+
+-- no change gives an event of a pair
+pub none_given : (apart added : Bool) (names : List (List ℕ)) (found : List Pair) → Adds found found (IsGiven apart added names [])
+none_given apart added names found pair = (
+  (λ member. inl member),
+  (λ either. ⊎_elim (λ member. member) (λ given. absurd (none_in given.each given.member)) either),
+)
+
+-- a change that gives an event adds its pair
+pub given_more : (apart added : Bool) (names : List (List ℕ)) (before : List EndChange) (each : EndChange) (after : List EndChange)
+    (old found more : List Pair) (new : Pair) →
+    HasOneMore before each after → number_of names new.from ≡ Some each.root → number_of names new.to ≡ Some each.vertex →
+    gives_event apart added each ≡ true → more ≡ insert_key pair_cmp found new →
+    Adds old found (IsGiven apart added names before) → Adds old more (IsGiven apart added names after)
+given_more apart added names before each after old found more new one from to gives is so_far pair =
+    let inserted = insert_members pair_cmp_exact found new pair in
+    let here : IsGiven apart added names after new = record { each = each; member = one.here; from = from; to = to; gives = gives } in (
+      (λ member. ⊎_elim
+          (λ same. inr (subst (λ (one : Pair). IsGiven apart added names after one) same here))
+          (λ there. ⊎_elim (λ was. inl was) (λ given. inr (still_given apart added names before each after pair one given)) ((so_far pair).0 there))
+          (inserted.0 (subst (λ (all : List Pair). Contains all pair) is member))),
+      (λ either. subst (λ (all : List Pair). Contains all pair) (sym is) (inserted.1 (⊎_elim
+          (λ was. inr ((so_far pair).1 (inl was)))
+          (λ given. ⊎_elim
+          (λ earlier. inr ((so_far pair).1 (inr (record { each = given.each; member = earlier; from = given.from; to = given.to; gives = given.gives }))))
+          (λ same. inl (one_pair names each.root each.vertex new pair from to
+          (given.from ∙ ap (λ (change : EndChange). Some change.root) (sym same))
+          (given.to ∙ ap (λ (change : EndChange). Some change.vertex) (sym same))))
+          (one.cases given.each given.member))
+          either))),
+    )
+
+-- one that gives none adds none
+pub given_same : (apart added : Bool) (names : List (List ℕ)) (before : List EndChange) (each : EndChange) (after : List EndChange)
+    (old found : List Pair) →
+    HasOneMore before each after → gives_event apart added each ≡ false →
+    Adds old found (IsGiven apart added names before) → Adds old found (IsGiven apart added names after)
+given_same apart added names before each after old found one none so_far pair = (
+  (λ member. ⊎_elim (λ was. inl was) (λ given. inr (still_given apart added names before each after pair one given)) ((so_far pair).0 member)),
+  (λ either. ⊎_elim
+      (λ was. (so_far pair).1 (inl was))
+      (λ given. ⊎_elim
+      (λ earlier. (so_far pair).1 (inr (record { each = given.each; member = earlier; from = given.from; to = given.to; gives = given.gives })))
+      (λ same. absurd (both_ways (gives_event apart added each) none (ap (gives_event apart added) same ∙ given.gives)))
+      (one.cases given.each given.member))
+      either),
+)

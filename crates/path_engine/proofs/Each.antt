@@ -1,0 +1,247 @@
+-- An entry, answered for each query.
+use Rattle.std.proofs.Common.{◌≡◌, ℕ, zero, suc, ◌+◌, ◌<◌, ◌≤◌, ◌^◌, List, [], ◌∷◌, ◌++◌, length, map, get_or, take, drop}
+use Rattle.std.proofs.Common.{set, refl, sym, ap, subst, ◌∙◌, append_assoc, arith}
+use Rattle.std.specs.List.{All, AllZip}
+use Rattle.std.proofs.lemmas.List.{take_all, take_more, take_more_set, drop_more, drop_all, append-nil}
+use Rattle.std.proofs.lemmas.List.Elements.{All-nil, All-append}
+use Rattle.std.proofs.lemmas.Slice.Zip.{all_zipped_more}
+use Rattle.rpq_base.specs.declared.data.Entry.{Entry}
+use Rattle.rpq_base.specs.declared.data.Event.{Event}
+use Rattle.rpq_model.specs.QueryEvents.{AreEventsUnder}
+use Rattle.name_table.specs.Names.{KeepsNumbers}
+use Rattle.delta_forest.specs.Forest.{ForestValue}
+use Rattle.index_laws.specs.LawsOfIndexes.{StoresFollow}
+use Rattle.query_file.specs.Compiled.{CompiledValue}
+use Rattle.path_engine.specs.declared.index.Index.{Index}
+use Rattle.path_engine.specs.Engine.{IsIndexFor}
+use Rattle.path_engine.specs.Answering.{HasAnswered, HasHistory, HaveAnswered}
+use Rattle.path_engine.specs.Keeping.{KeepsForest}
+
+-- each query has its index over the history
+abbrev pub AreIndexes : List Entry → List (List ℕ) → List CompiledValue → List Index → Type 0
+AreIndexes history names queries indexes =
+    AllZip (λ query index. IsIndexFor query history names index) queries indexes
+
+abbrev pub HaveHistories : List (List ℕ) → List CompiledValue → List Index → Type 0
+HaveHistories names queries indexes =
+    AllZip (λ query index. HasHistory query names index) queries indexes
+
+pub have_histories : (history : List Entry) (names : List (List ℕ))
+    (queries : List CompiledValue) (indexes : List Index) → length history ≤ 2 ^ 30 →
+    AreIndexes history names queries indexes → HaveHistories names queries indexes
+have_histories history names [] [] short are = tt
+have_histories history names [] (index ∷ indexes) short are = absurd are
+have_histories history names (query ∷ queries) [] short are = absurd are
+have_histories history names (query ∷ queries) (index ∷ indexes) short are = (
+  record { history = history; short = short; is = are.0 },
+  have_histories history names queries indexes short are.1,
+)
+
+-- more names get numbers
+pub more_named : StoresFollow → (history : List Entry) (names more : List (List ℕ))
+    (queries : List CompiledValue) (indexes : List Index) → KeepsNumbers names more →
+    AreIndexes history names queries indexes → AreIndexes history more queries indexes
+more_named follow history names more [] [] keeps are = tt
+more_named follow history names more [] (index ∷ indexes) keeps are = absurd are
+more_named follow history names more (query ∷ queries) [] keeps are = absurd are
+more_named follow history names more (query ∷ queries) (index ∷ indexes) keeps are = (
+  record {
+    size = are.0.size;
+    slide = are.0.slide;
+    time = are.0.time;
+    automaton = are.0.automaton;
+    holds = follow.more_names query.def.window history names more index.forest.dfa
+        index.forest.store keeps are.0.holds;
+    indexed = are.0.indexed;
+    unbroken = are.0.unbroken;
+    few = are.0.few;
+  },
+  more_named follow history names more queries indexes keeps are.1,
+)
+
+-- ---- what was answered
+
+pub each_stands : (names : List (List ℕ)) (entry : Entry) (history : List Entry) (number : ℕ)
+    (queries : List CompiledValue) (olds news : List Index) (events : List Event) →
+    AreIndexes history names queries olds →
+    HaveAnswered names entry number queries olds news events →
+    AreIndexes (history ++ entry ∷ []) names queries news
+each_stands names entry history number [] [] [] events are answered = tt
+each_stands names entry history number [] [] (new ∷ news) events are answered = absurd answered
+each_stands names entry history number [] (old ∷ olds) news events are answered = absurd are
+each_stands names entry history number (query ∷ queries) [] news events are answered = absurd are
+each_stands names entry history number (query ∷ queries) (old ∷ olds) [] events are answered =
+    absurd answered
+each_stands names entry history number (query ∷ queries) (old ∷ olds) (new ∷ news) events are
+    answered = (
+      answered.2.stands history are.0,
+      each_stands names entry history (number + 1) queries olds news answered.1 are.1 answered.3,
+    )
+
+pub each_events : (names : List (List ℕ)) (entry : Entry) (history : List Entry) (number : ℕ)
+    (queries : List CompiledValue) (olds news : List Index) (events : List Event) →
+    AreIndexes history names queries olds →
+    HaveAnswered names entry number queries olds news events →
+    AreEventsUnder number (map (λ (each : CompiledValue). each.def) queries) history
+    (history ++ entry ∷ []) events
+each_events names entry history number [] [] [] events are answered = answered
+each_events names entry history number [] [] (new ∷ news) events are answered = absurd answered
+each_events names entry history number [] (old ∷ olds) news events are answered = absurd are
+each_events names entry history number (query ∷ queries) [] news events are answered = absurd are
+each_events names entry history number (query ∷ queries) (old ∷ olds) [] events are answered =
+    absurd answered
+each_events names entry history number (query ∷ queries) (old ∷ olds) (new ∷ news) events are
+    answered = (
+      answered.0,
+      answered.1,
+      answered.2.events history are.0,
+      each_events names entry history (number + 1) queries olds news answered.1 are.1 answered.3,
+      answered.4,
+    )
+
+abbrev forest_of : Index → ForestValue
+forest_of index = index.forest
+
+pub each_keeps : (names : List (List ℕ)) (entry : Entry) (number : ℕ)
+    (queries : List CompiledValue) (olds news : List Index) (events : List Event) →
+    HaveAnswered names entry number queries olds news events →
+    AllZip (KeepsForest entry.tuple.act names) (map forest_of olds) (map forest_of news)
+each_keeps names entry number [] [] [] events answered = tt
+each_keeps names entry number [] [] (new ∷ news) events answered = absurd answered
+each_keeps names entry number [] (old ∷ olds) news events answered = absurd answered
+each_keeps names entry number (query ∷ queries) [] news events answered = absurd answered
+each_keeps names entry number (query ∷ queries) (old ∷ olds) [] events answered = absurd answered
+each_keeps names entry number (query ∷ queries) (old ∷ olds) (new ∷ news) events answered = (
+  answered.2.keeps,
+  each_keeps names entry (number + 1) queries olds news answered.1 answered.3,
+)
+
+pub each_numbers : (names : List (List ℕ)) (entry : Entry) (number : ℕ)
+    (queries : List CompiledValue) (olds news : List Index) (events : List Event) →
+    HaveAnswered names entry number queries olds news events →
+    All (λ (e : Event). e.query < number + length queries) events
+each_numbers names entry number [] [] [] events answered =
+    subst (All (λ (e : Event). e.query < number + length {A = CompiledValue} []))
+    (sym {A = List Event} answered)
+    (All-nil (λ (e : Event). e.query < number + length {A = CompiledValue} []))
+each_numbers names entry number [] [] (new ∷ news) events answered = absurd answered
+each_numbers names entry number [] (old ∷ olds) news events answered = absurd answered
+each_numbers names entry number (query ∷ queries) [] news events answered = absurd answered
+each_numbers names entry number (query ∷ queries) (old ∷ olds) [] events answered = absurd answered
+each_numbers names entry number (query ∷ queries) (old ∷ olds) (new ∷ news) events answered =
+    let later = each_numbers names entry (number + 1) queries olds news answered.1 answered.3 in
+    subst (All (λ (e : Event). e.query < number + length (query ∷ queries)))
+    (sym {A = List Event} answered.4)
+    (All-append (λ (e : Event). e.query < number + length (query ∷ queries)) answered.0 answered.1
+    (λ k d within. omega (arith, answered.2.numbers k d within))
+    (λ k d within. omega (arith, later k d within)))
+
+-- ---- one query after another
+
+-- what the queries from this place on will have answered completes what those before it have
+abbrev pub IsDone : List (List ℕ) → Entry → List CompiledValue → List Index → ℕ → List Index →
+    List Event → Type 0
+IsDone names entry queries olds place current events = (rest : List Index) (later : List Event) →
+    HaveAnswered names entry place (drop place queries) (drop place olds) rest later →
+    HaveAnswered names entry 0 queries olds (take place current ++ rest) (events ++ later)
+
+pub done_more : (names : List (List ℕ)) (entry : Entry) (queries : List CompiledValue)
+    (olds current : List Index) (place : ℕ) (query : CompiledValue) (old new : Index)
+    (events own : List Event) → place < length queries → place < length olds →
+    length current ≡ length olds → query ≡ get_or queries place query →
+    old ≡ get_or olds place old → IsDone names entry queries olds place current events →
+    HasAnswered names entry place query old new own →
+    IsDone names entry queries olds (place + 1) (set current place new) (events ++ own)
+done_more names entry queries olds current place query old new events own inside within as_many
+    query_is old_is done has = λ rest later answered.
+    let Left : List CompiledValue → List Index → Type 0 = λ qs os.
+    HaveAnswered names entry place qs os (new ∷ rest) (own ++ later) in
+    let left_queries : query ∷ drop (place + 1) queries ≡ drop place queries =
+    ap (λ (q : CompiledValue). q ∷ drop (place + 1) queries) query_is
+    ∙ sym (drop_more queries place query inside) in
+    let left_olds : old ∷ drop (place + 1) olds ≡ drop place olds =
+    ap (λ (o : Index). o ∷ drop (place + 1) olds) old_is ∙ sym (drop_more olds place old within) in
+    let step : Left (query ∷ drop (place + 1) queries) (old ∷ drop (place + 1) olds) =
+    (own, later, has, answered, refl) in
+    let given : Left (drop place queries) (drop place olds) =
+    subst (λ (qs : List CompiledValue). Left qs (drop place olds)) left_queries
+    (subst (Left (query ∷ drop (place + 1) queries)) left_olds step) in
+    let all = done (new ∷ rest) (own ++ later) given in
+    let news : take place current ++ new ∷ rest ≡ take (place + 1) (set current place new) ++ rest =
+    sym (append_assoc (take place current) (new ∷ []) rest)
+    ∙ ap (λ (xs : List Index). xs ++ rest)
+    (sym (take_more_set current place new (omega (arith, within, as_many)))) in
+    subst (λ (ns : List Index).
+    HaveAnswered names entry 0 queries olds ns ((events ++ own) ++ later)) news
+    (subst (HaveAnswered names entry 0 queries olds (take place current ++ new ∷ rest))
+    (sym (append_assoc events own later)) all)
+
+pub done_all : (names : List (List ℕ)) (entry : Entry) (queries : List CompiledValue)
+    (olds current : List Index) (place : ℕ) (events : List Event) → length queries ≤ place →
+    length olds ≤ place → length current ≡ length olds →
+    IsDone names entry queries olds place current events →
+    HaveAnswered names entry 0 queries olds current events
+done_all names entry queries olds current place events end past as_many done =
+    let Left : List CompiledValue → List Index → Type 0 = λ qs os.
+    HaveAnswered names entry place qs os [] [] in
+    let nothing : Left [] [] = refl in
+    let given : Left (drop place queries) (drop place olds) =
+    subst (λ (qs : List CompiledValue). Left qs (drop place olds)) (sym (drop_all place queries end))
+    (subst (Left []) (sym (drop_all place olds past)) nothing) in
+    let all = done [] [] given in
+    subst (λ (ns : List Index). HaveAnswered names entry 0 queries olds ns events)
+    (append-nil (take place current) ∙ take_all place current (omega (arith, past, as_many)))
+    (subst (HaveAnswered names entry 0 queries olds (take place current ++ [])) (append-nil events)
+    all)
+
+-- ---- lists in step
+
+-- one more on both sides
+pub zip_more : {A B : Type 0} (R : A → B → Type 0) (xs : List A) (ys : List B) (place : ℕ) (x : A)
+    (y : B) → place < length xs → x ≡ get_or xs place x → AllZip R (take place xs) ys → R x y →
+    AllZip R (take (place + 1) xs) (ys ++ y ∷ [])
+zip_more {A} R xs ys place x y inside is so_far here =
+    let more : take (place + 1) xs ≡ take place xs ++ x ∷ [] =
+    take_more xs place x inside ∙ ap (λ (each : A). take place xs ++ each ∷ []) (sym is) in
+    subst (λ (zs : List A). AllZip R zs (ys ++ y ∷ [])) (sym more)
+    (all_zipped_more R (take place xs) ys x y so_far here)
+
+-- at one place
+pub zip_at : {A B : Type 0} (R : A → B → Type 0) (xs : List A) (ys : List B) (place : ℕ) (x : A)
+    (y : B) → AllZip R xs ys → place < length xs → x ≡ get_or xs place x →
+    y ≡ get_or ys place y → R x y
+zip_at R [] ys place x y all inside x_is y_is = absurd (omega (arith, inside))
+zip_at R (first ∷ xs) [] place x y all inside x_is y_is = absurd all
+zip_at {A} R (first ∷ xs) (second ∷ ys) zero x y all inside x_is y_is =
+    subst (λ (each : A). R each y) (sym x_is) (subst (R first) (sym y_is) all.0)
+zip_at R (first ∷ xs) (second ∷ ys) (suc place) x y all inside x_is y_is =
+    zip_at R xs ys place x y all.1 (omega (arith, inside)) x_is y_is
+
+-- through a map on the left
+pub zip_map : {A B C : Type 0} (v : A → C) (R : C → B → Type 0) (xs : List A) (ys : List B) →
+    AllZip (λ x y. R (v x) y) xs ys → AllZip R (map v xs) ys
+zip_map v R [] [] all = tt
+zip_map v R [] (y ∷ ys) all = absurd all
+zip_map v R (x ∷ xs) [] all = absurd all
+zip_map v R (x ∷ xs) (y ∷ ys) all = (all.0, zip_map v R xs ys all.1)
+
+-- as many indexes as before
+pub answered_long : (names : List (List ℕ)) (entry : Entry) (number : ℕ)
+    (queries : List CompiledValue) (olds news : List Index) (events : List Event) →
+    HaveAnswered names entry number queries olds news events → length news ≡ length olds
+answered_long names entry number [] [] [] events answered = refl
+answered_long names entry number [] [] (new ∷ news) events answered = absurd answered
+answered_long names entry number [] (old ∷ olds) news events answered = absurd answered
+answered_long names entry number (query ∷ queries) [] news events answered = absurd answered
+answered_long names entry number (query ∷ queries) (old ∷ olds) [] events answered =
+    absurd answered
+answered_long names entry number (query ∷ queries) (old ∷ olds) (new ∷ news) events answered =
+    ap suc (answered_long names entry (number + 1) queries olds news answered.1 answered.3)
+
+-- what a vector is whose elements were all written
+pub written_back : (xs items : List Index) (len : ℕ) → length xs ≡ length items →
+    len ≡ length items → take len (xs ++ drop (length xs) items) ≡ xs
+written_back xs items len same len_is =
+    ap (λ (rest : List Index). take len (xs ++ rest))
+    (drop_all (length xs) items (omega (arith, same)))
+    ∙ (ap (take len) (append-nil xs) ∙ take_all len xs (omega (arith, same, len_is)))

@@ -1,0 +1,25 @@
+-- Indexes of the empty history.
+use Rattle.std.proofs.Common.{◌≡◌, ◌*◌, false, [], length, arith}
+use Rattle.dfa_table.specs.DfaValue.{DfaValue}
+use Rattle.edge_store.specs.Edges.{IsEmpty}
+use Rattle.delta_forest.specs.Forest.{IsIndexed}
+use Rattle.index_laws.specs.LawsOfIndexes.{StoresFollow}
+use Rattle.query_file.specs.Compiled.{CompiledValue}
+use Rattle.path_engine.specs.declared.index.Index.{Index}
+use Rattle.path_engine.specs.Engine.{IsIndexFor}
+
+pub index_starts : StoresFollow → (query : CompiledValue) (index : Index) →
+    index.clock.size ≡ query.def.window.size → index.clock.slide ≡ query.def.window.slide →
+    index.clock.clock ≡ 0 → index.forest.dfa ≡ query.dfa → IsEmpty index.forest.store →
+    IsIndexed index.forest → index.forest.broken ≡ false → index.forest.calls ≡ 0 →
+    IsIndexFor query [] [] index
+index_starts follow query index size slide start automaton empty indexed unbroken calls = record {
+  size = size;
+  slide = slide;
+  time = start;
+  automaton = automaton;
+  holds = follow.start query.def.window [] index.forest.dfa index.forest.store empty;
+  indexed = indexed;
+  unbroken = unbroken;
+  few = omega (arith, calls);
+}

@@ -1,0 +1,23 @@
+use Rattle.std.proofs.Common.{sym, ap, ◌∙◌}
+use Rattle.rpq_base.specs.declared.data.Act.TheVariants.{Insert, Delete}
+use Rattle.rpq_base.specs.declared.data.Entry.{Entry}
+use Rattle.path_engine.proofs.Choosing.{suits_same}
+use Rattle.path_engine.proofs.answering.change_for.Goals as goal
+
+pub returns-in-Insert : goal.returns-in-Insert
+returns-in-Insert c = λ names.
+    let entry = c.args.entry.now in
+    suits_same names c.args.forest.now.dfa c.dfa-dfa.result.now c.args.clock.now entry.tuple.time
+    _ entry.tuple.act (Insert c.in-Insert.edge) c.args.ends c.raise_for.result
+    c.dfa-dfa.ensures (ap (λ (each : Entry). each.tuple.time) c.entry.view_is)
+    (sym c.in-Insert.is ∙ ap (λ (each : Entry). each.tuple.act) c.entry.view_is)
+    (c.raise_for.ensures names)
+
+pub returns-in-Delete : goal.returns-in-Delete
+returns-in-Delete c = λ names.
+    let entry = c.args.entry.now in
+    suits_same names c.args.forest.now.dfa c.dfa-dfa.result.now c.args.clock.now entry.tuple.time
+    entry.tuple.time entry.tuple.act (Delete c.in-Delete.edge) c.args.ends c.remove_for.result
+    c.dfa-dfa.ensures (λ i. entry.tuple.time)
+    (sym c.in-Delete.is ∙ ap (λ (each : Entry). each.tuple.act) c.entry.view_is)
+    (λ are. c.remove_for.ensures names are c.args.clock.now entry.tuple.time)

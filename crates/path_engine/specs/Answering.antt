@@ -1,0 +1,131 @@
+-- How an entry is answered for one query. No public contract cites this file.
+use Rattle.std.specs.Prelude.{◌≡◌, ◌⊎◌, ◌↔◌, ℕ, ◌+◌, ◌^◌, ◌<◌, ◌≤◌, max, Bool, true, false}
+use Rattle.std.specs.Prelude.{List, [], ◌∷◌, ◌++◌, length, All, Option, Some, None}
+use Rattle.std.specs.List.{AllZip}
+use Rattle.rpq_base.specs.declared.data.Edge.{Edge}
+use Rattle.rpq_base.specs.declared.data.Act.{Act}
+use Rattle.rpq_base.specs.declared.data.Act.TheVariants.{Insert, Delete, Tick}
+use Rattle.rpq_base.specs.declared.data.Entry.{Entry}
+use Rattle.rpq_base.specs.declared.data.Event.{Event}
+use Rattle.dfa_table.specs.DfaValue.{DfaValue, place_of}
+use Rattle.name_table.specs.Names.{number_of}
+use Rattle.rpq_model.specs.Events.{AreEvents}
+use Rattle.rpq_model.specs.Query.{path_query}
+use Rattle.edge_store.specs.Clock.{ClockValue, IsDeadline, IsSameWindow}
+use Rattle.edge_store.specs.declared.edge.EdgeId.{EdgeId}
+use Rattle.source_tree.specs.declared.change.Change.{Change}
+use Rattle.source_tree.specs.declared.change.Change.TheVariants.{Raise, Remove, Expire}
+use Rattle.source_tree.specs.declared.change.EndChange.{EndChange}
+use Rattle.delta_forest.specs.Forest.{ForestValue, IsIndexed}
+use Rattle.delta_forest.specs.Changes.{AreEndChangesOf, KeepsTrees, TakesChange}
+use Rattle.index_laws.specs.Numbered.{HasNumbers}
+use Rattle.query_file.specs.Compiled.{CompiledValue}
+use Rattle.path_engine.specs.declared.index.Index.{Index}
+use Rattle.path_engine.specs.declared.ends.Ends.{Ends}
+use Rattle.path_engine.specs.Engine.{IsIndexFor}
+use Rattle.path_engine.specs.Keeping.{KeepsForest}
+
+-- the numbers of the edge's vertices
+pub record AreEndsOf (names : List (List ℕ)) (edge : Edge) (ends : Ends) : Type 0 where
+  pub from : number_of names edge.from ≡ Some ends.from
+  pub to : number_of names edge.to ≡ Some ends.to
+
+-- the numbers of the vertices of the act's edge; none where an insert's label is strange to the
+-- automaton, where a vertex of a delete has no number, or where there is no edge
+abbrev pub AreEndsFor : List (List ℕ) → DfaValue → Act → Option Ends → Type 0
+AreEndsFor names dfa (Insert edge) (Some ends) = AreEndsOf names edge ends
+AreEndsFor names dfa (Insert edge) None = place_of dfa edge.label ≡ None
+AreEndsFor names dfa (Delete edge) (Some ends) = AreEndsOf names edge ends
+AreEndsFor names dfa (Delete edge) None = (ends : Ends) → AreEndsOf names edge ends → ⊥
+AreEndsFor names dfa Tick ends = Unit {0}
+
+-- the edge by numbers: those of its vertices and of its label
+pub record IsNumbered (dfa : DfaValue) (ends : Option Ends) (edge : Edge) (id : EdgeId)
+    : Type 0 where
+  pub vertices : ends ≡ Some (record { from = id.from; to = id.to })
+  pub label : place_of dfa edge.label ≡ Some id.label
+
+-- an insert's edge is raised to its deadline, which is above the clock
+pub record IsRaise (names : List (List ℕ)) (dfa : DfaValue) (clock : ClockValue) (time : ℕ)
+    (edge : Edge) (id : EdgeId) (value : ℕ) : Type 0 where
+  pub numbers : HasNumbers names dfa edge id
+  pub deadline : IsDeadline clock time value
+  pub above : clock.clock < value
+
+-- the deadline is not above the clock
+pub record IsPast (clock : ClockValue) (time value : ℕ) : Type 0 where
+  pub deadline : IsDeadline clock time value
+  pub reached : value ≤ clock.clock
+
+-- the change that an act of this time makes at the clock, if it makes one
+abbrev pub Suits : List (List ℕ) → DfaValue → ClockValue → ℕ → Act → Option Change → Type 0
+Suits names dfa clock time (Insert edge) None =
+    (place_of dfa edge.label ≡ None) ⊎ ((value : ℕ) × IsPast clock time value)
+Suits names dfa clock time (Insert edge) (Some (Raise id value)) =
+    IsRaise names dfa clock time edge id value
+Suits names dfa clock time (Insert edge) (Some (Remove id)) = ⊥
+Suits names dfa clock time (Insert edge) (Some (Expire now)) = ⊥
+Suits names dfa clock time (Delete edge) None = (id : EdgeId) → HasNumbers names dfa edge id → ⊥
+Suits names dfa clock time (Delete edge) (Some (Remove id)) = HasNumbers names dfa edge id
+Suits names dfa clock time (Delete edge) (Some (Raise id value)) = ⊥
+Suits names dfa clock time (Delete edge) (Some (Expire now)) = ⊥
+Suits names dfa clock time Tick None = Unit {0}
+Suits names dfa clock time Tick (Some change) = ⊥
+
+-- the forest took the change, which changed these ends
+pub record HasApplied (change : Change) (old new : ForestValue) (log : List EndChange)
+    : Type 0 where
+  pub store : TakesChange change old.store new.store
+  pub indexed : IsIndexed new
+  pub keeps : KeepsTrees change old new
+  pub changed : AreEndChangesOf old new log
+  pub calls : new.calls ≡ old.calls + 1
+  pub dfa : new.dfa ≡ old.dfa
+  pub unbroken : new.broken ≡ false
+
+-- the forest took the change, if there is one
+abbrev pub MayHaveApplied : Option Change → ForestValue → ForestValue → List EndChange → Type 0
+MayHaveApplied None old new log = (new ≡ old) × (log ≡ [])
+MayHaveApplied (Some change) old new log = HasApplied change old new log
+
+-- the clock went on, the forest expired and then took the change that suits the entry; these are
+-- the ends that changed by the one and by the other
+pub record HasStepped (names : List (List ℕ)) (entry : Entry) (old new : Index)
+    (first second : List EndChange) : Type 0 where
+  pub window : IsSameWindow old.clock new.clock
+  pub time : new.clock.clock ≡ max old.clock.clock entry.tuple.time
+  pub middle : ForestValue
+  pub expired : HasApplied (Expire new.clock.clock) old.forest middle first
+  pub change : Option Change
+  pub suits : Suits names middle.dfa new.clock entry.tuple.time entry.tuple.act change
+  pub changed : MayHaveApplied change middle new.forest second
+
+-- the index is that of the query over some short history
+pub record HasHistory (query : CompiledValue) (names : List (List ℕ)) (index : Index)
+    : Type 0 where
+  pub history : List Entry
+  pub short : length history ≤ 2 ^ 30
+  pub is : IsIndexFor query history names index
+
+-- the entry was answered for the query with this number: over each history of which the index was
+-- that of the query, it is so over the history with the entry, and these are the events
+pub record HasAnswered (names : List (List ℕ)) (entry : Entry) (number : ℕ)
+    (query : CompiledValue) (old new : Index) (own : List Event) : Type 0 where
+  pub stands : (history : List Entry) → IsIndexFor query history names old →
+      IsIndexFor query (history ++ entry ∷ []) names new
+  pub events : (history : List Entry) → IsIndexFor query history names old →
+      AreEvents (path_query query.def) number history (history ++ entry ∷ []) own
+  pub keeps : KeepsForest entry.tuple.act names old.forest new.forest
+  pub numbers : All (λ (event : Event). event.query ≡ number) own
+
+-- it was answered for each of these queries, the first of which has this number
+abbrev pub HaveAnswered : List (List ℕ) → Entry → ℕ → List CompiledValue → List Index →
+    List Index → List Event → Type 0
+HaveAnswered names entry number [] [] [] events = events ≡ []
+HaveAnswered names entry number [] [] (new ∷ news) events = ⊥
+HaveAnswered names entry number [] (old ∷ olds) news events = ⊥
+HaveAnswered names entry number (query ∷ queries) [] news events = ⊥
+HaveAnswered names entry number (query ∷ queries) (old ∷ olds) [] events = ⊥
+HaveAnswered names entry number (query ∷ queries) (old ∷ olds) (new ∷ news) events =
+    (own others : List Event) × HasAnswered names entry number query old new own
+    × HaveAnswered names entry (number + 1) queries olds news others × (events ≡ own ++ others)

@@ -1,0 +1,293 @@
+//! An entry for each query: first what the clock reaches goes, and then the entry's edge comes or
+//! goes.
+
+ghost use Rattle.std.specs.Prelude.{◌≡◌, ◌≤◌, ◌<◌, ◌^◌, ◌-◌, ◌++◌, ◌⊎◌, ◌↔◌, ℕ, List, [], length, All};
+ghost use Rattle.std.specs.Prelude.{IfOk, IfNone, IfSome, OnOk, None, Some, true, false};
+ghost use Rattle.std.specs.List.{AllZip};
+ghost use Rattle.dfa_table.specs.DfaValue.{place_of};
+ghost use Rattle.rpq_model.specs.declared.mode.Mode.TheVariants.{Simple};
+ghost use Rattle.query_file.specs.Compiled.{IsCompiled};
+ghost use Rattle.path_engine.specs.Answering.{AreEndsFor, HasApplied, HasAnswered, HasHistory};
+ghost use Rattle.path_engine.specs.Answering.{HasStepped, HaveAnswered, IsNumbered, Suits};
+ghost use Rattle.rpq_base.specs.declared.data.Act.TheVariants.{Insert, Delete};
+ghost use Rattle.edge_store.specs.Clock.{ClockValue};
+
+use crate::ends::Ends;
+use crate::index::Index;
+use containment_laws::accepted_queries_have_answers;
+use delta_forest::{Change, EndChange, Forest, each_has_an_end, ends_are_one, kept_is_best};
+use dfa_table::Dfa;
+use edge_store::{EdgeId, WindowClock};
+use end_events::events_between;
+use index_laws::{index_keeps_bests, index_tells_answers, stores_follow};
+use name_table::Names;
+use query_file::Compiled;
+use rpq_base::{Act, Edge, Entry, Event, Memory};
+use rpq_io::Gate;
+use rpq_model::Mode;
+use std::alloc::Global;
+use std::thread::Threads;
+
+/// The workers that a change may have: all of these in a young run, and else all of them where the
+/// change before touched many trees, and one where it didn't.
+#[derive(Clone, Copy)]
+pub(crate) struct Crew {
+    pub workers: u32,
+    pub young: bool,
+}
+
+/// Answers the entry for each query, and gives the events of the first, then those of the next.
+pub(crate) fn answer_each<R: Threads + Sync, G: Gate>(
+    rt: &R,
+    alloc: Global,
+    queries: &[Compiled],
+    indexes: &mut [Index],
+    names: &Names,
+    ends: Option<Ends>,
+    entry: &Entry,
+    crew: Crew,
+    gate: &G,
+) -> Result<Vec<Event>, Memory>
+    requires few { length queries.now ≤ 64 }
+    requires as_many { length queries.now ≡ length indexes.old }
+    requires some { 1 ≤ crew.workers }
+    requires few_workers { crew.workers ≤ 64 }
+    requires indexes { AllZip (λ query index. HasHistory query names.now index)
+        queries.now indexes.old }
+    requires ends { All (λ query. AreEndsFor names.now query.dfa entry.now.tuple.act ends)
+        queries.now }
+    ensures { IfOk result (λ events. HaveAnswered names.now entry.now 0 queries.now indexes.old
+        indexes.new events.items) }
+{
+    let mut events = Vec::new(alloc);
+    for (place, index) in indexes.iter_mut().enumerate() {
+        let query = &queries[place];
+        let own = answer(
+            rt,
+            alloc,
+            query,
+            place as u32,
+            index,
+            names,
+            ends,
+            entry,
+            crew,
+            gate,
+        )?;
+        push_all(&mut events, own)?;
+    }
+    Ok(events)
+}
+
+/// Puts more events at the end of the events.
+fn push_all(events: &mut Vec<Event>, more: Vec<Event>) -> Result<(), Memory>
+    ensures { OnOk result (events.new.items ≡ events.old.items ++ more.items) }
+{
+    for event in more {
+        events.push(event)?;
+    }
+    Ok(())
+}
+
+/// Answers the entry for a query, under its number.
+fn answer<R: Threads + Sync, G: Gate>(
+    rt: &R,
+    alloc: Global,
+    query: &Compiled,
+    number: u32,
+    index: &mut Index,
+    names: &Names,
+    ends: Option<Ends>,
+    entry: &Entry,
+    crew: Crew,
+    gate: &G,
+) -> Result<Vec<Event>, Memory>
+    requires some { 1 ≤ crew.workers }
+    requires few { crew.workers ≤ 64 }
+    requires index { HasHistory query.now names.now index.old }
+    requires ends { AreEndsFor names.now query.now.dfa entry.now.tuple.act ends }
+    ensures { IfOk result (λ events. HasAnswered names.now entry.now number query.now index.old
+        index.new events.items) }
+{
+    let _slide = slide_of(query);
+    let logs = step(rt, alloc, index, ends, entry, crew, gate)?;
+    let apart = is_simple(query);
+    kept_is_best();
+    ends_are_one();
+    each_has_an_end();
+    stores_follow();
+    index_keeps_bests();
+    index_tells_answers();
+    accepted_queries_have_answers();
+    events_between(alloc, number, apart, names, &logs.first, &logs.second)
+}
+
+/// The slide of the query's window.
+pub(crate) fn slide_of(query: &Compiled) -> u64
+    ensures is { result ≡ query.now.def.window.slide }
+    ensures some { 0 < query.now.def.window.slide }
+    ensures compiled { IsCompiled query.now }
+{
+    query.def.window.slide
+}
+
+/// Whether the query takes simple paths.
+pub(crate) fn is_simple(query: &Compiled) -> bool
+    ensures { (result ≡ true) ↔ (query.now.def.mode ≡ Simple) }
+{
+    match query.def.mode {
+        Mode::Simple => true,
+        Mode::Arbitrary => false,
+    }
+}
+
+/// The ends that the two changes of an entry changed, one after the other.
+#[derive(Drop)]
+pub struct Logs {
+    pub first: Vec<EndChange>,
+    pub second: Vec<EndChange>,
+}
+
+/// Takes the entry into an index.
+fn step<R: Threads + Sync, G: Gate>(
+    rt: &R,
+    alloc: Global,
+    index: &mut Index,
+    ends: Option<Ends>,
+    entry: &Entry,
+    crew: Crew,
+    gate: &G,
+) -> Result<Logs, Memory>
+    requires some { 1 ≤ crew.workers }
+    requires few { crew.workers ≤ 64 }
+    requires unbroken { index.old.forest.broken ≡ false }
+    requires calls { index.old.forest.calls < 2 ^ 40 }
+    ensures { IfOk result (λ logs. (names : List (List ℕ)) →
+        AreEndsFor names index.old.forest.dfa entry.now.tuple.act ends →
+        HasStepped names entry.now index.old index.new logs.first.items logs.second.items) }
+{
+    let now = index.clock.advance(entry.tuple.time);
+    let first = apply(
+        rt,
+        alloc,
+        &mut index.forest,
+        Change::Expire(now),
+        crew,
+        gate,
+    )?;
+    match change_for(&index.forest, &index.clock, now, ends, entry) {
+        Some(change) => {
+            let second = apply(rt, alloc, &mut index.forest, change, crew, gate)?;
+            Ok(Logs { first, second })
+        }
+        None => Ok(Logs {
+            first,
+            second: Vec::new(alloc),
+        }),
+    }
+}
+
+/// Applies the change to a forest, and gives the ends that it changed.
+fn apply<R: Threads + Sync, G: Gate>(
+    rt: &R,
+    alloc: Global,
+    forest: &mut Forest,
+    change: Change,
+    crew: Crew,
+    gate: &G,
+) -> Result<Vec<EndChange>, Memory>
+    requires some { 1 ≤ crew.workers }
+    requires few { crew.workers ≤ 64 }
+    requires unbroken { forest.old.broken ≡ false }
+    requires calls { forest.old.calls < 2 ^ 60 }
+    ensures { IfOk result (λ log. HasApplied change forest.old forest.new log.items) }
+{
+    let workers = workers_for(forest, crew);
+    forest.apply(rt, change, workers, gate)?;
+    Ok(Vec::from_slice(alloc, forest.log())?)
+}
+
+/// How many workers a change gets.
+fn workers_for(forest: &Forest, crew: Crew) -> u32
+    requires some { 1 ≤ crew.workers }
+    requires few { crew.workers ≤ 64 }
+    ensures some { 1 ≤ result }
+    ensures few { result ≤ 64 }
+{
+    if crew.young || forest.touched().len() >= 1000 {
+        crew.workers
+    } else {
+        1
+    }
+}
+
+/// The change that the entry makes at the clock, if it makes one.
+fn change_for(
+    forest: &Forest,
+    clock: &WindowClock,
+    now: u64,
+    ends: Option<Ends>,
+    entry: &Entry,
+) -> Option<Change>
+    requires { now ≡ clock.now.clock }
+    ensures { (names : List (List ℕ)) →
+        AreEndsFor names forest.now.dfa entry.now.tuple.act ends →
+        Suits names forest.now.dfa clock.now entry.now.tuple.time entry.now.tuple.act result }
+{
+    let dfa = forest.dfa();
+    match &entry.tuple.act {
+        Act::Insert(edge) => raise_for(dfa, clock, now, ends, edge, entry.tuple.time),
+        Act::Delete(edge) => remove_for(dfa, ends, edge),
+        Act::Tick => None,
+    }
+}
+
+/// The raise of an inserted edge.
+fn raise_for(
+    dfa: &Dfa,
+    clock: &WindowClock,
+    now: u64,
+    ends: Option<Ends>,
+    edge: &Edge,
+    time: u64,
+) -> Option<Change>
+    requires now { now ≡ clock.now.clock }
+    requires time { time ≤ 2 ^ 62 - 1 }
+    ensures { (names : List (List ℕ)) →
+        AreEndsFor names dfa.now (Insert edge.now) ends →
+        Suits names dfa.now clock.now time (Insert edge.now) result }
+{
+    let value = clock.deadline(time);
+    match number_of(dfa, ends, edge) {
+        Some(edge) if value > now => Some(Change::Raise { edge, value }),
+        _ => None,
+    }
+}
+
+/// The removal of a deleted edge.
+fn remove_for(dfa: &Dfa, ends: Option<Ends>, edge: &Edge) -> Option<Change>
+    ensures { (names : List (List ℕ)) →
+        AreEndsFor names dfa.now (Delete edge.now) ends →
+        (clock : ClockValue) (time : ℕ) →
+        Suits names dfa.now clock time (Delete edge.now) result }
+{
+    match number_of(dfa, ends, edge) {
+        Some(edge) => Some(Change::Remove(edge)),
+        None => None,
+    }
+}
+
+/// The edge by numbers, where its vertices and its label have some.
+fn number_of(dfa: &Dfa, ends: Option<Ends>, edge: &Edge) -> Option<EdgeId>
+    ensures some { IfSome result (λ id. IsNumbered dfa.now ends edge.now id) }
+    ensures none { IfNone result ((ends ≡ None) ⊎ (place_of dfa.now edge.now.label ≡ None)) }
+{
+    match (ends, dfa.label_number(&edge.label)) {
+        (Some(ends), Some(label)) => Some(EdgeId {
+            from: ends.from,
+            label,
+            to: ends.to,
+        }),
+        _ => None,
+    }
+}

@@ -1,0 +1,104 @@
+//! The numbers of an edge's vertices.
+
+ghost use Rattle.std.specs.Prelude.{◌≡◌, ◌+◌, ◌-◌, ◌^◌, ◌<◌, ◌≤◌, length, All, IfOk, IfNone, IfSome, OnOk};
+ghost use Rattle.std.specs.Prelude.{IsTrue, None, Some, false};
+ghost use Rattle.dfa_table.specs.DfaValue.{place_of};
+ghost use Rattle.name_table.specs.Names.{KeepsNumbers, number_of};
+ghost use Rattle.path_engine.specs.Answering.{AreEndsFor, AreEndsOf};
+
+use name_table::Names;
+use query_file::Compiled;
+use rpq_base::{Act, Edge, Label, Memory, Name};
+
+/// The numbers of the two vertices of an edge.
+#[derive(Clone, Copy, Debug, PartialEq, Eq)]
+pub struct Ends {
+    pub from: u32,
+    pub to: u32,
+}
+
+/// The numbers of the vertices of the act's edge, if there is one: an insert whose label some query
+/// knows numbers its vertices, a delete looks them up. Keeps count of the names.
+pub(crate) fn ends_for(
+    names: &mut Names,
+    named: &mut u32,
+    queries: &[Compiled],
+    act: &Act,
+) -> Result<Option<Ends>, Memory>
+    requires few { length names.old < 2 ^ 32 - 3 }
+    requires named { named.old ≡ length names.old }
+    ensures ends { IfOk result (λ ends.
+        All (λ query. AreEndsFor names.new query.dfa act.now ends) queries.now) }
+    ensures kept { OnOk result (KeepsNumbers names.old names.new) }
+    ensures grown { OnOk result (length names.new ≤ length names.old + 2) }
+    ensures named { named.new ≡ length names.new }
+{
+    match act {
+        Act::Insert(edge) => {
+            if knows(queries, &edge.label) {
+                Ok(Some(number_ends(names, named, edge)?))
+            } else {
+                Ok(None)
+            }
+        }
+        Act::Delete(edge) => Ok(find_ends(names, edge)),
+        Act::Tick => Ok(None),
+    }
+}
+
+/// Whether some query's automaton has the label.
+fn knows(queries: &[Compiled], label: &Label) -> bool
+    ensures { result ≡ false →
+        All (λ query. place_of query.dfa label.now ≡ None) queries.now }
+{
+    for query in queries {
+        if query.dfa.label_number(label).is_some() {
+            return true;
+        }
+    }
+    false
+}
+
+/// The numbers of the edge's vertices, which new ones get now.
+fn number_ends(names: &mut Names, named: &mut u32, edge: &Edge) -> Result<Ends, Memory>
+    requires few { length names.old < 2 ^ 32 - 3 }
+    requires named { named.old ≡ length names.old }
+    ensures ends { IfOk result (AreEndsOf names.new edge.now) }
+    ensures kept { OnOk result (KeepsNumbers names.old names.new) }
+    ensures grown { OnOk result (length names.new ≤ length names.old + 2) }
+    ensures named { named.new ≡ length names.new }
+{
+    let from = number_name(names, named, &edge.from)?;
+    let to = number_name(names, named, &edge.to)?;
+    Ok(Ends { from, to })
+}
+
+/// The number of the name, which a new one gets now.
+fn number_name(names: &mut Names, named: &mut u32, name: &Name) -> Result<u32, Memory>
+    requires few { length names.old < 2 ^ 32 - 2 }
+    requires named { named.old ≡ length names.old }
+    ensures number { IfOk result (λ number. number_of names.new name.now ≡ Some number) }
+    ensures kept { OnOk result (KeepsNumbers names.old names.new) }
+    ensures grown { OnOk result (length names.new ≤ length names.old + 1) }
+    ensures named { named.new ≡ length names.new }
+{
+    match names.find(name) {
+        Some(number) => Ok(number),
+        None => {
+            let number = names.number(name)?;
+            *named += 1;
+            Ok(number)
+        }
+    }
+}
+
+/// The numbers of the edge's vertices, where both have one.
+fn find_ends(names: &Names, edge: &Edge) -> Option<Ends>
+    ensures some { IfSome result (AreEndsOf names.now edge.now) }
+    ensures none { IfNone result ((ends : Ends) → AreEndsOf names.now edge.now ends → ⊥) }
+{
+    match (names.find(&edge.from), names.find(&edge.to)) {
+        (Some(from), Some(to)) => Some(Ends { from, to }),
+        _ => None,
+    }
+}

@@ -1,0 +1,44 @@
+//! The index of a query.
+
+ghost use Rattle.std.specs.Prelude.{◌≡◌, [], length, IfOk};
+ghost use Rattle.std.specs.List.{AllZip};
+ghost use Rattle.path_engine.specs.Engine.{IsIndexFor};
+
+use crate::automaton::copy_of;
+use delta_forest::Forest;
+use edge_store::WindowClock;
+use index_laws::stores_follow;
+use query_file::Compiled;
+use rpq_base::Memory;
+use std::alloc::Global;
+
+/// The clock of a query's window, and its edges with the trees of best paths.
+#[derive(Drop)]
+pub struct Index {
+    pub clock: WindowClock,
+    pub forest: Forest,
+}
+
+/// The indexes of the queries over the empty history.
+pub(crate) fn indexes_of(alloc: Global, queries: &[Compiled]) -> Result<Vec<Index>, Memory>
+    ensures { IfOk result (λ indexes.
+        AllZip (λ query index. IsIndexFor query [] [] index) queries.now indexes.items) }
+{
+    let mut indexes = Vec::with_capacity(alloc, queries.len())?;
+    for query in queries {
+        indexes.push(index_of(alloc, query)?)?;
+    }
+    Ok(indexes)
+}
+
+/// The index of the query over the empty history.
+fn index_of(alloc: Global, query: &Compiled) -> Result<Index, Memory>
+    ensures { IfOk result (λ index. IsIndexFor query.now [] [] index) }
+{
+    let window = query.def.window;
+    let clock = WindowClock::new(window.size, window.slide);
+    let forest = Forest::new(alloc, copy_of(alloc, &query.dfa)?)?;
+    let _broken = forest.broken();
+    stores_follow();
+    Ok(Index { clock, forest })
+}

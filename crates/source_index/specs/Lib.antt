@@ -1,0 +1,4 @@
+pub mod Dues
+pub mod Holders
+pub mod Queue
+pub mod Roots

@@ -1,0 +1,5 @@
+pub mod Lists
+pub mod Placed
+pub mod Moved
+pub mod Chosen
+pub mod Tried

@@ -1,0 +1,21 @@
+use Rattle.std.proofs.Common.{◌++◌, ◌∷◌, [], List, Some, cond, nat_eq, sym, ap, ap₂, subst, ◌∙◌, arith}
+use Rattle.source_tree.specs.Ends.{SourceValue}
+use Rattle.source_table.specs.Places.{ArePlaced, place_of}
+use Rattle.source_table.specs.Sources.{roots_of, source_in}
+use Rattle.source_table.proofs.Placed.{placed_more}
+use Rattle.source_table.proofs.table.SourceTable.add.Goals as goal
+
+pub invariant_of-self-2 : goal.invariant_of-self-2
+invariant_of-self-2 c =
+    let old = c.self.inside.sources.items in
+    let source = c.args.source in
+    let places = c.self.inside.places.entries in
+    subst (λ (items : List SourceValue). ArePlaced (roots_of items) c.insert.new.self.entries)
+    (sym (c.push_reserved.ensures.items
+    ∙ ap (λ (items : List SourceValue). items ++ source ∷ []) c.reserve.ensures.items))
+    (placed_more old places c.insert.new.self.entries source c.self.invariant
+    (ap (λ (all : List SourceValue). source_in all source.tree.root) c.self.view_is ∙ c.requires.new)
+    (λ each. c.in_ok-insert.ensures.updates.0 each
+    ∙ ap₂ (λ root place. cond (nat_eq root each) (Some place) (place_of places each))
+    c.root.ensures.root
+    (omega (arith, c.len.ensures, c.reserve.ensures.len, c.self.inside.sources.ok.0))))

@@ -1,0 +1,11 @@
+//! The trees of many sources, found by their roots, and changed side by side.
+//!
+//! The contract for the layer above: each root has one tree at most, and
+//! [`SourceTable::change_each`] makes each of the chosen trees take a change, by so many workers,
+//! and leaves the others as they are, whatever the number of workers.
+#![tactic(auto)]
+
+mod part;
+mod table;
+
+pub use table::SourceTable;

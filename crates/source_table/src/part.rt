@@ -1,0 +1,162 @@
+//! A change of the chosen ones among some sources.
+
+ghost use Rattle.std.specs.Prelude.{◌≡◌, ◌*◌, ◌/◌, ◌+◌, ◌<◌, ◌≤◌, length, nat_eq, filter_map, All, IfOk, OnOk};
+ghost use Rattle.std.specs.List.{IsDistinct};
+ghost use Rattle.edge_store.specs.Edges.{value_of};
+ghost use Rattle.dfa_table.specs.DfaValue.{step_of};
+ghost use Rattle.source_table.specs.Parts.{AreSound, CanTry, CanTryOne, Tries, TriesOne};
+ghost use Rattle.source_table.specs.Places.{place_of};
+
+use dfa_table::Dfa;
+use edge_store::{EdgeStore, NoMemory};
+use indexmap::IndexMap;
+use rpq_io::{Gate, Who};
+use source_tree::{Change, SourceTree};
+use std::alloc::Global;
+use std::thread;
+use std::thread::Threads;
+use tree_insert::Search;
+
+/// The places of these roots, of those that have one.
+pub(crate) fn places_of(
+    alloc: Global,
+    places: &IndexMap<u32, usize>,
+    roots: &[u32],
+) -> Result<Vec<usize>, NoMemory>
+    ensures { IfOk result (λ chosen.
+        chosen.items ≡ filter_map (place_of places.now.entries) roots.now) }
+{
+    let mut chosen = Vec::new(alloc);
+    for root in roots {
+        if let Some(place) = places.get(root) {
+            chosen.push(*place)?;
+        }
+    }
+    Ok(chosen)
+}
+
+/// The number of the worker, from 1, whose chunk begins at this place. The chunks have this size,
+/// and there are at most 64.
+pub(crate) fn worker_of(start: usize, size: usize) -> u32
+    requires some { 0 < size }
+    requires few { start < 64 * size }
+    ensures { result ≡ start / size + 1 }
+{
+    (start / size) as u32 + 1
+}
+
+/// Makes the source at this place take a change, where it stands in the part, which begins at
+/// `start`.
+fn change_one(
+    search: &mut Search,
+    place: usize,
+    start: usize,
+    part: &mut [SourceTree],
+    store: &EdgeStore,
+    dfa: &Dfa,
+    finals: &[u32],
+    change: Change,
+)
+    requires { CanTryOne place start change (value_of store.now) (step_of dfa.now) finals.now
+        part.old }
+    ensures len { length part.new ≡ length part.old }
+    ensures tries { TriesOne place start change (value_of store.now) (step_of dfa.now) finals.now
+        part.old part.new }
+{
+    if place < start {
+        return;
+    }
+    let offset = place - start;
+    if offset >= part.len() {
+        return;
+    }
+    // A source for which memory ran out says so afterwards.
+    let _ = part[offset].take(search, store, dfa, finals, change);
+}
+
+/// Makes the chosen sources of a part, which begins at this place, take a change.
+pub(crate) fn change_part(
+    alloc: Global,
+    chosen: &[usize],
+    start: usize,
+    part: &mut [SourceTree],
+    store: &EdgeStore,
+    dfa: &Dfa,
+    finals: &[u32],
+    change: Change,
+)
+    requires once { IsDistinct nat_eq chosen.now }
+    requires ready { CanTry chosen.now start change (value_of store.now) (step_of dfa.now)
+        finals.now part.old }
+    ensures { Tries chosen.now start change (value_of store.now) (step_of dfa.now) finals.now
+        part.old part.new }
+{
+    let mut search = Search::new(alloc);
+    for place in chosen {
+        change_one(&mut search, *place, start, part, store, dfa, finals, change);
+    }
+}
+
+/// The size of the chunks for so many workers.
+pub(crate) fn chunk_size(len: usize, workers: u32) -> usize
+    requires some { 0 < len }
+    requires worker { 1 ≤ workers }
+    requires few { workers ≤ 64 }
+    ensures some { 0 < result }
+    ensures covers { len ≤ 64 * result }
+{
+    len.div_ceil(workers as usize)
+}
+
+/// Makes the chosen sources take a change, in chunks of this size, each by a worker that passes the
+/// gate first.
+pub(crate) fn change_all<R: Threads + Sync, G: Gate>(
+    rt: &R,
+    gate: &G,
+    alloc: Global,
+    size: usize,
+    chosen: &[usize],
+    sources: &mut Vec<SourceTree>,
+    store: &EdgeStore,
+    dfa: &Dfa,
+    finals: &[u32],
+    change: Change,
+)
+    requires some { 0 < size }
+    requires covers { length sources.old.items ≤ 64 * size }
+    requires once { IsDistinct nat_eq chosen.now }
+    requires ready { CanTry chosen.now 0 change (value_of store.now) (step_of dfa.now) finals.now
+        sources.old.items }
+    ensures len { length sources.new.items ≡ length sources.old.items }
+    ensures tries { Tries chosen.now 0 change (value_of store.now) (step_of dfa.now) finals.now
+        sources.old.items sources.new.items }
+{
+    thread::for_each_chunk_mut(
+        rt,
+        sources,
+        size,
+        &|start: usize, part: &mut [SourceTree]|
+            requires { (0 < size) × (start < 64 * size) × IsDistinct nat_eq chosen.now
+                × CanTry chosen.now start change (value_of store.now) (step_of dfa.now)
+                finals.now part.now }
+            ensures { Tries chosen.entry.now start change (value_of store.entry.now)
+                (step_of dfa.entry.now) finals.entry.now part.entry.now part.exit.now }
+        {
+            gate.pass(Who::Trees(worker_of(start, size)));
+            change_part(alloc, chosen, start, part, store, dfa, finals, change);
+        },
+    );
+}
+
+/// Finds whether memory ran out for one of the chosen sources.
+pub(crate) fn check(sources: &[SourceTree], chosen: &[usize]) -> Result<(), NoMemory>
+    requires { All (λ place. place < length sources.now) chosen.now }
+    ensures { OnOk result (AreSound chosen.now sources.now) }
+{
+    for place in chosen {
+        if sources[*place].is_broken() {
+            return Err(NoMemory);
+        }
+    }
+    Ok(())
+}

@@ -1,0 +1,141 @@
+//! The table of sources.
+
+ghost use Rattle.std.specs.Prelude.{◌≡◌, ◌≤◌, ◌∷◌, ◌++◌, [], option_map, OnOk, OnErr, None};
+ghost use Rattle.std.specs.Ordering.{nat_cmp};
+ghost use Rattle.std.specs.List.Sorted.{IsStrictlySortedBy};
+ghost use Rattle.edge_store.specs.Edges.{value_of};
+ghost use Rattle.dfa_table.specs.DfaValue.{step_of};
+ghost use Rattle.source_tree.specs.Ends.{SourceValue};
+ghost use Rattle.source_table.specs.Sources.{AreApart, AreReady, GivesSource, HaveTaken, roots_of, source_in};
+
+use crate::part::{change_all, check, chunk_size, places_of};
+use dfa_table::Dfa;
+use edge_store::{EdgeStore, NoMemory};
+use indexmap::IndexMap;
+use rpq_io::Gate;
+use source_tree::{Change, SourceTree};
+use std::alloc::Global;
+use std::marker::Model;
+use std::thread::Threads;
+
+/// The trees of some sources, each found by its root.
+///
+/// Contracts see the list of the sources, in which each root stands once.
+#[derive(Drop)]
+pub struct SourceTable {
+    alloc: Global,
+    sources: Vec<SourceTree>,
+    /// The place of each source, by its root.
+    places: IndexMap<u32, usize>,
+}
+
+impl Model for SourceTable {
+    ghost use Rattle.std.specs.Prelude.{List};
+    ghost use Rattle.source_tree.specs.Ends.{SourceValue};
+    ghost use Rattle.source_table.specs.Places.{ArePlaced};
+    ghost use Rattle.source_table.specs.Sources.{roots_of};
+
+    ghost Value = { List SourceValue };
+
+    ghost view = { λ table. table.sources.items };
+
+    ghost invariant = { λ table. ArePlaced (roots_of table.sources.items) table.places.entries };
+}
+
+impl SourceTable {
+    /// No sources. Takes no memory.
+    pub fn new(alloc: Global) -> SourceTable
+        ensures { result ≡ [] }
+    {
+        SourceTable {
+            alloc,
+            sources: Vec::new(alloc),
+            places: IndexMap::new(alloc),
+        }
+    }
+
+    /// The source with this root, by one look-up.
+    pub fn get(&self, root: u32) -> Option<&SourceTree>
+        ensures source { option_map (λ source. source.now) result ≡ source_in self.now root }
+        ensures apart { AreApart self.now }
+    {
+        match self.places.get(&root) {
+            Some(place) => Some(&self.sources[*place]),
+            None => None,
+        }
+    }
+
+    /// Puts a source in whose root has none yet. The only error is [`NoMemory`], after which the
+    /// table is as before.
+    pub fn add(&mut self, source: SourceTree) -> Result<(), NoMemory>
+        requires new { source_in self.old source.tree.root ≡ None }
+        ensures added { OnOk result (self.new ≡ self.old ++ source ∷ []) }
+        ensures unchanged { OnErr result (self.new ≡ self.old) }
+    {
+        self.sources.reserve(1)?;
+        self.places.insert(source.root(), self.sources.len())?;
+        self.sources.push_reserved(source);
+        Ok(())
+    }
+
+    /// Takes the source with this root out, where there is one.
+    pub fn remove(&mut self, root: u32)
+        ensures gone { GivesSource self.old self.new root None }
+        ensures apart { AreApart self.new }
+    {
+        if let Some(place) = self.places.swap_remove(&root) {
+            self.sources.swap_remove(place);
+            if place < self.sources.len() {
+                // The root has a place, so this needs no memory.
+                let _ = self.places.insert(self.sources[place].root(), place);
+            }
+        }
+    }
+
+    /// Takes all sources out.
+    pub fn clear(&mut self)
+        ensures { self.new ≡ [] }
+    {
+        self.sources.clear();
+        self.places.clear();
+    }
+
+    /// Makes the sources of these roots take a change of the store, which the store has taken
+    /// before, by so many workers. The sources are cut into as many chunks of the same size as there
+    /// are workers, rounded up; each worker passes the gate and then goes through the chosen sources
+    /// of its chunk. Where there is no source, no worker passes.
+    ///
+    /// The only error is [`NoMemory`], after which the same roots have sources, which are of no use.
+    pub fn change_each<R: Threads + Sync, G: Gate>(
+        &mut self,
+        rt: &R,
+        workers: u32,
+        gate: &G,
+        roots: &[u32],
+        store: &EdgeStore,
+        dfa: &Dfa,
+        finals: &[u32],
+        change: Change,
+    ) -> Result<(), NoMemory>
+        requires some { 1 ≤ workers }
+        requires few { workers ≤ 64 }
+        requires sorted { IsStrictlySortedBy nat_cmp roots.now }
+        requires ready { AreReady change (value_of store.now) (step_of dfa.now) finals.now roots.now
+            self.old }
+        ensures taken { OnOk result (HaveTaken change (value_of store.now) (step_of dfa.now)
+            finals.now roots.now self.old self.new) }
+        ensures roots { roots_of self.new ≡ roots_of self.old }
+    {
+        if self.sources.is_empty() {
+            return Ok(());
+        }
+        let chosen = places_of(self.alloc, &self.places, roots)?;
+        let size = chunk_size(self.sources.len(), workers);
+        let alloc = self.alloc;
+        let sources = &mut self.sources;
+        change_all(
+            rt, gate, alloc, size, &chosen, sources, store, dfa, finals, change,
+        );
+        check(&self.sources, &chosen)
+    }
+}

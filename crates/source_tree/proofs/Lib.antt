@@ -1,0 +1,3 @@
+mod Updating
+mod Listing
+mod Changing

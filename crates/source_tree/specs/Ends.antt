@@ -1,0 +1,69 @@
+-- The ends of the vertices that a tree reaches: the greatest values of their nodes with a final
+-- state.
+use Rattle.std.specs.Prelude.{◌≡◌, ◌≢◌, ◌↔◌, ℕ, Bool, max, List, [], ◌∷◌, map, Contains, AllPairs, Option, None, Some}
+use Rattle.std.specs.Map.{lookup}
+use Rattle.std.specs.Prelude.{◌==◌}
+use Rattle.std.specs.Ordering.{nat_cmp}
+use Rattle.std.specs.List.Sorted.{IsStrictlySortedBy}
+use Rattle.delta_tree.specs.declared.node.NodeId.{NodeId}
+use Rattle.delta_tree.specs.Nodes.{TreeValue, node_id, value_of}
+use Rattle.source_tree.specs.declared.change.EndChange.{EndChange}
+use Rattle.source_tree.specs.declared.change.Reached.{Reached}
+
+-- a tree with the end of each vertex that has one; the nodes and the ends that the last change
+-- changed; and whether memory ran out in it
+pub record SourceValue : Type 0 where
+  pub tree : TreeValue
+  pub ends : List (ℕ × ℕ)
+  pub changed : List NodeId
+  pub log : List EndChange
+  pub broken : Bool
+
+-- the greater of two numbers that may be there
+abbrev pub later : Option ℕ → Option ℕ → Option ℕ
+later None second = second
+later (Some first) None = Some first
+later (Some first) (Some second) = Some (max first second)
+
+-- the greatest of those that are there
+abbrev pub greatest : List (Option ℕ) → Option ℕ
+greatest [] = None
+greatest (first ∷ rest) = later first (greatest rest)
+
+-- the end of a vertex in a tree, where these are the final states
+abbrev pub end_in : List ℕ → TreeValue → ℕ → Option ℕ
+end_in finals tree vertex =
+    greatest (map (λ state. value_of tree (node_id vertex state)) finals)
+
+-- the end that a source keeps for a vertex
+abbrev pub end_at : SourceValue → ℕ → Option ℕ
+end_at source vertex = lookup (λ each. vertex == each) source.ends
+
+-- the ends that a source keeps are those of its tree
+abbrev pub HasEnds : List ℕ → SourceValue → Type 0
+HasEnds finals source = (vertex : ℕ) → end_at source vertex ≡ end_in finals source.tree vertex
+
+-- the change of the end of a vertex, as seen from a root
+abbrev pub end_change : ℕ → ℕ → Option ℕ → Option ℕ → EndChange
+end_change root vertex before after = record {
+  root = root;
+  vertex = vertex;
+  before = before;
+  after = after;
+}
+
+-- the list has exactly the changes between these ends of the vertices, as seen from the root, each
+-- once
+pub record AreEndChanges (root : ℕ) (before after : ℕ → Option ℕ) (log : List EndChange)
+    : Type 0 where
+  pub exact : (each : EndChange) → Contains log each
+      ↔ ((each ≡ end_change root each.vertex (before each.vertex) (after each.vertex))
+      × (before each.vertex ≢ after each.vertex))
+  pub once : AllPairs (λ (first second : EndChange). first.vertex ≢ second.vertex) log
+
+-- the list has exactly the vertices with an end, in rising order, each with it
+pub record AreReached (source : SourceValue) (reached : List Reached) : Type 0 where
+  pub exact : (vertex value : ℕ) →
+      Contains reached (record { vertex = vertex; value = value })
+      ↔ (end_at source vertex ≡ Some value)
+  pub sorted : IsStrictlySortedBy nat_cmp (map (λ (each : Reached). each.vertex) reached)

@@ -1,0 +1,19 @@
+//! The tree of one source with what it tells of its query: the end of each vertex.
+//!
+//! The end of a vertex is the greatest value of its nodes with a final state: up to when the pair
+//! of source and vertex is an answer, if nothing more comes. A [`SourceTree`] takes each change of
+//! the store of edges ([`SourceTree::take`]) and says which nodes and which ends it changed. The
+//! contract for the layers above: a tree that was optimal before the change is so again, what the
+//! change doesn't touch keeps its place and its stamp, and the list of changed ends is exact.
+//!
+//! A change costs what it costs the tree, and for each place that it touches and whose state is
+//! final a look-up for each final state.
+#![tactic(auto)]
+
+mod change;
+mod ends;
+mod source;
+mod steps;
+
+pub use change::{Change, EndChange, Reached};
+pub use source::SourceTree;

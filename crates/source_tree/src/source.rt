@@ -1,0 +1,173 @@
+//! The tree of a source.
+
+ghost use Rattle.std.specs.Prelude.{◌≡◌, ◌↔◌, ℕ, List, [], IfOk, IfNone, IfSome, IsTrue, OnOk, OnErr, true, false};
+ghost use Rattle.edge_store.specs.Edges.{value_of as value_in};
+ghost use Rattle.dfa_table.specs.DfaValue.{step_of};
+ghost use Rattle.delta_tree.specs.Nodes.{node_id, value_of, IsTree};
+ghost use Rattle.delta_tree.specs.Paths.{HangsBy};
+ghost use Rattle.delta_tree.specs.Changes.{IsFloor};
+ghost use Rattle.tree_insert.specs.Trees.{IsLater};
+ghost use Rattle.source_tree.specs.Ends.{AreReached, HasEnds};
+ghost use Rattle.source_tree.specs.Taking.{HasTaken, IsReady};
+
+use crate::change::{Change, EndChange, Reached};
+use crate::ends::{list_ends, update_ends};
+use crate::steps::change_tree;
+use delta_tree::{NodeId, Tree};
+use dfa_table::Dfa;
+use edge_store::{EdgeId, EdgeStore, NoMemory};
+use indexmap::IndexMap;
+use std::alloc::Global;
+use std::marker::Model;
+use tree_insert::Search;
+
+/// The tree of a source, with the end of each vertex that it reaches.
+///
+/// Contracts see it as `SourceValue` of `specs/`.
+#[derive(Drop)]
+pub struct SourceTree {
+    alloc: Global,
+    tree: Tree,
+    /// The end of each vertex that has one.
+    ends: IndexMap<u32, u64>,
+    /// The places that the last change touched.
+    changed: Vec<NodeId>,
+    /// The ends that the last change changed.
+    log: Vec<EndChange>,
+    broken: bool,
+}
+
+impl Model for SourceTree {
+    ghost use Rattle.source_tree.specs.Ends.{SourceValue};
+
+    ghost Value = { SourceValue };
+
+    ghost view = { λ source. record {
+      tree = source.tree;
+      ends = source.ends.entries;
+      changed = source.changed.items;
+      log = source.log.items;
+      broken = source.broken;
+    } };
+}
+
+impl SourceTree {
+    /// A tree without nodes for the source with this number. The only error is [`NoMemory`].
+    pub fn new(alloc: Global, root: u32) -> Result<SourceTree, NoMemory>
+        ensures root { IfOk result (λ source. source.tree.root ≡ root) }
+        ensures bare { IfOk result (λ source. source.tree.nodes ≡ []) }
+        ensures puts { IfOk result (λ source. source.tree.puts ≡ 0) }
+        ensures ends { IfOk result (λ source. (finals : List ℕ) → HasEnds finals source) }
+        ensures unbroken { IfOk result (λ source. source.broken ≡ false) }
+    {
+        Ok(SourceTree {
+            alloc,
+            tree: Tree::new(alloc, root)?,
+            ends: IndexMap::new(alloc),
+            changed: Vec::new(alloc),
+            log: Vec::new(alloc),
+            broken: false,
+        })
+    }
+
+    /// The number of the source.
+    pub fn root(&self) -> u32
+        ensures root { result ≡ self.now.tree.root }
+        ensures tree { IsTree self.now.tree }
+    {
+        self.tree.root()
+    }
+
+    /// The value of the node of this vertex with this state, or none where there is no such node,
+    /// by one look-up.
+    pub fn value_of(&self, v: u32, s: u32) -> Option<u64>
+        ensures { result ≡ value_of self.now.tree (node_id v s) }
+    {
+        self.tree.value_of(v, s)
+    }
+
+    /// Whether the node of this vertex with this state hangs by the edge, by one look-up.
+    pub fn hangs_by(&self, v: u32, s: u32, edge: EdgeId) -> bool
+        ensures { IsTrue result ↔ HangsBy self.now.tree edge (node_id v s) }
+    {
+        self.tree.hangs_by(v, s, edge)
+    }
+
+    /// Whether there is no node.
+    pub fn is_bare(&self) -> bool
+        ensures { IsTrue result ↔ (self.now.tree.nodes ≡ []) }
+    {
+        self.tree.len() == 0
+    }
+
+    /// A number that no node's value is below, or none where there is no node.
+    pub fn least(&self) -> Option<u64>
+        ensures none { IfNone result (self.now.tree.nodes ≡ []) }
+        ensures floor { IfSome result (IsFloor self.now.tree) }
+    {
+        self.tree.least()
+    }
+
+    /// The vertices that have an end, in rising order, each with it. The only error is
+    /// [`NoMemory`].
+    pub fn reached(&self) -> Result<Vec<Reached>, NoMemory>
+        ensures { IfOk result (λ reached. AreReached self.now reached.items) }
+    {
+        let mut reached = list_ends(self.alloc, &self.ends)?;
+        reached.sort_unstable_by_key(|each| each.vertex);
+        Ok(reached)
+    }
+
+    /// The places whose nodes the last change touched.
+    pub fn changed(&self) -> &[NodeId]
+        ensures { result.now ≡ self.now.changed }
+    {
+        &self.changed
+    }
+
+    /// The ends that the last change changed.
+    pub fn log(&self) -> &[EndChange]
+        ensures { result.now ≡ self.now.log }
+    {
+        &self.log
+    }
+
+    /// Whether memory ran out in the last change.
+    pub fn is_broken(&self) -> bool
+        ensures { result ≡ self.now.broken }
+    {
+        self.broken
+    }
+
+    /// Takes a change of the store into account, which the store has taken before, in the room of a
+    /// search. The only error is [`NoMemory`], after which the tree is of no use.
+    pub fn take(
+        &mut self,
+        search: &mut Search,
+        store: &EdgeStore,
+        dfa: &Dfa,
+        finals: &[u32],
+        change: Change,
+    ) -> Result<(), NoMemory>
+        requires ready { IsReady change (value_in store.now) (step_of dfa.now) finals.now
+            self.old }
+        ensures taken { OnOk result (HasTaken change (value_in store.now) (step_of dfa.now)
+            finals.now self.old self.new) }
+        ensures later { IsLater self.old.tree self.new.tree }
+        ensures broken { OnErr result (self.new.broken ≡ true) }
+    {
+        self.broken = true;
+        self.changed.clear();
+        self.log.clear();
+        self.changed = change_tree(self.alloc, search, &mut self.tree, store, dfa, change)?;
+        update_ends(
+            &self.tree,
+            finals,
+            &mut self.ends,
+            &mut self.log,
+            &self.changed,
+        )?;
+        self.broken = false;
+        Ok(())
+    }
+}
