@@ -5,8 +5,9 @@
     measure.py PROGRAM --sqlite
     measure.py PROGRAM --workers
 
-The first form prints for each stream the seconds, the tuples a second, the microseconds a tuple and
-the peak of memory. The second one answers a stream of 2,000 tuples over 200 vertices by rpq and by
+The first form prints for each stream the seconds, those of processor time, the tuples a second and
+the microseconds a tuple by processor time, and the peak of memory: the median of three runs. A
+peak below 25 MB is that of the interpreter that starts the program. The second one answers a stream of 2,000 tuples over 200 vertices by rpq and by
 recursive SQL in sqlite, evaluated again after each tuple, and compares the pairs at the end and the
 times. The third one asks whether 20,000 tuples give the same bytes with 1, 2 and 8 workers.
 """
@@ -37,7 +38,7 @@ def files(kind, tuples, query, vertices=None):
 
 
 def run(words):
-    """Seconds, peak memory in MB, the digest of the output, and the lines that are pairs now."""
+    """Seconds, seconds of processor time, peak memory in MB, and the digest of the output."""
     start = time.monotonic()
     process = subprocess.Popen(words, stdout=subprocess.PIPE, stderr=subprocess.PIPE)
     digest = hashlib.sha256()
@@ -48,21 +49,22 @@ def run(words):
     seconds = time.monotonic() - start
     if status != 0:
         sys.exit(f"{' '.join(words)}: status {status >> 8}: {error.decode()}")
-    return seconds, used.ru_maxrss / 1024, digest.hexdigest()
+    busy = used.ru_utime + used.ru_stime
+    return seconds, busy, used.ru_maxrss / 1024, digest.hexdigest()
 
 
 def table(program, kinds, queries, sizes):
-    print("| stream | queries | tuples | seconds | tuples a second | us a tuple | MB |")
-    print("|---|---|---|---|---|---|---|")
+    print("| stream | queries | tuples | seconds | processor | tuples a second | us a tuple | MB |")
+    print("|---|---|---|---|---|---|---|---|")
     for kind in kinds:
         for query in queries:
             for tuples in sizes:
                 words = [program, *files(kind, tuples, query)]
-                runs = sorted(run(words) for _ in range(3))
-                seconds, memory, _ = runs[1]
+                runs = sorted((run(words) for _ in range(3)), key=lambda each: each[1])
+                seconds, busy, memory, _ = runs[1]
                 print(
-                    f"| {kind} | {query} | {tuples} | {seconds:.2f} | {tuples / seconds:,.0f} "
-                    f"| {seconds / tuples * 1e6:.2f} | {memory:.0f} |",
+                    f"| {kind} | {query} | {tuples} | {seconds:.2f} | {busy:.2f} "
+                    f"| {tuples / busy:,.0f} | {busy / tuples * 1e6:.1f} | {memory:.0f} |",
                     flush=True,
                 )
 
@@ -138,7 +140,7 @@ def against_sqlite(program):
 def same_by_workers(program):
     for kind in workloads.KINDS:
         words = [program, *files(kind, 20000, "all")]
-        digests = {run([*words, "--workers", count])[2] for count in ("1", "2", "8")}
+        digests = {run([*words, "--workers", count])[3] for count in ("1", "2", "8")}
         print(f"{kind}: {'the same bytes' if len(digests) == 1 else 'DIFFERENT'}")
 
 
