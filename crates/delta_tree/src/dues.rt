@@ -48,6 +48,15 @@ pub(crate) fn next_due(dues: &mut BinaryHeap<Due>, now: u64) -> Option<NodeId>
     Some(dues.pop()?.id)
 }
 
+/// Gives memory back where less than an eighth of the room is used.
+pub(crate) fn give_back(dues: &mut BinaryHeap<Due>)
+    ensures { heap_items dues.new ≡ heap_items dues.old }
+{
+    if dues.len() < dues.capacity() / 8 {
+        dues.shrink_to(dues.len() * 2);
+    }
+}
+
 /// The least value with which a node was noted, or none where none is.
 pub(crate) fn first_due(dues: &BinaryHeap<Due>) -> Option<u64>
     requires { IsQueue (heap_items dues.now) }

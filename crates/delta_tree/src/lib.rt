@@ -12,11 +12,12 @@
 //! answers and changes exactly what the map from vertices and states to nodes says. A put stamps a
 //! node with the number of puts before it, so that a node made anew is told from one that stood.
 //!
-//! A look-up and a put cost a hash. An expiry costs one comparison where no node goes, and else a
-//! step in a heap for each node that goes and for each one that was raised since it was last looked
-//! at; by [`Tree::least`] a caller knows before when none goes, and [`Tree::cut_due`] answers those
-//! that went. A cut goes over all nodes, and sorts them where a node hangs by its edge. A tree that
-//! loses most of its nodes gives their memory back.
+//! A look-up and a put go through the nodes while these are few, and else cost a hash. An
+//! expiry costs one comparison where no node goes, and else a step in a heap for each node that
+//! goes and for each one that was raised since it was last looked at; by [`Tree::least`] a caller
+//! knows before when none goes, and [`Tree::cut_due`] answers those that went. A cut goes over all
+//! nodes, and sorts them where a node hangs by its edge. A tree that loses most of its nodes gives
+//! their memory back.
 #![tactic(auto)]
 
 mod cut;

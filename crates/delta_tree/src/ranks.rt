@@ -6,7 +6,7 @@ ghost use Rattle.delta_tree.specs.Ranks.{rank, ranks_of, rank_cmp};
 
 use crate::node::{Node, NodeId};
 use edge_store::NoMemory;
-use indexmap::IndexMap;
+use small_map::SmallMap;
 use std::alloc::Global;
 use std::cmp::Reverse;
 
@@ -31,21 +31,22 @@ fn rank_of(id: NodeId, node: Node) -> Rank
 }
 
 /// What each node is ordered by.
-fn ranks_of(alloc: Global, nodes: &IndexMap<NodeId, Node>) -> Result<Vec<Rank>, NoMemory>
-    ensures { IfOk result (λ ranks. ranks.items ≡ ranks_of nodes.now.entries) }
+fn ranks_of(alloc: Global, nodes: &SmallMap<NodeId, Node>) -> Result<Vec<Rank>, NoMemory>
+    ensures { IfOk result (λ ranks. ranks.items ≡ ranks_of nodes.now) }
 {
     Ok(
         nodes
+            .as_slice()
             .iter()
-            .map(|(id, node)| rank_of(*id, *node))
+            .map(|entry| rank_of(entry.0, entry.1))
             .collect(alloc)?,
     )
 }
 
 /// The nodes in their order.
-pub(crate) fn in_order(alloc: Global, nodes: &IndexMap<NodeId, Node>) -> Result<Vec<Rank>, NoMemory>
+pub(crate) fn in_order(alloc: Global, nodes: &SmallMap<NodeId, Node>) -> Result<Vec<Rank>, NoMemory>
     ensures sorted { IfOk result (λ ranks. IsSorted rank_cmp ranks.items) }
-    ensures all { IfOk result (λ ranks. IsPermutation (ranks_of nodes.now.entries) ranks.items) }
+    ensures all { IfOk result (λ ranks. IsPermutation (ranks_of nodes.now) ranks.items) }
 {
     let mut ranks = ranks_of(alloc, nodes)?;
     ranks.sort_unstable();

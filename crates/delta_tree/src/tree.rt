@@ -10,12 +10,13 @@ ghost use Rattle.delta_tree.specs.Changes.{Carries, Raises, Puts, put_node, Expi
 ghost use Rattle.delta_tree.specs.Changes.{IsSameBeside, Cuts, AreBelow, AreDue, IsFloor};
 
 use crate::cut::{hangs, has_edge, retain_dues, take_out};
-use crate::dues::{Due, first_due, next_due};
+use crate::dues::{Due, first_due, give_back, next_due};
 use crate::node::{Node, NodeId, Try};
-use crate::nodes::{add_where, drop_or_note, give_back, set_node, value_in};
+use crate::nodes::{add_where, drop_or_note, set_node, value_in};
 use crate::ranks::in_order;
 use edge_store::{EdgeId, NoMemory};
-use indexmap::{IndexMap, IndexSet};
+use indexmap::IndexSet;
+use small_map::SmallMap;
 use std::alloc::Global;
 use std::collections::BinaryHeap;
 use std::marker::Model;
@@ -26,7 +27,7 @@ pub struct Tree {
     alloc: Global,
     root: u32,
     puts: u128,
-    nodes: IndexMap<NodeId, Node>,
+    nodes: SmallMap<NodeId, Node>,
     /// Each node with a value that it has or had, for the order in which they leave.
     dues: BinaryHeap<Due>,
 }
@@ -41,13 +42,13 @@ impl Model for Tree {
 
     ghost view = { λ tree. record {
       root = tree.root;
-      nodes = tree.nodes.entries;
+      nodes = tree.nodes;
       puts = tree.puts;
     } };
 
     ghost invariant = { λ tree. IsKept (record {
       root = tree.root;
-      nodes = tree.nodes.entries;
+      nodes = tree.nodes;
       puts = tree.puts;
     }) (heap_items tree.dues) };
 }
@@ -63,7 +64,7 @@ impl Tree {
             alloc,
             root,
             puts: 0,
-            nodes: IndexMap::new(alloc),
+            nodes: SmallMap::new(alloc),
             dues: BinaryHeap::new(alloc),
         })
     }
@@ -101,10 +102,7 @@ impl Tree {
         requires { k < length self.now.nodes }
         ensures { slice_get (ids_of self.now) k ≡ Some result }
     {
-        match self.nodes.get_index(k) {
-            Some((id, _)) => *id,
-            None => unreachable!(),
-        }
+        self.nodes.at(k).0
     }
 
     /// Hangs `step.to` below `step.from` by the edge, with this value; where it stands already, it
@@ -234,7 +232,7 @@ impl Tree {
         }
         take_out(&mut self.nodes, &cut);
         retain_dues(&mut self.dues, &self.nodes);
-        give_back(&mut self.nodes, &mut self.dues);
+        give_back(&mut self.dues);
         Ok(cut)
     }
 

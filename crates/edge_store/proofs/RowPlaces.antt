@@ -1,5 +1,5 @@
 -- Entries of a row by their places.
-use Rattle.std.proofs.Common.{◌≡◌, ◌<◌, ◌≤◌, ◌-◌, ℕ, zero, suc, Bool, true, false, cond, not, nat_lt, List, [], ◌∷◌, ◌++◌, length, get_or, slice_get, slice_set, position, Option, None, Some, is_some, Contains, Result, Ok, Err, IsOk, OnErr, refl, sym, ap, ap₂, subst, ◌∙◌, true≢false, append_assoc, arith, IsPermutation}
+use Rattle.std.proofs.Common.{◌≡◌, ◌<◌, ◌≤◌, ◌-◌, ℕ, zero, suc, Bool, true, false, cond, not, nat_lt, List, [], ◌∷◌, ◌++◌, length, get_or, slice_get, slice_set, position, Option, None, Some, is_some, Contains, Result, Ok, Err, IsOk, OnErr, refl, sym, ap, ap₂, subst, ◌∙◌, true≢false, append_assoc, arith, IsPermutation, ◌⊎◌, inl, inr}
 use Rattle.std.specs.List.{IsDistinct, AllByRecursion, position_or_len, swap_remove}
 use Rattle.std.specs.Map.{keys_of, lookup}
 use Rattle.std.proofs.lemmas.Bool.{lt-ltb, ltb-true, ltb-false}
@@ -108,24 +108,27 @@ push_distinct few more half value distinct none nowhere =
     subst (λ l. IsDistinct same_half (keys_of l)) (sym (append_assoc few ((half, value) ∷ []) more))
     (distinct_more few more half value distinct (lookup_both (same_half half) few more ∙ ap₂ either none nowhere))
 
-pub insert_distinct : (few : List (HalfEdge × ℕ)) {S : Type 0} (more : IndexMap HalfEdge ℕ S) (half : HalfEdge) (value : ℕ) →
-    IsDistinct same_half (keys_of (few ++ more.entries)) → lookup (same_half half) few ≡ None →
-    IsDistinct same_half (keys_of (few ++ insert_entry same_half more.entries half value))
-insert_distinct few more half value distinct none = by (lookup (same_half half) more.entries) refl
+pub insert_distinct : (few : List (HalfEdge × ℕ)) (more : List (HalfEdge × ℕ)) (half : HalfEdge) (value : ℕ) →
+    IsDistinct same_half (keys_of (few ++ more)) → lookup (same_half half) few ≡ None →
+    IsDistinct same_half (keys_of (few ++ insert_entry same_half more half value))
+insert_distinct few more half value distinct none = by (lookup (same_half half) more) refl
   where
-    by : (found : Option ℕ) → lookup (same_half half) more.entries ≡ found → IsDistinct same_half (keys_of (few ++ insert_entry same_half more.entries half value))
+    as_map : List (HalfEdge × ℕ) → IndexMap HalfEdge ℕ ℕ
+    as_map entries = hash_map entries 0 0
+
+    by : (found : Option ℕ) → lookup (same_half half) more ≡ found → IsDistinct same_half (keys_of (few ++ insert_entry same_half more half value))
     by None is =
         subst (λ l. IsDistinct same_half (keys_of l))
-        (append_assoc few more.entries ((half, value) ∷ []) ∙ ap (λ l. few ++ l) (sym (insert_entry-new same_half more half value is)))
+        (append_assoc few more ((half, value) ∷ []) ∙ ap (λ l. few ++ l) (sym (insert_entry-new same_half (as_map more) half value is)))
         (subst (λ l. IsDistinct same_half (keys_of l)) refl
-        (distinct_more (few ++ more.entries) [] half value
-        (subst (λ l. IsDistinct same_half (keys_of l)) (sym (append-nil (few ++ more.entries))) distinct)
-        (ap (lookup (same_half half)) (append-nil (few ++ more.entries)) ∙ lookup_both (same_half half) few more.entries ∙ ap₂ either none is)))
+        (distinct_more (few ++ more) [] half value
+        (subst (λ l. IsDistinct same_half (keys_of l)) (sym (append-nil (few ++ more))) distinct)
+        (ap (lookup (same_half half)) (append-nil (few ++ more)) ∙ lookup_both (same_half half) few more ∙ ap₂ either none is)))
     by (Some old) is =
         subst (IsDistinct same_half)
-        (map-append (λ (e : HalfEdge × ℕ). e.0) few more.entries
-        ∙ ap (λ l. keys_of few ++ l) (sym (keys-insert_entry-present same_half more half value (ap is_some is)))
-        ∙ sym (map-append (λ (e : HalfEdge × ℕ). e.0) few (insert_entry same_half more.entries half value)))
+        (map-append (λ (e : HalfEdge × ℕ). e.0) few more
+        ∙ ap (λ l. keys_of few ++ l) (sym (keys-insert_entry-present same_half (as_map more) half value (ap is_some is)))
+        ∙ sym (map-append (λ (e : HalfEdge × ℕ). e.0) few (insert_entry same_half more half value)))
         distinct
 
 -- ---- an entry that goes
@@ -205,9 +208,15 @@ more_room few capacity spare long room = by (nat_lt (length few) 16) refl room
     by false past room = room
 
 -- an insert of an edge that is there isn't refused
-pub there_is_ok : {T E : Type 0} (result : Result T E) (found : Option ℕ) → is_some found ≡ true → OnErr result (found ≡ None) → IsOk result
+there_is_ok : {T E : Type 0} (result : Result T E) (found : Option ℕ) → is_some found ≡ true → OnErr result (found ≡ None) → IsOk result
 there_is_ok (Ok x) found there absent = refl
 there_is_ok (Err e) found there absent = absurd (true≢false (sym there ∙ ap is_some absent))
+
+-- an insert of an edge that is there, or for which there is room, isn't refused
+pub taken_in : {T E : Type 0} (result : Result T E) (found : Option ℕ) (room : ℕ) → (is_some found ≡ true) ⊎ (0 < room) →
+    OnErr result (found ≡ None) → (0 < room → IsOk result) → IsOk result
+taken_in result found room (inl there) absent succeeds = there_is_ok result found there absent
+taken_in result found room (inr some) absent succeeds = succeeds some
 
 -- what isn't there
 pub none_from_not : {X : Type 0} (found : Option X) → ((x : X) → found ≡ Some x → ⊥) → found ≡ None

@@ -15,6 +15,7 @@
 mod clock;
 mod dues;
 mod edge;
+mod edge_map;
 mod no_memory;
 mod row;
 mod rows;

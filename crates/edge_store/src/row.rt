@@ -1,14 +1,14 @@
 //! The edges of one vertex, on one side.
 
-ghost use Rattle.std.specs.Prelude.{◌≡◌, ◌<◌, [], length, cond, IfSome, OnOk, None, Some, slice_get};
+ghost use Rattle.std.specs.Prelude.{◌≡◌, ◌<◌, [], length, cond, IfSome, OnOk, None, Some, slice_get, vec_len, vec_capacity};
 ghost use Rattle.std.specs.List.{IsDistinct, position};
 ghost use Rattle.std.specs.Map.{keys_of, lookup};
 ghost use Rattle.edge_store.specs.declared.edge.HalfEdge.{HalfEdge};
 ghost use Rattle.edge_store.specs.Edges.{same_half};
 
 use crate::edge::HalfEdge;
+use crate::edge_map::EdgeMap;
 use crate::no_memory::NoMemory;
-use indexmap::IndexMap;
 use std::alloc::Global;
 use std::marker::Model;
 
@@ -23,7 +23,7 @@ const FEW: usize = 16;
 #[derive(Drop)]
 pub(crate) struct Row {
     few: Vec<(HalfEdge, u64)>,
-    more: IndexMap<HalfEdge, u64>,
+    more: EdgeMap,
 }
 
 impl Model for Row {
@@ -36,12 +36,11 @@ impl Model for Row {
     ghost use Rattle.std.specs.Map.{keys_of};
     ghost use Rattle.edge_store.specs.Edges.{same_half};
     ghost use Rattle.edge_store.specs.Row.{room_of};
-    ghost use Rattle.indexmap.specs.IndexMap.{spare};
     ghost use Rattle.std.specs.Vec.{vec_capacity};
 
     ghost view = { λ row. record {
       entries = row.few.items ++ row.more.entries;
-      room = room_of row.few.items (vec_capacity row.few) (spare row.more);
+      room = room_of row.few.items (vec_capacity row.few) row.more.room;
     } };
 
     ghost invariant = { λ row. IsDistinct same_half (keys_of (row.few.items ++ row.more.entries)) };
@@ -55,6 +54,18 @@ fn place(few: &[(HalfEdge, u64)], half: HalfEdge) -> Option<usize>
     few.iter().position(|entry| half == entry.0)
 }
 
+/// Room for one more edge in a list: one place in an empty list, and else twice as many as before,
+/// since most lists stay very short.
+fn make_room(few: &mut Vec<(HalfEdge, u64)>) -> Result<(), NoMemory>
+    ensures same { few.new.items ≡ few.old.items }
+    ensures ok { OnOk result (vec_len few.new < vec_capacity few.new) }
+{
+    if few.len() == few.capacity() {
+        few.reserve_exact(few.len().max(1))?;
+    }
+    Ok(())
+}
+
 impl Row {
     /// A row without edges, which takes no memory.
     pub(crate) fn new(alloc: Global) -> Row
@@ -62,7 +73,7 @@ impl Row {
     {
         Row {
             few: Vec::new(alloc),
-            more: IndexMap::new(alloc),
+            more: EdgeMap::new(),
         }
     }
 
@@ -72,7 +83,7 @@ impl Row {
     {
         match place(&self.few, half) {
             Some(at) => Some(self.few[at].1),
-            None => self.more.get(&half).copied(),
+            None => self.more.get(half),
         }
     }
 
@@ -93,21 +104,18 @@ impl Row {
         if place < few {
             return self.few[place];
         }
-        match self.more.get_index(place - few) {
-            Some((half, value)) => (*half, *value),
-            None => unreachable!(),
-        }
+        self.more.at(place - few)
     }
 
     /// Room for one more edge.
-    pub(crate) fn reserve(&mut self) -> Result<(), NoMemory>
+    pub(crate) fn reserve(&mut self, alloc: Global) -> Result<(), NoMemory>
         ensures same { self.new.entries ≡ self.old.entries }
         ensures ok { OnOk result (0 < self.new.room) }
     {
         if self.few.len() < FEW {
-            self.few.reserve(1)?;
+            make_room(&mut self.few)?;
         } else {
-            self.more.reserve(1)?;
+            self.more.reserve(alloc)?;
         }
         Ok(())
     }
@@ -122,23 +130,45 @@ impl Row {
             self.few[at].1 = value;
             return;
         }
-        // There is room, so neither can be refused.
-        if self.few.len() < FEW && !self.more.contains_key(&half) {
+        // There is room, so this can't be refused.
+        if self.few.len() < FEW && !self.more.contains(half) {
             let _ = self.few.push((half, value));
             return;
         }
-        let _ = self.more.insert(half, value);
+        self.more.put(half, value);
     }
 
-    /// Takes an edge out. The last edge of its list or map comes into its place.
+    /// Takes an edge out. The last edge of its list or map comes into its place, and memory that
+    /// holds no edge any more is given back.
     pub(crate) fn take(&mut self, half: HalfEdge) -> Option<u64>
+        ensures value { result ≡ lookup (same_half half) self.old.entries }
+        ensures rest { (other : HalfEdge) → lookup (same_half other) self.new.entries
+            ≡ cond (same_half half other) None (lookup (same_half other) self.old.entries) }
+    {
+        let value = self.take_out(half);
+        self.give_back();
+        value
+    }
+
+    /// Takes an edge out, and keeps all memory.
+    fn take_out(&mut self, half: HalfEdge) -> Option<u64>
         ensures value { result ≡ lookup (same_half half) self.old.entries }
         ensures rest { (other : HalfEdge) → lookup (same_half other) self.new.entries
             ≡ cond (same_half half other) None (lookup (same_half other) self.old.entries) }
     {
         match place(&self.few, half) {
             Some(at) => Some(self.few.swap_remove(at).1),
-            None => self.more.swap_remove(&half),
+            None => self.more.take(half),
         }
+    }
+
+    /// Gives the memory back of a list or a map without edges.
+    fn give_back(&mut self)
+        ensures { self.new.entries ≡ self.old.entries }
+    {
+        if self.few.is_empty() {
+            self.few.shrink_to_fit();
+        }
+        self.more.give_back();
     }
 }

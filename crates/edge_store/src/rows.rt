@@ -63,7 +63,7 @@ pub(crate) fn make_room(alloc: Global, rows: &mut Vec<Row>, vertex: u32) -> Resu
     ensures ok { OnOk result (HasRoom rows.new.items vertex) }
 {
     grow(alloc, rows, vertex)?;
-    rows[vertex as usize].reserve()?;
+    rows[vertex as usize].reserve(alloc)?;
     Ok(())
 }
 

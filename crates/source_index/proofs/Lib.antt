@@ -1,2 +1,4 @@
 pub mod Places
 pub mod Noted
+pub mod Few
+pub mod Indexed

@@ -1,9 +1,12 @@
 -- Roots that are noted with their numbers.
-use Rattle.std.proofs.Common.{◌≡◌, ℕ, zero, suc, ◌⊎◌, inl, inr, Bool, true, false, cond, List, [], ◌∷◌, Option, None, Some, Contains, IsPermutation, nat_eq, refl, sym, ap, subst, ◌∙◌, true≢false, arith}
+use Rattle.std.proofs.Common.{◌≡◌, ℕ, zero, suc, ◌⊎◌, inl, inr, Bool, true, false, cond, List, [], ◌∷◌, Option, None, Some, Contains, IsPermutation, nat_eq, map, length, ◌<◌, refl, sym, ap, subst, ◌∙◌, true≢false, arith}
 use Rattle.std.specs.Cmp.{nat_eq_equiv}
 use Rattle.std.specs.Option.{option_eq}
 use Rattle.std.proofs.lemmas.List.Elements.{Contains-append_cases, Contains-append_right}
 use Rattle.std.proofs.lemmas.List.Sorted.{Contains-permutation}
+use Rattle.std.proofs.lemmas.List.{get_or-map, length-map}
+use Rattle.std.proofs.lemmas.Option.{get_or_from_slice_get, slice_get_within}
+use Rattle.std.proofs.lemmas.Map.Entries.{place_from_lookup}
 use Rattle.std.proofs.lemmas.Map.Views.{exact_unsigned_eq}
 use Rattle.source_index.specs.declared.queue.Due.{Due}
 use Rattle.source_index.specs.Dues.{DuesValue, GivesDue, due_of}
@@ -28,7 +31,7 @@ left_over old new next each moved there =
 pub none_or_some : {X : Type 0} (x : X) → None ≡ Some x → ⊥
 none_or_some x is = cc
 
-some_is_one : {X : Type 0} (x y : X) → Some x ≡ Some y → x ≡ y
+pub some_is_one : {X : Type 0} (x y : X) → Some x ≡ Some y → x ≡ y
 some_is_one x y is = cc
 
 -- a number that is none of its root's present ones was taken
@@ -90,6 +93,23 @@ pub present : (found : Option ℕ) (number : ℕ) → found ≡ Some number →
     option_eq nat_eq found (Some number) ≡ true
 present found number is =
     ap (λ each. option_eq nat_eq each (Some number)) is ∙ nat_eq_equiv.refl number
+
+-- a queue of all present numbers
+pub all_noted : (numbers : DuesValue) (queue : List Due) →
+    IsPermutation (map (λ each. due each.0 each.1) numbers) queue → AreNoted numbers queue
+all_noted numbers queue moved root number is =
+    let at = place_from_lookup (nat_eq root) numbers number is in
+    let same : root ≡ at.1 = exact_unsigned_eq root at.1 at.3 in
+    let within : at.0 < length numbers = slice_get_within numbers at.0 (at.1, number) at.2 in
+    Contains-permutation (map (λ each. due each.0 each.1) numbers) queue (due root number) moved
+    (subst (λ key. Contains (map (λ each. due each.0 each.1) numbers) (due key number)) (sym same) (
+      at.0,
+      subst (λ count. at.0 < count) (sym (length-map numbers (λ (each : ℕ × ℕ). due each.0 each.1))) within,
+      get_or-map (λ (each : ℕ × ℕ). due each.0 each.1) numbers at.0 (at.1, number)
+          (due at.1 number) within
+          ∙ ap (λ (each : ℕ × ℕ). due each.0 each.1)
+          (get_or_from_slice_get numbers at.0 (at.1, number) (at.1, number) at.2),
+    ))
 
 -- no number is noted where there is none
 pub none_noted : (queue : List Due) → AreNoted [] queue

@@ -96,7 +96,7 @@ SetsAt old new id roots = (place : NodeId) → lookup (same_node place) new
     ≡ cond (same_node id place) roots (lookup (same_node place) old)
 
 -- what is read at a place
-read_at : (old new : HoldersValue) (id : NodeId) (roots : Option (List ℕ)) →
+pub read_at : (old new : HoldersValue) (id : NodeId) (roots : Option (List ℕ)) →
     SetsAt old new id roots → (place : NodeId) →
     roots_at new place ≡ cond (same_node id place) (unwrap_or roots []) (roots_at old place)
 read_at old new id roots sets place =

@@ -1,4 +1,5 @@
 pub mod Dues
 pub mod Holders
+pub mod Kept
 pub mod Queue
 pub mod Roots

@@ -1,11 +1,12 @@
 //! Roots with numbers.
 
-ghost use Rattle.std.specs.Prelude.{◌≡◌, [], OnOk, OnErr, IfSome, IfNone, None, Some};
+ghost use Rattle.std.specs.Prelude.{◌≡◌, [], false, IsTrue, IfOk, OnOk, OnErr, IfSome, IfNone, None, Some};
 ghost use Rattle.source_index.specs.Dues.{AllLater, GivesDue, IsDueBy, due_of, lowered};
 
-use crate::queue::{Due, next_root, number_of, push};
+use crate::queue::{Due, forget_former, next_root, push};
 use edge_store::NoMemory;
 use indexmap::IndexMap;
+use indexmap::map::Entry;
 use std::alloc::Global;
 use std::collections::BinaryHeap;
 use std::marker::Model;
@@ -30,6 +31,31 @@ impl Model for Dues {
     ghost invariant = { λ dues. IsKept dues.numbers.entries (heap_items dues.queue) };
 }
 
+/// Gives the root this number, where it has no lower one. Answers whether its number changed.
+fn lower(numbers: &mut IndexMap<u32, u64>, root: u32, number: u64) -> Result<bool, NoMemory>
+    ensures lowered { OnOk result (GivesDue numbers.old.entries numbers.new.entries root
+        (Some (lowered (due_of numbers.old.entries root) number))) }
+    ensures changed { IfOk result (λ changed. IsTrue changed →
+        GivesDue numbers.old.entries numbers.new.entries root (Some number)) }
+    ensures kept { IfOk result (λ changed. changed ≡ false →
+        numbers.new.entries ≡ numbers.old.entries) }
+    ensures unchanged { OnErr result (numbers.new.entries ≡ numbers.old.entries) }
+{
+    match numbers.entry(root)? {
+        Entry::Occupied(mut held) => {
+            if *held.get() <= number {
+                return Ok(false);
+            }
+            held.insert(number);
+            Ok(true)
+        }
+        Entry::Vacant(free) => {
+            free.insert(number);
+            Ok(true)
+        }
+    }
+}
+
 impl Dues {
     /// No root has a number. Takes no memory.
     pub fn new(alloc: Global) -> Dues
@@ -48,21 +74,11 @@ impl Dues {
             (GivesDue self.old self.new root (Some (lowered (due_of self.old root) number))) }
         ensures unchanged { OnErr result (self.new ≡ self.old) }
     {
-        match number_of(&self.numbers, root) {
-            Some(before) if before <= number => Ok(()),
-            Some(_) => self.put(root, number),
-            None => self.put(root, number),
-        }
-    }
-
-    /// Gives the root this number.
-    fn put(&mut self, root: u32, number: u64) -> Result<(), NoMemory>
-        ensures put { OnOk result (GivesDue self.old self.new root (Some number)) }
-        ensures unchanged { OnErr result (self.new ≡ self.old) }
-    {
         self.queue.reserve(1)?;
-        self.numbers.insert(root, number)?;
-        push(&mut self.queue, root, number);
+        if lower(&mut self.numbers, root, number)? {
+            push(&mut self.queue, root, number);
+            forget_former(&self.numbers, &mut self.queue);
+        }
         Ok(())
     }
 

@@ -1,9 +1,7 @@
 //! The roots of the trees that have a node at a place.
 
-ghost use Rattle.std.specs.Prelude.{◌≡◌, [], nat_eq, IsTrue, None, OnOk, OnErr};
+ghost use Rattle.std.specs.Prelude.{◌≡◌, ℕ, List, [], nat_eq, slice_get, Some, IfSome, OnSome, OnOk, OnErr};
 ghost use Rattle.std.specs.List.{IsDistinct};
-ghost use Rattle.std.specs.Map.{lookup};
-ghost use Rattle.delta_tree.specs.Nodes.{same_node};
 ghost use Rattle.source_index.specs.Holders.{AddsHolder, DropsHolder, HoldsSame, roots_at};
 
 use crate::roots::Roots;
@@ -12,6 +10,9 @@ use edge_store::NoMemory;
 use indexmap::IndexMap;
 use std::alloc::Global;
 use std::marker::Model;
+
+/// Room for no more places than this is kept.
+const LEAST_ROOM: usize = 64;
 
 /// For each vertex with a state the set of the roots whose trees have a node there.
 #[derive(Drop)]
@@ -28,17 +29,31 @@ impl Model for Holders {
     ghost view = { λ holders. holders.places.entries };
 }
 
-/// Takes the root out of the set of the place. Answers whether this has no root then.
-fn take_out(places: &mut IndexMap<NodeId, Roots>, id: NodeId, root: u32) -> bool
+/// Takes the root out of the set of the place. Answers the index of the place where this has no
+/// root then.
+fn take_out(places: &mut IndexMap<NodeId, Roots>, id: NodeId, root: u32) -> Option<usize>
     ensures dropped { DropsHolder places.old.entries places.new.entries id root }
-    ensures bare { IsTrue result → roots_at places.new.entries id ≡ [] }
+    ensures bare { OnSome result (roots_at places.new.entries id ≡ []) }
+    ensures at { IfSome result (λ index.
+        (roots : List ℕ) × (slice_get places.new.entries index ≡ Some (id, roots))) }
 {
-    match places.get_mut(&id) {
-        Some(roots) => {
-            roots.remove(root);
-            roots.is_empty()
-        }
-        None => false,
+    let index = places.get_index_of(&id)?;
+    let roots = places.get_index_mut(index)?;
+    roots.remove(root);
+    if roots.is_empty() {
+        return Some(index);
+    }
+    None
+}
+
+/// Gives memory back where three quarters of it aren't used any more. So it costs no more than the
+/// drops since the last time.
+fn give_back(places: &mut IndexMap<NodeId, Roots>)
+    ensures { places.new.entries ≡ places.old.entries }
+{
+    let (used, room) = (places.len(), places.capacity());
+    if room > LEAST_ROOM && used <= room / 4 {
+        places.shrink_to(room / 2);
     }
 }
 
@@ -70,30 +85,18 @@ impl Holders {
         ensures added { OnOk result (AddsHolder self.old self.new id root) }
         ensures unchanged { OnErr result (HoldsSame self.old self.new) }
     {
-        match self.places.get_mut(&id) {
-            Some(roots) => roots.add(root),
-            None => self.add_first(id, root),
-        }
+        let roots = self.places.entry(id)?.or_insert(Roots::new(self.alloc));
+        roots.add(root)
     }
 
-    /// Holds the root at a place where none is held.
-    fn add_first(&mut self, id: NodeId, root: u32) -> Result<(), NoMemory>
-        requires { lookup (same_node id) self.old ≡ None }
-        ensures added { OnOk result (AddsHolder self.old self.new id root) }
-        ensures unchanged { OnErr result (self.new ≡ self.old) }
-    {
-        let mut roots = Roots::new(self.alloc);
-        roots.add(root)?;
-        self.places.insert(id, roots)?;
-        Ok(())
-    }
-
-    /// Holds the root at the place no more. A place without roots gives its memory back.
+    /// Holds the root at the place no more. A place without roots is forgotten, and
+    /// memory is given back where most of it isn't used any more.
     pub fn drop(&mut self, id: NodeId, root: u32)
         ensures { DropsHolder self.old self.new id root }
     {
-        if take_out(&mut self.places, id, root) {
-            self.places.swap_remove(&id);
+        if let Some(index) = take_out(&mut self.places, id, root) {
+            self.places.swap_remove_index(index);
+            give_back(&mut self.places);
         }
     }
 

@@ -1,12 +1,13 @@
 //! Roots in the order of their numbers.
 
-ghost use Rattle.std.specs.Prelude.{◌≡◌, ℕ, ◌∷◌, ◌+◌, ◌<◌, ◌≤◌, Contains, IfSome, IfNone, OnSome};
+ghost use Rattle.std.specs.Prelude.{◌≡◌, ℕ, ◌∷◌, ◌+◌, ◌<◌, ◌≤◌, Contains, IfSome, IfNone, OnSome, IfOk, map};
 ghost use Rattle.std.specs.BinaryHeap.{heap_items, heap_len, heap_capacity};
 ghost use Rattle.std.specs.List.Sorted.{IsPermutation};
 ghost use Rattle.source_index.specs.Dues.{AllLater, IsDueBy, due_of};
 ghost use Rattle.source_index.specs.Queue.{due, IsQueue, AreNoted, AreNotedBut};
 
 use indexmap::IndexMap;
+use std::alloc::AllocError;
 use std::cmp::Reverse;
 use std::collections::BinaryHeap;
 
@@ -18,7 +19,7 @@ pub(crate) struct Due {
 }
 
 /// The number of a root, or none where it has none.
-pub(crate) fn number_of(numbers: &IndexMap<u32, u64>, root: u32) -> Option<u64>
+fn number_of(numbers: &IndexMap<u32, u64>, root: u32) -> Option<u64>
     ensures { result ≡ due_of numbers.now.entries root }
 {
     numbers.get(&root).copied()
@@ -35,6 +36,38 @@ pub(crate) fn push(queue: &mut BinaryHeap<Due>, root: u32, number: u64)
         number: Reverse(number),
         root,
     });
+}
+
+/// A queue of the present numbers alone.
+fn queue_of(numbers: &IndexMap<u32, u64>) -> Result<BinaryHeap<Due>, AllocError>
+    ensures order { IfOk result (λ queue. IsQueue (heap_items queue)) }
+    ensures noted { IfOk result (λ queue.
+        IsPermutation (map (λ each. due each.0 each.1) numbers.now.entries) (heap_items queue)) }
+{
+    numbers
+        .iter()
+        .map(|(root, number)| Due {
+            number: Reverse(*number),
+            root: *root,
+        })
+        .collect(*numbers.allocator())
+}
+
+/// Forgets the numbers that roots had before, where the queue has several times as many entries as
+/// there are present numbers. So it costs no more than the notes since the last time. Where memory
+/// is short, the queue stays as it is.
+pub(crate) fn forget_former(numbers: &IndexMap<u32, u64>, queue: &mut BinaryHeap<Due>)
+    requires order { IsQueue (heap_items queue.old) }
+    requires noted { AreNoted numbers.now.entries (heap_items queue.old) }
+    ensures order { IsQueue (heap_items queue.new) }
+    ensures noted { AreNoted numbers.now.entries (heap_items queue.new) }
+{
+    if queue.len() / 4 <= numbers.len().saturating_add(16) {
+        return;
+    }
+    if let Ok(present) = queue_of(numbers) {
+        *queue = present;
+    }
 }
 
 /// The next root that was noted with a number of at most `now`, with it; or none, which costs one

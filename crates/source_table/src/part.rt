@@ -1,6 +1,6 @@
 //! A change of the chosen ones among some sources.
 
-ghost use Rattle.std.specs.Prelude.{◌≡◌, ◌*◌, ◌/◌, ◌+◌, ◌<◌, ◌≤◌, length, nat_eq, filter_map, All, IfOk, OnOk};
+ghost use Rattle.std.specs.Prelude.{◌≡◌, ◌*◌, ◌/◌, ◌+◌, ◌<◌, ◌≤◌, length, nat_eq, filter_map, All, OnOk};
 ghost use Rattle.std.specs.List.{IsDistinct};
 ghost use Rattle.edge_store.specs.Edges.{value_of};
 ghost use Rattle.dfa_table.specs.DfaValue.{step_of};
@@ -17,22 +17,22 @@ use std::thread;
 use std::thread::Threads;
 use tree_insert::Search;
 
-/// The places of these roots, of those that have one.
-pub(crate) fn places_of(
-    alloc: Global,
+/// Makes the list that of the places of these roots, of those that have one.
+pub(crate) fn choose(
     places: &IndexMap<u32, usize>,
     roots: &[u32],
-) -> Result<Vec<usize>, NoMemory>
-    ensures { IfOk result (λ chosen.
-        chosen.items ≡ filter_map (place_of places.now.entries) roots.now) }
+    chosen: &mut Vec<usize>,
+) -> Result<(), NoMemory>
+    ensures { OnOk result
+        (chosen.new.items ≡ filter_map (place_of places.now.entries) roots.now) }
 {
-    let mut chosen = Vec::new(alloc);
+    chosen.clear();
     for root in roots {
         if let Some(place) = places.get(root) {
             chosen.push(*place)?;
         }
     }
-    Ok(chosen)
+    Ok(())
 }
 
 /// The number of the worker, from 1, whose chunk begins at this place. The chunks have this size,
@@ -75,8 +75,8 @@ fn change_one(
 }
 
 /// Makes the chosen sources of a part, which begins at this place, take a change.
-pub(crate) fn change_part(
-    alloc: Global,
+fn change_part(
+    search: &mut Search,
     chosen: &[usize],
     start: usize,
     part: &mut [SourceTree],
@@ -91,9 +91,8 @@ pub(crate) fn change_part(
     ensures { Tries chosen.now start change (value_of store.now) (step_of dfa.now) finals.now
         part.old part.new }
 {
-    let mut search = Search::new(alloc);
     for place in chosen {
-        change_one(&mut search, *place, start, part, store, dfa, finals, change);
+        change_one(search, *place, start, part, store, dfa, finals, change);
     }
 }
 
@@ -109,8 +108,8 @@ pub(crate) fn chunk_size(len: usize, workers: u32) -> usize
 }
 
 /// Makes the chosen sources take a change, in chunks of this size, each by a worker that passes the
-/// gate first.
-pub(crate) fn change_all<R: Threads + Sync, G: Gate>(
+/// gate first and has a search of its own.
+fn change_chunks<R: Threads + Sync, G: Gate>(
     rt: &R,
     gate: &G,
     alloc: Global,
@@ -143,9 +142,64 @@ pub(crate) fn change_all<R: Threads + Sync, G: Gate>(
                 (step_of dfa.entry.now) finals.entry.now part.entry.now part.exit.now }
         {
             gate.pass(Who::Trees(worker_of(start, size)));
-            change_part(alloc, chosen, start, part, store, dfa, finals, change);
+            let mut search = Search::new(alloc);
+            change_part(&mut search, chosen, start, part, store, dfa, finals, change);
         },
     );
+}
+
+/// Makes the chosen sources take a change, all by one worker.
+fn change_whole(
+    search: &mut Search,
+    chosen: &[usize],
+    sources: &mut Vec<SourceTree>,
+    store: &EdgeStore,
+    dfa: &Dfa,
+    finals: &[u32],
+    change: Change,
+)
+    requires once { IsDistinct nat_eq chosen.now }
+    requires ready { CanTry chosen.now 0 change (value_of store.now) (step_of dfa.now) finals.now
+        sources.old.items }
+    ensures len { length sources.new.items ≡ length sources.old.items }
+    ensures tries { Tries chosen.now 0 change (value_of store.now) (step_of dfa.now) finals.now
+        sources.old.items sources.new.items }
+{
+    change_part(search, chosen, 0, sources, store, dfa, finals, change);
+}
+
+/// Makes the chosen sources take a change, in chunks of this size, each by a worker that passes the
+/// gate first. Where one chunk has all sources, it takes the room of this search.
+pub(crate) fn change_all<R: Threads + Sync, G: Gate>(
+    rt: &R,
+    gate: &G,
+    alloc: Global,
+    search: &mut Search,
+    size: usize,
+    chosen: &[usize],
+    sources: &mut Vec<SourceTree>,
+    store: &EdgeStore,
+    dfa: &Dfa,
+    finals: &[u32],
+    change: Change,
+)
+    requires some { 0 < size }
+    requires covers { length sources.old.items ≤ 64 * size }
+    requires once { IsDistinct nat_eq chosen.now }
+    requires ready { CanTry chosen.now 0 change (value_of store.now) (step_of dfa.now) finals.now
+        sources.old.items }
+    ensures len { length sources.new.items ≡ length sources.old.items }
+    ensures tries { Tries chosen.now 0 change (value_of store.now) (step_of dfa.now) finals.now
+        sources.old.items sources.new.items }
+{
+    if size < sources.len() {
+        change_chunks(
+            rt, gate, alloc, size, chosen, sources, store, dfa, finals, change,
+        );
+    } else {
+        gate.pass(Who::Trees(1));
+        change_whole(search, chosen, sources, store, dfa, finals, change);
+    }
 }
 
 /// Finds whether memory ran out for one of the chosen sources.

@@ -8,7 +8,7 @@ ghost use Rattle.dfa_table.specs.DfaValue.{step_of};
 ghost use Rattle.source_tree.specs.Ends.{SourceValue};
 ghost use Rattle.source_table.specs.Sources.{AreApart, AreReady, GivesSource, HaveTaken, roots_of, source_in};
 
-use crate::part::{change_all, check, chunk_size, places_of};
+use crate::part::{change_all, check, choose, chunk_size};
 use dfa_table::Dfa;
 use edge_store::{EdgeStore, NoMemory};
 use indexmap::IndexMap;
@@ -17,6 +17,7 @@ use source_tree::{Change, SourceTree};
 use std::alloc::Global;
 use std::marker::Model;
 use std::thread::Threads;
+use tree_insert::Search;
 
 /// The trees of some sources, each found by its root.
 ///
@@ -27,6 +28,10 @@ pub struct SourceTable {
     sources: Vec<SourceTree>,
     /// The place of each source, by its root.
     places: IndexMap<u32, usize>,
+    /// The places of the sources that take a change, in the memory of the changes before.
+    chosen: Vec<usize>,
+    /// The room of the searches of one worker.
+    search: Search,
 }
 
 impl Model for SourceTable {
@@ -51,6 +56,8 @@ impl SourceTable {
             alloc,
             sources: Vec::new(alloc),
             places: IndexMap::new(alloc),
+            chosen: Vec::new(alloc),
+            search: Search::new(alloc),
         }
     }
 
@@ -129,13 +136,21 @@ impl SourceTable {
         if self.sources.is_empty() {
             return Ok(());
         }
-        let chosen = places_of(self.alloc, &self.places, roots)?;
+        choose(&self.places, roots, &mut self.chosen)?;
         let size = chunk_size(self.sources.len(), workers);
-        let alloc = self.alloc;
-        let sources = &mut self.sources;
         change_all(
-            rt, gate, alloc, size, &chosen, sources, store, dfa, finals, change,
+            rt,
+            gate,
+            self.alloc,
+            &mut self.search,
+            size,
+            &self.chosen,
+            &mut self.sources,
+            store,
+            dfa,
+            finals,
+            change,
         );
-        check(&self.sources, &chosen)
+        check(&self.sources, &self.chosen)
     }
 }

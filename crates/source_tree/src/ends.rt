@@ -9,16 +9,18 @@ ghost use Rattle.source_tree.specs.Ends.{later, end_in};
 ghost use Rattle.source_tree.specs.Updating.{IsUpdating, kept_end, reached_of};
 
 use crate::change::{EndChange, Reached};
+use crate::room::empty_for;
 use delta_tree::{NodeId, Tree};
 use edge_store::NoMemory;
-use indexmap::IndexMap;
+use small_map::SmallMap;
 use std::alloc::Global;
 
 /// Whether the state is one of these.
 fn is_final(finals: &[u32], state: u32) -> bool
     ensures { IsTrue result ↔ Contains finals.now state }
 {
-    finals.contains(&state)
+    // There are few of them, for which a plain pass is faster than `contains`.
+    finals.iter().any(|each| *each == state)
 }
 
 /// The greater of two numbers that may be there.
@@ -51,33 +53,24 @@ fn end_of(tree: &Tree, finals: &[u32], vertex: u32) -> Option<u64>
 }
 
 /// The end that is kept for the vertex.
-fn end_kept(ends: &IndexMap<u32, u64>, vertex: u32) -> Option<u64>
-    ensures { result ≡ kept_end ends.now.entries vertex }
+fn end_kept(ends: &SmallMap<u32, u64>, vertex: u32) -> Option<u64>
+    ensures { result ≡ kept_end ends.now vertex }
 {
     ends.get(&vertex).copied()
 }
 
-/// Forgets the end of the vertex, and gives memory back where few are left for the room.
-fn drop_end(ends: &mut IndexMap<u32, u64>, vertex: u32)
-    ensures { (each : ℕ) → kept_end ends.new.entries each
-        ≡ cond (vertex == each) None (kept_end ends.old.entries each) }
-{
-    ends.swap_remove(&vertex);
-    if ends.len() <= ends.capacity() / 4 {
-        ends.shrink_to_fit();
-    }
-}
-
 /// Keeps this end for the vertex, or none.
-fn keep_end(ends: &mut IndexMap<u32, u64>, vertex: u32, end: Option<u64>) -> Result<(), NoMemory>
-    ensures { OnOk result ((each : ℕ) → kept_end ends.new.entries each
-        ≡ cond (vertex == each) end (kept_end ends.old.entries each)) }
+fn keep_end(ends: &mut SmallMap<u32, u64>, vertex: u32, end: Option<u64>) -> Result<(), NoMemory>
+    ensures { OnOk result ((each : ℕ) → kept_end ends.new each
+        ≡ cond (vertex == each) end (kept_end ends.old each)) }
 {
     match end {
         Some(value) => {
-            ends.insert(vertex, value)?;
+            ends.put(vertex, value)?;
         }
-        None => drop_end(ends, vertex),
+        None => {
+            ends.remove(&vertex);
+        }
     }
     Ok(())
 }
@@ -87,13 +80,13 @@ fn keep_end(ends: &mut IndexMap<u32, u64>, vertex: u32, end: Option<u64>) -> Res
 fn update_end(
     tree: &Tree,
     finals: &[u32],
-    ends: &mut IndexMap<u32, u64>,
+    ends: &mut SmallMap<u32, u64>,
     log: &mut Vec<EndChange>,
     id: NodeId,
 ) -> Result<(), NoMemory>
     ensures { OnOk result ((before : ℕ → Option ℕ) (left : List NodeId) →
-        IsUpdating finals.now tree.now before ends.old.entries log.old.items (id ∷ left) →
-        IsUpdating finals.now tree.now before ends.new.entries log.new.items left) }
+        IsUpdating finals.now tree.now before ends.old log.old.items (id ∷ left) →
+        IsUpdating finals.now tree.now before ends.new log.new.items left) }
 {
     if !is_final(finals, id.state) {
         return Ok(());
@@ -103,27 +96,34 @@ fn update_end(
     if is_same(before, after) {
         return Ok(());
     }
-    log.push(EndChange {
+    let change = EndChange {
         root: tree.root(),
         vertex: id.vertex,
         before,
         after,
-    })?;
+    };
+    log.push(change)?;
     keep_end(ends, id.vertex, after)
 }
 
-/// Looks at these places.
+/// The number of these places whose state is final.
+fn count_final(finals: &[u32], ids: &[NodeId]) -> usize {
+    ids.iter().filter(|id| is_final(finals, id.state)).count()
+}
+
+/// Looks at these places. The log tells of this change alone.
 pub(crate) fn update_ends(
     tree: &Tree,
     finals: &[u32],
-    ends: &mut IndexMap<u32, u64>,
+    ends: &mut SmallMap<u32, u64>,
     log: &mut Vec<EndChange>,
     changed: &[NodeId],
 ) -> Result<(), NoMemory>
     ensures { OnOk result ((before : ℕ → Option ℕ) →
-        IsUpdating finals.now tree.now before ends.old.entries log.old.items changed.now →
-        IsUpdating finals.now tree.now before ends.new.entries log.new.items []) }
+        IsUpdating finals.now tree.now before ends.old [] changed.now →
+        IsUpdating finals.now tree.now before ends.new log.new.items []) }
 {
+    empty_for(log, count_final(finals, changed))?;
     for id in changed {
         update_end(tree, finals, ends, log, *id)?;
     }
@@ -131,15 +131,16 @@ pub(crate) fn update_ends(
 }
 
 /// The vertices that have an end, each with it, in the order in which they are kept.
-pub(crate) fn list_ends(alloc: Global, ends: &IndexMap<u32, u64>) -> Result<Vec<Reached>, NoMemory>
-    ensures all { IfOk result (λ reached. reached.items ≡ map reached_of ends.now.entries) }
-    ensures once { IsDistinct ◌==◌ (keys_of ends.now.entries) }
+pub(crate) fn list_ends(alloc: Global, ends: &SmallMap<u32, u64>) -> Result<Vec<Reached>, NoMemory>
+    ensures all { IfOk result (λ reached. reached.items ≡ map reached_of ends.now) }
+    ensures once { IsDistinct ◌==◌ (keys_of ends.now) }
 {
     Ok(
-        ends.iter()
-            .map(|(vertex, value)| Reached {
-                vertex: *vertex,
-                value: *value,
+        ends.as_slice()
+            .iter()
+            .map(|end| Reached {
+                vertex: end.0,
+                value: end.1,
             })
             .collect(alloc)?,
     )

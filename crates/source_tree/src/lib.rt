@@ -7,11 +7,13 @@
 //! change doesn't touch keeps its place and its stamp, and the list of changed ends is exact.
 //!
 //! A change costs what it costs the tree, and for each place that it touches and whose state is
-//! final a look-up for each final state.
+//! final a look-up for each final state. The lists of the last change are kept with their memory
+//! where this is for a few places, so that a small change takes none for them.
 #![tactic(auto)]
 
 mod change;
 mod ends;
+mod room;
 mod source;
 mod steps;
 

@@ -16,7 +16,7 @@ use crate::steps::change_tree;
 use delta_tree::{NodeId, Tree};
 use dfa_table::Dfa;
 use edge_store::{EdgeId, EdgeStore, NoMemory};
-use indexmap::IndexMap;
+use small_map::SmallMap;
 use std::alloc::Global;
 use std::marker::Model;
 use tree_insert::Search;
@@ -29,7 +29,7 @@ pub struct SourceTree {
     alloc: Global,
     tree: Tree,
     /// The end of each vertex that has one.
-    ends: IndexMap<u32, u64>,
+    ends: SmallMap<u32, u64>,
     /// The places that the last change touched.
     changed: Vec<NodeId>,
     /// The ends that the last change changed.
@@ -44,7 +44,7 @@ impl Model for SourceTree {
 
     ghost view = { λ source. record {
       tree = source.tree;
-      ends = source.ends.entries;
+      ends = source.ends;
       changed = source.changed.items;
       log = source.log.items;
       broken = source.broken;
@@ -63,7 +63,7 @@ impl SourceTree {
         Ok(SourceTree {
             alloc,
             tree: Tree::new(alloc, root)?,
-            ends: IndexMap::new(alloc),
+            ends: SmallMap::new(alloc),
             changed: Vec::new(alloc),
             log: Vec::new(alloc),
             broken: false,
@@ -157,9 +157,15 @@ impl SourceTree {
         ensures broken { OnErr result (self.new.broken ≡ true) }
     {
         self.broken = true;
-        self.changed.clear();
-        self.log.clear();
-        self.changed = change_tree(self.alloc, search, &mut self.tree, store, dfa, change)?;
+        change_tree(
+            self.alloc,
+            search,
+            &mut self.tree,
+            store,
+            dfa,
+            change,
+            &mut self.changed,
+        )?;
         update_ends(
             &self.tree,
             finals,

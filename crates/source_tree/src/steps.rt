@@ -11,6 +11,7 @@ ghost use Rattle.source_tree.specs.Updating.{HasChanged};
 ghost use Rattle.source_tree.specs.declared.change.Change.TheVariants.{Raise, Remove, Expire};
 
 use crate::change::Change;
+use crate::room::empty_for;
 use delta_tree::{NodeId, Tree};
 use dfa_table::Dfa;
 use edge_store::{EdgeId, EdgeStore, NoMemory, Steps};
@@ -44,23 +45,26 @@ fn search_raised<L: Ledger>(
     search.raise(tree, store, dfa, edge, &mut steps)
 }
 
-/// Makes the tree optimal after the raise of an edge, and answers the nodes that are new or raised.
+/// Makes the tree optimal after the raise of an edge, and lists the nodes that are new or raised.
 fn raise_edge(
-    alloc: Global,
     search: &mut Search,
     tree: &mut Tree,
     store: &EdgeStore,
     dfa: &Dfa,
     edge: EdgeId,
-) -> Result<Vec<NodeId>, NoMemory>
+    ids: &mut Vec<NodeId>,
+) -> Result<(), NoMemory>
     requires puts { tree.old.puts < 2 ^ 126 }
     requires before { WasOptimal (value_in store.now) (step_of dfa.now) tree.old edge }
-    ensures changed { IfOk result (λ ids. (value : ℕ) → HasChanged (Raise edge value)
-        (value_in store.now) (step_of dfa.now) tree.old tree.new ids.items) }
+    ensures changed { OnOk result ((value : ℕ) → HasChanged (Raise edge value)
+        (value_in store.now) (step_of dfa.now) tree.old tree.new ids.new.items) }
     ensures later { IsLater tree.old tree.new }
 {
     search_raised::<Brand>(search, tree, store, dfa, edge, Blank::new(1))?;
-    Ok(Vec::from_slice(alloc, search.risen())?)
+    let risen = search.risen();
+    empty_for(ids, risen.len())?;
+    ids.extend_from_slice(risen)?;
+    Ok(())
 }
 
 /// The search after the removal of an edge, whose steps nobody asks for.
@@ -88,8 +92,18 @@ fn search_removed<L: Ledger>(
     tree_remove_with(search, alloc, tree, store, dfa, edge, &mut steps)
 }
 
-/// Makes the tree optimal after the removal of an edge, and answers the nodes on whose path it
-/// stood.
+/// Lists the nodes that were cut. Where there are some, their list comes with its own memory.
+fn list_cut(ids: &mut Vec<NodeId>, cut: Vec<NodeId>)
+    ensures { ids.new.items ≡ cut.items }
+{
+    if cut.is_empty() {
+        ids.clear();
+    } else {
+        *ids = cut;
+    }
+}
+
+/// Makes the tree optimal after the removal of an edge, and lists the nodes on whose path it stood.
 fn remove_edge(
     alloc: Global,
     search: &mut Search,
@@ -97,30 +111,39 @@ fn remove_edge(
     store: &EdgeStore,
     dfa: &Dfa,
     edge: EdgeId,
-) -> Result<Vec<NodeId>, NoMemory>
+    ids: &mut Vec<NodeId>,
+) -> Result<(), NoMemory>
     requires puts { tree.old.puts < 2 ^ 126 }
     requires before { WasOptimalWith (value_in store.now) (step_of dfa.now) tree.old edge }
-    ensures changed { IfOk result (λ ids. HasChanged (Remove edge)
-        (value_in store.now) (step_of dfa.now) tree.old tree.new ids.items) }
+    ensures changed { OnOk result (HasChanged (Remove edge)
+        (value_in store.now) (step_of dfa.now) tree.old tree.new ids.new.items) }
     ensures later { IsLater tree.old tree.new }
 {
     let cut = search_removed::<Brand>(alloc, search, tree, store, dfa, edge, Blank::new(1))?;
-    Ok(cut)
+    list_cut(ids, cut);
+    Ok(())
 }
 
-/// Takes the nodes out whose value is at most this number, and answers them.
-fn expire(tree: &mut Tree, store: &EdgeStore, dfa: &Dfa, now: u64) -> Result<Vec<NodeId>, NoMemory>
+/// Takes the nodes out whose value is at most this number, and lists them.
+fn expire(
+    tree: &mut Tree,
+    store: &EdgeStore,
+    dfa: &Dfa,
+    now: u64,
+    ids: &mut Vec<NodeId>,
+) -> Result<(), NoMemory>
     requires before { WasOptimalBefore (Expire now) (value_in store.now) (step_of dfa.now)
         tree.old }
-    ensures changed { IfOk result (λ ids. HasChanged (Expire now)
-        (value_in store.now) (step_of dfa.now) tree.old tree.new ids.items) }
+    ensures changed { OnOk result (HasChanged (Expire now)
+        (value_in store.now) (step_of dfa.now) tree.old tree.new ids.new.items) }
     ensures later { IsLater tree.old tree.new }
 {
     let cut = tree.cut_due(now)?;
-    Ok(cut)
+    list_cut(ids, cut);
+    Ok(())
 }
 
-/// Makes the tree optimal after a change of the store, and answers the places that it touched.
+/// Makes the tree optimal after a change of the store, and lists the places that it touched.
 pub(crate) fn change_tree(
     alloc: Global,
     search: &mut Search,
@@ -128,16 +151,17 @@ pub(crate) fn change_tree(
     store: &EdgeStore,
     dfa: &Dfa,
     change: Change,
-) -> Result<Vec<NodeId>, NoMemory>
+    ids: &mut Vec<NodeId>,
+) -> Result<(), NoMemory>
     requires puts { tree.old.puts < 2 ^ 126 }
     requires before { WasOptimalBefore change (value_in store.now) (step_of dfa.now) tree.old }
-    ensures changed { IfOk result (λ ids. HasChanged change (value_in store.now)
-        (step_of dfa.now) tree.old tree.new ids.items) }
+    ensures changed { OnOk result (HasChanged change (value_in store.now)
+        (step_of dfa.now) tree.old tree.new ids.new.items) }
     ensures later { IsLater tree.old tree.new }
 {
     match change {
-        Change::Raise { edge, .. } => raise_edge(alloc, search, tree, store, dfa, edge),
-        Change::Remove(edge) => remove_edge(alloc, search, tree, store, dfa, edge),
-        Change::Expire(now) => expire(tree, store, dfa, now),
+        Change::Raise { edge, .. } => raise_edge(search, tree, store, dfa, edge, ids),
+        Change::Remove(edge) => remove_edge(alloc, search, tree, store, dfa, edge, ids),
+        Change::Expire(now) => expire(tree, store, dfa, now, ids),
     }
 }

@@ -7,7 +7,7 @@ use Rattle.delta_tree.proofs.cut.retain_dues.Goals as goal
 pub returns-clause-noted : goal.returns-clause-noted
 returns-clause-noted c =
     let (kept, filtered, moved) = c.retain.ensures.filtered in
-    noted_retained c.args.nodes.now.entries (heap_items c.args.dues.now) kept
+    noted_retained c.args.nodes.now (heap_items c.args.dues.now) kept
     (heap_items c.retain.new.self) c.requires.noted
-    (filter_same _ (stands c.args.nodes.now.entries) _ (λ x b f' call. search rules) _ _ filtered)
+    (filter_same _ (stands c.args.nodes.now) _ (λ x b f' call. search rules) _ _ filtered)
     moved

@@ -1,4 +1,4 @@
-use Rattle.std.proofs.Common.{List, sym, subst, ◌∙◌}
+use Rattle.std.proofs.Common.{◌++◌, List, sym, ap₂, subst, ◌∙◌}
 use Rattle.delta_tree.specs.declared.node.NodeId.{NodeId}
 use Rattle.source_tree.specs.Taking.{TouchesAtMost}
 use Rattle.source_tree.specs.declared.change.Change.TheVariants.{Raise}
@@ -12,6 +12,8 @@ returns-clause-changed c value =
       keeps = found.keeps;
       touches = subst (λ (ids : List NodeId). TouchesAtMost (Raise c.args.edge value)
           c.args.tree.now c.search_raised.new.tree ids)
-          (sym (c.in_ok-from_slice.ensures.items ∙ c.risen.ensures))
+          (sym (c.in_ok-extend_from_slice.ensures.items
+          ∙ ap₂ (λ (before more : List NodeId). before ++ more)
+          c.empty_for.ensures c.risen-risen.ensures))
           (record { touched = found.risen; others = found.others });
     }

@@ -8,7 +8,7 @@ pub returns-then-not-has_edge : goal.returns-then-not-has_edge
 returns-then-not-has_edge c =
     let tree : TreeValue = record {
       root = c.self.inside.root;
-      nodes = c.self.inside.nodes.entries;
+      nodes = c.self.inside.nodes;
       puts = c.self.inside.puts;
     } in
     subst (AreBelow c.args.self.now c.args.edge) (sym c.new.ensures.items)

@@ -1,6 +1,5 @@
 use Rattle.std.proofs.Common.{◌≡◌, None, cond, sym, ap, subst, refl, ◌∙◌, arith}
 use Rattle.std.proofs.lemmas.Bool.{eqb-true}
-use Rattle.std.specs.BinaryHeap.{heap_items}
 use Rattle.std.specs.List.{list_any}
 use Rattle.std.specs.Vec.{vec_len}
 use Rattle.delta_tree.specs.declared.node.NodeId.{NodeId}
@@ -21,24 +20,24 @@ returns-then-is_empty-clause-gone c =
     ))
 
 -- the nodes that are left
-left : (c : goal.After-give_back) (id : NodeId) → node_in c.give_back.new.nodes.entries id
+left : (c : goal.After-give_back) (id : NodeId) → node_in c.take_out.new.nodes id
     ≡ cond (list_any (same_node id) c.in_ok-cut.cut.items) None
-    (node_in c.self.inside.nodes.entries id)
+    (node_in c.self.inside.nodes id)
 left c id =
-    ap (λ nodes. node_in nodes id) c.give_back.ensures.nodes ∙ c.take_out.ensures id
-    ∙ ap (λ ids. cond (list_any (same_node id) ids) None (node_in c.self.inside.nodes.entries id))
+    c.take_out.ensures.gone id
+    ∙ ap (λ ids. cond (list_any (same_node id) ids) None (node_in c.self.inside.nodes id))
     c.deref.ensures.value
 
 pub invariant_of-self : goal.invariant_of-self
 invariant_of-self c =
     let old : TreeValue = record {
       root = c.self.inside.root;
-      nodes = c.self.inside.nodes.entries;
+      nodes = c.self.inside.nodes;
       puts = c.self.inside.puts;
     } in
     let new : TreeValue = record {
       root = c.self.inside.root;
-      nodes = c.give_back.new.nodes.entries;
+      nodes = c.take_out.new.nodes;
       puts =
           c.self.inside.puts;
     } in
@@ -50,25 +49,23 @@ invariant_of-self c =
           cut_keeps old new c.args.edge c.self.invariant.is_tree
           (all_cut old new c.args.edge c.in_ok-cut.cut.items below (left c))
           (record { root = refl; puts = refl });
-      once = c.give_back.ensures.once;
+      once = c.take_out.ensures.once;
       noted =
-          subst (λ nodes. IsNoted nodes (heap_items c.give_back.new.dues))
-          (sym c.give_back.ensures.nodes)
-          (subst (IsNoted c.take_out.new.nodes.entries) (sym c.give_back.ensures.dues)
-          c.retain_dues.ensures.noted);
-      order = subst IsQueue (sym c.give_back.ensures.dues) c.retain_dues.ensures.order;
+          subst (IsNoted c.take_out.new.nodes) (sym c.give_back.ensures)
+          c.retain_dues.ensures.noted;
+      order = subst IsQueue (sym c.give_back.ensures) c.retain_dues.ensures.order;
     }
 
 pub returns-clause-gone : goal.returns-clause-gone
 returns-clause-gone c =
     let old : TreeValue = record {
       root = c.self.inside.root;
-      nodes = c.self.inside.nodes.entries;
+      nodes = c.self.inside.nodes;
       puts = c.self.inside.puts;
     } in
     let new : TreeValue = record {
       root = c.self.inside.root;
-      nodes = c.give_back.new.nodes.entries;
+      nodes = c.take_out.new.nodes;
       puts =
           c.self.inside.puts;
     } in

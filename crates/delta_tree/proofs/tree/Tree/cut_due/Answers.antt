@@ -17,8 +17,8 @@ loop-id-init c = record {
   };
   root = refl;
   puts = refl;
-  gone = subst (AreGone c.args.now c.self.inside.nodes.entries c.self.inside.nodes.entries)
-      (sym c.new-cut.ensures.items) (none_gone c.args.now c.self.inside.nodes.entries);
+  gone = subst (AreGone c.args.now c.self.inside.nodes c.self.inside.nodes)
+      (sym c.new-cut.ensures.items) (none_gone c.args.now c.self.inside.nodes);
 }
 
 pub loop-id-smaller : goal.loop-id-smaller
@@ -34,14 +34,14 @@ loop-id-smaller c =
 pub loop-id-preserved : goal.loop-id-preserved
 loop-id-preserved c =
     let (value, reached, moved) = c.in-Some.ensures.taken in
-    let first = c.self.inside.nodes.entries in
-    let old = c.loop-id.self-inside.nodes.entries in
-    let new = c.drop_or_note-gone.new.nodes.entries in
+    let first = c.self.inside.nodes in
+    let old = c.loop-id.self-inside.nodes in
+    let new = c.drop_or_note-gone.new.nodes in
     record {
       expiring =
-          expiring_after c.args.now c.loop-id.self-inside.nodes.entries
-          c.drop_or_note-gone.new.nodes.entries c.in-Some.id c.drop_or_note-gone.ensures.nodes
-          c.self.inside.nodes.entries (heap_items c.loop-id.self-inside.dues)
+          expiring_after c.args.now c.loop-id.self-inside.nodes
+          c.drop_or_note-gone.new.nodes c.in-Some.id c.drop_or_note-gone.ensures.nodes
+          c.self.inside.nodes (heap_items c.loop-id.self-inside.dues)
           (heap_items c.next_due.new.dues) (heap_items c.drop_or_note-gone.new.dues) value
           c.loop-id.invariant.expiring moved c.drop_or_note-gone.ensures.kept
           c.drop_or_note-gone.ensures.noted c.drop_or_note-gone.ensures.once c.drop_or_note-gone.ensures.order;
@@ -61,12 +61,12 @@ pub invariant_of-self : goal.invariant_of-self
 invariant_of-self c =
     let old : TreeValue = record {
       root = c.self.inside.root;
-      nodes = c.self.inside.nodes.entries;
+      nodes = c.self.inside.nodes;
       puts = c.self.inside.puts;
     } in
     let new : TreeValue = record {
       root = c.loop-id.self-inside.root;
-      nodes = c.loop-id.self-inside.nodes.entries;
+      nodes = c.loop-id.self-inside.nodes;
       puts = c.loop-id.self-inside.puts;
     } in
     kept_after c.args.now old new (heap_items c.loop-id.self-inside.dues)
@@ -79,26 +79,26 @@ pub returns-then-whole-clause-cut : goal.returns-then-whole-clause-cut
 returns-then-whole-clause-cut c =
     let old : TreeValue = record {
       root = c.self.inside.root;
-      nodes = c.self.inside.nodes.entries;
+      nodes = c.self.inside.nodes;
       puts = c.self.inside.puts;
     } in
     subst (λ (tree : TreeValue). AreDue tree c.args.now c.loop-id.cut.items) c.self.view_is
-    (are_due c.args.now old c.loop-id.self-inside.nodes.entries c.loop-id.cut.items
+    (are_due c.args.now old c.loop-id.self-inside.nodes c.loop-id.cut.items
     (OnTrue_at c.if-whole.true c.loop-id.invariant.gone)
-    (all_alive c.args.now c.self.inside.nodes.entries c.loop-id.self-inside.nodes.entries
+    (all_alive c.args.now c.self.inside.nodes c.loop-id.self-inside.nodes
     (heap_items c.loop-id.self-inside.dues) c.loop-id.invariant.expiring
     c.in_default.ensures.later))
 
 pub returns-then-whole-clause-gone : goal.returns-then-whole-clause-gone
 returns-then-whole-clause-gone c id =
-    all_alive c.args.now c.self.inside.nodes.entries c.loop-id.self-inside.nodes.entries
+    all_alive c.args.now c.self.inside.nodes c.loop-id.self-inside.nodes
     (heap_items c.loop-id.self-inside.dues)
     c.loop-id.invariant.expiring c.in_default.ensures.later id
     ∙ ap (λ (tree : TreeValue). living c.args.now (node_of tree id)) c.self.view_is
 
 pub returns-else-whole-clause-gone : goal.returns-else-whole-clause-gone
 returns-else-whole-clause-gone c id =
-    all_alive c.args.now c.self.inside.nodes.entries c.loop-id.self-inside.nodes.entries
+    all_alive c.args.now c.self.inside.nodes c.loop-id.self-inside.nodes
     (heap_items c.loop-id.self-inside.dues)
     c.loop-id.invariant.expiring c.in_default.ensures.later id
     ∙ ap (λ (tree : TreeValue). living c.args.now (node_of tree id)) c.self.view_is

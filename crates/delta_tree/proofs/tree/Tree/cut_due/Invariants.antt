@@ -8,12 +8,12 @@ use Rattle.delta_tree.proofs.tree.Tree.cut_due.Given as goal
 -- what is above the clock stays, and what was taken out is in the list
 abbrev pub invariant-loop-id : goal.invariant-loop-id
 invariant-loop-id l = record {
-  expiring : IsExpiring l.now l.initial.self-inside.nodes.entries l.self-inside.nodes.entries
+  expiring : IsExpiring l.now l.initial.self-inside.nodes l.self-inside.nodes
       (heap_items l.self-inside.dues);
   root : l.self-inside.root ≡ l.initial.self-inside.root;
   puts : l.self-inside.puts ≡ l.initial.self-inside.puts;
-  gone : OnTrue l.whole (AreGone l.now l.initial.self-inside.nodes.entries
-      l.self-inside.nodes.entries l.cut.items);
+  gone : OnTrue l.whole (AreGone l.now l.initial.self-inside.nodes
+      l.self-inside.nodes l.cut.items);
 }
 
 abbrev pub decreases-loop-id : goal.decreases-loop-id

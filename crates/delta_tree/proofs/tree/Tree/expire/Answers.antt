@@ -21,9 +21,9 @@ loop-id-preserved c =
     let (value, reached, moved) = c.in-Some.ensures.taken in
     record {
       expiring =
-          expiring_after c.args.now c.loop-id.self-inside.nodes.entries
-          c.drop_or_note.new.nodes.entries c.in-Some.id c.drop_or_note.ensures.nodes
-          c.self.inside.nodes.entries (heap_items c.loop-id.self-inside.dues)
+          expiring_after c.args.now c.loop-id.self-inside.nodes
+          c.drop_or_note.new.nodes c.in-Some.id c.drop_or_note.ensures.nodes
+          c.self.inside.nodes (heap_items c.loop-id.self-inside.dues)
           (heap_items c.next_due.new.dues) (heap_items c.drop_or_note.new.dues) value
           c.loop-id.invariant.expiring moved c.drop_or_note.ensures.kept
           c.drop_or_note.ensures.noted c.drop_or_note.ensures.once c.drop_or_note.ensures.order;
@@ -35,12 +35,12 @@ pub invariant_of-self : goal.invariant_of-self
 invariant_of-self c =
     let old : TreeValue = record {
       root = c.self.inside.root;
-      nodes = c.self.inside.nodes.entries;
+      nodes = c.self.inside.nodes;
       puts = c.self.inside.puts;
     } in
     let new : TreeValue = record {
       root = c.loop-id.self-inside.root;
-      nodes = c.loop-id.self-inside.nodes.entries;
+      nodes = c.loop-id.self-inside.nodes;
       puts = c.loop-id.self-inside.puts;
     } in
     kept_after c.args.now old new (heap_items c.loop-id.self-inside.dues)
@@ -51,7 +51,7 @@ invariant_of-self c =
 
 pub returns-clause-gone : goal.returns-clause-gone
 returns-clause-gone c id =
-    all_alive c.args.now c.self.inside.nodes.entries c.loop-id.self-inside.nodes.entries
+    all_alive c.args.now c.self.inside.nodes c.loop-id.self-inside.nodes
     (heap_items c.loop-id.self-inside.dues)
     c.loop-id.invariant.expiring c.in_default.ensures.later id
     ∙ ap (λ (tree : TreeValue). living c.args.now (node_of tree id)) c.self.view_is

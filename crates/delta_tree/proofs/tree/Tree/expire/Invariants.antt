@@ -7,7 +7,7 @@ use Rattle.delta_tree.proofs.tree.Tree.expire.Given as goal
 -- what is above the clock stays
 abbrev pub invariant-loop-id : goal.invariant-loop-id
 invariant-loop-id l = record {
-  expiring : IsExpiring l.now l.initial.self-inside.nodes.entries l.self-inside.nodes.entries
+  expiring : IsExpiring l.now l.initial.self-inside.nodes l.self-inside.nodes
       (heap_items l.self-inside.dues);
   root : l.self-inside.root ≡ l.initial.self-inside.root;
   puts : l.self-inside.puts ≡ l.initial.self-inside.puts;

@@ -7,7 +7,7 @@ pub returns-clause-walk : goal.returns-clause-walk
 returns-clause-walk c =
     let tree : TreeValue = record {
       root = c.self.inside.root;
-      nodes = c.self.inside.nodes.entries;
+      nodes = c.self.inside.nodes;
       puts = c.self.inside.puts;
     } in
     subst GivesNodes c.self.view_is (gives_nodes tree c.self.invariant.once)

@@ -8,12 +8,12 @@ pub invariant_of-self-2 : goal.invariant_of-self-2
 invariant_of-self-2 c =
     let old : TreeValue = record {
       root = c.self.inside.root;
-      nodes = c.self.inside.nodes.entries;
+      nodes = c.self.inside.nodes;
       puts = c.self.inside.puts;
     } in
     let new : TreeValue = record {
       root = c.self.inside.root;
-      nodes = c.set_node.new.nodes.entries;
+      nodes = c.set_node.new.nodes;
       puts =
           c.self.inside.puts + 1;
     } in

@@ -11,7 +11,7 @@ pub loop-rank-preserved : goal.loop-rank-preserved
 loop-rank-preserved c =
     let tree : TreeValue = record {
       root = c.self.inside.root;
-      nodes = c.self.inside.nodes.entries;
+      nodes = c.self.inside.nodes;
       puts = c.self.inside.puts;
     } in
     let none : Rank =
@@ -59,7 +59,7 @@ pub returns : goal.returns
 returns c =
     let tree : TreeValue = record {
       root = c.self.inside.root;
-      nodes = c.self.inside.nodes.entries;
+      nodes = c.self.inside.nodes;
       puts = c.self.inside.puts;
     } in
     found_all c.args.self.now c.args.edge c.deref-rank-items.result.now c.loop-rank.rank-index

@@ -19,7 +19,7 @@ returns-in-None c =
     let none = place_none c.self.inside.few.items c.args.half
     (ap (position (λ (each : HalfEdge × ℕ). same_half c.args.half each.0)) (sym c.deref.ensures.value)
     ∙ sym c.place.ensures.place ∙ c.in-None.is) in
-    c.copied.ensures ∙ c.get.ensures.value
+    c.get.ensures
     ∙ sym (lookup_both (same_half c.args.half) c.self.inside.few.items c.self.inside.more.entries
     ∙ ap (λ found. either found (lookup (same_half c.args.half) c.self.inside.more.entries)) none)
     ∙ ap (λ row. lookup (same_half c.args.half) row.entries) c.self.view_is

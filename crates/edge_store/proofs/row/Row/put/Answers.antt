@@ -1,14 +1,12 @@
-use Rattle.std.proofs.Common.{◌≡◌, ◌<◌, ◌≤◌, ◌++◌, ◌∷◌, [], length, sym, ap, subst, ◌∙◌, ℕ, cond, Some, None, IsOk, if◌then◌else◌, vec_len, vec_capacity, arith}
+use Rattle.std.proofs.Common.{◌≡◌, ◌<◌, ◌≤◌, ◌++◌, ◌∷◌, [], length, sym, ap, subst, ◌∙◌, ℕ, cond, Some, None, inl, inr, if◌then◌else◌, vec_len, vec_capacity, arith}
 use Rattle.std.specs.List.{position, IsDistinct}
 use Rattle.std.specs.Map.{keys_of, lookup}
-use Rattle.indexmap.specs.IndexMap.{spare}
 use Rattle.edge_store.specs.declared.edge.HalfEdge.{HalfEdge}
 use Rattle.edge_store.specs.Edges.{same_half}
-use Rattle.edge_store.proofs.Outcomes.{from_ok}
 use Rattle.edge_store.proofs.RowEntries.{few_changed, more_changed, pushed}
-use Rattle.edge_store.proofs.RowPlaces.{place_key, place_none, set_value, set_distinct, push_distinct, insert_distinct, few_room, more_room, there_is_ok, none_from_test}
+use Rattle.edge_store.proofs.RowPlaces.{place_key, place_none, set_value, set_distinct, push_distinct, insert_distinct, few_room, more_room, none_from_test}
 use Rattle.edge_store.proofs.row.Row.put.Goals as goal
-use Rattle.edge_store.proofs.row.Row.put.Goals.{else-len-lt-FEW-via-then-len-lt-FEW+else-not-contains_key, else-len-lt-FEW-via-else-len-lt-FEW}
+use Rattle.edge_store.proofs.row.Row.put.Goals.{else-len-lt-FEW-via-then-len-lt-FEW+else-not-contains, else-len-lt-FEW-via-else-len-lt-FEW}
 
 pub invariant_of-self : goal.invariant_of-self
 invariant_of-self c =
@@ -34,59 +32,56 @@ few_none c = place_none c.self.inside.few.items c.args.half
 
 -- nor the map
 more_none : (c : goal.After-push) → lookup (same_half c.args.half) c.self.inside.more.entries ≡ None
-more_none c = none_from_test (lookup (same_half c.args.half) c.self.inside.more.entries) (sym c.if-not-contains_key.ensures)
+more_none c = none_from_test (lookup (same_half c.args.half) c.self.inside.more.entries) (sym c.if-not-contains.ensures)
 
 -- the list with the edge at its end
 few_items : (c : goal.After-push) → c.push.new.self.items ≡ c.self.inside.few.items ++ (c.args.half, c.args.value) ∷ []
 few_items c =
     let room = subst (λ row. 0 < row.room) (sym c.self.view_is) c.requires in
     let short : length c.self.inside.few.items < 16 = omega (arith, c.if-len-lt-FEW.true, c.len.ensures, c.self.inside.few.ok.0) in
-    let below = few_room c.self.inside.few.items (vec_capacity c.self.inside.few) (spare c.self.inside.more) short room in
+    let below = few_room c.self.inside.few.items (vec_capacity c.self.inside.few) c.self.inside.more.room short room in
     let fits : vec_len c.self.inside.few < vec_capacity c.self.inside.few = omega (arith, below, c.self.inside.few.ok.0) in
     c.push.ensures.items
     ∙ ap (λ b. if b then c.self.inside.few.items ++ (c.args.half, c.args.value) ∷ [] else c.self.inside.few.items)
     (c.push.ensures.succeeds fits)
 
-pub invariant_of-self-then-not-contains_key : goal.invariant_of-self-then-not-contains_key
-invariant_of-self-then-not-contains_key c =
+pub invariant_of-self-then-not-contains : goal.invariant_of-self-then-not-contains
+invariant_of-self-then-not-contains c =
     subst (λ few. IsDistinct same_half (keys_of (few ++ c.self.inside.more.entries))) (sym (few_items c))
     (push_distinct c.self.inside.few.items c.self.inside.more.entries c.args.half c.args.value c.self.invariant (few_none c) (more_none c))
 
-pub returns-then-not-contains_key : goal.returns-then-not-contains_key
-returns-then-not-contains_key c other =
+pub returns-then-not-contains : goal.returns-then-not-contains
+returns-then-not-contains c other =
     ap (λ few. lookup (same_half other) (few ++ c.self.inside.more.entries)) (few_items c)
     ∙ few_changed c.self.inside.few.items (c.self.inside.few.items ++ (c.args.half, c.args.value) ∷ []) c.self.inside.more.entries c.args.half
     (Some c.args.value) (λ _. more_none c) (pushed c.self.inside.few.items c.args.half c.args.value (few_none c)) other
     ∙ ap (λ row. cond (same_half c.args.half other) (Some c.args.value) (lookup (same_half other) row.entries)) c.self.view_is
 
 -- the list hasn't got the edge
-list_none : (c : goal.After-insert) → lookup (same_half c.args.half) c.self.inside.few.items ≡ None
+list_none : (c : goal.After-put) → lookup (same_half c.args.half) c.self.inside.few.items ≡ None
 list_none c = place_none c.self.inside.few.items c.args.half
     (ap (position (λ (each : HalfEdge × ℕ). same_half c.args.half each.0)) (sym c.deref.ensures.value)
     ∙ sym c.place.ensures.place ∙ c.in_default.is)
 
--- the map takes the edge: it has it already, or there is room
-taken_in : (c : goal.After-insert) → IsOk c.insert.result
-taken_in c =
+-- it is there already, or the map has room
+pub put-requires : goal.put-requires
+put-requires c =
     elim c.else-len-lt-FEW.branch [
-      | else-len-lt-FEW-via-then-len-lt-FEW+else-not-contains_key w ↦
-          there_is_ok c.insert.result (lookup (same_half c.args.half) c.self.inside.more.entries) (sym w.if-not-contains_key.ensures)
-          c.insert.ensures.absent
+      | else-len-lt-FEW-via-then-len-lt-FEW+else-not-contains w ↦ inl (sym w.if-not-contains.ensures)
       | else-len-lt-FEW-via-else-len-lt-FEW w ↦
           let room = subst (λ row. 0 < row.room) (sym c.self.view_is) c.requires in
           let long : 16 ≤ length c.self.inside.few.items = omega (arith, w.if-len-lt-FEW.false, c.len.ensures, c.self.inside.few.ok.0) in
-          c.insert.ensures.succeeds
-          (more_room c.self.inside.few.items (vec_capacity c.self.inside.few) (spare c.self.inside.more) long room)
+          inr (more_room c.self.inside.few.items (vec_capacity c.self.inside.few) c.self.inside.more.room long room)
     ]
 
 pub invariant_of-self-2 : goal.invariant_of-self-2
 invariant_of-self-2 c =
     subst (λ more. IsDistinct same_half (keys_of (c.self.inside.few.items ++ more)))
-    (sym (from_ok c.insert.result (taken_in c) c.insert.ensures.entries))
-    (insert_distinct c.self.inside.few.items c.self.inside.more c.args.half c.args.value c.self.invariant (list_none c))
+    (sym c.put.ensures.entries)
+    (insert_distinct c.self.inside.few.items c.self.inside.more.entries c.args.half c.args.value c.self.invariant (list_none c))
 
 pub returns : goal.returns
 returns c other =
-    more_changed c.self.inside.few.items c.self.inside.more.entries c.insert.new.self.entries c.args.half (Some c.args.value) (list_none c)
-    (from_ok c.insert.result (taken_in c) c.insert.ensures.updates).0 other
+    more_changed c.self.inside.few.items c.self.inside.more.entries c.put.new.self.entries c.args.half (Some c.args.value) (list_none c)
+    c.put.ensures.update other
     ∙ ap (λ row. cond (same_half c.args.half other) (Some c.args.value) (lookup (same_half other) row.entries)) c.self.view_is

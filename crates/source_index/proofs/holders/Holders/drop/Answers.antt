@@ -1,20 +1,21 @@
-use Rattle.std.proofs.Common.{◌≡◌, rules, sym, subst}
+use Rattle.std.proofs.Common.{sym, subst, ◌∙◌}
 use Rattle.source_index.specs.Holders.{DropsHolder}
-use Rattle.source_index.proofs.Places.{drops_then}
+use Rattle.source_index.proofs.Indexed.{drops_at}
 use Rattle.source_index.proofs.holders.Holders.drop.Goals as goal
 
-pub returns-then-take_out : goal.returns-then-take_out
-returns-then-take_out c =
-    let kept = c.take_out.new.places.entries in
-    let is : c.match-swap_remove.self ≡ c.swap_remove.new.self.entries =
-    search rules in
-    subst (λ new. DropsHolder c.args.self.now new c.args.id c.args.root) (sym is)
-    (drops_then c.args.self.now kept c.swap_remove.new.self.entries c.args.id c.args.root
-    (subst (λ old. DropsHolder old kept c.args.id c.args.root) c.self.view_is
-    c.take_out.ensures.dropped)
-    (c.take_out.ensures.bare c.if-take_out.true) c.swap_remove.ensures.updates.0)
+pub returns-in-Some : goal.returns-in-Some
+returns-in-Some c =
+    let at = c.in-Some.ensures.at in
+    subst (λ new. DropsHolder c.args.self.now new c.args.id c.args.root)
+    (sym c.give_back.ensures)
+    (drops_at c.args.self.now c.take_out.new.places c.swap_remove_index.new.self c.args.id
+    c.args.root at.0 c.swap_remove_index.result
+    (subst (λ old. DropsHolder old c.take_out.new.places.entries c.args.id c.args.root)
+    c.self.view_is c.take_out.ensures.dropped)
+    c.in-Some.ensures.bare (c.swap_remove_index.ensures.entry ∙ at.1)
+    c.swap_remove_index.ensures.updates)
 
-pub returns-else-take_out : goal.returns-else-take_out
-returns-else-take_out c =
+pub returns-in_default : goal.returns-in_default
+returns-in_default c =
     subst (λ old. DropsHolder old c.take_out.new.places.entries c.args.id c.args.root)
     c.self.view_is c.take_out.ensures.dropped

@@ -5,15 +5,14 @@ use Rattle.delta_tree.specs.declared.node.NodeId.{NodeId}
 use Rattle.source_tree.specs.Ends.{AreEndChanges, HasEnds, SourceValue, end_in}
 use Rattle.source_tree.specs.Taking.{HasTaken}
 use Rattle.source_tree.specs.Updating.{IsUpdating}
-use Rattle.source_tree.specs.declared.change.EndChange.{EndChange}
 use Rattle.source_tree.proofs.Updating.{updating_starts, updated_ends, updated_log}
 use Rattle.source_tree.proofs.source.SourceTree.take.Goals as goal
 
 pub returns-clause-taken : goal.returns-clause-taken
 returns-clause-taken c =
     let finals = c.args.finals.now in
-    let ends = c.self.inside.ends.entries in
-    let ids = c.in_ok-self-inside.field-0.items in
+    let ends = c.self.inside.ends in
+    let ids = c.change_tree.new.ids.items in
     let tree = c.change_tree.new.tree in
     let old : SourceValue = record {
       tree = c.self.inside.tree;
@@ -24,21 +23,19 @@ returns-clause-taken c =
     } in
     let new : SourceValue = record {
       tree = tree;
-      ends = c.update_ends.new.ends.entries;
+      ends = c.update_ends.new.ends;
       changed = ids;
       log = c.update_ends.new.log.items;
       broken = false;
     } in
     let before = end_in finals old.tree in
-    let changed = c.in_ok-self-inside.ensures.changed in
+    let changed = c.in_ok-change_tree.ensures.changed in
     let start = updating_starts finals old.tree tree ends ids
     (subst (HasEnds finals) (sym c.self.view_is) c.requires.ready.ends)
     changed.touches.others in
     let done = c.in_ok-update_ends.ensures before
-    (subst (λ (log : List EndChange). IsUpdating finals tree before ends log c.deref.result.now)
-    (sym c.clear-2.ensures.items)
     (subst (λ (left : List NodeId). IsUpdating finals tree before ends [] left)
-    (sym c.deref.ensures.value) start)) in
+    (sym c.deref.ensures.value) start) in
     subst (λ (source : SourceValue). HasTaken c.args.change (value_in c.args.store.now)
     (step_of c.args.dfa.now) finals source new) c.self.view_is
     (record {

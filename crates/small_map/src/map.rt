@@ -1,0 +1,155 @@
+//! A map of few entries or many.
+
+ghost use Rattle.std.specs.Prelude.{◌≡◌, ◌==◌, ◌<◌, [], length, cond, is_some, slice_get, IfOk, OnOk, OnErr, None, Some};
+ghost use Rattle.std.specs.Option.{option_copied};
+ghost use Rattle.std.specs.List.{IsDistinct};
+ghost use Rattle.std.specs.Map.{keys_of, lookup};
+ghost use Rattle.small_map.specs.Places.{IsPlace};
+
+use crate::places::{Places, forget, look_up, note, scan};
+use crate::room::{give_back, make_room};
+use std::alloc::{AllocError, Global};
+use std::hash::Hash;
+use std::marker::Model;
+
+/// Keys with their values.
+///
+/// Contracts see the list of the entries, in which each key stands once.
+#[derive(Drop)]
+pub struct SmallMap<K: Eq + Hash + Copy, V: Copy> {
+    alloc: Global,
+    entries: Vec<(K, V)>,
+    places: Places<K>,
+}
+
+impl<K: Eq + Hash + Copy, V: Copy> Model for SmallMap<K, V> {
+    ghost use Rattle.std.specs.Prelude.{List};
+    ghost use Rattle.std.specs.List.{IsDistinct};
+    ghost use Rattle.std.specs.Map.{keys_of};
+    ghost use Rattle.std.specs.Option.{IfSome};
+    ghost use Rattle.small_map.specs.Places.{ArePlaced};
+
+    ghost Value = { List (K × V) };
+
+    ghost view = { λ map. map.entries.items };
+
+    ghost invariant = { λ map. IsDistinct K.eq (keys_of map.entries.items)
+        × IfSome map.places (λ places. ArePlaced K.eq map.entries.items places.value.entries) };
+}
+
+impl<K: Eq + Hash + Copy, V: Copy> SmallMap<K, V> {
+    /// A map without entries, which takes no memory.
+    pub fn new(alloc: Global) -> SmallMap<K, V>
+        ensures { result ≡ [] }
+    {
+        SmallMap {
+            alloc,
+            entries: Vec::new(alloc),
+            places: None,
+        }
+    }
+
+    /// The number of entries.
+    pub fn len(&self) -> usize
+        ensures count { result ≡ length self.now }
+        ensures once { IsDistinct K.eq (keys_of self.now) }
+    {
+        self.entries.len()
+    }
+
+    /// Whether there are no entries.
+    pub fn is_empty(&self) -> bool
+        ensures { result ≡ (length self.now == 0) }
+    {
+        self.entries.is_empty()
+    }
+
+    /// The entries, in the order in which they stand.
+    pub fn as_slice(&self) -> &[(K, V)]
+        ensures entries { result.now ≡ self.now }
+        ensures once { IsDistinct K.eq (keys_of self.now) }
+    {
+        self.entries.as_slice()
+    }
+
+    /// The entry at this place.
+    pub fn at(&self, index: usize) -> (K, V)
+        requires { index < length self.now }
+        ensures { slice_get self.now index ≡ Some result }
+    {
+        self.entries[index]
+    }
+
+    /// The value of a key.
+    pub fn get(&self, key: &K) -> Option<&V>
+        ensures value { option_copied result ≡ lookup (K.eq key.now) self.now }
+        ensures once { IsDistinct K.eq (keys_of self.now) }
+    {
+        match self.find(key) {
+            Some(place) => Some(&self.entries[place].1),
+            None => None,
+        }
+    }
+
+    /// Whether the key has a value.
+    pub fn contains_key(&self, key: &K) -> bool
+        ensures { result ≡ is_some (lookup (K.eq key.now) self.now) }
+    {
+        self.find(key).is_some()
+    }
+
+    /// Gives a key a value, and answers whether it had one. The only error is want of memory, after
+    /// which the map is as before.
+    pub fn put(&mut self, key: K, value: V) -> Result<bool, AllocError>
+        ensures put { OnOk result ((each : K) → lookup (K.eq each) self.new
+            ≡ cond (K.eq key each) (Some value) (lookup (K.eq each) self.old)) }
+        ensures had { IfOk result (λ had. had ≡ is_some (lookup (K.eq key) self.old)) }
+        ensures once { IsDistinct K.eq (keys_of self.new) }
+        ensures unchanged { OnErr result (self.new ≡ self.old) }
+    {
+        if let Some(place) = self.find(&key) {
+            self.entries[place].1 = value;
+            return Ok(true);
+        }
+        make_room(&mut self.entries)?;
+        note(self.alloc, &mut self.places, &self.entries, key)?;
+        self.entries.push_reserved((key, value));
+        Ok(false)
+    }
+
+    /// Takes the entry of a key out, where it has one, and answers whether it had. The last entry
+    /// comes into its place.
+    pub fn remove(&mut self, key: &K) -> bool
+        ensures gone { (each : K) → lookup (K.eq each) self.new
+            ≡ cond (K.eq key.now each) None (lookup (K.eq each) self.old) }
+        ensures had { result ≡ is_some (lookup (K.eq key.now) self.old) }
+        ensures once { IsDistinct K.eq (keys_of self.new) }
+    {
+        let Some(place) = self.find(key) else {
+            return false;
+        };
+        forget(&mut self.places, &self.entries, place);
+        self.entries.swap_remove(place);
+        give_back(&mut self.entries);
+        true
+    }
+
+    /// Takes all entries out, and gives their memory back.
+    pub fn clear(&mut self)
+        ensures { self.new ≡ [] }
+    {
+        self.entries = Vec::new(self.alloc);
+        self.places = None;
+    }
+
+    /// The place of the key's entry.
+    fn find(&self, key: &K) -> Option<usize>
+        ensures place { IsPlace K.eq self.now key.now result }
+        ensures once { IsDistinct K.eq (keys_of self.now) }
+    {
+        match &self.places {
+            Some(places) => look_up(places, &self.entries, key),
+            None => scan(&self.entries, key),
+        }
+    }
+}
