@@ -163,7 +163,8 @@ settled_more old now new done more root first second apart one = record {
   kept = λ each source found some. second.kept each source (first.kept each source found some) some;
   only = λ each source found. first.only each source (second.only each source found);
   some = λ each source listed found. ⊎_elim
-      (λ (before : Contains done each). first.some each source before (second.only each source found))
+      (λ (before : Contains done each).
+      first.some each source before (second.only each source found))
       (λ (here : root ≡ each). second.some each source (member_one root each here) found)
       (one.cases each listed);
   same = λ each unlisted.
@@ -280,7 +281,8 @@ finds_at_source sources old new source root found more = record {
       old.touched.items ++ cond (unwrap_or (option_map is_touched one) false) (root ∷ []) [])
       (sym found);
   log = more.log ∙ ap (λ (one : Option SourceValue).
-      old.log.items ++ unwrap_or (option_map (λ (each : SourceValue). each.log) one) []) (sym found);
+      old.log.items ++ unwrap_or (option_map (λ (each : SourceValue). each.log) one) [])
+      (sym found);
 }
 
 pub finds_nothing : (sources : List SourceValue) (found : Findings) (root : ℕ) →

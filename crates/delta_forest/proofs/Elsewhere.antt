@@ -67,9 +67,9 @@ lives tree now above id = ⊎_elim
     (found_or_not (node_of tree id))
 
 pub still_optimal : (change : Change) (old new : Edges) (step : ℕ → ℕ → Option ℕ)
-    (tree : TreeValue) → RaiseElsewhereKeepsOptimal → RemovalElsewhereKeepsOptimal → TakesChange change old new →
-    IsTree tree → IsOptimal (value_in old) step tree → IsElsewhere change step tree →
-    IsOptimal (value_in new) step tree
+    (tree : TreeValue) → RaiseElsewhereKeepsOptimal → RemovalElsewhereKeepsOptimal →
+    TakesChange change old new → IsTree tree → IsOptimal (value_in old) step tree →
+    IsElsewhere change step tree → IsOptimal (value_in new) step tree
 still_optimal (Raise edge value) old new step tree raises removes takes is_tree optimal elsewhere =
     raises (value_in old) (value_in new) step tree edge is_tree optimal
     (raises_are_raises old new edge value takes) elsewhere
@@ -139,7 +139,8 @@ raise_keeps_nodes before after step old new edge id node was is raised root ther
     (greatest_reached (value_of new id) goal node.value (is.best id) (way.0, moved)) in
     (found.0, found.1)
   where
-    higher : (each : EdgeId) → IsAtLeast node.value (before each) → IsAtLeast node.value (after each)
+    higher : (each : EdgeId) → IsAtLeast node.value (before each) →
+        IsAtLeast node.value (after each)
     higher each reached = by (same_edge edge each) refl
       where
         by : (b : Bool) → same_edge edge each ≡ b → IsAtLeast node.value (after each)

@@ -9,7 +9,7 @@ use Rattle.std.proofs.lemmas.Option.{none-some, same_Some}
 use Rattle.std.proofs.lemmas.List.{map-append}
 use Rattle.std.proofs.lemmas.List.Elements.{Contains-append_left, Contains-push, Contains-push_cases}
 use Rattle.std.proofs.lemmas.List.Folds.{find-append}
-use Rattle.std.proofs.lemmas.Map.Keys.{IsDistinct-push}
+use Rattle.std.proofs.lemmas.Map.Keys.{IsDistinct-push, sorted_from_strictly_increasing}
 use Rattle.rpq_base.proofs.Members.{HasOneMore, none_in}
 use Rattle.edge_store.specs.declared.edge.EdgeId.{EdgeId}
 use Rattle.edge_store.specs.Edges.{Edges, value_of as value_in}
@@ -244,6 +244,13 @@ ordered_like roots before kind order adds = record {
         ((adds root).0 ((order.exact root).0 member))),
     (λ is. (order.exact root).1 ((adds root).1 (inr is))),
   );
+}
+
+-- fewer than two are in order
+pub few_in_order : (roots : List ℕ) → length roots ≤ 1 → AreInOrder (Contains roots) roots
+few_in_order roots few = record {
+  sorted = sorted_from_strictly_increasing roots (λ k within. absurd (omega (arith, few, within)));
+  exact = λ root. ((λ member. member), (λ member. member));
 }
 
 pub raised_adds : (holders : HoldersValue) (step : ℕ → ℕ → Option ℕ) (edge : EdgeId)

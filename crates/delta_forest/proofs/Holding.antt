@@ -1,7 +1,7 @@
 -- Roots that are held anew, and numbers that are noted.
-use Rattle.std.proofs.Common.{◌≡◌, ℕ, ◌≤◌, Bool, cond, List, [], ◌∷◌, Option, Some, None, refl, sym, ap, subst, ◌∙◌, inl, inr, ⊎_elim, Contains, arith}
+use Rattle.std.proofs.Common.{◌≡◌, ℕ, ◌≤◌, Bool, true, cond, List, [], ◌∷◌, Option, Some, None, refl, sym, ap, subst, ◌∙◌, inl, inr, ⊎_elim, Contains, arith}
+use Rattle.std.specs.Prelude.{◌↔◌, is_some}
 use Rattle.std.proofs.lemmas.Bool.{eq-eqb}
-use Rattle.std.proofs.lemmas.Option.{none-some}
 use Rattle.rpq_base.proofs.Members.{HasOneMore, cons_members, none_in}
 use Rattle.delta_tree.specs.declared.node.NodeId.{NodeId}
 use Rattle.delta_tree.specs.Nodes.{TreeValue, value_of}
@@ -11,7 +11,7 @@ use Rattle.source_index.specs.Dues.{DuesValue, GivesDue, due_of, lowered}
 use Rattle.source_index.specs.Holders.{AddsHolder, DropsHolder, HoldersValue}
 use Rattle.delta_forest.specs.Keeping.{IsDueFor}
 use Rattle.delta_forest.specs.Settling.{HoldsAnew, Stands}
-use Rattle.delta_forest.proofs.Sources.{same_or_not}
+use Rattle.delta_forest.proofs.Sources.{same_or_not, some_found}
 
 -- a list of one
 pub one_member : {X : Type 0} (one x : X) → Contains (one ∷ []) x → one ≡ x
@@ -21,14 +21,23 @@ one_member one x member =
 pub member_one : {X : Type 0} (one x : X) → one ≡ x → Contains (one ∷ []) x
 member_one one x is = (cons_members one [] x).1 (inl is)
 
-pub held_added : (old new : HoldersValue) (id : NodeId) (root : ℕ) (tree : TreeValue) (value : ℕ) →
-    AddsHolder old new id root → value_of tree id ≡ Some value →
-    HoldsAnew old new root tree (id ∷ [])
-held_added old new id root tree value adds is = record {
+-- a node stands exactly where there is a value
+pub stands_or_not : (tree : TreeValue) (id : NodeId) →
+    is_some (value_of tree id) ≡ true ↔ Stands tree id
+stands_or_not tree id = (
+  (λ some.
+      let value = some_found (value_of tree id) some in
+      let node = node_is tree id value.0 value.1 in
+      (node.0, node.1)),
+  (λ stands. ap is_some (value_is tree id stands.0 stands.1)),
+)
+
+pub held_added : (old new : HoldersValue) (id : NodeId) (root : ℕ) (tree : TreeValue) →
+    AddsHolder old new id root → Stands tree id → HoldsAnew old new root tree (id ∷ [])
+held_added old new id root tree adds is = record {
   listed = λ at member.
-      let here = one_member id at member in
-      let node = node_is tree id value is in (
-        (λ holds. subst (Stands tree) here (node.0, node.1)),
+      let here = one_member id at member in (
+        (λ holds. subst (Stands tree) here is),
         (λ stands. (adds at root).1 (inr (sym here, refl))),
       );
   unlisted = λ at none. (
@@ -46,15 +55,12 @@ held_added old new id root tree value adds is = record {
 }
 
 pub held_dropped : (old new : HoldersValue) (id : NodeId) (root : ℕ) (tree : TreeValue) →
-    DropsHolder old new id root → value_of tree id ≡ None →
-    HoldsAnew old new root tree (id ∷ [])
+    DropsHolder old new id root → (Stands tree id → ⊥) → HoldsAnew old new root tree (id ∷ [])
 held_dropped old new id root tree drops none = record {
   listed = λ at member.
       let here = one_member id at member in (
         (λ holds. absurd (((drops at root).0 holds).1 (sym here, refl))),
-        (λ stands.
-            absurd (none-some stands.0.value
-            (sym none ∙ (ap (value_of tree) here ∙ value_is tree at stands.0 stands.1)))),
+        (λ stands. absurd (none (subst (Stands tree) (sym here) stands))),
       );
   unlisted = λ at apart. (
     (λ holds. ((drops at root).0 holds).0),

@@ -3,7 +3,12 @@ pub mod Ends
 pub mod Bests
 pub mod Sources
 pub mod Elsewhere
+pub mod Grown
 pub mod Following
+pub mod Settled
+pub mod Touched
+pub mod ChangedEnds
+pub mod KeptTrees
 pub mod Logs
 pub mod Indexed
 pub mod Holding

@@ -8,7 +8,8 @@ use Rattle.source_tree.specs.declared.change.EndChange.{EndChange}
 
 pub joined_members : {X Y : Type 0} (f : X → List Y) (xs : List X) (y : Y) →
     Contains (flat_map f xs) y ↔ ((x : X) × Contains xs x × Contains (f x) y)
-joined_members f [] y = ((λ member. absurd (none_in y member)), (λ has. absurd (none_in has.0 has.1)))
+joined_members f [] y =
+    ((λ member. absurd (none_in y member)), (λ has. absurd (none_in has.0 has.1)))
 joined_members f (first ∷ rest) y = (
   (λ member. ⊎_elim
       (λ (here : Contains (f first) y).
@@ -29,7 +30,8 @@ joined_members f (first ∷ rest) y = (
 
 pub pairs_head : {X : Type 0} (R : X → X → Type 0) (first : X) (rest : List X) →
     AllPairs R (first ∷ rest) → All (R first) rest
-pairs_head R first rest pairs = λ k d within. pairs 0 (suc k) d (omega arith) (omega (arith, within))
+pairs_head R first rest pairs = λ k d within.
+    pairs 0 (suc k) d (omega arith) (omega (arith, within))
 
 pub pairs_tail : {X : Type 0} (R : X → X → Type 0) (first : X) (rest : List X) →
     AllPairs R (first ∷ rest) → AllPairs R rest

@@ -31,7 +31,8 @@ abbrev pub IsDueFor : DuesValue → ℕ → TreeValue → Type 0
 IsDueFor dues root tree = (id : NodeId) (node : Node) → node_of tree id ≡ Some node →
     (number : ℕ) × (due_of dues root ≡ Some number) × (number ≤ node.value)
 
--- a source after so many changes: its tree is optimal for the values, its ends are those of the tree
+-- a source after so many changes: its tree is optimal for the values, its ends are those of its
+-- tree
 pub record IsSound (values : EdgeId → Option ℕ) (step : ℕ → ℕ → Option ℕ) (finals : List ℕ)
     (calls : ℕ) (source : SourceValue) : Type 0 where
   pub tree : IsTree source.tree

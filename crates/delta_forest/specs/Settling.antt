@@ -1,5 +1,5 @@
 -- What follows in an index after its sources took a change. No public contract cites this file.
-use Rattle.std.specs.Prelude.{◌≡◌, ◌≢◌, ◌↔◌, ℕ, ◌+◌, Bool, false, nat_lt, List, [], ◌∷◌, ◌++◌, cond, length, filter, flat_map, Contains, None, Some}
+use Rattle.std.specs.Prelude.{◌≡◌, ◌≢◌, ◌↔◌, ℕ, ◌+◌, Bool, false, nat_lt, List, [], ◌∷◌, ◌++◌, cond, length, filter, flat_map, All, Contains, None, Some, ⊤}
 use Rattle.std.specs.Option.{option_map, unwrap_or}
 use Rattle.delta_tree.specs.declared.node.NodeId.{NodeId}
 use Rattle.delta_tree.specs.declared.node.Node.{Node}
@@ -7,6 +7,7 @@ use Rattle.delta_tree.specs.Nodes.{TreeValue, node_of, IsTree}
 use Rattle.edge_store.specs.Edges.{IsEmpty}
 use Rattle.dfa_table.specs.DfaValue.{DfaValue}
 use Rattle.source_tree.specs.declared.change.Change.{Change}
+use Rattle.source_tree.specs.declared.change.Change.TheVariants.{Raise, Remove, Expire}
 use Rattle.source_tree.specs.declared.change.EndChange.{EndChange}
 use Rattle.source_tree.specs.Ends.{SourceValue}
 use Rattle.source_index.specs.Dues.{due_of}
@@ -22,6 +23,17 @@ use Rattle.delta_forest.specs.declared.index.State.{State}
 -- a node stands there
 abbrev pub Stands : TreeValue → NodeId → Type 0
 Stands tree id = (node : Node) × (node_of tree id ≡ Some node)
+
+-- after a raise a node stands at a place that it touched
+abbrev pub StandsAfter : Change → TreeValue → NodeId → Type 0
+StandsAfter (Raise edge value) tree id = Stands tree id
+StandsAfter (Remove edge) tree id = ⊤
+StandsAfter (Expire now) tree id = ⊤
+
+-- so it is at all places that the last change touched, in the trees of these roots
+abbrev pub StandAfter : Change → List SourceValue → List ℕ → Type 0
+StandAfter change sources roots = (root : ℕ) (source : SourceValue) → Contains roots root →
+    source_in sources root ≡ Some source → All (StandsAfter change source.tree) source.changed
 
 -- the root is held at the places of the list where its tree has a node, and elsewhere as before
 pub record HoldsAnew (old new : HoldersValue) (root : ℕ) (tree : TreeValue) (ids : List NodeId)
@@ -40,7 +52,8 @@ touched_at sources root = unwrap_or (option_map is_touched (source_in sources ro
 
 -- the ends that it changed there
 abbrev pub log_at : List SourceValue → ℕ → List EndChange
-log_at sources root = unwrap_or (option_map (λ (each : SourceValue). each.log) (source_in sources root)) []
+log_at sources root =
+    unwrap_or (option_map (λ (each : SourceValue). each.log) (source_in sources root)) []
 
 -- the source of this root is followed: its tree is a tree, its nodes are held, and its root has a
 -- number that is at most their values

@@ -5,7 +5,7 @@ ghost use Rattle.delta_forest.specs.Changes.{TakesChange};
 ghost use Rattle.delta_forest.specs.Keeping.{AreFinals, IsKept};
 ghost use Rattle.delta_forest.specs.Settling.{Advances, forest_of};
 
-use crate::candidates::candidates;
+use crate::candidates::find_candidates;
 use crate::index::State;
 use crate::settling::settle_all;
 use dfa_table::Dfa;
@@ -64,9 +64,10 @@ pub(crate) fn advance<R: Threads + Sync, G: Gate>(
     state.found.touched.clear();
     state.found.log.clear();
     take(&mut state.store, change)?;
-    let roots = candidates(alloc, &mut state.index, dfa, change)?;
-    state.index.sources.change_each(rt, workers, gate, &roots, &state.store, dfa, finals, change)?;
-    settle_all(&mut state.index, &mut state.found, &roots)?;
+    find_candidates(alloc, &mut state.index, dfa, change, &mut state.roots)?;
+    let roots = &state.roots;
+    state.index.sources.change_each(rt, workers, gate, roots, &state.store, dfa, finals, change)?;
+    settle_all(&mut state.index, &mut state.found, roots, change)?;
     state.calls += 1;
     Ok(())
 }

@@ -1,6 +1,6 @@
 //! The roots whose trees a change may touch.
 
-ghost use Rattle.std.specs.Prelude.{◌≡◌, ◌<◌, ◌↔◌, ℕ, length, List, Contains, IfOk, IsSome, IsTrue, OnOk, Some};
+ghost use Rattle.std.specs.Prelude.{◌≡◌, ◌<◌, ◌↔◌, ℕ, [], length, List, Contains, IsSome, IsTrue, OnOk, Some};
 ghost use Rattle.edge_store.specs.Edges.{Edges};
 ghost use Rattle.dfa_table.specs.DfaValue.{IsDfa, step_of};
 ghost use Rattle.delta_tree.specs.Nodes.{node_id};
@@ -16,13 +16,15 @@ use source_table::SourceTable;
 use source_tree::{Change, SourceTree};
 use std::alloc::Global;
 
-/// The roots in order, each once.
-fn in_order(mut roots: Vec<u32>) -> Vec<u32>
-    ensures { AreInOrder (Contains roots.items) result.items }
+/// Puts the roots in order, each once.
+fn put_in_order(roots: &mut Vec<u32>)
+    ensures { AreInOrder (Contains roots.old.items) roots.new.items }
 {
-    roots.sort_unstable();
-    roots.dedup();
-    roots
+    // fewer than two are in order
+    if roots.len() > 1 {
+        roots.sort_unstable();
+        roots.dedup();
+    }
 }
 
 /// A new source for the root, where it has none.
@@ -147,76 +149,84 @@ fn add_hung(
     Ok(())
 }
 
-/// Those that the raise of an edge may touch.
-fn raised(
+/// Adds those that the raise of an edge may touch.
+fn add_raised(
     alloc: Global,
     sources: &mut SourceTable,
     holders: &Holders,
     dfa: &Dfa,
     edge: EdgeId,
-) -> Result<Vec<u32>, NoMemory>
-    ensures { IfOk result (λ roots.
-        AreRaised sources.old sources.new holders.now (step_of dfa.now) edge roots.items) }
+    roots: &mut Vec<u32>,
+) -> Result<(), NoMemory>
+    requires { roots.old.items ≡ [] }
+    ensures { OnOk result (AreRaised sources.old sources.new holders.now (step_of dfa.now) edge
+        roots.new.items) }
 {
-    let mut roots = Vec::new(alloc);
-    add_start(alloc, sources, dfa, edge, &mut roots)?;
-    add_held(holders, dfa, edge, &mut roots)?;
-    Ok(in_order(roots))
+    add_start(alloc, sources, dfa, edge, roots)?;
+    add_held(holders, dfa, edge, roots)?;
+    put_in_order(roots);
+    Ok(())
 }
 
-/// Those that its removal may touch.
-fn removed(
-    alloc: Global,
+/// Adds those that its removal may touch.
+fn add_removed(
     sources: &SourceTable,
     holders: &Holders,
     dfa: &Dfa,
     edge: EdgeId,
-) -> Result<Vec<u32>, NoMemory>
+    roots: &mut Vec<u32>,
+) -> Result<(), NoMemory>
+    requires { roots.old.items ≡ [] }
     ensures valid { IsDfa dfa.now }
-    ensures roots { IfOk result (λ roots. AreInOrder
-        (IsRemovedAt sources.now holders.now (length dfa.now.rows) edge) roots.items) }
+    ensures roots { OnOk result (AreInOrder
+        (IsRemovedAt sources.now holders.now (length dfa.now.rows) edge) roots.new.items) }
 {
-    let mut roots = Vec::new(alloc);
     for state in 0..dfa.states() {
         let place = NodeId {
             vertex: edge.to,
             state,
         };
-        add_hung(sources, holders, edge, place, &mut roots)?;
+        add_hung(sources, holders, edge, place, roots)?;
     }
-    Ok(in_order(roots))
+    put_in_order(roots);
+    Ok(())
 }
 
-/// Those whose numbers are at most the clock, which they lose.
-fn expired(alloc: Global, dues: &mut Dues, now: u64) -> Result<Vec<u32>, NoMemory>
-    ensures { IfOk result (λ roots. AreTaken dues.old dues.new now roots.items) }
+/// Adds those whose numbers are at most the clock, which they lose.
+fn add_expired(dues: &mut Dues, now: u64, roots: &mut Vec<u32>) -> Result<(), NoMemory>
+    ensures { OnOk result (AreTaken dues.old dues.new now roots.new.items) }
 {
-    let mut roots = Vec::new(alloc);
     for _ in 0..u64::MAX {
         match dues.take(now) {
             Some(root) => roots.push(root)?,
-            None => return Ok(in_order(roots)),
+            None => {
+                put_in_order(roots);
+                return Ok(());
+            }
         }
     }
     Err(NoMemory)
 }
 
-/// The roots whose trees the change may touch, in order, each once. A vertex that the change may
-/// give nodes and that has no source gets one.
-pub(crate) fn candidates(
+/// Makes the list that of the roots whose trees the change may touch, in order, each once, in the
+/// room that it has. A vertex that the change may give nodes and that has no source gets one.
+pub(crate) fn find_candidates(
     alloc: Global,
     index: &mut Index,
     dfa: &Dfa,
     change: Change,
-) -> Result<Vec<u32>, NoMemory>
+    roots: &mut Vec<u32>,
+) -> Result<(), NoMemory>
     ensures { (finals : List ℕ) (store : Edges) (calls : ℕ) →
-        IsKept dfa.now finals store calls index.old →
-        IfOk result (λ roots.
-        AreCandidates change (step_of dfa.now) finals index.old index.new roots.items) }
+        IsKept dfa.now finals store calls index.old → OnOk result
+        (AreCandidates change (step_of dfa.now) finals index.old index.new roots.new.items) }
 {
+    roots.clear();
     match change {
-        Change::Raise { edge, .. } => raised(alloc, &mut index.sources, &index.holders, dfa, edge),
-        Change::Remove(edge) => removed(alloc, &index.sources, &index.holders, dfa, edge),
-        Change::Expire(now) => expired(alloc, &mut index.dues, now),
+        Change::Raise { edge, .. } => {
+            add_raised(alloc, &mut index.sources, &index.holders, dfa, edge, roots)
+        }
+        Change::Remove(edge) => add_removed(&index.sources, &index.holders, dfa, edge, roots),
+        Change::Expire(now) => add_expired(&mut index.dues, now, roots),
     }
 }

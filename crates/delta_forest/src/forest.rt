@@ -24,8 +24,8 @@ use std::thread::Threads;
 
 /// A store of edges, and for each source the tree of the best paths.
 ///
-/// Contracts see it as `ForestValue` of `specs/`. Where memory runs out, it is broken, and of no use
-/// until it is cleared.
+/// Contracts see it as `ForestValue` of `specs/`. Where memory runs out, it is broken, and of no
+/// use until it is cleared.
 #[derive(Drop)]
 pub struct Forest {
     alloc: Global,
@@ -83,6 +83,7 @@ fn new_state(alloc: Global) -> Result<State, NoMemory>
         holders: Holders::new(alloc),
         dues: Dues::new(alloc),
     };
+    let roots = Vec::new(alloc);
     let found = Findings {
         touched: Vec::new(alloc),
         log: Vec::new(alloc),
@@ -90,6 +91,7 @@ fn new_state(alloc: Global) -> Result<State, NoMemory>
     Ok(State {
         store,
         index,
+        roots,
         found,
         calls: 0,
     })

@@ -27,6 +27,8 @@ pub(crate) struct Findings {
 pub(crate) struct State {
     pub(crate) store: EdgeStore,
     pub(crate) index: Index,
+    /// Room for the roots whose trees a change may touch; each change fills it anew.
+    pub(crate) roots: Vec<u32>,
     pub(crate) found: Findings,
     pub(crate) calls: u64,
 }

@@ -1,49 +1,66 @@
 //! What follows in an index after its sources took a change.
 
-ghost use Rattle.std.specs.Prelude.{◌≡◌, ◌≢◌, ◌↔◌, ◌∷◌, ◌++◌, ℕ, [], cond, IfOk, OnOk, IsTrue};
+ghost use Rattle.std.specs.Prelude.{◌≡◌, ◌≢◌, ◌↔◌, ◌∷◌, ◌++◌, ℕ, [], cond, All, IfOk, OnOk, IsTrue};
 ghost use Rattle.std.specs.Ordering.{nat_cmp};
 ghost use Rattle.std.specs.List.Sorted.{IsStrictlySortedBy};
 ghost use Rattle.delta_tree.specs.Nodes.{IsTree};
 ghost use Rattle.source_index.specs.Dues.{due_of};
 ghost use Rattle.source_table.specs.Sources.{AreApart, source_in};
 ghost use Rattle.delta_forest.specs.Keeping.{IsDueFor};
-ghost use Rattle.delta_forest.specs.Settling.{AreFound, AreSettled, FindsAt, FindsMore, HoldsAnew};
+ghost use Rattle.delta_forest.specs.Settling.{AreFound, AreSettled, FindsAt, FindsMore, HoldsAnew, StandAfter, Stands, StandsAfter};
 
 use crate::index::{Findings, Index};
 use delta_tree::NodeId;
 use edge_store::NoMemory;
 use source_index::{Dues, Holders};
-use source_tree::SourceTree;
+use source_tree::{Change, SourceTree};
 
-/// Holds the root at the place where its tree has a node there, and else no more.
+/// Whether the tree has a node at a place that the change touched. Where a raise did, it has one,
+/// and nothing is looked up.
+fn stands(source: &SourceTree, id: NodeId, change: Change) -> bool
+    requires { StandsAfter change source.now.tree id }
+    ensures { IsTrue result ↔ Stands source.now.tree id }
+{
+    if let Change::Raise { .. } = change {
+        return true;
+    }
+    source.value_of(id.vertex, id.state).is_some()
+}
+
+/// Holds the root at a place that the change touched, where its tree has a node there, and else no
+/// more.
 fn hold_at(
     holders: &mut Holders,
     source: &SourceTree,
     root: u32,
     id: NodeId,
+    change: Change,
 ) -> Result<(), NoMemory>
+    requires { StandsAfter change source.now.tree id }
     ensures { OnOk result
         (HoldsAnew holders.old holders.new root source.now.tree (id ∷ [])) }
 {
-    match source.value_of(id.vertex, id.state) {
-        Some(_) => {
-            holders.add(id, root)?;
-            Ok(())
-        }
-        None => {
-            holders.drop(id, root);
-            Ok(())
-        }
+    if stands(source, id, change) {
+        holders.add(id, root)?;
+        return Ok(());
     }
+    holders.drop(id, root);
+    Ok(())
 }
 
-/// Does so at each place that the last change touched.
-fn hold(holders: &mut Holders, source: &SourceTree, root: u32) -> Result<(), NoMemory>
+/// Does so at each place that the change touched.
+fn hold(
+    holders: &mut Holders,
+    source: &SourceTree,
+    root: u32,
+    change: Change,
+) -> Result<(), NoMemory>
+    requires { All (StandsAfter change source.now.tree) source.now.changed }
     ensures { OnOk result
         (HoldsAnew holders.old holders.new root source.now.tree source.now.changed) }
 {
     for id in source.changed() {
-        hold_at(holders, source, root, *id)?;
+        hold_at(holders, source, root, *id, change)?;
     }
     Ok(())
 }
@@ -79,7 +96,9 @@ fn follow(
     dues: &mut Dues,
     found: &mut Findings,
     source: &SourceTree,
+    change: Change,
 ) -> Result<bool, NoMemory>
+    requires { All (StandsAfter change source.now.tree) source.now.changed }
     ensures tree { IsTree source.now.tree }
     ensures held { OnOk result (HoldsAnew holders.old holders.new source.now.tree.root
         source.now.tree source.now.changed) }
@@ -90,7 +109,7 @@ fn follow(
     ensures bare { IfOk result (λ bare. IsTrue bare ↔ (source.now.tree.nodes ≡ [])) }
 {
     let root = source.root();
-    hold(holders, source, root)?;
+    hold(holders, source, root, change)?;
     note(dues, source, root)?;
     report(found, source, root)?;
     Ok(source.is_bare())
@@ -98,15 +117,21 @@ fn follow(
 
 /// Follows what the change did to the tree of a root, where it has one; a source without nodes
 /// goes.
-fn settle(index: &mut Index, found: &mut Findings, root: u32) -> Result<(), NoMemory>
-    requires { AreApart index.old.sources }
+fn settle(
+    index: &mut Index,
+    found: &mut Findings,
+    root: u32,
+    change: Change,
+) -> Result<(), NoMemory>
+    requires apart { AreApart index.old.sources }
+    requires stand { StandAfter change index.old.sources (root ∷ []) }
     ensures settled { OnOk result (AreSettled index.old index.new (root ∷ [])) }
     ensures found { OnOk result (FindsAt index.old.sources found.old found.new root) }
 {
     let Some(source) = index.sources.get(root) else {
         return Ok(());
     };
-    if follow(&mut index.holders, &mut index.dues, found, source)? {
+    if follow(&mut index.holders, &mut index.dues, found, source, change)? {
         index.sources.remove(root);
     }
     Ok(())
@@ -117,7 +142,9 @@ pub(crate) fn settle_all(
     index: &mut Index,
     found: &mut Findings,
     roots: &[u32],
+    change: Change,
 ) -> Result<(), NoMemory>
+    requires stand { StandAfter change index.old.sources roots.now }
     requires apart { AreApart index.old.sources }
     requires sorted { IsStrictlySortedBy nat_cmp roots.now }
     requires touched { found.old.touched.items ≡ [] }
@@ -126,7 +153,7 @@ pub(crate) fn settle_all(
     ensures found { OnOk result (AreFound index.old.sources roots.now found.new) }
 {
     for root in roots {
-        settle(index, found, *root)?;
+        settle(index, found, *root, change)?;
     }
     Ok(())
 }

@@ -1,6 +1,6 @@
 //! A case: what a run over files and sinks in memory is given, and what it is to answer.
 
-use rpq_io::{MemoryFiles, MemorySink, OpenGate};
+use rpq_io::{Gate, MemoryFiles, MemorySink, OpenGate};
 use rpq_run::run;
 use std::alloc::{AllocError, Global};
 use std::random::RandomSource;
@@ -102,6 +102,16 @@ pub fn holds<R: Threads + RandomSource + Sync>(
     alloc: Global,
     case: &Case,
 ) -> Result<bool, Fail> {
+    holds_behind(rt, alloc, case, &OpenGate)
+}
+
+/// Whether the run of the case, whose workers pass this gate, answers what it is to.
+pub fn holds_behind<R: Threads + RandomSource + Sync, G: Gate>(
+    rt: &R,
+    alloc: Global,
+    case: &Case,
+    gate: &G,
+) -> Result<bool, Fail> {
     let words = words_of(alloc, case.words)?;
     let mut files = files_of(alloc, case)?;
     let mut events = sink(alloc, case.room, case.write_piece, case.failing_writes)?;
@@ -113,7 +123,7 @@ pub fn holds<R: Threads + RandomSource + Sync>(
         &mut files,
         &mut events,
         &mut errors,
-        &OpenGate,
+        gate,
     );
     let written = events.bytes() == case.events.as_bytes();
     let told = errors.bytes() == case.errors.as_bytes();

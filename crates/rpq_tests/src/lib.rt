@@ -21,3 +21,5 @@ mod streams;
 mod turns;
 #[cfg(test)]
 mod words;
+#[cfg(test)]
+mod workers;

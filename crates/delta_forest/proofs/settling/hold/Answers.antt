@@ -1,11 +1,20 @@
 use Rattle.std.proofs.Common.{◌≡◌, ◌+◌, ◌<◌, List, length, take, get_or, sym, subst, arith}
+use Rattle.std.specs.Prelude.{All}
 use Rattle.std.proofs.lemmas.List.{get_or_default}
+use Rattle.std.proofs.lemmas.List.Elements.{All-get_or}
 use Rattle.delta_tree.specs.declared.node.NodeId.{NodeId}
 use Rattle.delta_tree.specs.Nodes.{node_id}
 use Rattle.rpq_base.proofs.Members.{next_one}
-use Rattle.delta_forest.specs.Settling.{HoldsAnew}
+use Rattle.delta_forest.specs.Settling.{HoldsAnew, StandsAfter}
 use Rattle.delta_forest.proofs.Holding.{holds_more}
 use Rattle.delta_forest.proofs.settling.hold.Goals as goal
+
+pub hold_at-requires : goal.hold_at-requires
+hold_at-requires c =
+    let items = c.changed-id-items.result.now in
+    let after : NodeId → Type 0 = StandsAfter c.args.change c.args.source.now.tree in
+    All-get_or after items c.loop-id.id-index (node_id 0 0) (omega (arith, c.loop-id-test.true))
+    (subst (λ (ids : List NodeId). All after ids) (sym c.changed-id-items.ensures) c.requires)
 
 pub loop-id-preserved : goal.loop-id-preserved
 loop-id-preserved c =

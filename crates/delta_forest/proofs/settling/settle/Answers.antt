@@ -4,8 +4,14 @@ use Rattle.source_table.specs.Sources.{GivesSource, source_in}
 use Rattle.delta_forest.specs.Settling.{AreSettled, FindsMore}
 use Rattle.delta_forest.specs.declared.index.Index.{Index}
 use Rattle.delta_forest.proofs.Sources.{found_root}
+use Rattle.delta_forest.proofs.Holding.{member_one}
 use Rattle.delta_forest.proofs.Chains.{finds_at_source, settled_gone, settled_kept}
 use Rattle.delta_forest.proofs.settling.settle.Goals as goal
+
+pub follow-requires : goal.follow-requires
+follow-requires c =
+    c.requires.stand c.args.root c.in-Some.source.now (member_one c.args.root c.args.root refl)
+    (sym c.in-Some.ensures.source)
 
 pub returns-then-branch-clause-settled : goal.returns-then-branch-clause-settled
 returns-then-branch-clause-settled c =

@@ -1,8 +1,27 @@
-use Rattle.std.proofs.Common.{◌≡◌, ◌+◌, ◌<◌, ℕ, length, take, get_or, arith}
+use Rattle.std.proofs.Common.{◌≡◌, ◌+◌, ◌<◌, ℕ, length, take, get_or, sym, subst, ◌∙◌, Contains, arith}
 use Rattle.std.proofs.lemmas.List.{get_or_default}
+use Rattle.std.proofs.lemmas.List.Elements.{Contains-get_or}
 use Rattle.rpq_base.proofs.Members.{next_one}
+use Rattle.source_table.specs.Sources.{source_in}
+use Rattle.delta_forest.proofs.Holding.{one_member}
 use Rattle.delta_forest.proofs.Chains.{found_more, next_apart, settled_more}
 use Rattle.delta_forest.proofs.settling.settle_all.Goals as goal
+
+pub settle-requires-clause-stand : goal.settle-requires-clause-stand
+settle-requires-clause-stand c =
+    let roots = c.args.roots.now in
+    let place = c.loop-root.root-index in
+    let root : ℕ = get_or roots place 0 in
+    let within : place < length roots = omega (arith, c.loop-root-test.true) in
+    let is : root ≡ get_or roots place root = get_or_default roots place 0 root within in
+    let apart = next_apart roots place root c.requires.sorted within is in
+    λ each source listed found.
+    let here = one_member root each listed in
+    c.requires.stand each source
+    (subst (Contains roots) here (Contains-get_or roots place 0 within))
+    (sym (subst (λ (at : ℕ). source_in c.loop-root.index.sources at
+    ≡ source_in c.args.index.now.sources at) here (c.loop-root.invariant.settled.same root apart))
+    ∙ found)
 
 pub loop-root-preserved : goal.loop-root-preserved
 loop-root-preserved c =

@@ -2,7 +2,7 @@ use Rattle.std.proofs.Common.{◌≡◌, ℕ, ◌+◌, ◌<◌, [], length, subs
 use Rattle.delta_tree.specs.Nodes.{node_id}
 use Rattle.delta_forest.specs.Candidates.{AreInOrder, IsHungBy, IsRemovedAt}
 use Rattle.delta_forest.proofs.Gathering.{adds_both, next_state, ordered_like}
-use Rattle.delta_forest.proofs.candidates.removed.Goals as goal
+use Rattle.delta_forest.proofs.candidates.add_removed.Goals as goal
 
 pub loop-state-preserved : goal.loop-state-preserved
 loop-state-preserved c =
@@ -27,7 +27,7 @@ returns-clause-roots c =
     ) in
     subst (λ (states : ℕ).
     AreInOrder (IsRemovedAt c.args.sources.now c.args.holders.now states c.args.edge)
-    c.in_order.result.items) all
-    (ordered_like c.in_order.result.items c.loop-state.roots.items
-    (IsRemovedAt c.args.sources.now c.args.holders.now bound c.args.edge) c.in_order.ensures
+    c.put_in_order.new.roots.items) all
+    (ordered_like c.put_in_order.new.roots.items c.loop-state.roots.items
+    (IsRemovedAt c.args.sources.now c.args.holders.now bound c.args.edge) c.put_in_order.ensures
     c.loop-state.invariant)

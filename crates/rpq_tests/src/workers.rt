@@ -1,0 +1,119 @@
+//! Workers on trees: two at the same time, and the same bytes from any number of them.
+
+use crate::case::{Case, all_hold, holds_behind, path};
+use rpq_io::{Gate, Who};
+use std::alloc::Global;
+use std::hint::spin_loop;
+use std::random::RandomSource;
+use std::sync::atomic::AtomicU64;
+use std::sync::atomic::Ordering::SeqCst;
+use std::test::Fail;
+use std::thread::Threads;
+
+/// For how many turns a worker waits for another.
+const TURNS: u32 = 10_000_000;
+
+/// A gate that holds a worker on trees until another comes. It counts the workers that were found
+/// waiting, and none is found by a worker that runs before it or after it.
+#[derive(Drop)]
+struct MeetingGate {
+    /// The number of the worker that waits, or 0 where none does.
+    waiting: AtomicU64,
+    met: AtomicU64,
+}
+
+impl MeetingGate {
+    /// No worker has come yet.
+    fn new() -> MeetingGate {
+        MeetingGate {
+            waiting: AtomicU64::new(0),
+            met: AtomicU64::new(0),
+        }
+    }
+
+    /// The worker lets the one go on that waits, or waits itself.
+    fn meet(&self, number: u64) {
+        let first = self.waiting.compare_exchange(0, number, SeqCst, SeqCst);
+        if first.is_ok() {
+            self.wait(number);
+        } else if self.waiting.swap(0, SeqCst) != 0 {
+            self.met.fetch_add(1, SeqCst);
+        }
+    }
+
+    /// The worker waits until another lets it go on, or for so many turns.
+    fn wait(&self, number: u64) {
+        for _ in 0..TURNS {
+            if self.waiting.load(SeqCst) != number {
+                return;
+            }
+            spin_loop();
+        }
+        let _ = self.waiting.compare_exchange(number, 0, SeqCst, SeqCst);
+    }
+}
+
+impl Gate for MeetingGate {
+    fn pass(&self, who: Who) {
+        if let Who::Trees(number) = who {
+            self.meet(number as u64);
+        }
+    }
+
+    fn replied(&self, _session: u32, _position: u64) {}
+}
+
+/// A run by one worker over a stream that makes three trees and takes the edge out on which all of
+/// one tree hangs.
+fn one_worker<'a>() -> Case<'a> {
+    Case {
+        words: &["--workers", "1", "q", "s"],
+        queries: "query q window 100 slide 10 arbitrary: a+\n",
+        stream: "1 r a x\n1 x a y\n1 y a x\n1 r a x -\n",
+        events: "@1 1 1 r a x +\n+ q r x\n@2 1 1 x a y +\n+ q r y\n+ q x y\n@3 1 1 y a x +\n+ q x x\n+ q y x\n+ q y y\n@4 1 1 r a x -\n- q r x\n- q r y\n",
+        ..path()
+    }
+}
+
+/// The same run by two workers.
+fn two_workers<'a>() -> Case<'a> {
+    Case {
+        words: &["--workers", "2", "q", "s"],
+        ..one_worker()
+    }
+}
+
+/// Whether the run of the case answers what it is to, and whether a worker was found waiting in it
+/// is as wanted.
+fn holds_and_meets<R: Threads + RandomSource + Sync>(
+    rt: &R,
+    alloc: Global,
+    case: &Case,
+    wanted: bool,
+) -> Result<bool, Fail> {
+    let gate = MeetingGate::new();
+    let holds = holds_behind(rt, alloc, case, &gate)?;
+    let meets = gate.met.load(SeqCst) > 0;
+    Ok(holds && meets == wanted)
+}
+
+#[test]
+fn two_workers_at_the_same_time(rt: HostRuntime) -> Result<(), Fail> {
+    assert!(rt; holds_and_meets(&rt, rt.alloc(), &one_worker(), false)?);
+    assert!(rt; holds_and_meets(&rt, rt.alloc(), &two_workers(), true)?);
+    Ok(())
+}
+
+#[test]
+fn any_number_of_workers(rt: HostRuntime) -> Result<(), Fail> {
+    let cases = [
+        one_worker(),
+        two_workers(),
+        Case {
+            words: &["--workers", "64", "q", "s"],
+            ..one_worker()
+        },
+    ];
+    assert!(rt; all_hold(&rt, rt.alloc(), &cases)?);
+    Ok(())
+}
