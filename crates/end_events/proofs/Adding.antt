@@ -1,15 +1,12 @@
 -- The pairs that are added for the changes in a list.
-use Rattle.std.proofs.Common.{◌≡◌, ℕ, Bool, true, false, List, get_or, [], Some, sym, ap, subst, ◌∙◌, inl, inr, ⊎_elim}
+use Rattle.std.proofs.Common.{◌≡◌, ℕ, Bool, true, false, List, get_or, [], ◌∷◌, ◌++◌, Some, sym, ap, subst, ◌∙◌, inl, inr, ⊎_elim}
 use Rattle.std.specs.Prelude.{Contains}
-use Rattle.std.specs.BTreeSet.{insert_key}
 use Rattle.std.proofs.lemmas.Bool.{both_ways}
 use Rattle.std.proofs.lemmas.List.Quantifiers.{position-Some}
-use Rattle.rpq_base.specs.Order.{pair_cmp}
 use Rattle.rpq_base.specs.Same.{same_name}
 use Rattle.rpq_base.specs.declared.data.Pair.{Pair}
 use Rattle.rpq_base.proofs.Equality.{names as name_test}
-use Rattle.rpq_base.proofs.Orders.{pair_cmp_exact}
-use Rattle.rpq_base.proofs.Members.{HasOneMore, insert_members, none_in}
+use Rattle.rpq_base.proofs.Members.{HasOneMore, none_in, one_more}
 use Rattle.rpq_model.specs.Relations.{Adds}
 use Rattle.name_table.specs.Names.{number_of}
 use Rattle.source_tree.specs.declared.change.EndChange.{EndChange}
@@ -55,24 +52,26 @@ none_given apart added names found pair = (
 pub given_more : (apart added : Bool) (names : List (List ℕ)) (before : List EndChange) (each : EndChange) (after : List EndChange)
     (old found more : List Pair) (new : Pair) →
     HasOneMore before each after → number_of names new.from ≡ Some each.root → number_of names new.to ≡ Some each.vertex →
-    gives_event apart added each ≡ true → more ≡ insert_key pair_cmp found new →
+    gives_event apart added each ≡ true → more ≡ found ++ new ∷ [] →
     Adds old found (IsGiven apart added names before) → Adds old more (IsGiven apart added names after)
 given_more apart added names before each after old found more new one from to gives is so_far pair =
-    let inserted = insert_members pair_cmp_exact found new pair in
+    let pushed = one_more found new in
     let here : IsGiven apart added names after new = record { each = each; member = one.here; from = from; to = to; gives = gives } in (
       (λ member. ⊎_elim
-          (λ same. inr (subst (λ (one : Pair). IsGiven apart added names after one) same here))
           (λ there. ⊎_elim (λ was. inl was) (λ given. inr (still_given apart added names before each after pair one given)) ((so_far pair).0 there))
-          (inserted.0 (subst (λ (all : List Pair). Contains all pair) is member))),
-      (λ either. subst (λ (all : List Pair). Contains all pair) (sym is) (inserted.1 (⊎_elim
-          (λ was. inr ((so_far pair).1 (inl was)))
+          (λ same. inr (subst (λ (one : Pair). IsGiven apart added names after one) same here))
+          (pushed.cases pair (subst (λ (all : List Pair). Contains all pair) is member))),
+      (λ either. subst (λ (all : List Pair). Contains all pair) (sym is) (⊎_elim
+          (λ was. pushed.still pair ((so_far pair).1 (inl was)))
           (λ given. ⊎_elim
-          (λ earlier. inr ((so_far pair).1 (inr (record { each = given.each; member = earlier; from = given.from; to = given.to; gives = given.gives }))))
-          (λ same. inl (one_pair names each.root each.vertex new pair from to
+          (λ earlier. pushed.still pair ((so_far pair).1 (inr (record { each = given.each; member = earlier; from = given.from; to = given.to; gives = given.gives }))))
+          (λ same. subst (λ (one : Pair). Contains (found ++ new ∷ []) one)
+          (one_pair names each.root each.vertex new pair from to
           (given.from ∙ ap (λ (change : EndChange). Some change.root) (sym same))
-          (given.to ∙ ap (λ (change : EndChange). Some change.vertex) (sym same))))
+          (given.to ∙ ap (λ (change : EndChange). Some change.vertex) (sym same)))
+          pushed.here)
           (one.cases given.each given.member))
-          either))),
+          either)),
     )
 
 -- one that gives none adds none

@@ -1,3 +1,4 @@
 mod Adding
 mod Between
 mod Losses
+mod Named

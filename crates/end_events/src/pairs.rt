@@ -1,18 +1,26 @@
 //! The pairs that lists of changed ends take away or bring.
 
-ghost use Rattle.std.specs.Prelude.{◌≡◌, ◌<◌, ◌⊎◌, length, Some, IfOk, OnOk};
+ghost use Rattle.std.specs.Prelude.{◌≡◌, ◌<◌, ◌⊎◌, ◌↔◌, length, Contains, Some, IfOk, OnOk};
 ghost use Rattle.std.specs.List.Sorted.{IsStrictlySortedBy};
+ghost use Rattle.rpq_base.specs.declared.data.Pair.{Pair};
 ghost use Rattle.rpq_base.specs.Order.{pair_cmp};
 ghost use Rattle.rpq_model.specs.Relations.{Adds, AreExactly};
 ghost use Rattle.name_table.specs.Names.{number_of};
 ghost use Rattle.end_events.specs.Changes.{AreNamed};
-ghost use Rattle.end_events.specs.Pairs.{is_loss, gives_event, IsGiven};
+ghost use Rattle.end_events.specs.Pairs.{is_loss, gives_event, pairs_at, IsGiven};
 
 use name_table::Names;
-use rpq_base::{Copied, Memory, Pair};
+use rpq_base::{Memory, Name};
 use source_tree::EndChange;
 use std::alloc::Global;
-use std::collections::BTreeSet;
+
+/// A pair of vertices by their names in the table, which nothing copies. Pairs are ordered by the
+/// vertex that they lead from, then by the vertex that they lead to.
+#[derive(Clone, Copy, PartialEq, Eq, PartialOrd, Ord)]
+pub(crate) struct NamedPair<'a> {
+    pub from: &'a Name,
+    pub to: &'a Name,
+}
 
 /// Whether the pair of the change counts, and has an end at first and none at last.
 fn is_loss(apart: bool, each: &EndChange, first: Option<u64>, last: Option<u64>) -> bool
@@ -32,64 +40,68 @@ fn gives_event(apart: bool, added: bool, each: &EndChange) -> bool
     }
 }
 
-/// The pair of the change, by copies of its names.
-fn pair_of(names: &Names, each: &EndChange) -> Result<Pair, Memory>
+/// The pair of the change.
+fn pair_of<'a>(names: &'a Names, each: &EndChange) -> NamedPair<'a>
     requires root { each.now.root < length names.now }
     requires vertex { each.now.vertex < length names.now }
-    ensures from { IfOk result (λ pair. number_of names.now pair.from ≡ Some each.now.root) }
-    ensures to { IfOk result (λ pair. number_of names.now pair.to ≡ Some each.now.vertex) }
+    ensures from { number_of names.now result.from.now ≡ Some each.now.root }
+    ensures to { number_of names.now result.to.now ≡ Some each.now.vertex }
 {
-    Ok(Pair {
-        from: names.name_of(each.root).copy()?,
-        to: names.name_of(each.vertex).copy()?,
-    })
+    NamedPair {
+        from: names.name_of(each.root),
+        to: names.name_of(each.vertex),
+    }
 }
 
 /// Adds the pairs of which a change gives an event.
-fn add_given(
-    found: &mut BTreeSet<Pair>,
+fn add_given<'a>(
+    found: &mut Vec<NamedPair<'a>>,
     apart: bool,
     added: bool,
-    names: &Names,
+    names: &'a Names,
     changes: &[EndChange],
 ) -> Result<(), Memory>
     requires { AreNamed names.now changes.now }
-    ensures { OnOk result (Adds found.old.keys found.new.keys
+    ensures { OnOk result (Adds (pairs_at found.old.items) (pairs_at found.new.items)
         (IsGiven apart added names.now changes.now)) }
 {
     for each in changes {
         if gives_event(apart, added, each) {
-            found.insert(pair_of(names, each)?)?;
+            found.push(pair_of(names, each))?;
         }
     }
     Ok(())
 }
 
-/// The pairs of the set, in order.
-fn in_order(alloc: Global, found: BTreeSet<Pair>) -> Result<Vec<Pair>, Memory>
-    ensures pairs { IfOk result (λ pairs. pairs.items ≡ found.keys) }
-    ensures sorted { IfOk result (λ pairs. IsStrictlySortedBy pair_cmp pairs.items) }
+/// Puts the pairs in order, and leaves out those that stand there twice.
+fn put_in_order(pairs: &mut Vec<NamedPair>)
+    ensures sorted { IsStrictlySortedBy pair_cmp (pairs_at pairs.new.items) }
+    ensures same { (pair : Pair) →
+        Contains (pairs_at pairs.new.items) pair ↔ Contains (pairs_at pairs.old.items) pair }
 {
-    Ok(found.into_iter().collect(alloc)?)
+    pairs.sort_unstable();
+    pairs.dedup();
 }
 
-/// The pairs of which a change in one of the lists gives an event, sorted, each once.
-pub(crate) fn given_pairs(
+/// The pairs of which a change in one of the lists gives an event, in order, each once. Where there
+/// are none, nothing is allocated.
+pub(crate) fn given_pairs<'a>(
     alloc: Global,
     apart: bool,
     added: bool,
-    names: &Names,
+    names: &'a Names,
     first: &[EndChange],
     second: &[EndChange],
-) -> Result<Vec<Pair>, Memory>
+) -> Result<Vec<NamedPair<'a>>, Memory>
     requires first_named { AreNamed names.now first.now }
     requires second_named { AreNamed names.now second.now }
     ensures { IfOk result (λ pairs. AreExactly (λ pair.
         IsGiven apart added names.now first.now pair
-        ⊎ IsGiven apart added names.now second.now pair) pairs.items) }
+        ⊎ IsGiven apart added names.now second.now pair) (pairs_at pairs.items)) }
 {
-    let mut found = BTreeSet::new(alloc);
-    add_given(&mut found, apart, added, names, first)?;
-    add_given(&mut found, apart, added, names, second)?;
-    in_order(alloc, found)
+    let mut pairs = Vec::new(alloc);
+    add_given(&mut pairs, apart, added, names, first)?;
+    add_given(&mut pairs, apart, added, names, second)?;
+    put_in_order(&mut pairs);
+    Ok(pairs)
 }

@@ -19,7 +19,7 @@ use Rattle.rpq_model.specs.Query.{language_of, path_query}
 use Rattle.rpq_model.proofs.Ticks.{clock_more}
 use Rattle.source_tree.specs.declared.change.Change.{Change}
 use Rattle.source_tree.specs.declared.change.EndChange.{EndChange}
-use Rattle.delta_forest.specs.Forest.{ForestValue, IsIndexed, kept}
+use Rattle.delta_forest.specs.Forest.{ForestValue, kept}
 use Rattle.delta_forest.specs.Laws.{EachHasAnEnd, EndsAreOne, KeptIsBest}
 use Rattle.end_events.specs.Changes.{Ends, AreChangesOf, AreNamed, AreEventsBetween}
 use Rattle.containment_laws.specs.Accepted.{AcceptedHaveAnswers}
@@ -32,7 +32,7 @@ use Rattle.path_engine.specs.declared.index.Index.{Index}
 use Rattle.path_engine.specs.Engine.{IsIndexFor}
 use Rattle.path_engine.specs.Answering.{HasAnswered, HasHistory, HasStepped, MayHaveApplied}
 use Rattle.path_engine.specs.Showing.{HaveNames}
-use Rattle.path_engine.proofs.Stepping.{is_index, follows, expired_by, well_after}
+use Rattle.path_engine.proofs.Stepping.{is_index, follows, expired_by}
 use Rattle.path_engine.proofs.Telling.{HaveEnds, are_changes, are_events, ends_of, have_names}
 use Rattle.path_engine.proofs.Telling.{log_named, no_changes}
 use Rattle.path_engine.proofs.Kept.{keeps_forest}

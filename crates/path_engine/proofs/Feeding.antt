@@ -1,9 +1,8 @@
 -- What an engine is after an entry, and what it shows.
-use Rattle.std.proofs.Common.{◌≡◌, ℕ, ◌+◌, ◌*◌, ◌<◌, ◌≤◌, ◌^◌, Bool, false, List, [], ◌∷◌, ◌++◌, length, map, Some}
-use Rattle.std.proofs.Common.{refl, sym, ap, subst, ◌∙◌, arith, length-append, slice_get, get_or}
+use Rattle.std.proofs.Common.{◌≡◌, ℕ, ◌+◌, ◌<◌, ◌≤◌, ◌^◌, false, List, [], ◌∷◌, ◌++◌, length}
+use Rattle.std.proofs.Common.{sym, ap, subst, arith, length-append}
 use Rattle.std.specs.Prelude.{IfOk, Result, Ok, Err}
 use Rattle.std.specs.List.{All, AllZip}
-use Rattle.std.proofs.lemmas.Option.{slice_get-map, slice_get_within, get_or_from_slice_get}
 use Rattle.rpq_base.specs.declared.data.Entry.{Entry}
 use Rattle.rpq_base.specs.declared.data.Event.{Event}
 use Rattle.rpq_model.specs.Query.{Query, path_query}
@@ -13,8 +12,7 @@ use Rattle.answer_rows.specs.Answers.{Answer}
 use Rattle.answer_view.specs.View.{AreRowsOf, IsViewOf, ViewValue}
 use Rattle.index_laws.specs.LawsOfIndexes.{StoresFollow}
 use Rattle.query_file.specs.Compiled.{CompiledValue}
-use Rattle.path_engine.specs.declared.index.Index.{Index}
-use Rattle.path_engine.specs.Engine.{EngineValue, IsIndexFor, StandsFor, definitions}
+use Rattle.path_engine.specs.Engine.{EngineValue, StandsFor, definitions}
 use Rattle.path_engine.specs.Answering.{HaveAnswered}
 use Rattle.path_engine.specs.Keeping.{KeepsPlaces}
 use Rattle.path_engine.proofs.Each.{AreIndexes, HaveHistories, have_histories, more_named, zip_map}

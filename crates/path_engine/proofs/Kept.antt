@@ -1,8 +1,8 @@
 -- What an entry leaves in the trees of a forest.
-use Rattle.std.proofs.Common.{◌≡◌, ◌≢◌, ℕ, ◌+◌, ◌<◌, ◌≤◌, Bool, true, false, cond, nat_lt, List, [], ◌∷◌, max}
-use Rattle.std.proofs.Common.{Option, Some, None, refl, sym, ap, subst, ◌∙◌, arith, true≢false}
-use Rattle.std.specs.Prelude.{◌==◌, Contains, option_map}
-use Rattle.std.specs.List.{All, find}
+use Rattle.std.proofs.Common.{◌≡◌, ℕ, ◌+◌, ◌<◌, ◌≤◌, Bool, true, false, cond, nat_lt, List, [], ◌∷◌}
+use Rattle.std.proofs.Common.{Option, Some, None, refl, sym, ap, subst, ◌∙◌, arith}
+use Rattle.std.specs.Prelude.{◌==◌, option_map}
+use Rattle.std.specs.List.{find}
 use Rattle.std.specs.Option.{option_and_then}
 use Rattle.std.proofs.lemmas.Bool.{lt-ltb, ltb-true, eqb-true}
 use Rattle.std.proofs.lemmas.List.Elements.{All-weaker}
@@ -12,12 +12,12 @@ use Rattle.rpq_base.specs.declared.data.Act.TheVariants.{Insert, Delete, Tick}
 use Rattle.dfa_table.specs.DfaValue.{DfaValue, step_of}
 use Rattle.edge_store.specs.Clock.{ClockValue}
 use Rattle.edge_store.specs.declared.edge.EdgeId.{EdgeId}
-use Rattle.edge_store.specs.Edges.{Edges, Expires, Updates, above, raised, same_edge, value_of as value_in}
+use Rattle.edge_store.specs.Edges.{Edges, Updates, above, raised, same_edge, value_of as value_in}
 use Rattle.delta_tree.specs.declared.node.NodeId.{NodeId}
 use Rattle.delta_tree.specs.declared.node.Node.{Node}
-use Rattle.delta_tree.specs.Nodes.{TreeValue, node_id, node_of, value_of, root_id}
-use Rattle.delta_tree.specs.Paths.{IsBelow, LeadsUp}
-use Rattle.tree_insert.specs.Best.{IsAtLeast, IsBest, IsGreatestOf, IsWay}
+use Rattle.delta_tree.specs.Nodes.{TreeValue, node_id, node_of, value_of}
+use Rattle.delta_tree.specs.Paths.{LeadsUp}
+use Rattle.tree_insert.specs.Best.{IsAtLeast, IsBest, IsWay}
 use Rattle.tree_insert.proofs.Bests.{greatest_one}
 use Rattle.source_tree.specs.declared.change.Change.{Change}
 use Rattle.source_tree.specs.declared.change.Change.TheVariants.{Raise, Remove, Expire}
@@ -26,7 +26,7 @@ use Rattle.delta_forest.specs.Forest.{ForestValue, IsIndexed, kept, tree_of}
 use Rattle.delta_forest.specs.Laws.{KeptIsBest}
 use Rattle.index_laws.specs.Numbered.{HasNumbers}
 use Rattle.path_engine.specs.Answering.{HasApplied, MayHaveApplied, Suits}
-use Rattle.path_engine.specs.Keeping.{IsCutOff, KeepsForest, KeepsTree}
+use Rattle.path_engine.specs.Keeping.{IsCutOff, KeepsForest}
 
 -- ---- trees and their nodes
 

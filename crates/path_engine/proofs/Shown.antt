@@ -1,14 +1,13 @@
 -- The answers that a forest shows.
-use Rattle.std.proofs.Common.{◌≡◌, ◌≢◌, ℕ, zero, suc, ◌+◌, ◌<◌, ◌≤◌, Bool, true, false, ◌==◌, List, [], ◌∷◌, ◌++◌, length, map}
-use Rattle.std.proofs.Common.{get_or, take, Option, Some, None, refl, sym, ap, subst, ◌∙◌, ◌⊎◌, inl, inr, ⊎_elim, arith, true≢false}
+use Rattle.std.proofs.Common.{◌≡◌, ◌≢◌, ℕ, zero, suc, ◌+◌, ◌<◌, ◌≤◌, Bool, true, false, List, [], ◌∷◌, length}
+use Rattle.std.proofs.Common.{get_or, take, Some, refl, sym, ap, subst, ◌∙◌, ◌⊎◌, inl, inr, ⊎_elim, arith, true≢false}
 use Rattle.std.specs.Prelude.{◌↔◌, Contains}
-use Rattle.std.specs.List.{All, AllZip}
+use Rattle.std.specs.List.{All}
 use Rattle.std.proofs.lemmas.Bool.{both_ways, cases_eq}
-use Rattle.std.proofs.lemmas.List.{take_all, map_more, length-take, get_or-take}
-use Rattle.std.proofs.lemmas.List.Elements.{Contains-get_or, All-contains, All-contains_itself, All-weaker}
+use Rattle.std.proofs.lemmas.List.{length-take, get_or-take}
+use Rattle.std.proofs.lemmas.List.Elements.{All-contains_itself, All-weaker}
 use Rattle.std.proofs.lemmas.List.Quantifiers.{position-Some}
 use Rattle.std.proofs.lemmas.Option.{same_Some}
-use Rattle.std.proofs.lemmas.Slice.Zip.{all_zipped_more}
 use Rattle.rpq_base.specs.Same.{same_name, same_pair}
 use Rattle.rpq_base.specs.declared.data.Entry.{Entry}
 use Rattle.rpq_base.specs.declared.data.Pair.{Pair}
@@ -18,14 +17,12 @@ use Rattle.rpq_model.specs.declared.mode.Mode.TheVariants.{Simple}
 use Rattle.rpq_model.specs.Query.{Query, path_query}
 use Rattle.name_table.specs.Names.{number_of}
 use Rattle.source_tree.specs.declared.change.Reached.{Reached}
-use Rattle.delta_forest.specs.Forest.{ForestValue, IsEnd, kept}
+use Rattle.delta_forest.specs.Forest.{ForestValue, kept}
 use Rattle.delta_forest.specs.Changes.{AreReachedFrom}
 use Rattle.delta_forest.specs.Laws.{EndsAreOne}
 use Rattle.answer_rows.specs.Answers.{Answer, AreRows, KeepsOtherPairs, until_of, pair as pair_of}
 use Rattle.answer_view.specs.View.{AreRowsOf}
-use Rattle.index_laws.specs.Numbered.{AreNumbersOf}
 use Rattle.index_laws.specs.LawsOfIndexes.{TellsAnswers}
-use Rattle.query_file.specs.Compiled.{CompiledValue}
 use Rattle.path_engine.specs.Showing.{HasOneEach, HaveAdded, HaveNames, HaveShown, IsAmong, IsPut, LacksRoot, Shows}
 use Rattle.path_engine.proofs.Telling.{below}
 

@@ -1,6 +1,5 @@
 -- Indexes of the empty history.
-use Rattle.std.proofs.Common.{◌≡◌, ◌*◌, false, [], length, arith}
-use Rattle.dfa_table.specs.DfaValue.{DfaValue}
+use Rattle.std.proofs.Common.{◌≡◌, false, [], arith}
 use Rattle.edge_store.specs.Edges.{IsEmpty}
 use Rattle.delta_forest.specs.Forest.{IsIndexed}
 use Rattle.index_laws.specs.LawsOfIndexes.{StoresFollow}

@@ -1,21 +1,20 @@
 -- An index follows its history: by the changes that an entry makes.
-use Rattle.std.proofs.Common.{◌≡◌, ℕ, ◌+◌, ◌*◌, ◌<◌, ◌≤◌, max, false, List, [], ◌∷◌, ◌++◌, length, Option, Some, None}
-use Rattle.std.proofs.Common.{refl, sym, ap, subst, ◌∙◌, ◌⊎◌, inl, inr, ⊎_elim, arith, length-append}
+use Rattle.std.proofs.Common.{◌≡◌, ℕ, ◌+◌, ◌<◌, ◌≤◌, max, false, List, [], ◌∷◌, ◌++◌, Option, Some, None}
+use Rattle.std.proofs.Common.{refl, sym, ap, subst, ◌∙◌, inl, inr, ⊎_elim, arith, length-append}
 use Rattle.std.specs.Prelude.{◌↔◌}
 use Rattle.rpq_base.specs.declared.data.Edge.{Edge}
 use Rattle.rpq_base.specs.declared.data.Act.{Act}
 use Rattle.rpq_base.specs.declared.data.Act.TheVariants.{Insert, Delete, Tick}
 use Rattle.rpq_base.specs.declared.data.Entry.{Entry}
 use Rattle.path_syntax.specs.Laws.{nonempty}
-use Rattle.dfa_table.specs.DfaValue.{DfaValue, place_of}
+use Rattle.dfa_table.specs.DfaValue.{DfaValue}
 use Rattle.dfa_table.specs.Runs.{Accepts}
 use Rattle.rpq_model.specs.Query.{language_of}
-use Rattle.rpq_model.specs.Window.{WindowValue, clock}
+use Rattle.rpq_model.specs.Window.{WindowValue}
 use Rattle.rpq_model.specs.WindowLaws.{IsDeadline}
 use Rattle.rpq_model.proofs.Ticks.{clock_more}
-use Rattle.edge_store.specs.Clock.{ClockValue, IsDeadline as IsClockDeadline}
-use Rattle.edge_store.specs.declared.edge.EdgeId.{EdgeId}
-use Rattle.edge_store.specs.Edges.{Edges, Expires}
+use Rattle.edge_store.specs.Clock.{IsDeadline as IsClockDeadline}
+use Rattle.edge_store.specs.Edges.{Expires}
 use Rattle.source_tree.specs.declared.change.Change.{Change}
 use Rattle.source_tree.specs.declared.change.Change.TheVariants.{Raise, Remove, Expire}
 use Rattle.source_tree.specs.declared.change.EndChange.{EndChange}
@@ -29,7 +28,7 @@ use Rattle.query_file.specs.Compiled.{CompiledValue, IsCompiled}
 use Rattle.query_file.proofs.Verdicts.{accepted_of}
 use Rattle.path_engine.specs.declared.index.Index.{Index}
 use Rattle.path_engine.specs.Engine.{IsIndexFor}
-use Rattle.path_engine.specs.Answering.{HasStepped, HasApplied, MayHaveApplied, Suits, IsPast}
+use Rattle.path_engine.specs.Answering.{HasStepped, MayHaveApplied, Suits}
 
 -- what an engine holds for a query is an index of it
 pub is_index : KeptIsBest → (query : CompiledValue) (history : List Entry)

@@ -1,8 +1,8 @@
 -- What a query's index tells: the events of an entry, and names for its numbers.
-use Rattle.std.proofs.Common.{◌≡◌, ◌≢◌, ℕ, ◌<◌, ◌≤◌, Bool, true, false, not, List, [], ◌∷◌, ◌++◌, length, map, get_or}
-use Rattle.std.proofs.Common.{Option, Some, None, refl, sym, ap, ap₂, subst, ◌∙◌, inl, inr, ⊎_elim, arith, true≢false}
+use Rattle.std.proofs.Common.{◌≡◌, ◌≢◌, ℕ, ◌<◌, Bool, true, false, not, List, [], ◌++◌, length, map}
+use Rattle.std.proofs.Common.{Option, Some, None, refl, sym, ap₂, subst, ◌∙◌, inl, inr, ⊎_elim, arith, true≢false}
 use Rattle.std.specs.Prelude.{◌↔◌, Contains, IsSome}
-use Rattle.std.specs.List.{All, list_any}
+use Rattle.std.specs.List.{list_any}
 use Rattle.std.specs.List.Sorted.{IsStrictlySortedBy}
 use Rattle.std.proofs.lemmas.Bool.{cases_lt}
 use Rattle.std.proofs.lemmas.List.Elements.{All-contains_itself, All-weaker}
@@ -18,15 +18,13 @@ use Rattle.rpq_base.proofs.Equality.{names as name_test, labels, edges as edge_t
 use Rattle.rpq_base.proofs.Members.{none_in}
 use Rattle.rpq_base.proofs.Orders.{pair_cmp_total, pair_cmp_exact}
 use Rattle.rpq_base.proofs.Sorted.{same_from_members}
-use Rattle.dfa_table.specs.DfaValue.{DfaValue}
 use Rattle.rpq_model.specs.declared.mode.Mode.TheVariants.{Simple}
 use Rattle.rpq_model.specs.Answers.{IsAnswer}
-use Rattle.rpq_model.specs.Events.{event, without, changes, AreEvents}
+use Rattle.rpq_model.specs.Events.{event, without, AreEvents}
 use Rattle.rpq_model.specs.Query.{Query, path_query}
 use Rattle.rpq_model.proofs.ByMembers.{without_members}
 use Rattle.name_table.specs.Names.{number_of}
 use Rattle.source_tree.specs.declared.change.EndChange.{EndChange}
-use Rattle.source_tree.specs.Ends.{end_change}
 use Rattle.delta_forest.specs.Forest.{ForestValue, IsEnd, IsIndexed, kept}
 use Rattle.delta_forest.specs.Changes.{AreEndChangesOf}
 use Rattle.delta_forest.specs.Laws.{EndsAreOne}

@@ -1,7 +1,6 @@
 -- How an entry is answered for one query. No public contract cites this file.
-use Rattle.std.specs.Prelude.{◌≡◌, ◌⊎◌, ◌↔◌, ℕ, ◌+◌, ◌^◌, ◌<◌, ◌≤◌, max, Bool, true, false}
-use Rattle.std.specs.Prelude.{List, [], ◌∷◌, ◌++◌, length, All, Option, Some, None}
-use Rattle.std.specs.List.{AllZip}
+use Rattle.std.specs.Prelude.{◌≡◌, ◌⊎◌, ℕ, ◌+◌, ◌^◌, ◌<◌, ◌≤◌, max, Bool, false}
+use Rattle.std.specs.Prelude.{List, [], ◌∷◌, ◌++◌, length, All, Option, Some, None, if◌then◌else◌}
 use Rattle.rpq_base.specs.declared.data.Edge.{Edge}
 use Rattle.rpq_base.specs.declared.data.Act.{Act}
 use Rattle.rpq_base.specs.declared.data.Act.TheVariants.{Insert, Delete, Tick}
@@ -87,6 +86,10 @@ pub record HasApplied (change : Change) (old new : ForestValue) (log : List EndC
 abbrev pub MayHaveApplied : Option Change → ForestValue → ForestValue → List EndChange → Type 0
 MayHaveApplied None old new log = (new ≡ old) × (log ≡ [])
 MayHaveApplied (Some change) old new log = HasApplied change old new log
+
+-- the ends that the last change of a forest changed, if it is asked for
+abbrev pub log_if : Bool → ForestValue → List EndChange
+log_if asked forest = if asked then forest.log else []
 
 -- the clock went on, the forest expired and then took the change that suits the entry; these are
 -- the ends that changed by the one and by the other

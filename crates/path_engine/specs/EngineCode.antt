@@ -1,5 +1,5 @@
 -- How the logic stores an engine, which no contract cites.
-use Rattle.std.specs.Prelude.{◌≡◌, ℕ, Bool, List, Option, refl}
+use Rattle.std.specs.Prelude.{ℕ, Bool, List, Option, refl}
 use Rattle.std.specs.Coded.{Coded, code_by, coded×, coded_ℕ, coded_bool, coded_list, coded_option}
 use Rattle.edge_store.specs.Clock.{ClockValue}
 use Rattle.edge_store.specs.declared.edge.EdgeId.{EdgeId}

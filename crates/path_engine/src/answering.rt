@@ -8,7 +8,7 @@ ghost use Rattle.dfa_table.specs.DfaValue.{place_of};
 ghost use Rattle.rpq_model.specs.declared.mode.Mode.TheVariants.{Simple};
 ghost use Rattle.query_file.specs.Compiled.{IsCompiled};
 ghost use Rattle.path_engine.specs.Answering.{AreEndsFor, HasApplied, HasAnswered, HasHistory};
-ghost use Rattle.path_engine.specs.Answering.{HasStepped, HaveAnswered, IsNumbered, Suits};
+ghost use Rattle.path_engine.specs.Answering.{HasStepped, HaveAnswered, IsNumbered, Suits, log_if};
 ghost use Rattle.rpq_base.specs.declared.data.Act.TheVariants.{Insert, Delete};
 ghost use Rattle.edge_store.specs.Clock.{ClockValue};
 
@@ -79,14 +79,15 @@ pub(crate) fn answer_each<R: Threads + Sync, G: Gate>(
     Ok(events)
 }
 
-/// Puts more events at the end of the events.
-fn push_all(events: &mut Vec<Event>, more: Vec<Event>) -> Result<(), Memory>
+/// Puts more events at the end of the events. Where there were none, the list is taken as it is.
+fn push_all(events: &mut Vec<Event>, mut more: Vec<Event>) -> Result<(), Memory>
     ensures { OnOk result (events.new.items ≡ events.old.items ++ more.items) }
 {
-    for event in more {
-        events.push(event)?;
+    if events.is_empty() {
+        *events = more;
+        return Ok(());
     }
-    Ok(())
+    Ok(events.append(&mut more)?)
 }
 
 /// Answers the entry for a query, under its number.
@@ -119,7 +120,8 @@ fn answer<R: Threads + Sync, G: Gate>(
     index_keeps_bests();
     index_tells_answers();
     accepted_queries_have_answers();
-    events_between(alloc, number, apart, names, &logs.first, &logs.second)
+    let second = second_log(&logs, &index.forest);
+    events_between(alloc, number, apart, names, &logs.first, second)
 }
 
 /// The slide of the query's window.
@@ -141,11 +143,19 @@ pub(crate) fn is_simple(query: &Compiled) -> bool
     }
 }
 
-/// The ends that the two changes of an entry changed, one after the other.
+/// The ends that the first of the two changes of an entry changed, and whether there was a second,
+/// whose ends the forest tells as those of its last change.
 #[derive(Drop)]
 pub struct Logs {
     pub first: Vec<EndChange>,
-    pub second: Vec<EndChange>,
+    pub second: bool,
+}
+
+/// The ends that the second change changed, if there was one.
+fn second_log<'a>(logs: &Logs, forest: &'a Forest) -> &'a [EndChange]
+    ensures { result.now ≡ log_if logs.now.second forest.now }
+{
+    if logs.second { forest.log() } else { &[] }
 }
 
 /// Takes the entry into an index.
@@ -164,46 +174,49 @@ fn step<R: Threads + Sync, G: Gate>(
     requires calls { index.old.forest.calls < 2 ^ 40 }
     ensures { IfOk result (λ logs. (names : List (List ℕ)) →
         AreEndsFor names index.old.forest.dfa entry.now.tuple.act ends →
-        HasStepped names entry.now index.old index.new logs.first.items logs.second.items) }
+        HasStepped names entry.now index.old index.new logs.first.items
+        (log_if logs.second index.new.forest)) }
 {
     let now = index.clock.advance(entry.tuple.time);
-    let first = apply(
-        rt,
-        alloc,
-        &mut index.forest,
-        Change::Expire(now),
-        crew,
-        gate,
-    )?;
+    apply(rt, &mut index.forest, Change::Expire(now), crew, gate)?;
+    let first = log_of(alloc, &index.forest)?;
     match change_for(&index.forest, &index.clock, now, ends, entry) {
         Some(change) => {
-            let second = apply(rt, alloc, &mut index.forest, change, crew, gate)?;
-            Ok(Logs { first, second })
+            apply(rt, &mut index.forest, change, crew, gate)?;
+            Ok(Logs {
+                first,
+                second: true,
+            })
         }
         None => Ok(Logs {
             first,
-            second: Vec::new(alloc),
+            second: false,
         }),
     }
 }
 
-/// Applies the change to a forest, and gives the ends that it changed.
+/// Applies the change to a forest.
 fn apply<R: Threads + Sync, G: Gate>(
     rt: &R,
-    alloc: Global,
     forest: &mut Forest,
     change: Change,
     crew: Crew,
     gate: &G,
-) -> Result<Vec<EndChange>, Memory>
+) -> Result<(), Memory>
     requires some { 1 ≤ crew.workers }
     requires few { crew.workers ≤ 64 }
     requires unbroken { forest.old.broken ≡ false }
     requires calls { forest.old.calls < 2 ^ 60 }
-    ensures { IfOk result (λ log. HasApplied change forest.old forest.new log.items) }
+    ensures { OnOk result (HasApplied change forest.old forest.new forest.new.log) }
 {
     let workers = workers_for(forest, crew);
-    forest.apply(rt, change, workers, gate)?;
+    forest.apply(rt, change, workers, gate)
+}
+
+/// The ends that the last change of a forest changed, by a copy.
+fn log_of(alloc: Global, forest: &Forest) -> Result<Vec<EndChange>, Memory>
+    ensures { IfOk result (λ log. log.items ≡ forest.now.log) }
+{
     Ok(Vec::from_slice(alloc, forest.log())?)
 }
 

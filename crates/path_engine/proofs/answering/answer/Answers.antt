@@ -2,7 +2,7 @@ use Rattle.std.proofs.Common.{◌<◌, sym, subst}
 use Rattle.dfa_table.specs.DfaValue.{DfaValue}
 use Rattle.end_events.specs.Changes.{AreNamed}
 use Rattle.query_file.specs.Compiled.{IsCompiled}
-use Rattle.path_engine.specs.Answering.{AreEndsFor}
+use Rattle.path_engine.specs.Answering.{AreEndsFor, log_if}
 use Rattle.path_engine.proofs.Answered.{Laws, answered_if, first_named, second_named}
 use Rattle.path_engine.proofs.answering.answer.Goals as goal
 
@@ -29,7 +29,7 @@ events_between-requires-clause-first_named g c =
     let logs = c.in_ok-logs.logs in
     subst (AreNamed names) (sym c.deref.ensures.value)
     (first_named laws names entry query c.args.index.now c.step.new.index logs.first.items
-    logs.second.items some compiled stepped has.history has.is)
+    (log_if logs.second c.step.new.index.forest) some compiled stepped has.history has.is)
 
 pub events_between-requires-clause-second_named : goal.events_between-requires-clause-second_named
 events_between-requires-clause-second_named g c =
@@ -52,9 +52,9 @@ events_between-requires-clause-second_named g c =
     (sym has.is.automaton) c.requires.ends in
     let stepped = c.in_ok-logs.ensures names ends in
     let logs = c.in_ok-logs.logs in
-    subst (AreNamed names) (sym c.deref-2.ensures.value)
+    subst (AreNamed names) (sym c.second_log-second.ensures)
     (second_named laws names entry query c.args.index.now c.step.new.index logs.first.items
-    logs.second.items some compiled stepped has.history has.is)
+    (log_if logs.second c.step.new.index.forest) some compiled stepped has.history has.is)
 
 pub returns : goal.returns
 returns g c =
@@ -78,6 +78,6 @@ returns g c =
     let stepped = c.in_ok-logs.ensures names ends in
     let logs = c.in_ok-logs.logs in
     answered_if laws names entry query c.args.index.now c.step.new.index logs.first.items
-    logs.second.items some compiled stepped c.args.number c.is_simple-apart.result
-    c.deref.result.now c.deref-2.result.now c.deref.ensures.value c.deref-2.ensures.value has
+    (log_if logs.second c.step.new.index.forest) some compiled stepped c.args.number c.is_simple-apart.result
+    c.deref.result.now c.second_log-second.result.now c.deref.ensures.value c.second_log-second.ensures has
     c.is_simple-apart.ensures c.events_between.result c.events_between.ensures

@@ -1,4 +1,4 @@
-use Rattle.std.proofs.Common.{◌≡◌, ℕ, ◌+◌, ◌<◌, List, length, get_or, slice_index_or, set, sym, ap, subst, ◌∙◌, arith, length-set, get_or-set_other}
+use Rattle.std.proofs.Common.{◌≡◌, ◌+◌, List, get_or, slice_index_or, set, sym, ap, subst, ◌∙◌, arith, length-set, get_or-set_other}
 use Rattle.rpq_base.specs.declared.data.Event.{Event}
 use Rattle.query_file.specs.Compiled.{CompiledValue}
 use Rattle.path_engine.specs.declared.index.Index.{Index}

@@ -1,4 +1,4 @@
-use Rattle.std.proofs.Common.{◌+◌, List, take, sym, subst, arith}
+use Rattle.std.proofs.Common.{◌+◌, List, take, sym, subst}
 use Rattle.std.specs.List.{AllZip}
 use Rattle.std.proofs.lemmas.List.{take_all}
 use Rattle.rpq_base.specs.declared.data.Entry.{Entry}

@@ -1,4 +1,4 @@
-use Rattle.std.proofs.Common.{◌≡◌, ℕ, false, List, [], length, ap, refl, sym, subst, arith}
+use Rattle.std.proofs.Common.{ℕ, false, List, [], length, ap, refl, sym, subst, arith}
 use Rattle.query_file.specs.Compiled.{CompiledValue}
 use Rattle.path_engine.specs.Engine.{EngineValue, StandsFor}
 use Rattle.path_engine.proofs.Each.{AreIndexes}
