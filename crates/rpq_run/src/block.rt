@@ -8,7 +8,7 @@ use rpq_base::{Entry, Event, Memory};
 use rpq_model::QueryDef;
 use std::alloc::{AllocError, Global};
 use text_parts::push_decimal;
-use tuple_text::write_tuple;
+use tuple_text::push_tuple;
 
 /// The block of the entry at position `n`, counted from 1: the line of the entry, then one line for
 /// each of its events, each with a line feed at its end. Each event has the number of one of the
@@ -25,28 +25,32 @@ pub fn block_text(
     requires numbers { All (λ event. event.query < length queries.now) events.now }
     ensures { IfOk result (λ text. text.items ≡ block queries.now n entry.now events.now) }
 {
-    let mut text = entry_line(alloc, n, entry)?;
+    let mut text = Vec::with_capacity(alloc, room_for(events.len()))?;
+    push_entry(&mut text, n, entry)?;
     for event in events {
         push_event(&mut text, queries, event)?;
     }
     Ok(text)
 }
 
-/// The line of the entry at position `n`.
-fn entry_line(alloc: Global, n: u64, entry: &Entry) -> Result<Vec<u8>, Memory>
+/// Room for a block with so many events whose names are short. A longer block takes more later.
+fn room_for(events: usize) -> usize {
+    events.saturating_mul(32).saturating_add(128)
+}
+
+/// Writes the line of the entry at position `n` at the end of the text.
+fn push_entry(text: &mut Vec<u8>, n: u64, entry: &Entry) -> Result<(), Memory>
     requires { IsPlain entry.now }
-    ensures { IfOk result (λ text. text.items ≡ entry_line n entry.now) }
+    ensures { OnOk result (text.new.items ≡ text.old.items ++ entry_line n entry.now) }
 {
-    let mut text = Vec::new(alloc);
     text.extend_from_slice(b"@")?;
-    push_decimal(&mut text, n)?;
+    push_decimal(text, n)?;
     text.extend_from_slice(b" ")?;
-    push_decimal(&mut text, u64::from(entry.stream))?;
+    push_decimal(text, u64::from(entry.stream))?;
     text.extend_from_slice(b" ")?;
-    let tuple = write_tuple(alloc, &entry.tuple)?;
-    text.extend_from_slice(&tuple)?;
+    push_tuple(text, &entry.tuple)?;
     text.extend_from_slice(b"\n")?;
-    Ok(text)
+    Ok(())
 }
 
 /// Writes the line of an event of one of the queries at the end of the text.

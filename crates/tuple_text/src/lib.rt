@@ -3,8 +3,9 @@
 //!
 //! The contract for the layer above: [`read_tuple`] answers what the definition of a line's tuple
 //! gives, a tuple, nothing or the line's first fault, and [`write_tuple`] the written form, which
-//! is read as the same tuple. The laws say by parts exactly which lines give what. Each call goes
-//! over its line a few times, and takes memory for the fields and the names.
+//! is read as the same tuple; [`push_tuple`] writes it at the end of a text. The laws say by parts
+//! exactly which lines give what. Each call goes over its line a few times, and takes memory for
+//! the fields and the names.
 #![tactic(auto)]
 
 mod laws;
@@ -13,4 +14,4 @@ mod write;
 
 pub use laws::{line_by_parts, written_is_read, written_is_short, written_lines_are_read};
 pub use read::{BadLine, read_tuple};
-pub use write::write_tuple;
+pub use write::{push_tuple, write_tuple};

@@ -24,11 +24,23 @@ pub fn write_tuple(alloc: Global, tuple: &Tuple) -> Result<Vec<u8>, Memory>
     ensures short { IfOk result (λ text. length text.items ≤ 19 + 3 * (1 + 255) + 2) }
 {
     let mut text = Vec::new(alloc);
-    push_decimal(&mut text, tuple.time)?;
-    push_act(&mut text, &tuple.act)?;
+    push_tuple(&mut text, tuple)?;
+    Ok(text)
+}
+
+/// Writes a tuple at the end of a text, in the form that [`write_tuple`] gives. The only error is
+/// [`Memory`].
+pub fn push_tuple(text: &mut Vec<u8>, tuple: &Tuple) -> Result<(), Memory>
+    requires { IsPlainTuple tuple.now }
+    ensures ok { OnOk result (text.new.items ≡ text.old.items ++ written tuple.now) }
+    ensures read { OnOk result (line_tuple (written tuple.now) ≡ Ok (Some tuple.now)) }
+    ensures short { OnOk result (length (written tuple.now) ≤ 19 + 3 * (1 + 255) + 2) }
+{
+    push_decimal(text, tuple.time)?;
+    push_act(text, &tuple.act)?;
     written_is_read();
     written_is_short();
-    Ok(text)
+    Ok(())
 }
 
 /// Writes an act at the end of the text.
