@@ -1,0 +1,11 @@
+pub mod Lines
+pub mod Legal
+pub mod Follow
+pub mod Joined
+pub mod LegalLaws
+pub mod Examples
+pub mod World
+pub mod Steps
+pub mod Safe
+pub mod WorldLaws
+pub mod RunExample
