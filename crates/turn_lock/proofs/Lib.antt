@@ -1,0 +1,8 @@
+pub mod LineLaws
+pub mod Lines
+pub mod Three
+pub mod Views
+pub mod Deals
+pub mod Joins
+pub mod Moves
+pub mod Seats

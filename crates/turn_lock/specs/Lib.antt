@@ -1,0 +1,6 @@
+pub mod Laws
+pub mod Lines
+pub mod Passes
+pub mod Seats
+pub mod Steps
+pub mod Turn
