@@ -1,0 +1,5 @@
+pub mod Journal
+pub mod JournalCode
+pub mod Kept
+pub mod FaultTexts
+pub mod Laws
