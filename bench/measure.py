@@ -1,15 +1,18 @@
 #!/usr/bin/env python3
 """Times rpq on streams of workloads.py, outside the gate.
 
-    measure.py PROGRAM [--kinds uniform,so] [--queries all,q1] [--tuples 10000,30000,100000,300000]
+    measure.py PROGRAM [--kinds uniform,so] [--queries all,q1] [--tuples 10000,30000] [--runs 3]
     measure.py PROGRAM --sqlite
     measure.py PROGRAM --workers
 
 The first form prints for each stream the seconds, those of processor time, the tuples a second and
-the microseconds a tuple by processor time, and the peak of memory: the median of three runs. A
-peak below 25 MB is that of the interpreter that starts the program. The second one answers a stream of 2,000 tuples over 200 vertices by rpq and by
-recursive SQL in sqlite, evaluated again after each tuple, and compares the pairs at the end and the
-times. The third one asks whether 20,000 tuples give the same bytes with 1, 2 and 8 workers.
+the microseconds a tuple by processor time, and the peak of memory: the median of three runs, or of
+as many as --runs says. The second one answers a stream of 2,000 tuples over 200 vertices by rpq and
+by recursive SQL in sqlite, evaluated again after each tuple, and compares the pairs at the end and
+the times. The third one asks whether 20,000 tuples give the same bytes with 1, 2 and 8 workers.
+
+The peak of memory is what /usr/bin/time says, where it is there. Without it a peak below 25 MB is
+that of the interpreter that starts the program.
 """
 
 import argparse
@@ -37,10 +40,15 @@ def files(kind, tuples, query, vertices=None):
     return os.path.join(folder, name), path
 
 
+TIME = "/usr/bin/time"
+
+
 def run(words):
     """Seconds, seconds of processor time, peak memory in MB, and the digest of the output."""
+    note = os.path.join(tempfile.gettempdir(), f"rpq-peak-{os.getpid()}")
+    timed = [TIME, "-q", "-f", "%M", "-o", note] if os.path.exists(TIME) else []
     start = time.monotonic()
-    process = subprocess.Popen(words, stdout=subprocess.PIPE, stderr=subprocess.PIPE)
+    process = subprocess.Popen([*timed, *words], stdout=subprocess.PIPE, stderr=subprocess.PIPE)
     digest = hashlib.sha256()
     for block in iter(lambda: process.stdout.read(1 << 20), b""):
         digest.update(block)
@@ -50,18 +58,23 @@ def run(words):
     if status != 0:
         sys.exit(f"{' '.join(words)}: status {status >> 8}: {error.decode()}")
     busy = used.ru_utime + used.ru_stime
-    return seconds, busy, used.ru_maxrss / 1024, digest.hexdigest()
+    peak = used.ru_maxrss
+    if timed:
+        with open(note) as told:
+            peak = int(told.read().split()[-1])
+        os.unlink(note)
+    return seconds, busy, peak / 1024, digest.hexdigest()
 
 
-def table(program, kinds, queries, sizes):
+def table(program, kinds, queries, sizes, times):
     print("| stream | queries | tuples | seconds | processor | tuples a second | us a tuple | MB |")
     print("|---|---|---|---|---|---|---|---|")
     for kind in kinds:
         for query in queries:
             for tuples in sizes:
                 words = [program, *files(kind, tuples, query)]
-                runs = sorted((run(words) for _ in range(3)), key=lambda each: each[1])
-                seconds, busy, memory, _ = runs[1]
+                runs = sorted((run(words) for _ in range(times)), key=lambda each: each[1])
+                seconds, busy, memory, _ = runs[times // 2]
                 print(
                     f"| {kind} | {query} | {tuples} | {seconds:.2f} | {busy:.2f} "
                     f"| {tuples / busy:,.0f} | {busy / tuples * 1e6:.1f} | {memory:.0f} |",
@@ -152,6 +165,7 @@ def main():
     words.add_argument("--kinds", default=",".join(workloads.KINDS))
     words.add_argument("--queries", default="all,q1,q4,q9,q11")
     words.add_argument("--tuples", default="10000,30000,100000,300000")
+    words.add_argument("--runs", type=int, default=3)
     words.add_argument("--sqlite", action="store_true")
     words.add_argument("--workers", action="store_true")
     given = words.parse_args()
@@ -162,7 +176,7 @@ def main():
         same_by_workers(program)
     else:
         sizes = [int(size) for size in given.tuples.split(",")]
-        table(program, given.kinds.split(","), given.queries.split(","), sizes)
+        table(program, given.kinds.split(","), given.queries.split(","), sizes, given.runs)
 
 
 if __name__ == "__main__":
