@@ -6,3 +6,7 @@ mod Beginning
 mod Refusals
 mod Inside
 mod Steps
+mod Own
+mod Turns
+mod Answered
+mod FourPasses

@@ -1,5 +1,6 @@
 pub mod Journal
 pub mod JournalCode
 pub mod Kept
+pub mod History
 pub mod FaultTexts
 pub mod Laws

@@ -15,11 +15,21 @@ use std::sync::Arc;
 use std::test::Fail;
 
 /// A tuple that lets time pass.
-fn tick(time: u32) -> Tuple {
+pub(crate) fn tick(time: u32) -> Tuple {
     Tuple {
         time: u64::from(time),
         act: Act::Tick,
     }
+}
+
+/// A query.
+pub(crate) fn one_query(alloc: Global) -> Result<QueryDef, Fail> {
+    Ok(QueryDef {
+        name: Name::new(alloc, b"q")?,
+        window: Window { size: 10, slide: 5 },
+        mode: Mode::Arbitrary,
+        expr: read_expr(alloc, b"a")?,
+    })
 }
 
 /// A history of two streams that takes one entry.
@@ -29,12 +39,7 @@ fn small_history(alloc: Global) -> Result<Journal, Fail>
     ensures sound { IfOk result IsSound }
 {
     let mut queries = Vec::new(alloc);
-    queries.push(QueryDef {
-        name: Name::new(alloc, b"q")?,
-        window: Window { size: 10, slide: 5 },
-        mode: Mode::Arbitrary,
-        expr: read_expr(alloc, b"a")?,
-    })?;
+    queries.push(one_query(alloc)?)?;
     let mut rows = Vec::new(alloc);
     rows.push(Rows::new(alloc))?;
     let first = View::new(alloc, 0, rows)?;

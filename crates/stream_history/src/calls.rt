@@ -1,0 +1,208 @@
+//! What threads do with a history.
+
+ghost use Rattle.std.specs.Prelude.{◌≡◌, ℕ, ◌<◌, ◌≤◌, ◌↔◌, Some, Err, length, take, drop};
+ghost use Rattle.std.specs.Prelude.{IsTrue, IfOk, OnOk, OnErr};
+ghost use Rattle.history_model.specs.declared.line.Why.{Why as Reason};
+ghost use Rattle.history_model.specs.Lines.{append_line, end_line, publish_line, shut_line};
+ghost use Rattle.history_model.specs.Lines.{entries, published, AllEnded, IsShutFor};
+ghost use Rattle.stream_history.specs.Journal.{ShowsFront, IsSound};
+ghost use Rattle.stream_history.specs.History.{IsPassOf, IsOpenPass, IsEnginePass, IsFeedingPass};
+ghost use Rattle.stream_history.specs.History.{HasSeen, HasAdded, AreFull};
+ghost use Rattle.stream_history.specs.declared.fault.AppendFault.{AppendFault as NotAppended};
+ghost use Rattle.stream_history.specs.declared.fault.PublishFault.{PublishFault as NotPublished};
+
+use crate::fault::{AppendFault, PublishFault};
+use crate::history::{History, Pass};
+use crate::journal::Journal;
+use answer_view::View;
+use history_model::{Why, legal_by_lines, legal_is_sound};
+use rpq_base::{Entry, Memory, Tuple, copy_all};
+use std::alloc::Global;
+use std::sync::{Arc, Wait};
+
+/// The most entries that one [`History::after`] gives.
+const MOST: usize = 256;
+
+/// The entries behind a position, or the first of them, how many entries there are, and whether all
+/// streams have ended.
+#[derive(Drop)]
+pub struct Front {
+    pub entries: Vec<Entry>,
+    pub length: u64,
+    pub all_ended: bool,
+}
+
+/// The view that was published last, how many entries there are, whether all streams have ended,
+/// and why the history was shut, if it was.
+#[derive(Drop)]
+pub struct Looked {
+    pub view: Arc<View>,
+    pub length: u64,
+    pub all_ended: bool,
+    pub shut: Option<Why>,
+}
+
+impl History {
+    /// Appends a tuple of the pass's stream, and answers the position of its entry, counted from 1.
+    /// The stream's number is that of the pass, which has no bytes and so can't tell it.
+    ///
+    /// The errors are, in this order, [`AppendFault::Closed`] where the history is shut,
+    /// [`AppendFault::Full`] where it has as many entries as it takes, and [`AppendFault::Memory`].
+    /// It costs a turn.
+    pub fn append<R: Wait>(
+        &self,
+        rt: &R,
+        pass: &mut Pass,
+        stream: u32,
+        tuple: Tuple,
+    ) -> Result<u64, AppendFault>
+        requires { IsOpenPass self.now pass.old stream }
+        ensures line { OnOk result
+            (HasAdded self.now pass.old (append_line stream tuple) pass.new) }
+        ensures position { IfOk result (λ position. position ≡ length (entries pass.new.seen)) }
+        ensures refused { OnErr result (HasSeen self.now pass.old pass.new) }
+        ensures closed { (why : Reason) →
+            (result ≡ Err (NotAppended.Closed why)) ↔ IsShutFor pass.new.seen why }
+        ensures full { OnErr result ((cap : ℕ) →
+            (result ≡ Err (NotAppended.Full cap)) ↔ AreFull self.now.terms pass.new.seen cap) }
+    {
+        let mut journal = self.turns.take(rt, pass);
+        let answer = journal.append(stream, tuple);
+        self.turns.give(pass, journal);
+        answer
+    }
+
+    /// Ends the pass's stream. It costs a turn, and takes no memory.
+    pub fn end_stream<R: Wait>(&self, rt: &R, pass: &mut Pass, stream: u32)
+        requires { IsOpenPass self.now pass.old stream }
+        ensures { HasAdded self.now pass.old (end_line stream) pass.new }
+    {
+        let mut journal = self.turns.take(rt, pass);
+        journal.end_stream(stream);
+        self.turns.give(pass, journal);
+    }
+
+    /// Publishes a view over the first entries, as many as its position says.
+    ///
+    /// The errors are, in this order, [`PublishFault::Behind`] where the position isn't beyond the
+    /// one that was published last, and [`PublishFault::Memory`]. It costs a turn.
+    pub fn publish<R: Wait>(
+        &self,
+        rt: &R,
+        pass: &mut Pass,
+        view: Arc<View>,
+    ) -> Result<(), PublishFault>
+        requires engine { IsFeedingPass self.now pass.old }
+        requires there { view.value.position ≤ length (entries pass.old.seen) }
+        requires shows { ShowsFront self.now.terms.queries (entries pass.old.seen) view.value }
+        ensures line { OnOk result
+            (HasAdded self.now pass.old (publish_line view.value.position) pass.new) }
+        ensures refused { OnErr result (HasSeen self.now pass.old pass.new) }
+        ensures behind { (position : ℕ) → (result ≡ Err (NotPublished.Behind position))
+            ↔ (position ≡ published pass.old.mine) × (view.value.position ≤ position) }
+    {
+        legal_by_lines();
+        legal_is_sound();
+        let mut journal = self.turns.take(rt, pass);
+        let answer = journal.publish(view);
+        self.turns.give(pass, journal);
+        answer
+    }
+
+    /// Shuts the history, so that nothing is appended or published any more. It costs a turn, and
+    /// takes no memory.
+    pub fn shut<R: Wait>(&self, rt: &R, pass: &mut Pass, why: Why)
+        requires { IsFeedingPass self.now pass.old }
+        ensures { HasAdded self.now pass.old (shut_line why) pass.new }
+    {
+        let mut journal = self.turns.take(rt, pass);
+        journal.shut(why);
+        self.turns.give(pass, journal);
+    }
+
+    /// The entries behind so many first ones, all of them or the first 256.
+    ///
+    /// The engine of a history with readers has to publish what it got before it asks for more. The
+    /// only error is [`Memory`]. It costs a turn, in which the entries are copied.
+    pub fn after<R: Wait>(
+        &self,
+        rt: &R,
+        alloc: Global,
+        pass: &mut Pass,
+        from: u64,
+    ) -> Result<Front, Memory>
+        requires engine { IsEnginePass self.now pass.old }
+        requires there { from ≤ length (entries pass.old.seen) }
+        requires published { 0 < self.now.readers → from ≤ published pass.old.mine }
+        ensures pass { HasSeen self.now pass.old pass.new }
+        ensures entries { IfOk result (λ front.
+            front.entries.items ≡ take 256 (drop from (entries pass.new.seen))) }
+        ensures length { IfOk result (λ front. front.length ≡ length (entries pass.new.seen)) }
+        ensures all_ended { IfOk result (λ front.
+            IsTrue front.all_ended ↔ AllEnded self.now.terms.streams pass.new.seen) }
+    {
+        let journal = self.turns.take(rt, pass);
+        let front = front_of(alloc, &journal, from);
+        self.turns.give(pass, journal);
+        front
+    }
+
+    /// The view that was published last, and what else a reader wants to know. The only error is
+    /// [`Memory`]. It costs a turn, and the view is shared.
+    pub fn look<R: Wait>(&self, rt: &R, pass: &mut Pass) -> Result<Looked, Memory>
+        requires { IsPassOf self.now pass.old }
+        ensures pass { HasSeen self.now pass.old pass.new }
+        ensures position { IfOk result (λ looked.
+            looked.view.value.position ≡ published pass.new.seen) }
+        ensures shows { IfOk result (λ looked.
+            ShowsFront self.now.terms.queries (entries pass.new.seen) looked.view.value) }
+        ensures length { IfOk result (λ looked. looked.length ≡ length (entries pass.new.seen)) }
+        ensures all_ended { IfOk result (λ looked.
+            IsTrue looked.all_ended ↔ AllEnded self.now.terms.streams pass.new.seen) }
+        ensures shut { IfOk result (λ looked. (why : Reason) →
+            (looked.shut ≡ Some why) ↔ IsShutFor pass.new.seen why) }
+    {
+        let journal = self.turns.take(rt, pass);
+        let looked = look_at(&journal);
+        self.turns.give(pass, journal);
+        looked
+    }
+}
+
+// What stands behind so many first entries.
+fn front_of(alloc: Global, journal: &Journal, from: u64) -> Result<Front, Memory>
+    requires { from ≤ length (entries journal.now.lines) }
+    ensures entries { IfOk result (λ front.
+        front.entries.items ≡ take 256 (drop from (entries journal.now.lines))) }
+    ensures length { IfOk result (λ front. front.length ≡ length (entries journal.now.lines)) }
+    ensures all_ended { IfOk result (λ front.
+        IsTrue front.all_ended ↔ AllEnded journal.now.terms.streams journal.now.lines) }
+    ensures sound { IsSound journal.now }
+{
+    let length = journal.length();
+    let behind = journal.entries_from(from);
+    let count = MOST.min(behind.len());
+    Ok(Front {
+        entries: copy_all(alloc, &behind[..count])?,
+        length,
+        all_ended: journal.all_ended(),
+    })
+}
+
+// What a reader finds.
+fn look_at(journal: &Journal) -> Result<Looked, Memory>
+    ensures view { IfOk result (λ looked. looked.view.value ≡ journal.now.view) }
+    ensures length { IfOk result (λ looked. looked.length ≡ length (entries journal.now.lines)) }
+    ensures all_ended { IfOk result (λ looked.
+        IsTrue looked.all_ended ↔ AllEnded journal.now.terms.streams journal.now.lines) }
+    ensures shut { IfOk result (λ looked. (why : Reason) →
+        (looked.shut ≡ Some why) ↔ IsShutFor journal.now.lines why) }
+    ensures sound { IsSound journal.now }
+{
+    Ok(Looked {
+        view: Arc::try_clone(journal.view())?,
+        length: journal.length(),
+        all_ended: journal.all_ended(),
+        shut: journal.shut_reason(),
+    })
+}
