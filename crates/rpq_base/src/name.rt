@@ -8,6 +8,7 @@ ghost use Rattle.rpq_base.specs.FaultTexts.{name_fault_text};
 ghost use Rattle.rpq_base.specs.Names.{is_name_byte, has_name_length, is_name, IsName, IsNameFault};
 
 use crate::memory::{Copied, Memory};
+use smallvec::SmallVec;
 use std::alloc::{AllocError, Global};
 use std::cmp::Ordering;
 use std::error::Error;
@@ -55,10 +56,10 @@ impl Error for NameFault {}
 /// 0x80.
 ///
 /// Contracts see it as its bytes. Names are ordered by their bytes, a name before those that it
-/// begins.
+/// begins. A name of up to 16 bytes takes no memory of its own, so that it is copied fast.
 #[derive(Debug, Drop)]
 pub struct Name {
-    bytes: Vec<u8>,
+    bytes: SmallVec<u8, 16>,
 }
 
 impl Model for Name {
@@ -112,7 +113,7 @@ impl Name {
             return Err(NameFault::Byte(index + 1));
         }
         Ok(Name {
-            bytes: Vec::from_slice(alloc, bytes)?,
+            bytes: SmallVec::from_slice(alloc, bytes)?,
         })
     }
 
@@ -128,7 +129,7 @@ impl Name {
 impl Copied for Name {
     fn copy(&self) -> Result<Name, Memory> {
         Ok(Name {
-            bytes: Vec::from_slice(*self.bytes.allocator(), self.bytes.as_slice())?,
+            bytes: SmallVec::from_slice(*self.bytes.allocator(), self.bytes.as_slice())?,
         })
     }
 }

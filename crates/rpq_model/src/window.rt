@@ -34,10 +34,11 @@ impl Model for Window {
 pub fn clock(history: &[Entry]) -> u64
     ensures { result ≡ clock history.now }
 {
-    history
-        .iter()
-        .map(|entry| entry.tuple.time)
-        .fold(0, |latest, time| latest.max(time))
+    let mut latest = 0;
+    for entry in history {
+        latest = latest.max(entry.tuple.time);
+    }
+    latest
 }
 
 /// Whether an edge of this time is seen at this clock by a query with this window.

@@ -1,0 +1,5 @@
+use Rattle.std.proofs.Common.{◌≡◌, max, take, fold}
+use Rattle.rpq_model.proofs.window.clock.Given as goal
+
+abbrev pub invariant-loop-entry : goal.invariant-loop-entry
+invariant-loop-entry l = l.latest ≡ fold (λ latest entry. max latest entry.tuple.time) 0 (take l.entry-index l.history)
