@@ -1,6 +1,7 @@
 -- Edges that are noted with their values.
 use Rattle.std.proofs.Common.{◌≡◌, ◌≤◌, ◌<◌, ℕ, Bool, true, false, ◌⊎◌, inl, inr, cond, List, refl, sym, ap, subst, ◌∙◌, true≢false, Option, None, Some, nat_lt, Contains, arith}
 use Rattle.std.proofs.lemmas.Bool.{ltb-true}
+use Rattle.std.proofs.lemmas.Option.{same_Some}
 use Rattle.edge_store.specs.declared.dues.Due.{Due}
 use Rattle.edge_store.specs.declared.edge.EdgeId.{EdgeId}
 use Rattle.edge_store.specs.Edges.{Edges, value_of, same_edge, Updates, above}
@@ -17,6 +18,26 @@ above_some now (Some kept) value is = by (nat_lt now kept) refl is
         let equal : kept ≡ value = cc in
         (same, subst (λ n. now < n) equal (ltb-true now kept below))
     by false past same = absurd cc
+
+-- an edge that got a value is noted with it, and the others still are
+pub noted_put : (old new : Edges) (dues after : List Due) (edge : EdgeId) (value : ℕ) →
+    IsNoted old.outs dues →
+    ((each : EdgeId) (other : ℕ) →
+    Contains dues (due each other) → Contains after (due each other)) →
+    Contains after (due edge value) → Updates old new edge (Some value) → IsNoted new.outs after
+noted_put old new dues after edge value noted kept there update each other is =
+    by (same_edge edge each) refl
+  where
+    by : (b : Bool) → same_edge edge each ≡ b → Contains after (due each other)
+    by true same =
+        let found : Some value ≡ Some other =
+        sym (ap (λ b. cond b (Some value) (value_of old each)) same) ∙ sym (update each) ∙ is in
+        subst (λ n. Contains after (due each n)) (same_Some value other found)
+        (subst (λ e. Contains after (due e value)) (same_edge_is edge each same) there)
+    by false apart =
+        let found : value_of old each ≡ Some other =
+        sym (ap (λ b. cond b (Some value) (value_of old each)) apart) ∙ sym (update each) ∙ is in
+        kept each other (noted each other found)
 
 -- an edge of a value at most the clock leaves both the store and the queue
 pub noted_after : (old new : Edges) (dues rest : List Due) (next : EdgeId) (now : ℕ) → IsNoted old.outs dues →

@@ -1,86 +1,224 @@
--- What changes of rows write.
-use Rattle.std.proofs.Common.{◌≡◌, ◌<◌, ◌≤◌, ℕ, zero, suc, Bool, true, false, ◌&&◌, ◌==◌, cond, List, [], ◌∷◌, ◌++◌, length, slice_index_or, slice_set, refl, sym, ap, subst, ◌∙◌, Option, arith}
+-- What changes of the rows of one side write.
+use Rattle.std.proofs.Common.{◌≡◌, ◌<◌, ◌+◌, ℕ, zero, suc, Bool, true, false, ◌&&◌, ◌==◌, cond, List, [], ◌∷◌, ◌++◌, length, slice_index_or, slice_set, refl, sym, ap, subst, ◌∙◌, Option, None, Some, arith}
 use Rattle.std.proofs.lemmas.Bool.{eqb-true, eqb-false}
-use Rattle.std.proofs.lemmas.List.{get_or-set_same, get_or-set_other, map-set, length-map, length-set, get_or-map, get_or_past}
+use Rattle.std.proofs.lemmas.List.{get_or-set_same, get_or-set_other, get_or_append_left, get_or_push, get_or_read}
 use Rattle.std.specs.Map.{lookup}
-use Rattle.std.proofs.lemmas.Option.{get_or_from_slice_get}
 use Rattle.edge_store.specs.Row.{RowValue}
 use Rattle.edge_store.specs.declared.edge.HalfEdge.{HalfEdge}
 use Rattle.edge_store.specs.Edges.{row, value_at, same_half}
-use Rattle.edge_store.specs.Rows.{rows_of, HasSameRows, HasRoom, Writes}
+use Rattle.edge_store.specs.Rows.{rows_of, no_row, place_in, place_of, row_at, side, IsSide, HasSameRows, Writes}
 
--- the row that was set is new
-row_set : (rows : List RowValue) (vertex each : ℕ) (new : RowValue) → vertex < length rows →
-    vertex ≡ each → row (rows_of (slice_set rows vertex new)) each ≡ new.entries
-row_set rows vertex each new within same =
-    ap (λ l. slice_index_or l each []) (map-set (λ (m : RowValue). m.entries) rows vertex new)
-    ∙ subst (λ n. slice_index_or (slice_set (rows_of rows) vertex new.entries) n [] ≡ new.entries) same
-    (get_or-set_same (rows_of rows) vertex new.entries []
-    (omega (arith, length-map rows (λ (m : RowValue). m.entries), within)))
+-- ---- the row of a vertex
+
+-- the entries of the row at a place that may be there
+abbrev entries_at : List RowValue → Option ℕ → List (HalfEdge × ℕ)
+entries_at rows place = (row_at rows place).entries
+
+-- the entries of a vertex are those of the row at its place
+side_row : (slots : List ℕ) (rows : List RowValue) (vertex : ℕ) →
+    row (rows_of (side slots rows)) vertex ≡ entries_at rows (place_of slots vertex)
+side_row [] rows vertex = refl
+side_row (number ∷ slots) rows zero = refl
+side_row (number ∷ slots) rows (suc vertex) = side_row slots rows vertex
+
+-- what a search in the slots answered
+pub place_is : (slots seen : List ℕ) (vertex : ℕ) (answer found : Option ℕ) → seen ≡ slots →
+    answer ≡ place_of seen vertex → answer ≡ found → place_of slots vertex ≡ found
+place_is slots seen vertex answer found same is matches =
+    ap (λ l. place_of l vertex) (sym same) ∙ sym is ∙ matches
+
+-- the entries of a vertex that has a row
+pub row_there : (slots : List ℕ) (rows all : List RowValue) (vertex place : ℕ) (here : RowValue) →
+    side slots rows ≡ all → IsSide slots (length rows) → place_of slots vertex ≡ Some place →
+    here ≡ slice_index_or rows place here → row (rows_of all) vertex ≡ here.entries
+row_there slots rows all vertex place here view is at found =
+    ap (λ l. row (rows_of l) vertex) (sym view)
+    ∙ side_row slots rows vertex
+    ∙ ap (entries_at rows) at
+    ∙ sym (ap (λ (each : RowValue). each.entries)
+    (get_or_read rows place here (is.within vertex place at) found no_row))
+
+-- a vertex without a row has none
+pub row_none : (slots : List ℕ) (rows all : List RowValue) (vertex : ℕ) → side slots rows ≡ all →
+    place_of slots vertex ≡ None → row (rows_of all) vertex ≡ []
+row_none slots rows all vertex view none =
+    ap (λ l. row (rows_of l) vertex) (sym view)
+    ∙ side_row slots rows vertex
+    ∙ ap (entries_at rows) none
+
+-- where each vertex has the entries that it had, the rows are the same
+same_rows : (slots slots' : List ℕ) (rows rows' : List RowValue) →
+    ((each : ℕ) →
+    entries_at rows' (place_of slots' each) ≡ entries_at rows (place_of slots each)) →
+    HasSameRows (rows_of (side slots rows)) (rows_of (side slots' rows'))
+same_rows slots slots' rows rows' same each =
+    side_row slots' rows' each ∙ same each ∙ sym (side_row slots rows each)
+
+-- ---- a row that is set
+
+-- the row of that vertex is new
+set_here : (slots : List ℕ) (rows : List RowValue) (vertex place : ℕ) (new : RowValue) →
+    IsSide slots (length rows) → place_of slots vertex ≡ Some place →
+    entries_at (slice_set rows place new) (place_of slots vertex) ≡ new.entries
+set_here slots rows vertex place new is at =
+    ap (entries_at (slice_set rows place new)) at
+    ∙ ap (λ (each : RowValue). each.entries)
+    (get_or-set_same rows place new no_row (is.within vertex place at))
 
 -- and the others are as they were
-row_kept : (rows : List RowValue) (vertex each : ℕ) (new : RowValue) →
-    (vertex ≡ each → ⊥) → row (rows_of (slice_set rows vertex new)) each ≡ row (rows_of rows) each
-row_kept rows vertex each new apart =
-    ap (λ l. slice_index_or l each []) (map-set (λ (m : RowValue). m.entries) rows vertex new)
-    ∙ get_or-set_other (rows_of rows) vertex each new.entries [] (λ same. apart (sym same))
-
--- the row of a vertex that has one
-pub row_there : (rows : List RowValue) (vertex : ℕ) (old : RowValue) → vertex < length rows →
-    old ≡ slice_index_or rows vertex old → row (rows_of rows) vertex ≡ old.entries
-row_there rows vertex old within is =
-    get_or-map (λ (m : RowValue). m.entries) rows vertex old [] within
-    ∙ ap (λ (m : RowValue). m.entries) (sym is)
-
--- an empty row more changes no row
-pub row_push : (rows : List RowValue) (new : RowValue) → new.entries ≡ [] →
-    HasSameRows (rows_of rows) (rows_of (rows ++ new ∷ []))
-row_push [] new empty zero = empty
-row_push [] new empty (suc each) = refl
-row_push (first ∷ rows) new empty zero = refl
-row_push (first ∷ rows) new empty (suc each) = row_push rows new empty each
+set_apart : (slots : List ℕ) (rows : List RowValue) (vertex place each : ℕ) (new : RowValue) →
+    IsSide slots (length rows) → place_of slots vertex ≡ Some place → (vertex ≡ each → ⊥) →
+    entries_at (slice_set rows place new) (place_of slots each)
+    ≡ entries_at rows (place_of slots each)
+set_apart slots rows vertex place each new is at apart = by (place_of slots each) refl
+  where
+    by : (found : Option ℕ) → place_of slots each ≡ found →
+        entries_at (slice_set rows place new) found ≡ entries_at rows found
+    by None found = refl
+    by (Some other) found =
+        ap (λ (each : RowValue). each.entries)
+        (get_or-set_other rows place other new no_row
+        (λ same. apart (is.once vertex each place at (found ∙ ap Some same))))
 
 -- the same entries in a row change no row
-pub row_same : (rows : List RowValue) (vertex : ℕ) (old new : RowValue) → vertex < length rows →
-    old ≡ slice_index_or rows vertex old → new.entries ≡ old.entries →
-    HasSameRows (rows_of rows) (rows_of (slice_set rows vertex new))
-row_same rows vertex old new within is same each = by (vertex == each) refl
+pub row_same : (slots : List ℕ) (rows : List RowValue) (vertex place : ℕ) (old new : RowValue) →
+    IsSide slots (length rows) → place_of slots vertex ≡ Some place →
+    old ≡ slice_index_or rows place old → new.entries ≡ old.entries →
+    HasSameRows (rows_of (side slots rows)) (rows_of (side slots (slice_set rows place new)))
+row_same slots rows vertex place old new is at found same =
+    same_rows slots slots rows (slice_set rows place new) (λ each. by each (vertex == each) refl)
   where
-    by : (b : Bool) → (vertex == each) ≡ b → row (rows_of (slice_set rows vertex new)) each ≡ row (rows_of rows) each
-    by true here =
-        let at : vertex ≡ each = eqb-true vertex each here in
-        row_set rows vertex each new within at ∙ same ∙ sym (row_there rows vertex old within is) ∙ ap (row (rows_of rows)) at
-    by false apart = row_kept rows vertex each new (eqb-false vertex each apart)
+    by : (each : ℕ) (b : Bool) → (vertex == each) ≡ b →
+        entries_at (slice_set rows place new) (place_of slots each)
+        ≡ entries_at rows (place_of slots each)
+    by each true here =
+        subst (λ n. entries_at (slice_set rows place new) (place_of slots n)
+        ≡ entries_at rows (place_of slots n))
+        (eqb-true vertex each here)
+        (set_here slots rows vertex place new is at
+        ∙ same
+        ∙ sym (row_there slots rows (side slots rows) vertex place old refl is at found)
+        ∙ side_row slots rows vertex)
+    by each false apart =
+        set_apart slots rows vertex place each new is at (eqb-false vertex each apart)
 
 -- what an update of one row writes
-pub writes : (rows : List RowValue) (vertex : ℕ) (old new : RowValue) (half : HalfEdge) (value : Option ℕ) →
-    vertex < length rows → old ≡ slice_index_or rows vertex old →
-    ((other : HalfEdge) → lookup (same_half other) new.entries ≡ cond (same_half half other) value (lookup (same_half other) old.entries)) →
-    Writes (rows_of rows) (rows_of (slice_set rows vertex new)) vertex half value
-writes rows vertex old new half value within is update each other = by (vertex == each) refl
+pub writes : (slots : List ℕ) (rows : List RowValue) (vertex place : ℕ) (old new : RowValue)
+    (half : HalfEdge) (value : Option ℕ) →
+    IsSide slots (length rows) → place_of slots vertex ≡ Some place →
+    old ≡ slice_index_or rows place old →
+    ((other : HalfEdge) → lookup (same_half other) new.entries
+    ≡ cond (same_half half other) value (lookup (same_half other) old.entries)) →
+    Writes (rows_of (side slots rows)) (rows_of (side slots (slice_set rows place new)))
+    vertex half value
+writes slots rows vertex place old new half value is at found update each other =
+    by (vertex == each) refl
   where
     by : (b : Bool) → (vertex == each) ≡ b →
-        value_at (rows_of (slice_set rows vertex new)) each other
-        ≡ cond (b && same_half half other) value (value_at (rows_of rows) each other)
+        value_at (rows_of (side slots (slice_set rows place new))) each other
+        ≡ cond (b && same_half half other) value (value_at (rows_of (side slots rows)) each other)
     by true here =
-        let at : vertex ≡ each = eqb-true vertex each here in
-        ap (lookup (same_half other)) (row_set rows vertex each new within at)
+        subst (λ n. value_at (rows_of (side slots (slice_set rows place new))) n other
+        ≡ cond (same_half half other) value (value_at (rows_of (side slots rows)) n other))
+        (eqb-true vertex each here)
+        (ap (lookup (same_half other))
+        (side_row slots (slice_set rows place new) vertex
+        ∙ set_here slots rows vertex place new is at)
         ∙ update other
         ∙ ap (λ entries. cond (same_half half other) value (lookup (same_half other) entries))
-        (sym (row_there rows vertex old within is) ∙ ap (row (rows_of rows)) at)
-    by false apart = ap (lookup (same_half other)) (row_kept rows vertex each new (eqb-false vertex each apart))
+        (sym (row_there slots rows (side slots rows) vertex place old refl is at found)))
+    by false apart =
+        ap (lookup (same_half other))
+        (side_row slots (slice_set rows place new) each
+        ∙ set_apart slots rows vertex place each new is at (eqb-false vertex each apart)
+        ∙ sym (side_row slots rows each))
 
--- a vertex without a row has no edges
-pub row_past : (rows : List RowValue) (vertex : ℕ) → length rows ≤ vertex → row (rows_of rows) vertex ≡ []
-row_past rows vertex past = get_or_past (rows_of rows) vertex [] (omega (arith, length-map rows (λ (m : RowValue). m.entries), past))
+-- a vertex without a row has nothing to take out
+pub writes_none : (slots : List ℕ) (rows : List RowValue) (vertex : ℕ) (half : HalfEdge) →
+    place_of slots vertex ≡ None →
+    Writes (rows_of (side slots rows)) (rows_of (side slots rows)) vertex half None
+writes_none slots rows vertex half none each other =
+    by (vertex == each) refl (same_half half other)
+  where
+    by : (b : Bool) → (vertex == each) ≡ b → (c : Bool) →
+        value_at (rows_of (side slots rows)) each other
+        ≡ cond (b && c) None (value_at (rows_of (side slots rows)) each other)
+    by true here true =
+        ap (lookup (same_half other))
+        (ap (row (rows_of (side slots rows))) (sym (eqb-true vertex each here))
+        ∙ row_none slots rows (side slots rows) vertex refl none)
+    by true here false = refl
+    by false apart c = refl
 
--- a row with room that was set
-pub room_there : (rows : List RowValue) (vertex : ℕ) (new : RowValue) → vertex < length rows →
-    0 < new.room → HasRoom (slice_set rows vertex new) vertex
-room_there rows vertex new within some = record {
-  within = omega (arith, length-set rows vertex new, within);
-  room = λ each there.
-      subst (λ (m : RowValue). 0 < m.room)
-      (sym (get_or-set_same rows vertex new new within) ∙ get_or_from_slice_get (slice_set rows vertex new) vertex each new there)
-      some;
+-- ---- a vertex more
+
+-- slots with the same places
+pub is_side_same : (slots slots' : List ℕ) (count : ℕ) →
+    ((each : ℕ) → place_of slots' each ≡ place_of slots each) → IsSide slots count →
+    IsSide slots' count
+is_side_same slots slots' count same is = record {
+  within = λ vertex place at. is.within vertex place (sym (same vertex) ∙ at);
+  once = λ first second place one other.
+      is.once first second place (sym (same first) ∙ one) (sym (same second) ∙ other);
 }
+
+pub same_slots : (slots slots' : List ℕ) (rows : List RowValue) →
+    ((each : ℕ) → place_of slots' each ≡ place_of slots each) →
+    HasSameRows (rows_of (side slots rows)) (rows_of (side slots' rows))
+same_slots slots slots' rows same =
+    same_rows slots slots' rows rows (λ each. ap (entries_at rows) (same each))
+
+-- the number of a row is one more than its place
+place_in_next : (place : ℕ) → place_in (suc place) ≡ Some place
+place_in_next place = refl
+
+place_in_more : (place : ℕ) → place_in (place + 1) ≡ Some place
+place_in_more place =
+    let same : suc place ≡ place + 1 = omega arith in
+    subst (λ n. place_in n ≡ Some place) same (place_in_next place)
+
+-- the place of the vertex whose slot was set
+slot_here : (slots : List ℕ) (vertex place : ℕ) → vertex < length slots →
+    place_of (slice_set slots vertex (place + 1)) vertex ≡ Some place
+slot_here slots vertex place within =
+    ap place_in (get_or-set_same slots vertex (place + 1) 0 within) ∙ place_in_more place
+
+-- and of the others
+slot_apart : (slots : List ℕ) (vertex each place : ℕ) → (vertex ≡ each → ⊥) →
+    place_of (slice_set slots vertex (place + 1)) each ≡ place_of slots each
+slot_apart slots vertex each place apart =
+    ap place_in (get_or-set_other slots vertex each (place + 1) 0 (λ same. apart (sym same)))
+
+-- an empty row more changes no row
+pub rows_more : (slots : List ℕ) (rows : List RowValue) (vertex : ℕ) (new : RowValue) →
+    IsSide slots (length rows) → place_of slots vertex ≡ None → vertex < length slots →
+    new.entries ≡ [] →
+    HasSameRows (rows_of (side slots rows))
+    (rows_of (side (slice_set slots vertex (length rows + 1)) (rows ++ new ∷ [])))
+rows_more slots rows vertex new is none within empty =
+    same_rows slots (slice_set slots vertex (length rows + 1)) rows (rows ++ new ∷ [])
+    (λ each. by each (vertex == each) refl)
+  where
+    kept : (found : Option ℕ) → ((place : ℕ) → found ≡ Some place → place < length rows) →
+        entries_at (rows ++ new ∷ []) found ≡ entries_at rows found
+    kept None below = refl
+    kept (Some place) below =
+        ap (λ (each : RowValue). each.entries)
+        (get_or_append_left rows (new ∷ []) no_row place (below place refl))
+
+    by : (each : ℕ) (b : Bool) → (vertex == each) ≡ b →
+        entries_at (rows ++ new ∷ []) (place_of (slice_set slots vertex (length rows + 1)) each)
+        ≡ entries_at rows (place_of slots each)
+    by each true here =
+        subst (λ n. entries_at (rows ++ new ∷ [])
+        (place_of (slice_set slots vertex (length rows + 1)) n)
+        ≡ entries_at rows (place_of slots n))
+        (eqb-true vertex each here)
+        (ap (entries_at (rows ++ new ∷ [])) (slot_here slots vertex (length rows) within)
+        ∙ ap (λ (each : RowValue). each.entries) (get_or_push rows new no_row (length rows) refl)
+        ∙ empty
+        ∙ sym (ap (entries_at rows) none))
+    by each false apart =
+        ap (entries_at (rows ++ new ∷ []))
+        (slot_apart slots vertex each (length rows) (eqb-false vertex each apart))
+        ∙ kept (place_of slots each) (λ place at. is.within each place at)

@@ -207,6 +207,28 @@ more_room few capacity spare long room = by (nat_lt (length few) 16) refl room
     by true short room = absurd (omega (arith, ltb-true (length few) 16 short, long))
     by false past room = room
 
+-- a row that takes an edge which it hasn't got has room
+pub new_room : (few more : List (HalfEdge × ℕ)) (half : HalfEdge) (room : ℕ) →
+    (is_some (lookup (same_half half) (few ++ more)) ≡ true) ⊎ (0 < room) →
+    lookup (same_half half) few ≡ None → lookup (same_half half) more ≡ None → 0 < room
+new_room few more half room (inl there) none nowhere =
+    let found = lookup_both (same_half half) few more ∙ ap₂ either none nowhere in
+    absurd (true≢false (sym there ∙ ap is_some found))
+new_room few more half room (inr some) none nowhere = some
+
+-- where the list is full and hasn't got the edge, the map takes it
+pub map_takes : (few more : List (HalfEdge × ℕ)) (half : HalfEdge) (capacity spare : ℕ) →
+    (is_some (lookup (same_half half) (few ++ more)) ≡ true)
+    ⊎ (0 < room_of few capacity spare) →
+    lookup (same_half half) few ≡ None → 16 ≤ length few →
+    (is_some (lookup (same_half half) more) ≡ true) ⊎ (0 < spare)
+map_takes few more half capacity spare (inl there) none long =
+    let found = lookup_both (same_half half) few more
+    ∙ ap (λ first. either first (lookup (same_half half) more)) none in
+    inl (sym (ap is_some found) ∙ there)
+map_takes few more half capacity spare (inr some) none long =
+    inr (more_room few capacity spare long some)
+
 -- an insert of an edge that is there isn't refused
 there_is_ok : {T E : Type 0} (result : Result T E) (found : Option ℕ) → is_some found ≡ true → OnErr result (found ≡ None) → IsOk result
 there_is_ok (Ok x) found there absent = refl

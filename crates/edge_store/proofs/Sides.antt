@@ -1,5 +1,5 @@
 -- Both sides of a store.
-use Rattle.std.proofs.Common.{◌≡◌, ◌<◌, ℕ, Bool, true, false, ◌==◌, cond, List, refl, sym, ap, ap₂, ◌∙◌, Option, None, Some, nat_lt}
+use Rattle.std.proofs.Common.{◌≡◌, ◌<◌, ℕ, Bool, true, false, ◌&&◌, ◌==◌, cond, List, refl, sym, ap, ap₂, ◌∙◌, Option, None, Some, nat_lt}
 use Rattle.std.proofs.lemmas.Bool.{lt-ltb}
 use Rattle.std.specs.List.{IsDistinct}
 use Rattle.std.specs.Map.{lookup, keys_of}
@@ -19,6 +19,15 @@ agree_after outs outs' ins ins' edge value agree out_writes in_writes each =
     ∙ ap₂ (λ (test : Bool) (old : Option ℕ). cond test value old)
     (turned (edge.to == each.to) (edge.label == each.label) (edge.from == each.from)) (agree each)
     ∙ sym (out_writes each.from (out_half each))
+
+-- what is written into rows that hold what others held
+pub writes_same : (old rows new : List (List (HalfEdge × ℕ))) (vertex : ℕ) (half : HalfEdge)
+    (value : Option ℕ) →
+    HasSameRows old rows → Writes rows new vertex half value → Writes old new vertex half value
+writes_same old rows new vertex half value same writes each other =
+    writes each other
+    ∙ ap (λ entries. cond ((vertex == each) && same_half half other) value
+    (lookup (same_half other) entries)) (same each)
 
 -- what is written on the side of the vertices that edges leave
 pub updates_after : (outs outs' ins ins' : List (List (HalfEdge × ℕ))) (edge : EdgeId) (value : Option ℕ) →

@@ -1,6 +1,8 @@
 -- The edges of one vertex, on one side.
-use Rattle.std.specs.Prelude.{ℕ, ◌-◌, cond, nat_lt, List, length}
+use Rattle.std.specs.Prelude.{◌≡◌, ℕ, ◌-◌, ◌<◌, ◌⊎◌, true, cond, is_some, nat_lt, List, length}
+use Rattle.std.specs.Map.{lookup}
 use Rattle.edge_store.specs.declared.edge.HalfEdge.{HalfEdge}
+use Rattle.edge_store.specs.Edges.{same_half}
 
 -- the edges in the order of a walk, and for how many more there is room
 pub record RowValue : Type 0 where
@@ -10,3 +12,7 @@ pub record RowValue : Type 0 where
 -- the room of a row: that of its list until this has 16 edges, and then that of its map
 abbrev pub room_of : List (HalfEdge × ℕ) → ℕ → ℕ → ℕ
 room_of few capacity spare = cond (nat_lt (length few) 16) (capacity - length few) spare
+
+-- the row has the edge, or room for it
+abbrev pub Takes : RowValue → HalfEdge → Type 0
+Takes row half = (is_some (lookup (same_half half) row.entries) ≡ true) ⊎ (0 < row.room)

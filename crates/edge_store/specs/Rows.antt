@@ -1,6 +1,7 @@
 -- The rows of one side of a store.
-use Rattle.std.specs.Prelude.{◌≡◌, ℕ, ◌<◌, ◌&&◌, ◌==◌, cond, List, map, length, Option, Some, slice_get}
-use Rattle.edge_store.specs.Row.{RowValue}
+use Rattle.std.specs.Prelude.{◌≡◌, ℕ, zero, suc, ◌<◌, ◌&&◌, ◌==◌, cond, List, [], map}
+use Rattle.std.specs.Prelude.{Option, None, Some, slice_index_or}
+use Rattle.edge_store.specs.Row.{RowValue, Takes}
 use Rattle.edge_store.specs.declared.edge.EdgeId.{EdgeId}
 use Rattle.edge_store.specs.declared.edge.HalfEdge.{HalfEdge}
 use Rattle.edge_store.specs.Edges.{Edges, row, value_at, same_half, out_half, in_half}
@@ -20,10 +21,45 @@ Writes old new vertex half value = (each : ℕ) (other : HalfEdge) →
     value_at new each other
     ≡ cond ((vertex == each) && same_half half other) value (value_at old each other)
 
--- there is a row for the vertex, with room for one more edge
-pub record HasRoom (rows : List RowValue) (vertex : ℕ) : Type 0 where
-  pub within : vertex < length rows
-  pub room : (each : RowValue) → slice_get rows vertex ≡ Some each → 0 < each.room
+-- ---- rows in the order in which they came, and for each vertex a slot
+
+-- what stands for the row of a vertex that has none
+abbrev pub no_row : RowValue
+no_row = record { entries = []; room = 0 }
+
+-- the place of the row of this number from 1; the number 0 is no row's
+abbrev pub place_in : ℕ → Option ℕ
+place_in zero = None
+place_in (suc place) = Some place
+
+-- the place of the row of the vertex, where it has one
+abbrev pub place_of : List ℕ → ℕ → Option ℕ
+place_of slots vertex = place_in (slice_index_or slots vertex 0)
+
+-- the row at a place that may be there
+abbrev pub row_at : List RowValue → Option ℕ → RowValue
+row_at rows None = no_row
+row_at rows (Some place) = slice_index_or rows place no_row
+
+-- for each vertex its row
+abbrev pub side : List ℕ → List RowValue → List RowValue
+side slots rows = map (λ number. row_at rows (place_in number)) slots
+
+-- each slot is for one of so many rows, and each row for one vertex
+pub record IsSide (slots : List ℕ) (count : ℕ) : Type 0 where
+  pub within : (vertex place : ℕ) → place_of slots vertex ≡ Some place → place < count
+  pub once : (first second place : ℕ) → place_of slots first ≡ Some place →
+      place_of slots second ≡ Some place → first ≡ second
+
+-- the row of the vertex has room for one more edge
+abbrev pub HasRoom : List RowValue → ℕ → Type 0
+HasRoom rows vertex = 0 < (slice_index_or rows vertex no_row).room
+
+-- the row of the vertex takes the edge with no more memory
+abbrev pub TakesAt : List RowValue → ℕ → HalfEdge → Type 0
+TakesAt rows vertex half = Takes (slice_index_or rows vertex no_row) half
+
+-- ---- both sides
 
 -- both sides have the same edges with the same values
 abbrev pub Agree : List (List (HalfEdge × ℕ)) → List (List (HalfEdge × ℕ)) → Type 0

@@ -5,6 +5,7 @@ ghost use Rattle.std.specs.List.{IsDistinct, position};
 ghost use Rattle.std.specs.Map.{keys_of, lookup};
 ghost use Rattle.edge_store.specs.declared.edge.HalfEdge.{HalfEdge};
 ghost use Rattle.edge_store.specs.Edges.{same_half};
+ghost use Rattle.edge_store.specs.Row.{Takes};
 
 use crate::edge::HalfEdge;
 use crate::edge_map::EdgeMap;
@@ -14,6 +15,10 @@ use std::marker::Model;
 
 /// The most edges that stand in the list of a row.
 const FEW: usize = 16;
+
+/// The edges for which a list has room at first. An empty list keeps as much, so that an edge that
+/// comes and goes takes no memory.
+const FIRST: usize = 2;
 
 /// The edges of a vertex with their values. The first ones stand in a list and are found by going
 /// through it, which is faster than a hash; the others stand in a map.
@@ -54,14 +59,14 @@ fn place(few: &[(HalfEdge, u64)], half: HalfEdge) -> Option<usize>
     few.iter().position(|entry| half == entry.0)
 }
 
-/// Room for one more edge in a list: one place in an empty list, and else twice as many as before,
-/// since most lists stay very short.
+/// Room for one more edge in a list: two places at first, and then twice as many as before, since
+/// most lists stay very short.
 fn make_room(few: &mut Vec<(HalfEdge, u64)>) -> Result<(), NoMemory>
     ensures same { few.new.items ≡ few.old.items }
     ensures ok { OnOk result (vec_len few.new < vec_capacity few.new) }
 {
     if few.len() == few.capacity() {
-        few.reserve_exact(few.len().max(1))?;
+        few.reserve_exact(few.len().max(FIRST))?;
     }
     Ok(())
 }
@@ -120,9 +125,9 @@ impl Row {
         Ok(())
     }
 
-    /// Puts the value of an edge, for which there is room.
+    /// Puts the value of an edge that is there, or for which there is room.
     pub(crate) fn put(&mut self, half: HalfEdge, value: u64)
-        requires { 0 < self.old.room }
+        requires { Takes self.old half }
         ensures { (other : HalfEdge) → lookup (same_half other) self.new.entries
             ≡ cond (same_half half other) (Some value) (lookup (same_half other) self.old.entries) }
     {
@@ -130,7 +135,7 @@ impl Row {
             self.few[at].1 = value;
             return;
         }
-        // There is room, so this can't be refused.
+        // The edge is new, so there is room, and this can't be refused.
         if self.few.len() < FEW && !self.more.contains(half) {
             let _ = self.few.push((half, value));
             return;
@@ -139,7 +144,7 @@ impl Row {
     }
 
     /// Takes an edge out. The last edge of its list or map comes into its place, and memory that
-    /// holds no edge any more is given back.
+    /// holds no edge any more is given back, but for that of the first places.
     pub(crate) fn take(&mut self, half: HalfEdge) -> Option<u64>
         ensures value { result ≡ lookup (same_half half) self.old.entries }
         ensures rest { (other : HalfEdge) → lookup (same_half other) self.new.entries
@@ -162,11 +167,11 @@ impl Row {
         }
     }
 
-    /// Gives the memory back of a list or a map without edges.
+    /// Gives the memory back of a map without edges, and of a list without edges that grew.
     fn give_back(&mut self)
         ensures { self.new.entries ≡ self.old.entries }
     {
-        if self.few.is_empty() {
+        if self.few.is_empty() && self.few.capacity() > FIRST {
             self.few.shrink_to_fit();
         }
         self.more.give_back();

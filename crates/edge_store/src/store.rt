@@ -3,13 +3,13 @@
 ghost use Rattle.std.specs.Prelude.{◌≡◌, ℕ, ◌+◌, ◌<◌, length, IfOk, OnErr, OnOk, None, Some, slice_get};
 ghost use Rattle.edge_store.specs.Edges.{IsEmpty, HasSameValues, Updates, Expires, GivesOuts, GivesIns};
 ghost use Rattle.edge_store.specs.Edges.{value_of, raised, above, outs_of, ins_of, out_entry, in_entry};
-ghost use Rattle.edge_store.specs.Rows.{rows_of, sides, Agree};
+ghost use Rattle.edge_store.specs.Edges.{out_half, in_half};
+ghost use Rattle.edge_store.specs.Rows.{rows_of, sides, Agree, HasSameRows, TakesAt};
 
 use crate::dues::{Due, next_due, note};
 use crate::edge::{EdgeId, In, Out, Raised};
 use crate::no_memory::NoMemory;
-use crate::row::Row;
-use crate::rows::{count, entry_at, find, make_room, put, take};
+use crate::rows::Rows;
 use crate::steps::Steps;
 use std::alloc::Global;
 use std::collections::BinaryHeap;
@@ -18,15 +18,15 @@ use std::sync::ledger::Ledger;
 
 /// A finite map from edges to values, with the edges of each vertex at hand.
 ///
-/// Contracts see it as `Edges` of `specs/`. Its rows lie by the numbers of the vertices, so these
-/// should be dense.
+/// Contracts see it as `Edges` of `specs/`. It takes four bytes on each side for each number of a
+/// vertex up to the greatest that it was given, so these numbers should be dense.
 #[derive(Drop)]
 pub struct EdgeStore {
     alloc: Global,
     /// For each vertex the edges that leave it.
-    outs: Vec<Row>,
+    outs: Rows,
     /// For each vertex the edges that end at it.
-    ins: Vec<Row>,
+    ins: Rows,
     /// Each edge with its value, and beside them values that an edge had before.
     dues: BinaryHeap<Due>,
 }
@@ -41,12 +41,12 @@ impl Model for EdgeStore {
     ghost use Rattle.edge_store.specs.Dues.{IsStore};
 
     ghost view = { λ store. record {
-      outs = rows_of store.outs.items;
-      ins = rows_of store.ins.items;
+      outs = rows_of store.outs;
+      ins = rows_of store.ins;
     } };
 
     ghost invariant = { λ store.
-        IsStore (rows_of store.outs.items) (rows_of store.ins.items) (heap_items store.dues) };
+        IsStore (rows_of store.outs) (rows_of store.ins) (heap_items store.dues) };
 }
 
 impl EdgeStore {
@@ -56,8 +56,8 @@ impl EdgeStore {
     {
         Ok(EdgeStore {
             alloc,
-            outs: Vec::new(alloc),
-            ins: Vec::new(alloc),
+            outs: Rows::new(alloc),
+            ins: Rows::new(alloc),
             dues: BinaryHeap::new(alloc),
         })
     }
@@ -66,7 +66,7 @@ impl EdgeStore {
     pub fn value(&self, edge: EdgeId) -> Option<u64>
         ensures { result ≡ value_of self.now edge }
     {
-        find(&self.outs, edge.from, edge.out_half())
+        self.outs.find(edge.from, edge.out_half())
     }
 
     /// Raises the value of the edge to this one, where it isn't greater already; an edge that the
@@ -87,7 +87,7 @@ impl EdgeStore {
                 after: kept,
             }),
             _ => {
-                self.put(edge, value)?;
+                self.put(edge, before, value)?;
                 Ok(Raised {
                     before,
                     after: value,
@@ -105,16 +105,16 @@ impl EdgeStore {
         self.dues.clear();
     }
 
-    /// Gives the edge this value.
-    fn put(&mut self, edge: EdgeId, value: u64) -> Result<(), NoMemory>
+    /// Gives the edge this value, where it had that one before.
+    fn put(&mut self, edge: EdgeId, before: Option<u64>, value: u64) -> Result<(), NoMemory>
+        requires { before ≡ value_of self.old edge }
         ensures updates { OnOk result (Updates self.old self.new edge (Some value)) }
         ensures unchanged { OnErr result (HasSameValues self.old self.new) }
     {
         note(&mut self.dues, edge, value)?;
-        make_room(self.alloc, &mut self.outs, edge.from)?;
-        make_room(self.alloc, &mut self.ins, edge.to)?;
-        put(&mut self.outs, edge.from, edge.out_half(), value);
-        put(&mut self.ins, edge.to, edge.in_half(), value);
+        make_room(self.alloc, &mut self.outs, &mut self.ins, edge, before)?;
+        self.outs.put(edge.from, edge.out_half(), value);
+        self.ins.put(edge.to, edge.in_half(), value);
         Ok(())
     }
 
@@ -123,8 +123,8 @@ impl EdgeStore {
         ensures value { result ≡ value_of self.old edge }
         ensures updates { Updates self.old self.new edge None }
     {
-        take(&mut self.ins, edge.to, edge.in_half());
-        take(&mut self.outs, edge.from, edge.out_half())
+        self.ins.take(edge.to, edge.in_half());
+        self.outs.take(edge.from, edge.out_half())
     }
 
     /// Takes exactly the edges out whose value is at most `now`. Where none is, this is one
@@ -143,7 +143,7 @@ impl EdgeStore {
         ensures count { result ≡ length (outs_of self.now v) }
         ensures walk { GivesOuts self.now v }
     {
-        count(&self.outs, v)
+        self.outs.count(v)
     }
 
     /// The number of edges that end at the vertex. A walk over them goes from place 0 to below it.
@@ -151,7 +151,7 @@ impl EdgeStore {
         ensures count { result ≡ length (ins_of self.now v) }
         ensures walk { GivesIns self.now v }
     {
-        count(&self.ins, v)
+        self.ins.count(v)
     }
 
     /// The edge at this place among those that leave the vertex. It counts one step.
@@ -161,7 +161,7 @@ impl EdgeStore {
         ensures counted { steps.new ≡ steps.old + 1 }
     {
         steps.tick();
-        let (half, value) = entry_at(&self.outs, v, k);
+        let (half, value) = self.outs.entry_at(v, k);
         Out {
             label: half.label,
             to: half.far,
@@ -176,7 +176,7 @@ impl EdgeStore {
         ensures counted { steps.new ≡ steps.old + 1 }
     {
         steps.tick();
-        let (half, value) = entry_at(&self.ins, v, k);
+        let (half, value) = self.ins.entry_at(v, k);
         In {
             label: half.label,
             from: half.far,
@@ -185,19 +185,41 @@ impl EdgeStore {
     }
 }
 
-/// Takes the edge out of both sides where its value is at most `now`.
-fn drop_due(outs: &mut Vec<Row>, ins: &mut Vec<Row>, edge: EdgeId, now: u64)
-    requires { Agree (rows_of outs.old.items) (rows_of ins.old.items) }
-    ensures agree { Agree (rows_of outs.new.items) (rows_of ins.new.items) }
-    ensures updates { Updates
-        (sides (rows_of outs.old.items) (rows_of ins.old.items))
-        (sides (rows_of outs.new.items) (rows_of ins.new.items))
-        edge (above now (value_of (sides (rows_of outs.old.items) (rows_of ins.old.items)) edge)) }
+/// Room on both sides for an edge that had this value before: a known edge needs none.
+fn make_room(
+    alloc: Global,
+    outs: &mut Rows,
+    ins: &mut Rows,
+    edge: EdgeId,
+    before: Option<u64>,
+) -> Result<(), NoMemory>
+    requires agree { Agree (rows_of outs.old) (rows_of ins.old) }
+    requires before { before ≡ value_of (sides (rows_of outs.old) (rows_of ins.old)) edge }
+    ensures same_outs { HasSameRows (rows_of outs.old) (rows_of outs.new) }
+    ensures same_ins { HasSameRows (rows_of ins.old) (rows_of ins.new) }
+    ensures out_room { OnOk result (TakesAt outs.new edge.from (out_half edge)) }
+    ensures in_room { OnOk result (TakesAt ins.new edge.to (in_half edge)) }
 {
-    match find(outs, edge.from, edge.out_half()) {
+    if before.is_some() {
+        return Ok(());
+    }
+    outs.make_room(alloc, edge.from)?;
+    ins.make_room(alloc, edge.to)
+}
+
+/// Takes the edge out of both sides where its value is at most `now`.
+fn drop_due(outs: &mut Rows, ins: &mut Rows, edge: EdgeId, now: u64)
+    requires { Agree (rows_of outs.old) (rows_of ins.old) }
+    ensures agree { Agree (rows_of outs.new) (rows_of ins.new) }
+    ensures updates { Updates
+        (sides (rows_of outs.old) (rows_of ins.old))
+        (sides (rows_of outs.new) (rows_of ins.new))
+        edge (above now (value_of (sides (rows_of outs.old) (rows_of ins.old)) edge)) }
+{
+    match outs.find(edge.from, edge.out_half()) {
         Some(value) if value <= now => {
-            take(ins, edge.to, edge.in_half());
-            take(outs, edge.from, edge.out_half());
+            ins.take(edge.to, edge.in_half());
+            outs.take(edge.from, edge.out_half());
         }
         _ => {}
     }

@@ -1,10 +1,11 @@
-use Rattle.std.proofs.Common.{◌≡◌, ◌<◌, ◌≤◌, ◌++◌, ◌∷◌, [], length, sym, ap, subst, ◌∙◌, ℕ, cond, Some, None, inl, inr, if◌then◌else◌, vec_len, vec_capacity, arith}
+use Rattle.std.proofs.Common.{◌≡◌, ◌<◌, ◌≤◌, ◌++◌, ◌∷◌, [], length, sym, ap, subst, ◌∙◌, ℕ, cond, Some, None, inl, if◌then◌else◌, vec_len, vec_capacity, arith}
 use Rattle.std.specs.List.{position, IsDistinct}
 use Rattle.std.specs.Map.{keys_of, lookup}
 use Rattle.edge_store.specs.declared.edge.HalfEdge.{HalfEdge}
 use Rattle.edge_store.specs.Edges.{same_half}
+use Rattle.edge_store.specs.Row.{room_of, Takes}
 use Rattle.edge_store.proofs.RowEntries.{few_changed, more_changed, pushed}
-use Rattle.edge_store.proofs.RowPlaces.{place_key, place_none, set_value, set_distinct, push_distinct, insert_distinct, few_room, more_room, none_from_test}
+use Rattle.edge_store.proofs.RowPlaces.{place_key, place_none, set_value, set_distinct, push_distinct, insert_distinct, few_room, new_room, map_takes, none_from_test}
 use Rattle.edge_store.proofs.row.Row.put.Goals as goal
 use Rattle.edge_store.proofs.row.Row.put.Goals.{else-len-lt-FEW-via-then-len-lt-FEW+else-not-contains, else-len-lt-FEW-via-else-len-lt-FEW}
 
@@ -37,7 +38,10 @@ more_none c = none_from_test (lookup (same_half c.args.half) c.self.inside.more.
 -- the list with the edge at its end
 few_items : (c : goal.After-push) → c.push.new.self.items ≡ c.self.inside.few.items ++ (c.args.half, c.args.value) ∷ []
 few_items c =
-    let room = subst (λ row. 0 < row.room) (sym c.self.view_is) c.requires in
+    let takes = subst (λ row. Takes row c.args.half) (sym c.self.view_is) c.requires in
+    let room = new_room c.self.inside.few.items c.self.inside.more.entries c.args.half
+    (room_of c.self.inside.few.items (vec_capacity c.self.inside.few) c.self.inside.more.room)
+    takes (few_none c) (more_none c) in
     let short : length c.self.inside.few.items < 16 = omega (arith, c.if-len-lt-FEW.true, c.len.ensures, c.self.inside.few.ok.0) in
     let below = few_room c.self.inside.few.items (vec_capacity c.self.inside.few) c.self.inside.more.room short room in
     let fits : vec_len c.self.inside.few < vec_capacity c.self.inside.few = omega (arith, below, c.self.inside.few.ok.0) in
@@ -69,9 +73,13 @@ put-requires c =
     elim c.else-len-lt-FEW.branch [
       | else-len-lt-FEW-via-then-len-lt-FEW+else-not-contains w ↦ inl (sym w.if-not-contains.ensures)
       | else-len-lt-FEW-via-else-len-lt-FEW w ↦
-          let room = subst (λ row. 0 < row.room) (sym c.self.view_is) c.requires in
+          let takes = subst (λ row. Takes row c.args.half) (sym c.self.view_is) c.requires in
           let long : 16 ≤ length c.self.inside.few.items = omega (arith, w.if-len-lt-FEW.false, c.len.ensures, c.self.inside.few.ok.0) in
-          inr (more_room c.self.inside.few.items (vec_capacity c.self.inside.few) c.self.inside.more.room long room)
+          let none = place_none c.self.inside.few.items c.args.half
+          (ap (position (λ (each : HalfEdge × ℕ). same_half c.args.half each.0))
+          (sym c.deref.ensures.value) ∙ sym c.place.ensures.place ∙ c.in_default.is) in
+          map_takes c.self.inside.few.items c.self.inside.more.entries c.args.half
+          (vec_capacity c.self.inside.few) c.self.inside.more.room takes none long
     ]
 
 pub invariant_of-self-2 : goal.invariant_of-self-2

@@ -6,8 +6,8 @@ use Rattle.edge_store.proofs.store.EdgeStore.expire.Goals as goal
 
 pub loop-edge-preserved : goal.loop-edge-preserved
 loop-edge-preserved c =
-    let old = sides (rows_of c.loop-edge.self-inside.outs.items) (rows_of c.loop-edge.self-inside.ins.items) in
-    let new = sides (rows_of c.drop_due.new.outs.items) (rows_of c.drop_due.new.ins.items) in
+    let old = sides (rows_of c.loop-edge.self-inside.outs) (rows_of c.loop-edge.self-inside.ins) in
+    let new = sides (rows_of c.drop_due.new.outs) (rows_of c.drop_due.new.ins) in
     record {
       store = record {
         agree = c.drop_due.ensures.agree;
@@ -20,6 +20,6 @@ loop-edge-preserved c =
 
 pub returns : goal.returns
 returns c =
-    let last = sides (rows_of c.loop-edge.self-inside.outs.items) (rows_of c.loop-edge.self-inside.ins.items) in
+    let last = sides (rows_of c.loop-edge.self-inside.outs) (rows_of c.loop-edge.self-inside.ins) in
     expires c.args.now c.args.self.now last c.loop-edge.invariant.kept
     (λ edge value is. c.in_default.ensures.later edge value (c.loop-edge.invariant.store.noted edge value is))

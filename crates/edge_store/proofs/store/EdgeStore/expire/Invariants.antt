@@ -6,8 +6,8 @@ use Rattle.edge_store.proofs.store.EdgeStore.expire.Given as goal
 
 abbrev pub invariant-loop-edge : goal.invariant-loop-edge
 invariant-loop-edge l = record {
-  store : IsStore (rows_of l.self-inside.outs.items) (rows_of l.self-inside.ins.items) (heap_items l.self-inside.dues);
-  kept : KeepsAbove l.now l.fn.self (sides (rows_of l.self-inside.outs.items) (rows_of l.self-inside.ins.items));
+  store : IsStore (rows_of l.self-inside.outs) (rows_of l.self-inside.ins) (heap_items l.self-inside.dues);
+  kept : KeepsAbove l.now l.fn.self (sides (rows_of l.self-inside.outs) (rows_of l.self-inside.ins));
 }
 
 abbrev pub decreases-loop-edge : goal.decreases-loop-edge

@@ -1,7 +1,5 @@
 use Rattle.std.proofs.Common.{subst}
-use Rattle.std.specs.List.{IsDistinct}
-use Rattle.std.specs.Map.{keys_of}
-use Rattle.edge_store.specs.Edges.{GivesOuts, row, same_half}
+use Rattle.edge_store.specs.Edges.{GivesOuts}
 use Rattle.edge_store.specs.Rows.{rows_of, sides}
 use Rattle.edge_store.proofs.Sides.{gives_outs}
 use Rattle.edge_store.proofs.store.EdgeStore.out_len.Goals as goal
@@ -9,5 +7,5 @@ use Rattle.edge_store.proofs.store.EdgeStore.out_len.Goals as goal
 pub returns-clause-walk : goal.returns-clause-walk
 returns-clause-walk c =
     subst (λ store. GivesOuts store c.args.v) c.self.view_is
-    (gives_outs (sides (rows_of c.self.inside.outs.items) (rows_of c.self.inside.ins.items)) c.args.v
-    (subst (λ rows. IsDistinct same_half (keys_of (row (rows_of rows) c.args.v))) c.deref.ensures.value c.count.ensures.once))
+    (gives_outs (sides (rows_of c.self.inside.outs) (rows_of c.self.inside.ins)) c.args.v
+    c.count.ensures.once)
