@@ -1,16 +1,22 @@
 -- The pairs that are added for the changes in a list.
 use Rattle.std.proofs.Common.{◌≡◌, ℕ, Bool, true, false, List, get_or, [], ◌∷◌, ◌++◌, Some, sym, ap, subst, ◌∙◌, inl, inr, ⊎_elim}
-use Rattle.std.specs.Prelude.{Contains}
+use Rattle.std.specs.Prelude.{◌↔◌, Contains}
+use Rattle.std.specs.List.Sorted.{IsStrictlySortedBy}
 use Rattle.std.proofs.lemmas.Bool.{both_ways}
+use Rattle.std.proofs.lemmas.List.{map_push}
+use Rattle.std.proofs.lemmas.List.Elements.{All-push}
 use Rattle.std.proofs.lemmas.List.Quantifiers.{position-Some}
+use Rattle.rpq_base.specs.Order.{pair_cmp}
 use Rattle.rpq_base.specs.Same.{same_name}
 use Rattle.rpq_base.specs.declared.data.Pair.{Pair}
 use Rattle.rpq_base.proofs.Equality.{names as name_test}
-use Rattle.rpq_base.proofs.Members.{HasOneMore, none_in, one_more}
+use Rattle.rpq_base.proofs.Members.{HasOneMore, cons_members, none_in, one_more}
 use Rattle.rpq_model.specs.Relations.{Adds}
+use Rattle.rpq_model.proofs.Composing.{first_added, in_turn, then_added}
 use Rattle.name_table.specs.Names.{number_of}
 use Rattle.source_tree.specs.declared.change.EndChange.{EndChange}
-use Rattle.end_events.specs.Pairs.{gives_event, IsGiven}
+use Rattle.end_events.specs.declared.pairs.NumberedPair.{NumberedPair}
+use Rattle.end_events.specs.Pairs.{gives_event, pair_at, pairs_at, AreGiven, AreNumbered, Gathers, IsGiven, IsNumbered}
 
 -- names with one number are one
 pub one_name : (names : List (List ℕ)) (first second : List ℕ) (number : ℕ) →
@@ -89,3 +95,79 @@ given_same apart added names before each after old found one none so_far pair = 
       (one.cases given.each given.member))
       either),
 )
+
+-- ---- lists of numbered pairs
+
+-- no change adds none
+pub gathers_none : (apart added : Bool) (names : List (List ℕ)) (found : List NumberedPair) → Gathers apart added names [] found found
+gathers_none apart added names found = record {
+  adds = none_given apart added names (pairs_at names found);
+  numbered = λ all. all;
+}
+
+-- what one change gives, a list with it gives too
+given_by_one : (apart added : Bool) (names : List (List ℕ)) (before : List EndChange) (each : EndChange) (after : List EndChange) (pair : Pair) →
+    HasOneMore before each after → IsGiven apart added names (each ∷ []) pair → IsGiven apart added names after pair
+given_by_one apart added names before each after pair one given = record {
+  each = given.each;
+  member = ⊎_elim
+      (λ here. subst (Contains after) here one.here)
+      (λ none. absurd (none_in given.each none))
+      ((cons_members each [] given.each).0 given.member);
+  from = given.from;
+  to = given.to;
+  gives = given.gives;
+}
+
+-- a change more
+pub gathers_more : (apart added : Bool) (names : List (List ℕ)) (before : List EndChange) (each : EndChange) (after : List EndChange)
+    (old found more : List NumberedPair) → HasOneMore before each after →
+    Gathers apart added names before old found → Gathers apart added names (each ∷ []) found more → Gathers apart added names after old more
+gathers_more apart added names before each after old found more one so_far next = record {
+  adds = λ pair. (
+    (λ member. ⊎_elim
+        (λ there. ⊎_elim
+        (λ was. inl was)
+        (λ given. inr (still_given apart added names before each after pair one given))
+        ((so_far.adds pair).0 there))
+        (λ given. inr (given_by_one apart added names before each after pair one given))
+        ((next.adds pair).0 member)),
+    (λ either. (next.adds pair).1 (⊎_elim
+        (λ was. inl ((so_far.adds pair).1 (inl was)))
+        (λ given. ⊎_elim
+        (λ earlier. inl ((so_far.adds pair).1 (inr (record { each = given.each; member = earlier; from = given.from; to = given.to; gives = given.gives }))))
+        (λ same. inr (record { each = given.each; member = (cons_members each [] given.each).1 (inl same); from = given.from; to = given.to; gives = given.gives }))
+        (one.cases given.each given.member))
+        either)),
+  );
+  numbered = λ all. next.numbered (so_far.numbered all);
+}
+
+-- one change whose event adds its pair
+pub gathers_one : (apart added : Bool) (names : List (List ℕ)) (each : EndChange) (found more : List NumberedPair) (new : NumberedPair) →
+    new.root ≡ each.root → new.vertex ≡ each.vertex → IsNumbered names new → gives_event apart added each ≡ true →
+    more ≡ found ++ new ∷ [] → Gathers apart added names (each ∷ []) found more
+gathers_one apart added names each found more new root vertex numbered gives is = record {
+  adds = given_more apart added names [] each (each ∷ []) (pairs_at names found) (pairs_at names found) (pairs_at names more) (pair_at names new)
+      (one_more [] each)
+      (numbered.from.found ∙ ap (λ number. Some number) root)
+      (numbered.to.found ∙ ap (λ number. Some number) vertex)
+      gives
+      (ap (pairs_at names) is ∙ map_push (pair_at names) found new)
+      (none_given apart added names (pairs_at names found));
+  numbered = λ all. subst (λ (pairs : List NumberedPair). AreNumbered names pairs) (sym is) (All-push (IsNumbered names) found new all numbered);
+}
+
+-- what two lists of changes add to none, in order, each once
+pub are_given : (apart added : Bool) (names : List (List ℕ)) (first second : List EndChange) (none found all ordered : List NumberedPair) →
+    none ≡ [] → Gathers apart added names first none found → Gathers apart added names second found all →
+    AreNumbered names ordered → IsStrictlySortedBy pair_cmp (pairs_at names ordered) →
+    ((pair : Pair) → Contains (pairs_at names ordered) pair ↔ Contains (pairs_at names all) pair) →
+    AreGiven apart added names first second ordered
+are_given apart added names first second none found all ordered empty early late numbered sorted same =
+    let one = first_added (IsGiven apart added names first) (pairs_at names none) (pairs_at names found) (ap (pairs_at names) empty) early.adds in
+    let both = then_added (IsGiven apart added names first) (IsGiven apart added names second) (pairs_at names found) (pairs_at names all) one late.adds in
+    record {
+      numbered = numbered;
+      exactly = record { sorted = sorted; exact = λ pair. in_turn (same pair) (both pair) };
+    }

@@ -1,4 +1,5 @@
 mod Adding
 mod Between
 mod Losses
-mod Named
+mod Numbered
+mod Order

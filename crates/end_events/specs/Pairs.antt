@@ -1,10 +1,12 @@
 -- The pairs that lists of changed ends take away or bring. No public contract cites this file.
-use Rattle.std.specs.Prelude.{◌≡◌, ℕ, Bool, true, not, ◌==◌, ◌&&◌, List, map, Contains}
+use Rattle.std.specs.Prelude.{◌≡◌, ◌⊎◌, ℕ, ◌<◌, Bool, true, not, ◌==◌, ◌&&◌, List, length, map, All, Contains}
 use Rattle.std.specs.Prelude.{Option, Some, is_some, is_none, if◌then◌else◌}
 use Rattle.rpq_base.specs.declared.data.Pair.{Pair}
-use Rattle.name_table.specs.Names.{number_of}
+use Rattle.rpq_model.specs.Relations.{Adds, AreExactly}
+use Rattle.name_table.specs.Keys.{sort_key, AreBytes}
+use Rattle.name_table.specs.Names.{name_at, number_of}
 use Rattle.source_tree.specs.declared.change.EndChange.{EndChange}
-use Rattle.end_events.specs.declared.pairs.NamedPair.{NamedPair}
+use Rattle.end_events.specs.declared.pairs.NumberedPair.{NumberedPair}
 
 -- whether a pair with these numbers counts, and has an end at first and none at last
 abbrev pub is_loss : Bool → ℕ → ℕ → Option ℕ → Option ℕ → Bool
@@ -26,10 +28,39 @@ pub record IsGiven (apart added : Bool) (names : List (List ℕ)) (log : List En
   pub to : number_of names pair.to ≡ Some each.vertex
   pub gives : gives_event apart added each ≡ true
 
--- the pair of the names that these references point to
-abbrev pub pair_at : NamedPair → Pair
-pair_at named = record { from = named.from.now; to = named.to.now }
+-- the number is that of a name, which has this sort key
+pub record IsKeyed (names : List (List ℕ)) (number key : ℕ) : Type 0 where
+  pub within : number < length names
+  pub found : number_of names (name_at names number) ≡ Some number
+  pub bytes : AreBytes (name_at names number)
+  pub is : key ≡ sort_key (name_at names number)
+
+-- both numbers are those of names, which have these sort keys
+pub record IsNumbered (names : List (List ℕ)) (pair : NumberedPair) : Type 0 where
+  pub from : IsKeyed names pair.root pair.root_key
+  pub to : IsKeyed names pair.vertex pair.vertex_key
+
+abbrev pub AreNumbered : List (List ℕ) → List NumberedPair → Type 0
+AreNumbered names pairs = All (IsNumbered names) pairs
+
+-- the pair of the names that have these numbers
+abbrev pub pair_at : List (List ℕ) → NumberedPair → Pair
+pair_at names pair = record { from = name_at names pair.root; to = name_at names pair.vertex }
 
 -- the pairs of these
-abbrev pub pairs_at : List NamedPair → List Pair
-pairs_at named = map pair_at named
+abbrev pub pairs_at : List (List ℕ) → List NumberedPair → List Pair
+pairs_at names pairs = map (pair_at names) pairs
+
+-- the pairs of which a change in the list gives an event are added, all of them numbered
+pub record Gathers (apart added : Bool) (names : List (List ℕ)) (log : List EndChange)
+    (before after : List NumberedPair) : Type 0 where
+  pub adds : Adds (pairs_at names before) (pairs_at names after) (IsGiven apart added names log)
+  pub numbered : AreNumbered names before → AreNumbered names after
+
+-- the pairs are exactly those of which a change in one of two lists gives an event, in order, each
+-- once
+pub record AreGiven (apart added : Bool) (names : List (List ℕ)) (first second : List EndChange)
+    (pairs : List NumberedPair) : Type 0 where
+  pub numbered : AreNumbered names pairs
+  pub exactly : AreExactly (λ pair. IsGiven apart added names first pair
+      ⊎ IsGiven apart added names second pair) (pairs_at names pairs)

@@ -7,9 +7,9 @@ ghost use Rattle.rpq_base.specs.Order.{pair_cmp};
 ghost use Rattle.rpq_base.specs.Same.{same_pair};
 ghost use Rattle.rpq_model.specs.Events.{event, without};
 ghost use Rattle.end_events.specs.Changes.{AreChangesOf, AreEventsBetween, AreNamed, Ends};
-ghost use Rattle.end_events.specs.Pairs.{pair_at, pairs_at};
+ghost use Rattle.end_events.specs.Pairs.{pair_at, pairs_at, AreNumbered, IsNumbered};
 
-use crate::pairs::{NamedPair, given_pairs};
+use crate::pairs::{NumberedPair, given_pairs, pair_order};
 use name_table::Names;
 use rpq_base::{Copied, Event, Memory, Pair};
 use source_tree::EndChange;
@@ -20,7 +20,7 @@ use std::alloc::Global;
 /// [`Memory`].
 ///
 /// A pair changes at most twice, so one whose end both goes and comes is as it was before. Each
-/// list is gone through twice; the pairs whose ends go or come are put in order by references to
+/// list is gone through once; the pairs whose ends go or come are put in order by the sort keys of
 /// their names, and an event then copies its two names. Where no end goes or comes, nothing is
 /// allocated.
 pub fn events_between(
@@ -38,11 +38,11 @@ pub fn events_between(
         IfOk result (λ events.
         AreEventsBetween query apart names.now start last events.items) }
 {
-    let lost = given_pairs(alloc, apart, false, names, first, second)?;
-    let gained = given_pairs(alloc, apart, true, names, first, second)?;
+    let given = given_pairs(alloc, apart, names, first, second)?;
     let mut events = Vec::new(alloc);
-    push_events(&mut events, query, false, &lost, &gained)?;
-    push_events(&mut events, query, true, &gained, &lost)?;
+    events.reserve(given.lost.len().saturating_add(given.gained.len()))?;
+    push_events(&mut events, query, false, names, &given.lost, &given.gained)?;
+    push_events(&mut events, query, true, names, &given.gained, &given.lost)?;
     Ok(events)
 }
 
@@ -51,40 +51,50 @@ fn push_events(
     events: &mut Vec<Event>,
     query: u32,
     added: bool,
-    pairs: &[NamedPair],
-    others: &[NamedPair],
+    names: &Names,
+    pairs: &[NumberedPair],
+    others: &[NumberedPair],
 ) -> Result<(), Memory>
-    requires { IsStrictlySortedBy pair_cmp (pairs_at others.now) }
-    ensures { OnOk result (events.new.items ≡ events.old.items
-        ++ map (event query added) (without (pairs_at pairs.now) (pairs_at others.now))) }
+    requires numbered { AreNumbered names.now pairs.now }
+    requires others_numbered { AreNumbered names.now others.now }
+    requires others_sorted { IsStrictlySortedBy pair_cmp (pairs_at names.now others.now) }
+    ensures { OnOk result (events.new.items ≡ events.old.items ++ map (event query added)
+        (without (pairs_at names.now pairs.now) (pairs_at names.now others.now))) }
 {
-    events.reserve(pairs.len())?;
     for pair in pairs {
-        if !is_among(others, pair) {
-            events.push(event_of(query, added, pair)?)?;
+        if !is_among(names, others, pair) {
+            events.push(event_of(query, added, names, pair)?)?;
         }
     }
     Ok(())
 }
 
 /// Whether the pair is among others in order, by binary search.
-fn is_among(others: &[NamedPair], pair: &NamedPair) -> bool
-    requires { IsStrictlySortedBy pair_cmp (pairs_at others.now) }
-    ensures { result ≡ list_any (same_pair (pair_at pair.now)) (pairs_at others.now) }
+fn is_among(names: &Names, others: &[NumberedPair], pair: &NumberedPair) -> bool
+    requires numbered { IsNumbered names.now pair.now }
+    requires others_numbered { AreNumbered names.now others.now }
+    requires others_sorted { IsStrictlySortedBy pair_cmp (pairs_at names.now others.now) }
+    ensures { result ≡ list_any (same_pair (pair_at names.now pair.now))
+        (pairs_at names.now others.now) }
 {
-    others.binary_search(pair).is_ok()
+    if others.is_empty() {
+        return false;
+    }
+    let found = others.binary_search_by(|each| pair_order(names, each, pair));
+    found.is_ok()
 }
 
 /// The event that the pair is gained, or lost, with copies of its names.
-fn event_of(query: u32, added: bool, pair: &NamedPair) -> Result<Event, Memory>
-    ensures { IfOk result (λ one. one ≡ event query added (pair_at pair.now)) }
+fn event_of(query: u32, added: bool, names: &Names, pair: &NumberedPair) -> Result<Event, Memory>
+    requires { IsNumbered names.now pair.now }
+    ensures { IfOk result (λ one. one ≡ event query added (pair_at names.now pair.now)) }
 {
     Ok(Event {
         query,
         added,
         pair: Pair {
-            from: pair.from.copy()?,
-            to: pair.to.copy()?,
+            from: names.name_of(pair.root).copy()?,
+            to: names.name_of(pair.vertex).copy()?,
         },
     })
 }

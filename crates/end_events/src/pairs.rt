@@ -1,25 +1,81 @@
 //! The pairs that lists of changed ends take away or bring.
 
-ghost use Rattle.std.specs.Prelude.{◌≡◌, ◌<◌, ◌⊎◌, ◌↔◌, length, Contains, Some, IfOk, OnOk};
+ghost use Rattle.std.specs.Prelude.{◌≡◌, ◌<◌, ◌↔◌, ◌∷◌, [], false, true, length};
+ghost use Rattle.std.specs.Prelude.{Contains, IfOk, OnOk};
 ghost use Rattle.std.specs.List.Sorted.{IsStrictlySortedBy};
 ghost use Rattle.rpq_base.specs.declared.data.Pair.{Pair};
 ghost use Rattle.rpq_base.specs.Order.{pair_cmp};
-ghost use Rattle.rpq_model.specs.Relations.{Adds, AreExactly};
-ghost use Rattle.name_table.specs.Names.{number_of};
 ghost use Rattle.end_events.specs.Changes.{AreNamed};
-ghost use Rattle.end_events.specs.Pairs.{is_loss, gives_event, pairs_at, IsGiven};
+ghost use Rattle.end_events.specs.Order.{vertex_cmp, numbered_cmp};
+ghost use Rattle.end_events.specs.Pairs.{is_loss, gives_event, pair_at, pairs_at};
+ghost use Rattle.end_events.specs.Pairs.{AreGiven, AreNumbered, Gathers, IsNumbered};
 
 use name_table::Names;
-use rpq_base::{Memory, Name};
+use rpq_base::Memory;
 use source_tree::EndChange;
 use std::alloc::Global;
+use std::cmp::Ordering;
 
-/// A pair of vertices by their names in the table, which nothing copies. Pairs are ordered by the
-/// vertex that they lead from, then by the vertex that they lead to.
-#[derive(Clone, Copy, PartialEq, Eq, PartialOrd, Ord)]
-pub(crate) struct NamedPair<'a> {
-    pub from: &'a Name,
-    pub to: &'a Name,
+/// A pair of vertices by the numbers of their names, beside the names' sort keys, so that most
+/// comparisons look at nothing else.
+#[derive(Clone, Copy, PartialEq, Eq)]
+pub(crate) struct NumberedPair {
+    pub root: u32,
+    pub vertex: u32,
+    root_key: u128,
+    vertex_key: u128,
+}
+
+/// The pairs whose ends go, and those whose ends come.
+#[derive(Drop)]
+pub(crate) struct LostAndGained {
+    pub lost: Vec<NumberedPair>,
+    pub gained: Vec<NumberedPair>,
+}
+
+/// The order of two vertices: by their keys, and where they share one by their names, which aren't
+/// read where both are one vertex.
+fn vertex_order(
+    names: &Names,
+    first_key: u128,
+    first: u32,
+    second_key: u128,
+    second: u32,
+) -> Ordering
+    ensures { result ≡ vertex_cmp names.now first_key first second_key second }
+{
+    if first_key != second_key {
+        first_key.cmp(&second_key)
+    } else if first == second {
+        Ordering::Equal
+    } else {
+        names.compared(first, second)
+    }
+}
+
+/// The order of two pairs, which is that of their names.
+pub(crate) fn pair_order(names: &Names, first: &NumberedPair, second: &NumberedPair) -> Ordering
+    ensures keys { result ≡ numbered_cmp names.now first.now second.now }
+    ensures names { IsNumbered names.now first.now → IsNumbered names.now second.now →
+        result ≡ pair_cmp (pair_at names.now first.now) (pair_at names.now second.now) }
+{
+    let roots = vertex_order(
+        names,
+        first.root_key,
+        first.root,
+        second.root_key,
+        second.root,
+    );
+    match roots {
+        Ordering::Equal => vertex_order(
+            names,
+            first.vertex_key,
+            first.vertex,
+            second.vertex_key,
+            second.vertex,
+        ),
+        other => other,
+    }
 }
 
 /// Whether the pair of the change counts, and has an end at first and none at last.
@@ -41,67 +97,94 @@ fn gives_event(apart: bool, added: bool, each: &EndChange) -> bool
 }
 
 /// The pair of the change.
-fn pair_of<'a>(names: &'a Names, each: &EndChange) -> NamedPair<'a>
+fn pair_of(names: &Names, each: &EndChange) -> NumberedPair
     requires root { each.now.root < length names.now }
     requires vertex { each.now.vertex < length names.now }
-    ensures from { number_of names.now result.from.now ≡ Some each.now.root }
-    ensures to { number_of names.now result.to.now ≡ Some each.now.vertex }
+    ensures root { result.root ≡ each.now.root }
+    ensures vertex { result.vertex ≡ each.now.vertex }
+    ensures numbered { IsNumbered names.now result }
 {
-    NamedPair {
-        from: names.name_of(each.root),
-        to: names.name_of(each.vertex),
+    NumberedPair {
+        root: each.root,
+        vertex: each.vertex,
+        root_key: names.key_of(each.root),
+        vertex_key: names.key_of(each.vertex),
     }
 }
 
-/// Adds the pairs of which a change gives an event.
-fn add_given<'a>(
-    found: &mut Vec<NamedPair<'a>>,
+/// Adds the pair of the change, where it gives an event.
+fn add_pair(
+    found: &mut Vec<NumberedPair>,
     apart: bool,
     added: bool,
-    names: &'a Names,
-    changes: &[EndChange],
+    names: &Names,
+    each: &EndChange,
 ) -> Result<(), Memory>
-    requires { AreNamed names.now changes.now }
-    ensures { OnOk result (Adds (pairs_at found.old.items) (pairs_at found.new.items)
-        (IsGiven apart added names.now changes.now)) }
+    requires root { each.now.root < length names.now }
+    requires vertex { each.now.vertex < length names.now }
+    ensures { OnOk result (Gathers apart added names.now (each.now ∷ []) found.old.items
+        found.new.items) }
 {
-    for each in changes {
-        if gives_event(apart, added, each) {
-            found.push(pair_of(names, each))?;
-        }
+    if gives_event(apart, added, each) {
+        found.push(pair_of(names, each))?;
     }
     Ok(())
 }
 
-/// Puts the pairs in order, and leaves out those that stand there twice.
-fn put_in_order(pairs: &mut Vec<NamedPair>)
-    ensures sorted { IsStrictlySortedBy pair_cmp (pairs_at pairs.new.items) }
-    ensures same { (pair : Pair) →
-        Contains (pairs_at pairs.new.items) pair ↔ Contains (pairs_at pairs.old.items) pair }
+/// Adds the pairs of which a change gives an event, by one pass over the changes.
+fn add_given(
+    lost: &mut Vec<NumberedPair>,
+    gained: &mut Vec<NumberedPair>,
+    apart: bool,
+    names: &Names,
+    changes: &[EndChange],
+) -> Result<(), Memory>
+    requires { AreNamed names.now changes.now }
+    ensures lost { OnOk result (Gathers apart false names.now changes.now lost.old.items
+        lost.new.items) }
+    ensures gained { OnOk result (Gathers apart true names.now changes.now gained.old.items
+        gained.new.items) }
 {
-    pairs.sort_unstable();
+    for each in changes {
+        add_pair(lost, apart, false, names, each)?;
+        add_pair(gained, apart, true, names, each)?;
+    }
+    Ok(())
+}
+
+/// Puts the pairs in order, and leaves out those that stand there twice, which their numbers tell.
+fn put_in_order(names: &Names, pairs: &mut Vec<NumberedPair>)
+    requires { AreNumbered names.now pairs.old.items }
+    ensures sorted { IsStrictlySortedBy pair_cmp (pairs_at names.now pairs.new.items) }
+    ensures same { (pair : Pair) → Contains (pairs_at names.now pairs.new.items) pair
+        ↔ Contains (pairs_at names.now pairs.old.items) pair }
+    ensures numbered { AreNumbered names.now pairs.new.items }
+{
+    pairs.sort_unstable_by(|first, second| pair_order(names, first, second));
     pairs.dedup();
 }
 
 /// The pairs of which a change in one of the lists gives an event, in order, each once. Where there
 /// are none, nothing is allocated.
-pub(crate) fn given_pairs<'a>(
+pub(crate) fn given_pairs(
     alloc: Global,
     apart: bool,
-    added: bool,
-    names: &'a Names,
+    names: &Names,
     first: &[EndChange],
     second: &[EndChange],
-) -> Result<Vec<NamedPair<'a>>, Memory>
+) -> Result<LostAndGained, Memory>
     requires first_named { AreNamed names.now first.now }
     requires second_named { AreNamed names.now second.now }
-    ensures { IfOk result (λ pairs. AreExactly (λ pair.
-        IsGiven apart added names.now first.now pair
-        ⊎ IsGiven apart added names.now second.now pair) (pairs_at pairs.items)) }
+    ensures lost { IfOk result (λ given.
+        AreGiven apart false names.now first.now second.now given.lost.items) }
+    ensures gained { IfOk result (λ given.
+        AreGiven apart true names.now first.now second.now given.gained.items) }
 {
-    let mut pairs = Vec::new(alloc);
-    add_given(&mut pairs, apart, added, names, first)?;
-    add_given(&mut pairs, apart, added, names, second)?;
-    put_in_order(&mut pairs);
-    Ok(pairs)
+    let mut lost = Vec::new(alloc);
+    let mut gained = Vec::new(alloc);
+    add_given(&mut lost, &mut gained, apart, names, first)?;
+    add_given(&mut lost, &mut gained, apart, names, second)?;
+    put_in_order(names, &mut lost);
+    put_in_order(names, &mut gained);
+    Ok(LostAndGained { lost, gained })
 }

@@ -1,12 +1,17 @@
 //! The table of names.
 
 ghost use Rattle.std.specs.Prelude.{◌≡◌, ◌<◌, ◌-◌, ◌^◌, ◌∷◌, ◌++◌, [], length, IfOk, OnOk, OnErr, Some, None, slice_get};
-ghost use Rattle.name_table.specs.Names.{number_of, with_name, KeepsNumbers};
+ghost use Rattle.rpq_base.specs.Order.{name_cmp};
+ghost use Rattle.name_table.specs.Keys.{sort_key, AreBytes};
+ghost use Rattle.name_table.specs.Names.{name_at, number_of, with_name, KeepsNumbers};
 
+use crate::bytes_order::bytes_compared;
 use crate::name_hash::NameHash;
+use crate::named::Named;
 use indexmap::IndexMap;
-use rpq_base::{Copied, Memory, Name};
+use rpq_base::{Memory, Name};
 use std::alloc::Global;
+use std::cmp::Ordering;
 use std::marker::Model;
 use std::random::RandomSource;
 
@@ -18,7 +23,7 @@ use std::random::RandomSource;
 pub struct Names {
     alloc: Global,
     /// The names in their order, by their bytes.
-    names: IndexMap<Vec<u8>, Name, NameHash>,
+    names: IndexMap<Vec<u8>, Named, NameHash>,
 }
 
 impl Model for Names {
@@ -71,7 +76,7 @@ impl Names {
     {
         let key = Vec::from_slice(self.alloc, name.as_bytes())?;
         let number = self.names.len() as u32;
-        self.names.insert(key, name.copy()?)?;
+        self.names.insert(key, Named::new(name)?)?;
         Ok(number)
     }
 
@@ -91,6 +96,37 @@ impl Names {
         ensures name { slice_get self.now number ≡ Some result.now }
         ensures number { number_of self.now result.now ≡ Some number }
     {
-        &self.names[number as usize]
+        self.names[number as usize].name()
+    }
+
+    /// The sort key of the name of this number, by one index: its first 16 bytes as one number, the
+    /// first byte the most significant, and 0 where the name is shorter. A name whose key is below
+    /// that of another is before it, which [`crate::keys_follow_names`] says; names with one key
+    /// are compared by [`Names::compared`].
+    pub fn key_of(&self, number: u32) -> u128
+        requires { number < length self.now }
+        ensures key { result ≡ sort_key (name_at self.now number) }
+        ensures bytes { AreBytes (name_at self.now number) }
+        ensures number { number_of self.now (name_at self.now number) ≡ Some number }
+    {
+        self.names[number as usize].key()
+    }
+
+    /// The order of the names of these numbers, by their bytes. A number that no name has is before
+    /// all names.
+    pub fn compared(&self, first: u32, second: u32) -> Ordering
+        ensures { result ≡ name_cmp (name_at self.now first) (name_at self.now second) }
+    {
+        bytes_compared(self.bytes_of(first), self.bytes_of(second))
+    }
+
+    /// The bytes of the name of this number, or none where there is no name.
+    fn bytes_of(&self, number: u32) -> &[u8]
+        ensures { result.now ≡ name_at self.now number }
+    {
+        match self.names.get_index(number as usize) {
+            Some((_, named)) => named.name().as_bytes(),
+            None => &[],
+        }
     }
 }

@@ -2,7 +2,7 @@ use Rattle.std.proofs.Common.{◌≡◌, true, false, List, ◌++◌, map, ap₂
 use Rattle.rpq_base.specs.declared.data.Event.{Event}
 use Rattle.rpq_base.specs.declared.data.Pair.{Pair}
 use Rattle.rpq_model.specs.Events.{changes, event, without}
-use Rattle.end_events.specs.declared.pairs.NamedPair.{NamedPair}
+use Rattle.end_events.specs.declared.pairs.NumberedPair.{NumberedPair}
 use Rattle.end_events.specs.Pairs.{pairs_at}
 use Rattle.end_events.proofs.Between.{events_are}
 use Rattle.end_events.proofs.events.events_between.Goals as goal
@@ -10,16 +10,18 @@ use Rattle.end_events.proofs.events.events_between.Goals as goal
 pub returns : goal.returns
 returns c = λ start middle last firsts seconds.
     let query = c.args.query in
-    let lost = c.in_ok-lost.lost.items in
-    let gained = c.in_ok-gained.gained.items in
-    let left : List NamedPair → List NamedPair → List Pair = λ pairs others. without (pairs_at pairs) (pairs_at others) in
+    let names = c.args.names.now in
+    let lost = c.in_ok-given.given.lost.items in
+    let gained = c.in_ok-given.given.gained.items in
+    let left : List NumberedPair → List NumberedPair → List Pair = λ pairs others. without (pairs_at names pairs) (pairs_at names others) in
     let losses : c.push_events.new.events.items ≡ map (event query false) (left lost gained) =
     c.in_ok-push_events.ensures
     ∙ ap₂ (λ (before : List Event) (told : List Pair). before ++ map (event query false) told)
-    c.new-events.ensures.items (ap₂ left c.deref.ensures.value c.deref-2.ensures.value) in
-    let all : c.push_events-2.new.events.items ≡ changes query (pairs_at lost) (pairs_at gained) =
+    (c.in_ok-reserve.ensures.items ∙ c.new-events.ensures.items) (ap₂ left c.deref.ensures.value c.deref-2.ensures.value) in
+    let all : c.push_events-2.new.events.items ≡ changes query (pairs_at names lost) (pairs_at names gained) =
     c.in_ok-push_events-2.ensures
     ∙ ap₂ (λ (before : List Event) (told : List Pair). before ++ map (event query true) told)
     losses (ap₂ left c.deref-3.ensures.value c.deref-4.ensures.value) in
-    events_are query c.args.apart c.args.names.now start middle last c.args.first.now c.args.second.now
-    (pairs_at lost) (pairs_at gained) c.push_events-2.new.events.items firsts seconds c.in_ok-lost.ensures c.in_ok-gained.ensures all
+    events_are query c.args.apart names start middle last c.args.first.now c.args.second.now
+    (pairs_at names lost) (pairs_at names gained) c.push_events-2.new.events.items firsts seconds
+    c.in_ok-given.ensures.lost.exactly c.in_ok-given.ensures.gained.exactly all

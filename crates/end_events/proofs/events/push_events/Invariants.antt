@@ -7,4 +7,4 @@ use Rattle.end_events.proofs.events.push_events.Given as goal
 abbrev pub invariant-loop-pair : goal.invariant-loop-pair
 invariant-loop-pair l =
     l.events.items
-    ≡ l.fn.events.items ++ map (event l.query l.added) (without (take l.pair-index (pairs_at l.pairs)) (pairs_at l.others))
+    ≡ l.fn.events.items ++ map (event l.query l.added) (without (take l.pair-index (pairs_at l.names l.pairs)) (pairs_at l.names l.others))

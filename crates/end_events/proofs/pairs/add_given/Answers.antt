@@ -1,46 +1,41 @@
-use Rattle.std.proofs.Common.{◌+◌, List, Vec, Global, None, get_or, take, sym, ap, subst, ◌∙◌}
-use Rattle.std.proofs.lemmas.List.{get_or_default, map_push, take_all}
+use Rattle.std.proofs.Common.{◌+◌, true, false, List, None, get_or, take, subst}
+use Rattle.std.proofs.lemmas.List.{get_or_default, take_all}
 use Rattle.rpq_base.proofs.Members.{next_one}
-use Rattle.rpq_model.specs.Relations.{Adds}
 use Rattle.source_tree.specs.declared.change.EndChange.{EndChange}
-use Rattle.end_events.specs.declared.pairs.NamedPair.{NamedPair}
-use Rattle.end_events.specs.Pairs.{pair_at, pairs_at, IsGiven}
-use Rattle.end_events.proofs.Adding.{none_given, given_more, given_same}
+use Rattle.end_events.specs.Pairs.{Gathers}
+use Rattle.end_events.proofs.Adding.{gathers_none, gathers_more}
 use Rattle.end_events.proofs.pairs.add_given.Goals as goal
-use Rattle.end_events.proofs.pairs.add_given.Goals.{then-gives_event+in_ok-push, else-gives_event}
 
 pub loop-each-init : goal.loop-each-init
-loop-each-init c = none_given c.args.apart c.args.added c.args.names.now (pairs_at c.args.found.now.items)
+loop-each-init c = (
+  gathers_none c.args.apart false c.args.names.now c.args.lost.now.items,
+  gathers_none c.args.apart true c.args.names.now c.args.gained.now.items,
+)
 
 pub loop-each-preserved : goal.loop-each-preserved
 loop-each-preserved c =
     let apart = c.args.apart in
-    let added = c.args.added in
     let names = c.args.names.now in
     let changes = c.args.changes.now in
-    let old = pairs_at c.args.found.now.items in
     let index = c.loop-each.each-index in
     let each : EndChange = get_or changes index (record { root = 0; vertex = 0; before = None; after = None }) in
     let before = take index changes in
     let after = take (index + 1) changes in
-    let found = c.loop-each.found.items in
-    let one = next_one changes index each c.loop-each-test.true (get_or_default changes index _ each c.loop-each-test.true) in
-    elim c.if-gives_event.branch [
-      | then-gives_event+in_ok-push w ↦
-          let new = w.pair_of.result in
-          given_more apart added names before each after old (pairs_at found) (pairs_at c.if-gives_event.found.items) (pair_at new) one
-          w.pair_of.ensures.from w.pair_of.ensures.to
-          (sym c.gives_event.ensures ∙ w.if-gives_event.true)
-          (ap (λ (all : Vec NamedPair Global). pairs_at all.items) w.found-is
-          ∙ (ap pairs_at w.in_ok-push.ensures.items ∙ map_push pair_at found new))
-          c.loop-each.invariant
-      | else-gives_event w ↦
-          subst (λ (all : Vec NamedPair Global). Adds old (pairs_at all.items) (IsGiven apart added names after)) (sym w.found-is)
-          (given_same apart added names before each after old (pairs_at found) one (sym c.gives_event.ensures ∙ w.if-gives_event.false) c.loop-each.invariant)
-    ]
+    let one = next_one changes index each c.loop-each-test.true (get_or_default changes index _ each c.loop-each-test.true) in (
+      gathers_more apart false names before each after c.args.lost.now.items c.loop-each.lost.items c.add_pair.new.found.items one
+          c.loop-each.invariant.0 c.in_ok-add_pair.ensures,
+      gathers_more apart true names before each after c.args.gained.now.items c.loop-each.gained.items c.add_pair-in-loop-each.new.found.items one
+          c.loop-each.invariant.1 c.in_ok-add_pair-2.ensures,
+    )
 
-pub returns : goal.returns
-returns c =
+pub returns-clause-lost : goal.returns-clause-lost
+returns-clause-lost c =
     let changes = c.args.changes.now in
-    subst (λ (all : List EndChange). Adds (pairs_at c.args.found.now.items) (pairs_at c.loop-each.found.items) (IsGiven c.args.apart c.args.added c.args.names.now all))
-    (take_all c.loop-each.each-index changes c.loop-each-test.false) c.loop-each.invariant
+    subst (λ (log : List EndChange). Gathers c.args.apart false c.args.names.now log c.args.lost.now.items c.loop-each.lost.items)
+    (take_all c.loop-each.each-index changes c.loop-each-test.false) c.loop-each.invariant.0
+
+pub returns-clause-gained : goal.returns-clause-gained
+returns-clause-gained c =
+    let changes = c.args.changes.now in
+    subst (λ (log : List EndChange). Gathers c.args.apart true c.args.names.now log c.args.gained.now.items c.loop-each.gained.items)
+    (take_all c.loop-each.each-index changes c.loop-each-test.false) c.loop-each.invariant.1

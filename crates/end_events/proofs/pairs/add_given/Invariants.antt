@@ -1,8 +1,9 @@
-use Rattle.std.proofs.Common.{take}
-use Rattle.rpq_model.specs.Relations.{Adds}
-use Rattle.end_events.specs.Pairs.{pairs_at, IsGiven}
+use Rattle.std.proofs.Common.{true, false, take}
+use Rattle.end_events.specs.Pairs.{Gathers}
 use Rattle.end_events.proofs.pairs.add_given.Given as goal
 
--- the pairs of the changes so far are added
+-- the pairs of the changes so far are added to both lists
 abbrev pub invariant-loop-each : goal.invariant-loop-each
-invariant-loop-each l = Adds (pairs_at l.fn.found.items) (pairs_at l.found.items) (IsGiven l.apart l.added l.names (take l.each-index l.changes))
+invariant-loop-each l =
+    Gathers l.apart false l.names (take l.each-index l.changes) l.fn.lost.items l.lost.items
+    × Gathers l.apart true l.names (take l.each-index l.changes) l.fn.gained.items l.gained.items

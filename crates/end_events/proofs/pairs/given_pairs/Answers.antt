@@ -1,18 +1,17 @@
-use Rattle.std.proofs.Common.{ap}
-use Rattle.rpq_base.specs.declared.data.Pair.{Pair}
-use Rattle.rpq_model.proofs.Composing.{first_added, in_turn, then_added}
-use Rattle.end_events.specs.Pairs.{pairs_at, IsGiven}
+use Rattle.std.proofs.Common.{true, false}
+use Rattle.end_events.proofs.Adding.{are_given}
 use Rattle.end_events.proofs.pairs.given_pairs.Goals as goal
 
-pub returns : goal.returns
-returns c =
-    let early : Pair → Type 0 = IsGiven c.args.apart c.args.added c.args.names.now c.args.first.now in
-    let late : Pair → Type 0 = IsGiven c.args.apart c.args.added c.args.names.now c.args.second.now in
-    let found = pairs_at c.add_given.new.found.items in
-    let all = pairs_at c.add_given-2.new.found.items in
-    let first = first_added early (pairs_at c.new-pairs.result.items) found (ap pairs_at c.new-pairs.ensures.items) c.in_ok-add_given.ensures in
-    let members = then_added early late found all first c.in_ok-add_given-2.ensures in
-    record {
-      sorted = c.put_in_order.ensures.sorted;
-      exact = λ pair. in_turn (c.put_in_order.ensures.same pair) (members pair);
-    }
+pub returns-clause-lost : goal.returns-clause-lost
+returns-clause-lost c =
+    are_given c.args.apart false c.args.names.now c.args.first.now c.args.second.now
+    c.new-lost.result.items c.add_given.new.lost.items c.add_given-2.new.lost.items c.put_in_order.new.pairs.items
+    c.new-lost.ensures.items c.in_ok-add_given.ensures.lost c.in_ok-add_given-2.ensures.lost
+    c.put_in_order.ensures.numbered c.put_in_order.ensures.sorted c.put_in_order.ensures.same
+
+pub returns-clause-gained : goal.returns-clause-gained
+returns-clause-gained c =
+    are_given c.args.apart true c.args.names.now c.args.first.now c.args.second.now
+    c.new-gained.result.items c.add_given.new.gained.items c.add_given-2.new.gained.items c.put_in_order-2.new.pairs.items
+    c.new-gained.ensures.items c.in_ok-add_given.ensures.gained c.in_ok-add_given-2.ensures.gained
+    c.put_in_order-2.ensures.numbered c.put_in_order-2.ensures.sorted c.put_in_order-2.ensures.same

@@ -13,8 +13,8 @@ none c = subst (λ names. number_of names c.args.name.now ≡ None) (sym c.self.
 entries : (c : goal.Joined-branch-4) →
     c.insert.new.self.entries ≡ c.self.inside.names.entries ++ (c.in_ok-key.key, c.args.name.now) ∷ []
 entries c =
-    added c.self.inside.names c.insert.new.self.entries c.in_ok-key.key c.args.name.now c.in_ok-copy.field-0 c.self.invariant
-    (c.in_ok-key.ensures.items ∙ c.as_bytes.ensures.bytes) c.in_ok-copy.ensures (none c) c.in_ok-insert.ensures.entries
+    added c.self.inside.names c.insert.new.self.entries c.in_ok-key.key c.args.name.now c.in_ok-new.field-0 c.self.invariant
+    (c.in_ok-key.ensures.items ∙ c.as_bytes.ensures.bytes) c.in_ok-new.ensures (none c) c.in_ok-insert.ensures.entries
 
 names : (c : goal.Joined-branch-4) → names_of c.insert.new.self.entries ≡ c.args.self.now ++ c.args.name.now ∷ []
 names c =

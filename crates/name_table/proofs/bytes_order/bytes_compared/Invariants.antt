@@ -1,0 +1,10 @@
+use Rattle.std.proofs.Common.{◌≡◌, ◌≤◌, ◌-◌}
+use Rattle.name_table.specs.Keys.{leading}
+use Rattle.name_table.proofs.bytes_order.bytes_compared.Given as goal
+
+-- the bytes so far are the same
+abbrev pub invariant-loop-place : goal.invariant-loop-place
+invariant-loop-place l = (l.place ≤ l.both) × (leading l.place l.first ≡ leading l.place l.second)
+
+abbrev pub decreases-loop-place : goal.decreases-loop-place
+decreases-loop-place l = l.both - l.place

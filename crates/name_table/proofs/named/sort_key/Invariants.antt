@@ -1,0 +1,7 @@
+use Rattle.std.proofs.Common.{◌≡◌}
+use Rattle.name_table.specs.Keys.{leading}
+use Rattle.name_table.proofs.named.sort_key.Given as goal
+
+-- the digits so far
+abbrev pub invariant-loop-place : goal.invariant-loop-place
+invariant-loop-place l = l.key ≡ leading l.place l.bytes
