@@ -1,5 +1,5 @@
 -- The nodes below an edge, found in an order in which each comes after its parent.
-use Rattle.std.proofs.Common.{◌≡◌, ◌+◌, ◌<◌, ◌≤◌, ℕ, Bool, true, false, ◌⊎◌, inl, inr, List, [], ◌∷◌, length, get_or, slice_get, cond, ◌==◌, nat_lt, eq-eqb, None, Some, refl, sym, ap, subst, ◌∙◌, true≢false, Contains, IsPermutation, map, ap₂, ◌&&◌, ◌↔◌, arith}
+use Rattle.std.proofs.Common.{◌≡◌, ◌+◌, ◌<◌, ◌≤◌, ℕ, Bool, true, false, ◌⊎◌, inl, inr, List, [], ◌∷◌, ◌++◌, take, option_map, All, length, get_or, slice_get, cond, ◌==◌, nat_lt, eq-eqb, None, Some, refl, sym, ap, subst, ◌∙◌, true≢false, Contains, IsPermutation, map, ap₂, ◌&&◌, ◌↔◌, arith}
 use Rattle.std.specs.Cmp.{IsTotalOrder}
 use Rattle.std.specs.declared.cmp.Ordering.{Ordering}
 use Rattle.std.specs.declared.cmp.Ordering.TheVariants.{Less, Equal, Greater}
@@ -8,10 +8,10 @@ use Rattle.std.specs.List.{IsDistinct, list_any}
 use Rattle.std.specs.List.Sorted.{IsSorted}
 use Rattle.std.proofs.lemmas.Bool.{lt-ltb, ltb-true, cases_lt}
 use Rattle.std.proofs.lemmas.Cmp.{nat_cmp_total, on_total, then_total, back_total}
-use Rattle.std.proofs.lemmas.List.Elements.{Contains-append_cases, Contains-append_right}
+use Rattle.std.proofs.lemmas.List.Elements.{All-nil, All-cons, Contains-append_cases, Contains-append_right}
 use Rattle.std.proofs.lemmas.List.Sorted.{Contains-permutation, IsPermutation-sym, ranks_by, sorted_far}
-use Rattle.std.proofs.lemmas.List.{length-map, get_or-map}
-use Rattle.std.proofs.lemmas.Option.{slice_get-get_or, get_or_from_slice_get}
+use Rattle.std.proofs.lemmas.List.{length-map, get_or-map, map-append, take_more}
+use Rattle.std.proofs.lemmas.Option.{slice_get-get_or, get_or_from_slice_get, slice_get_within}
 use Rattle.std.proofs.lemmas.Map.Keys.{any_passes_from_place}
 use Rattle.std.proofs.lemmas.Map.Views.{Contains-from_lookup, lookup-from_Contains, Contains-from_any, list_any-from_Contains}
 use Rattle.edge_store.specs.declared.edge.EdgeId.{EdgeId}
@@ -20,7 +20,8 @@ use Rattle.delta_tree.specs.declared.node.NodeId.{NodeId}
 use Rattle.delta_tree.specs.declared.ranks.Rank.{Rank}
 use Rattle.delta_tree.specs.Nodes.{Node, TreeValue, same_node, node_of, ids_of, root_id, IsBefore, IsTree}
 use Rattle.delta_tree.specs.Paths.{LeadsUp, IsBelow, Hangs, hangs_by}
-use Rattle.delta_tree.specs.Changes.{AreBelow, Cuts}
+use Rattle.delta_tree.specs.Changes.{AreBelow, AreShifts, Cuts, IsShift, shift_ids}
+use Rattle.delta_tree.specs.Losses.{loss, losses}
 use Rattle.delta_tree.specs.Dues.{id_cmp}
 use Rattle.delta_tree.specs.Ranks.{rank, ranks_of, rank_cmp}
 use Rattle.delta_tree.proofs.Ids.{same_node_is, same_node_laws, same_edge_itself, some_is_one, nothing_once}
@@ -70,7 +71,7 @@ before_is_less first second one other (inr (same, later)) =
 -- ---- lists
 
 -- a function of what a list has
-contains_map : {X Y : Type 0} (f : X → Y) (xs : List X) (x : X) → Contains xs x →
+pub contains_map : {X Y : Type 0} (f : X → Y) (xs : List X) (x : X) → Contains xs x →
     Contains (map f xs) (f x)
 contains_map f xs x (k, within, is) =
     (k, omega (arith, length-map xs f, within), get_or-map f xs k x (f x) within ∙ ap f is)
@@ -90,6 +91,16 @@ from_map f (x ∷ xs) y there = elim (Contains-append_cases (f x ∷ []) (map f 
 contains_at : {X : Type 0} (xs : List X) (k : ℕ) (x : X) → k < length xs →
     slice_get xs k ≡ Some x → Contains xs x
 contains_at xs k x within is = (k, within, get_or_from_slice_get xs k x x is)
+
+-- the ranks of one node more
+pub ranks_next : (nodes : List (NodeId × Node)) (place : ℕ) (each : NodeId × Node) →
+    slice_get nodes place ≡ Some each →
+    ranks_of (take (place + 1) nodes) ≡ ranks_of (take place nodes) ++ rank each.0 each.1 ∷ []
+ranks_next nodes place each at =
+    ap ranks_of (take_more nodes place each (slice_get_within nodes place each at)
+    ∙ ap (λ (one : NodeId × Node). take place nodes ++ one ∷ [])
+    (get_or_from_slice_get nodes place each each at))
+    ∙ map-append (λ (one : NodeId × Node). rank one.0 one.1) (take place nodes) (each ∷ [])
 
 -- ---- the first of the ranks
 
@@ -410,3 +421,40 @@ all_cut old new edge ids below taken = record {
     by id free true has =
         absurd (free ((below.exact id).0 (Contains-from_any same_node_is id ids has)))
     by id free false none = refl
+
+-- the places of the losses
+ids_of_losses : (nodes : List (NodeId × Node)) (ids : List NodeId) →
+    shift_ids (losses nodes ids) ≡ ids
+ids_of_losses nodes [] = refl
+ids_of_losses nodes (id ∷ ids) = ap (λ rest. id ∷ rest) (ids_of_losses nodes ids)
+
+-- what was lost, where none stands any more
+lost_values : (old new : TreeValue) (ids : List NodeId) →
+    ((id : NodeId) → Contains ids id → node_of new id ≡ None) →
+    All (IsShift old new) (losses old.nodes ids)
+lost_values old new [] gone = All-nil (IsShift old new)
+lost_values old new (id ∷ ids) gone =
+    All-cons (IsShift old new)
+    (loss id (option_map (λ (node : Node). node.value) (node_of old id))) (losses old.nodes ids)
+    (record {
+      before = refl;
+      after = ap (option_map (λ (node : Node). node.value)) (gone id (0, omega arith, refl));
+    })
+    (lost_values old new ids
+    (λ each has. gone each (Contains-append_right (id ∷ []) ids each has)))
+
+-- the losses of the nodes below the edge
+pub losses_below : (tree : TreeValue) (edge : EdgeId) (ids : List NodeId) →
+    AreBelow tree edge ids → AreBelow tree edge (shift_ids (losses tree.nodes ids))
+losses_below tree edge ids below =
+    subst (AreBelow tree edge) (sym (ids_of_losses tree.nodes ids)) below
+
+-- are all that a cut changes
+pub cut_shifts : (old new : TreeValue) (edge : EdgeId) (ids : List NodeId) →
+    AreBelow old edge ids → Cuts old new edge → AreShifts old new (losses old.nodes ids)
+cut_shifts old new edge ids below cuts = record {
+  values = lost_values old new ids (λ id has. cuts.gone id ((below.exact id).0 has));
+  once = subst (IsDistinct same_node) (sym (ids_of_losses old.nodes ids)) below.once;
+  others = λ id free. cuts.kept id (λ is. free (subst (λ list. Contains list id)
+      (sym (ids_of_losses old.nodes ids)) ((below.exact id).1 is)));
+}

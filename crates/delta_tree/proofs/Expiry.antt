@@ -1,24 +1,29 @@
 -- An expiry under way.
-use Rattle.std.proofs.Common.{◌≡◌, ◌<◌, ◌≤◌, ℕ, Bool, true, false, ◌&&◌, IsTrue, ◌↔◌, ◌⊎◌, inl, inr, cond, nat_lt, List, [], ◌∷◌, ◌++◌, Option, None, Some, refl, sym, ap, subst, ◌∙◌, Contains, IsPermutation, true≢false, arith}
+use Rattle.std.proofs.Common.{◌≡◌, ◌<◌, ◌≤◌, ℕ, Bool, true, false, ◌&&◌, ◌⊎◌, inl, inr, cond, nat_lt, List, [], ◌∷◌, ◌++◌, Option, None, Some, refl, sym, ap, subst, ◌∙◌, Contains, IsPermutation, All, get_or, option_map, true≢false, arith}
 use Rattle.std.specs.List.{IsDistinct, list_any}
 use Rattle.std.specs.Bool.{OnTrue}
-use Rattle.std.specs.Map.{keys_of}
-use Rattle.std.proofs.lemmas.List.Elements.{Contains-append_left, Contains-push, Contains-push_cases}
+use Rattle.std.specs.Option.{MatchOption}
+use Rattle.std.proofs.lemmas.Bool.{cases_lt}
+use Rattle.std.proofs.lemmas.List.{map-append}
+use Rattle.std.proofs.lemmas.Option.{slice_get-get_or, get_or_from_slice_get}
+use Rattle.std.proofs.lemmas.List.Elements.{All-nil, All-push, Contains-append_left, Contains-push, Contains-push_cases}
 use Rattle.std.proofs.lemmas.Map.Keys.{IsDistinct-push}
 use Rattle.std.proofs.lemmas.Map.Views.{Contains-from_any}
 use Rattle.delta_tree.specs.declared.dues.Due.{Due}
 use Rattle.delta_tree.specs.declared.node.NodeId.{NodeId}
-use Rattle.delta_tree.specs.Nodes.{Node, TreeValue, same_node, node_in, IsTree}
-use Rattle.delta_tree.specs.Changes.{living, AreDue, IsSameBeside}
-use Rattle.delta_tree.specs.Dues.{due, IsDueIn, IsKept, IsNoted, IsQueue, KeepsDues}
+use Rattle.delta_tree.specs.declared.node.Shift.{Shift}
+use Rattle.delta_tree.specs.Nodes.{Node, TreeValue, same_node, node_in, node_of, IsTree}
+use Rattle.delta_tree.specs.Changes.{living, AreDue, AreShifts, Expires, IsSameBeside, IsShift, shift_ids}
+use Rattle.delta_tree.specs.Dues.{due, IsDueIn, IsDueWith, IsKept, IsNoted, IsQueue, KeepsDues}
+use Rattle.delta_tree.specs.Losses.{IsLoss, loss, with_loss}
 use Rattle.delta_tree.proofs.Ids.{same_node_is, same_node_laws, changed_there, none_or_some, nothing_once}
 use Rattle.delta_tree.proofs.Trees.{expire_keeps, same_found, living_some, living_stays, living_gone}
 use Rattle.delta_tree.proofs.Queue.{keeps_others}
+use Rattle.delta_tree.proofs.Below.{contains_map}
 
 -- the nodes above the clock are as they were, and each node that is left is noted
 pub record IsExpiring (now : ℕ) (old new : List (NodeId × Node)) (dues : List Due) : Type 0 where
   pub alive : (id : NodeId) → living now (node_in new id) ≡ living now (node_in old id)
-  pub once : IsDistinct same_node (keys_of new)
   pub noted : IsNoted new dues
   pub order : IsQueue dues
 
@@ -84,10 +89,9 @@ module _ (now : ℕ) (old new : List (NodeId × Node)) (id : NodeId)
       IsExpiring now first old dues → IsPermutation dues (due id value ∷ rest) →
       KeepsDues rest last →
       ((node : Node) → node_in new id ≡ Some node → Contains last (due id node.value)) →
-      IsDistinct same_node (keys_of new) → IsQueue last → IsExpiring now first new last
-  expiring_after first dues rest last value expiring moved keeps here once order = record {
+      IsQueue last → IsExpiring now first new last
+  expiring_after first dues rest last value expiring moved keeps here order = record {
     alive = λ each. alive_after each ∙ expiring.alive each;
-    once = once;
     noted = noted_after dues rest last value expiring.noted moved keeps here;
     order = order;
   }
@@ -114,7 +118,6 @@ pub kept_after : (now : ℕ) (old new : TreeValue) (dues last : List Due) → Is
 kept_after now old new dues last kept expiring later beside same order = record {
   is_tree = expire_keeps old new now kept
       (all_alive now old.nodes new.nodes dues expiring later) beside;
-  once = expiring.once;
   noted = subst (IsNoted new.nodes) (sym same) expiring.noted;
   order = order;
 }
@@ -237,14 +240,6 @@ module _ (now : ℕ) (first old new : List (NodeId × Node)) (id : NodeId)
             subst (λ (n : Node). n.value ≤ now) same reached,
           )))
 
-  -- one more where one was taken out
-  pub gone_after : (taken : Bool) (more : List NodeId) → IsTrue taken ↔ IsDueIn old now id →
-      more ≡ cond taken (ids ++ id ∷ []) ids → AreGone now first new more
-  gone_after true more taken is = subst (AreGone now first new) (sym is) (one_gone (taken.0 refl))
-  gone_after false more taken is =
-      subst (AreGone now first new) (sym is)
-      (no_more_gone (λ reached. true≢false (sym (taken.1 reached))))
-
 -- what follows from two facts where both of two tests pass
 pub on_both : {P Q R : Type 0} (first second : Bool) → OnTrue first P → OnTrue second Q →
     (P → Q → R) → OnTrue (first && second) R
@@ -264,3 +259,72 @@ are_due now tree new ids gone alive = record {
   );
   once = gone.once;
 }
+
+-- ---- the list of what was lost
+
+-- these are the losses of the nodes that are due and gone
+pub record AreTold (now : ℕ) (old new : List (NodeId × Node)) (shifts : List Shift) : Type 0 where
+  pub gone : AreGone now old new (shift_ids shifts)
+  pub losses : All (IsLoss old) shifts
+
+-- none at first
+pub none_told : (now : ℕ) (nodes : List (NodeId × Node)) → AreTold now nodes nodes []
+none_told now nodes = record { gone = none_gone now nodes; losses = All-nil (IsLoss nodes) }
+
+-- one more where one was taken out
+pub told_after : (now : ℕ) (first old new : List (NodeId × Node)) (id : NodeId) →
+    ((each : NodeId) → node_in new each ≡ cond (same_node id each)
+    (living now (node_in old id)) (node_in old each)) →
+    (shifts : List Shift) → AreTold now first old shifts → (lost : Option ℕ) →
+    MatchOption lost (IsDueIn old now id → ⊥) (IsDueWith old now id) →
+    AreTold now first new (with_loss shifts id lost)
+told_after now first old new id update shifts told None free = record {
+  gone = no_more_gone now first old new id update (shift_ids shifts) told.gone free;
+  losses = told.losses;
+}
+told_after now first old new id update shifts told (Some value) (node, is, same, reached) = record {
+  gone = subst (AreGone now first new)
+      (sym (map-append (λ (each : Shift). each.id) shifts (loss id (Some value) ∷ [])))
+      (one_gone now first old new id update (shift_ids shifts) told.gone
+      (node, is, omega (arith, same, reached)));
+  losses = All-push (IsLoss first) shifts (loss id (Some value)) told.losses (record {
+    before = ap (option_map (λ (each : Node). each.value)) (told.gone.stood id node is)
+        ∙ ap Some same;
+    after = refl;
+  });
+}
+
+-- the losses of what was due are all that changed
+pub due_shifts : (old new : TreeValue) (now : ℕ) (shifts : List Shift) →
+    AreDue old now (shift_ids shifts) → All (IsLoss old.nodes) shifts → Expires old new now →
+    AreShifts old new shifts
+due_shifts old new now shifts due losses expires = record {
+  values = λ k d within. value_is (get_or shifts k d) (losses k d within)
+      (contains_map (λ (each : Shift). each.id) shifts (get_or shifts k d) (
+        k,
+        within,
+        get_or_from_slice_get shifts k (get_or shifts k d) (get_or shifts k d)
+            (slice_get-get_or shifts k d within),
+      ));
+  once = due.once;
+  others = λ id free. expires id ∙ kept id free (node_of old id) refl;
+}
+  where
+    value_is : (shift : Shift) → IsLoss old.nodes shift → Contains (shift_ids shifts) shift.id →
+        IsShift old new shift
+    value_is shift told has =
+        let (node, is, reached) = (due.exact shift.id).0 has in
+        record {
+          before = told.before;
+          after = ap (option_map (λ (each : Node). each.value))
+              (expires shift.id ∙ living_gone now (node_of old shift.id) node is reached)
+              ∙ sym told.after;
+        }
+
+    kept : (id : NodeId) → (Contains (shift_ids shifts) id → ⊥) → (found : Option Node) →
+        node_of old id ≡ found → living now (node_of old id) ≡ node_of old id
+    kept id free None is = ap (living now) is ∙ sym is
+    kept id free (Some node) is = elim (cases_lt now node.value) [
+      | inl above ↦ living_stays now (node_of old id) node is above ∙ sym is
+      | inr reached ↦ absurd (free ((due.exact id).1 (node, is, reached)))
+    ]

@@ -3,5 +3,6 @@ pub mod Trees
 pub mod Ways
 mod Below
 mod Expiry
+mod Joined
 mod Queue
 mod TreeLaws

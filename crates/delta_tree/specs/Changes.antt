@@ -1,11 +1,12 @@
 -- What the calls on a tree change.
-use Rattle.std.specs.Prelude.{◌≡◌, ℕ, ◌<◌, ◌≤◌, ◌⊎◌, ◌↔◌, nat_lt, cond}
-use Rattle.std.specs.Prelude.{List, Contains, Option, None, Some}
+use Rattle.std.specs.Prelude.{◌≡◌, ℕ, ◌+◌, ◌<◌, ◌≤◌, ◌⊎◌, ◌↔◌, nat_lt, nat_le, cond, Bool, false}
+use Rattle.std.specs.Prelude.{List, Contains, Option, None, Some, All, map}
 use Rattle.std.specs.List.{IsDistinct}
 use Rattle.edge_store.specs.declared.edge.EdgeId.{EdgeId}
 use Rattle.delta_tree.specs.declared.node.NodeId.{NodeId}
+use Rattle.delta_tree.specs.declared.node.Shift.{Shift}
 use Rattle.delta_tree.specs.declared.node.Try.{Try}
-use Rattle.delta_tree.specs.Nodes.{Node, TreeValue, same_node, root_id, node_of}
+use Rattle.delta_tree.specs.Nodes.{Node, TreeValue, same_node, root_id, node_of, value_of}
 use Rattle.delta_tree.specs.Paths.{IsBelow}
 
 -- the root, or a node of at least this value
@@ -53,6 +54,42 @@ IsDueAt tree now id = (node : Node) × (node_of tree id ≡ Some node) × (node.
 pub record AreDue (tree : TreeValue) (now : ℕ) (ids : List NodeId) : Type 0 where
   pub exact : (id : NodeId) → Contains ids id ↔ IsDueAt tree now id
   pub once : IsDistinct same_node ids
+
+-- the places of these shifts
+abbrev pub shift_ids : List Shift → List NodeId
+shift_ids shifts = map (λ (each : Shift). each.id) shifts
+
+-- the shift has the values at its place before and after
+pub record IsShift (old new : TreeValue) (shift : Shift) : Type 0 where
+  pub before : value_of old shift.id ≡ shift.before
+  pub after : value_of new shift.id ≡ shift.after
+
+-- the list has each place whose node changed, once, with its values before and after
+pub record AreShifts (old new : TreeValue) (shifts : List Shift) : Type 0 where
+  pub values : All (IsShift old new) shifts
+  pub once : IsDistinct same_node (shift_ids shifts)
+  pub others : ChangesAtMost old new (shift_ids shifts)
+
+-- whether there is a value, and it is at least this number
+abbrev pub is_enough : Option ℕ → ℕ → Bool
+is_enough None number = false
+is_enough (Some kept) number = nat_le number kept
+
+-- the step gave its target a greater value than it had, by a put
+pub record Lifts (old new : TreeValue) (step : Try) (value : ℕ) (told : Shift) : Type 0 where
+  pub raises : Raises old step.to value
+  pub node : Puts old new step.to (put_node old step value)
+  pub counted : new.puts ≡ old.puts + 1
+  pub shift : told ≡ record {
+    id = step.to;
+    before = value_of old step.to;
+    after = Some value;
+  }
+
+-- the tree is as before, and has a node there of at least this value
+pub record HasAsMuch (old new : TreeValue) (id : NodeId) (value : ℕ) : Type 0 where
+  pub same : new ≡ old
+  pub enough : (node : Node) × (node_of old id ≡ Some node) × (value ≤ node.value)
 
 -- no node's value is below the number
 abbrev pub IsFloor : TreeValue → ℕ → Type 0

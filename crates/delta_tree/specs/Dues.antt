@@ -3,10 +3,9 @@ use Rattle.std.specs.Prelude.{◌≡◌, ℕ, ◌≤◌, nat_lt, cond, List, Som
 use Rattle.std.specs.declared.cmp.Ordering.{Ordering}
 use Rattle.std.specs.Ordering.{nat_cmp, ordering_then}
 use Rattle.std.specs.BinaryHeap.{IsHeap}
-use Rattle.std.specs.List.{IsDistinct}
 use Rattle.delta_tree.specs.declared.dues.Due.{Due}
 use Rattle.delta_tree.specs.declared.node.NodeId.{NodeId}
-use Rattle.delta_tree.specs.Nodes.{Node, TreeValue, node_in, same_node, ids_of, IsTree}
+use Rattle.delta_tree.specs.Nodes.{Node, TreeValue, node_in, IsTree}
 
 -- a node with a value
 abbrev pub due : NodeId → ℕ → Due
@@ -35,6 +34,11 @@ IsNoted nodes dues = (id : NodeId) (node : Node) → node_in nodes id ≡ Some n
 abbrev pub IsDueIn : List (NodeId × Node) → ℕ → NodeId → Type 0
 IsDueIn nodes now id = (node : Node) × (node_in nodes id ≡ Some node) × (node.value ≤ now)
 
+-- a node of this value stands there, which is at most the clock
+abbrev pub IsDueWith : List (NodeId × Node) → ℕ → NodeId → ℕ → Type 0
+IsDueWith nodes now id value =
+    (node : Node) × (node_in nodes id ≡ Some node) × (node.value ≡ value) × (value ≤ now)
+
 -- what was noted still is
 abbrev pub KeepsDues : List Due → List Due → Type 0
 KeepsDues old new = (each : Due) → Contains old each → Contains new each
@@ -46,6 +50,5 @@ pending now dues = sum_by (λ (each : Due). cond (nat_lt now each.value.0) 0 1) 
 -- a tree, each of whose nodes is noted in a queue
 pub record IsKept (tree : TreeValue) (dues : List Due) : Type 0 where
   pub is_tree : IsTree tree
-  pub once : IsDistinct same_node (ids_of tree)
   pub noted : IsNoted tree.nodes dues
   pub order : IsQueue dues

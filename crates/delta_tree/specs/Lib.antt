@@ -1,6 +1,8 @@
 pub mod Changes
 pub mod Dues
 pub mod Laws
+pub mod Losses
 pub mod Nodes
 pub mod Paths
 pub mod Ranks
+pub mod Spots

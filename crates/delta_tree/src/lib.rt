@@ -12,7 +12,9 @@
 //! answers and changes exactly what the map from vertices and states to nodes says. A put stamps a
 //! node with the number of puts before it, so that a node made anew is told from one that stood.
 //!
-//! A look-up and a put go through the nodes while these are few, and else cost a hash. An
+//! A look-up and a put go through the places of the nodes while these are few, and else cost a
+//! hash; the places lie together with the values alone, and [`Tree::raise`] judges and takes a step
+//! by one look-up. An
 //! expiry costs one comparison where no node goes, and else a step in a heap for each node that
 //! goes and for each one that was raised since it was last looked at; by [`Tree::least`] a caller
 //! knows before when none goes, and [`Tree::cut_due`] answers those that went. A cut goes over all
@@ -24,6 +26,7 @@ mod cut;
 mod dues;
 mod laws;
 mod node;
+mod node_map;
 mod nodes;
 mod ranks;
 #[cfg(test)]
@@ -31,5 +34,5 @@ mod tests;
 mod tree;
 
 pub use laws::{changes_of_trees, order_of_trees, paths_of_trees};
-pub use node::{NodeId, Pending, Try};
+pub use node::{NodeId, Pending, Shift, Try};
 pub use tree::Tree;

@@ -19,6 +19,15 @@ pub struct Try {
     pub to: NodeId,
 }
 
+/// A place whose node changed: the value of the node that stood there before, and of the one that
+/// stands there after; none where no node does.
+#[derive(Clone, Copy, Debug, PartialEq, Eq)]
+pub struct Shift {
+    pub id: NodeId,
+    pub before: Option<u64>,
+    pub after: Option<u64>,
+}
+
 /// Steps that wait to be taken.
 #[derive(Debug, Drop)]
 pub struct Pending {

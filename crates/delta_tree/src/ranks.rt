@@ -1,12 +1,15 @@
 //! The nodes of a tree in an order in which each comes after its parent.
 
 ghost use Rattle.std.specs.Prelude.{◌≡◌, IfOk};
+ghost use Rattle.std.specs.List.{IsDistinct};
 ghost use Rattle.std.specs.List.Sorted.{IsPermutation, IsSorted};
+ghost use Rattle.std.specs.Map.{keys_of};
+ghost use Rattle.delta_tree.specs.Nodes.{same_node};
 ghost use Rattle.delta_tree.specs.Ranks.{rank, ranks_of, rank_cmp};
 
 use crate::node::{Node, NodeId};
+use crate::node_map::NodeMap;
 use edge_store::NoMemory;
-use small_map::SmallMap;
 use std::alloc::Global;
 use std::cmp::Reverse;
 
@@ -31,22 +34,23 @@ fn rank_of(id: NodeId, node: Node) -> Rank
 }
 
 /// What each node is ordered by.
-fn ranks_of(alloc: Global, nodes: &SmallMap<NodeId, Node>) -> Result<Vec<Rank>, NoMemory>
-    ensures { IfOk result (λ ranks. ranks.items ≡ ranks_of nodes.now) }
+fn ranks_of(alloc: Global, nodes: &NodeMap) -> Result<Vec<Rank>, NoMemory>
+    ensures all { IfOk result (λ ranks. ranks.items ≡ ranks_of nodes.now) }
+    ensures once { IsDistinct same_node (keys_of nodes.now) }
 {
-    Ok(
-        nodes
-            .as_slice()
-            .iter()
-            .map(|entry| rank_of(entry.0, entry.1))
-            .collect(alloc)?,
-    )
+    let mut ranks = Vec::with_capacity(alloc, nodes.len())?;
+    for place in 0..nodes.len() {
+        let (id, node) = nodes.at(place);
+        ranks.push(rank_of(id, node))?;
+    }
+    Ok(ranks)
 }
 
 /// The nodes in their order.
-pub(crate) fn in_order(alloc: Global, nodes: &SmallMap<NodeId, Node>) -> Result<Vec<Rank>, NoMemory>
+pub(crate) fn in_order(alloc: Global, nodes: &NodeMap) -> Result<Vec<Rank>, NoMemory>
     ensures sorted { IfOk result (λ ranks. IsSorted rank_cmp ranks.items) }
     ensures all { IfOk result (λ ranks. IsPermutation (ranks_of nodes.now) ranks.items) }
+    ensures once { IsDistinct same_node (keys_of nodes.now) }
 {
     let mut ranks = ranks_of(alloc, nodes)?;
     ranks.sort_unstable();

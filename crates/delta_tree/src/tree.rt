@@ -1,22 +1,28 @@
 //! A tree of nodes below a root.
 
-ghost use Rattle.std.specs.Prelude.{◌≡◌, ◌+◌, ◌<◌, ◌^◌, ◌↔◌, [], length, slice_get, Contains};
+ghost use Rattle.std.specs.Prelude.{◌≡◌, ◌+◌, ◌<◌, ◌^◌, ◌↔◌, [], length, slice_get, Contains, option_map};
 ghost use Rattle.std.specs.Prelude.{IfOk, IfNone, IfSome, IsSome, IsTrue, OnErr, OnOk, None, Some};
+ghost use Rattle.std.specs.Option.{MatchOption};
 ghost use Rattle.delta_tree.specs.Nodes.{IsTree, GivesNodes, Joins};
 ghost use Rattle.delta_tree.specs.Nodes.{node_id, node_of, value_of, ids_of};
 ghost use Rattle.delta_tree.specs.Paths.{IsPathTo, LeadsUp, IsBelow, HangsBy};
 ghost use Rattle.delta_tree.specs.declared.node.NodeId.{NodeId};
 ghost use Rattle.delta_tree.specs.Changes.{Carries, Raises, Puts, put_node, Expires};
 ghost use Rattle.delta_tree.specs.Changes.{IsSameBeside, Cuts, AreBelow, AreDue, IsFloor};
+ghost use Rattle.delta_tree.specs.Changes.{AreShifts, HasAsMuch, Lifts, shift_ids};
+ghost use Rattle.delta_tree.specs.declared.node.Shift.{Shift as ShiftMade};
+ghost use Rattle.delta_tree.specs.declared.node_map.Spot.{Spot as SpotMade};
+ghost use Rattle.delta_tree.specs.Losses.{losses};
+ghost use Rattle.delta_tree.specs.Spots.{IsSpot};
 
-use crate::cut::{hangs, has_edge, retain_dues, take_out};
+use crate::cut::{hangs, retain_dues, take_out};
 use crate::dues::{Due, first_due, give_back, next_due};
-use crate::node::{Node, NodeId, Try};
-use crate::nodes::{add_where, drop_or_note, set_node, value_in};
+use crate::node::{Node, NodeId, Shift, Try};
+use crate::node_map::{NodeMap, Spot, value_at};
+use crate::nodes::{add_loss, drop_or_note, is_enough, losses, set_node};
 use crate::ranks::in_order;
 use edge_store::{EdgeId, NoMemory};
 use indexmap::IndexSet;
-use small_map::SmallMap;
 use std::alloc::Global;
 use std::collections::BinaryHeap;
 use std::marker::Model;
@@ -27,7 +33,7 @@ pub struct Tree {
     alloc: Global,
     root: u32,
     puts: u128,
-    nodes: SmallMap<NodeId, Node>,
+    nodes: NodeMap,
     /// Each node with a value that it has or had, for the order in which they leave.
     dues: BinaryHeap<Due>,
 }
@@ -64,7 +70,7 @@ impl Tree {
             alloc,
             root,
             puts: 0,
-            nodes: SmallMap::new(alloc),
+            nodes: NodeMap::new(alloc),
             dues: BinaryHeap::new(alloc),
         })
     }
@@ -86,7 +92,7 @@ impl Tree {
             vertex: v,
             state: s,
         };
-        value_in(&self.nodes, id)
+        self.nodes.value_of(id)
     }
 
     /// The number of nodes, without the root. A walk over them goes from place 0 to below it.
@@ -102,7 +108,7 @@ impl Tree {
         requires { k < length self.now.nodes }
         ensures { slice_get (ids_of self.now) k ≡ Some result }
     {
-        self.nodes.at(k).0
+        self.nodes.id_at(k)
     }
 
     /// Hangs `step.to` below `step.from` by the edge, with this value; where it stands already, it
@@ -120,13 +126,65 @@ impl Tree {
         ensures root { self.new.root ≡ self.old.root }
         ensures unchanged { OnErr result (self.new ≡ self.old) }
     {
+        self.put_at(self.find(step.to), step, value)
+    }
+
+    /// Hangs `step.to` below `step.from` by the edge, as [`Tree::put`] does, where this gives it a
+    /// greater value than it has, and answers its values before and after; none where it has as
+    /// much already. The only error is [`NoMemory`], after which nothing has changed.
+    pub fn raise(&mut self, step: Try, value: u64) -> Result<Option<Shift>, NoMemory>
+        requires from { Carries self.old step.from value }
+        requires state { 0 < step.to.state }
+        requires joins { Joins step.from step.edge step.to }
+        requires puts { self.old.puts < 2 ^ 127 }
+        ensures lifts { (shift : ShiftMade) → result ≡ Ok (Some shift) →
+            Lifts self.old self.new step value shift }
+        ensures stays { result ≡ Ok None → HasAsMuch self.old self.new step.to value }
+        ensures root { self.new.root ≡ self.old.root }
+        ensures unchanged { OnErr result (self.new ≡ self.old) }
+    {
+        let spot = self.find(step.to);
+        let before = value_at(spot);
+        if is_enough(before, value) {
+            return Ok(None);
+        }
+        self.put_at(spot, step, value)?;
+        Ok(Some(Shift {
+            id: step.to,
+            before,
+            after: Some(value),
+        }))
+    }
+
+    /// Where the node of this place stands, with its value.
+    fn find(&self, id: NodeId) -> Option<Spot>
+        ensures spot { MatchOption result (node_of self.now id ≡ None) (IsSpot self.now.nodes id) }
+        ensures value { option_map (λ (spot : SpotMade). spot.value) result ≡ value_of self.now id }
+    {
+        self.nodes.find(id)
+    }
+
+    /// [`Tree::put`], where the target of the step stands at this spot, or nowhere.
+    fn put_at(&mut self, spot: Option<Spot>, step: Try, value: u64) -> Result<(), NoMemory>
+        requires spot { MatchOption spot (node_of self.old step.to ≡ None)
+            (IsSpot self.old.nodes step.to) }
+        requires from { Carries self.old step.from value }
+        requires raises { Raises self.old step.to value }
+        requires state { 0 < step.to.state }
+        requires joins { Joins step.from step.edge step.to }
+        requires puts { self.old.puts < 2 ^ 127 }
+        ensures node { OnOk result (Puts self.old self.new step.to (put_node self.old step value)) }
+        ensures counted { OnOk result (self.new.puts ≡ self.old.puts + 1) }
+        ensures root { self.new.root ≡ self.old.root }
+        ensures unchanged { OnErr result (self.new ≡ self.old) }
+    {
         let node = Node {
             value,
             parent: step.from,
             edge: step.edge,
             stamp: self.puts,
         };
-        set_node(&mut self.nodes, &mut self.dues, step.to, node)?;
+        set_node(&mut self.nodes, &mut self.dues, spot, step.to, node)?;
         self.puts += 1;
         Ok(())
     }
@@ -144,20 +202,22 @@ impl Tree {
     }
 
     /// Takes exactly the nodes out whose value is at most `now`, as [`Tree::expire`] does, and
-    /// answers them. The only error is [`NoMemory`], after which they are out too.
-    pub fn cut_due(&mut self, now: u64) -> Result<Vec<NodeId>, NoMemory>
-        ensures cut { IfOk result (λ cut. AreDue self.old now cut.items) }
+    /// makes the list that of their places, in the memory that it has. The only error is
+    /// [`NoMemory`], after which they are out too.
+    pub fn cut_due(&mut self, now: u64, shifts: &mut Vec<Shift>) -> Result<(), NoMemory>
+        ensures due { OnOk result (AreDue self.old now (shift_ids shifts.new.items)) }
+        ensures shifts { OnOk result (AreShifts self.old self.new shifts.new.items) }
         ensures gone { Expires self.old self.new now }
         ensures beside { IsSameBeside self.old self.new }
     {
-        let mut cut = Vec::new(self.alloc);
-        // Where memory for the answer is lacking, the nodes go all the same.
+        shifts.clear();
+        // Where memory for the list is lacking, the nodes go all the same.
         let mut whole = true;
         while let Some(id) = next_due(&mut self.dues, now) {
-            let gone = drop_or_note(&mut self.nodes, &mut self.dues, id, now);
-            whole &= add_where(gone, &mut cut, id);
+            let lost = drop_or_note(&mut self.nodes, &mut self.dues, id, now);
+            whole &= add_loss(lost, shifts, id);
         }
-        if whole { Ok(cut) } else { Err(NoMemory) }
+        if whole { Ok(()) } else { Err(NoMemory) }
     }
 
     /// A number that no node's value is below, or none where there is no node, by one look at the
@@ -177,7 +237,7 @@ impl Tree {
             vertex: v,
             state: s,
         };
-        match self.nodes.get(&id) {
+        match self.nodes.get(id) {
             Some(node) => node.edge == edge,
             None => false,
         }
@@ -195,7 +255,7 @@ impl Tree {
             vertex: v,
             state: s,
         };
-        if !self.nodes.contains_key(&id) {
+        if !self.nodes.contains(id) {
             return Ok(None);
         }
         let mut path = self.way_up(id)?;
@@ -210,7 +270,7 @@ impl Tree {
     {
         let mut up = Vec::new(self.alloc);
         let mut at = id;
-        while let Some(node) = self.nodes.get(&at) {
+        while let Some(node) = self.nodes.get(at) {
             up.push(node.edge)?;
             at = node.parent;
         }
@@ -226,21 +286,53 @@ impl Tree {
         ensures beside { IsSameBeside self.old self.new }
         ensures unchanged { OnErr result (self.new ≡ self.old) }
     {
-        let cut = self.below(edge)?;
-        if cut.is_empty() {
-            return Ok(cut);
+        let ids = self.below(edge)?;
+        self.take(edge, &ids);
+        Ok(ids)
+    }
+
+    /// Takes exactly the nodes out on whose path from the root the edge stands, as
+    /// [`Tree::cut_below`] does, and answers their places with the values that they had. The only
+    /// error is [`NoMemory`], after which nothing has changed.
+    pub fn cut_edge(&mut self, edge: EdgeId) -> Result<Vec<Shift>, NoMemory>
+        ensures cut { IfOk result (λ shifts. AreBelow self.old edge (shift_ids shifts.items)) }
+        ensures shifts { IfOk result (λ shifts. AreShifts self.old self.new shifts.items) }
+        ensures gone { OnOk result (Cuts self.old self.new edge) }
+        ensures beside { IsSameBeside self.old self.new }
+        ensures unchanged { OnErr result (self.new ≡ self.old) }
+    {
+        let ids = self.below(edge)?;
+        let shifts = self.losses(&ids)?;
+        self.take(edge, &ids);
+        Ok(shifts)
+    }
+
+    /// That none of these nodes stands there any more.
+    fn losses(&self, ids: &[NodeId]) -> Result<Vec<Shift>, NoMemory>
+        ensures { IfOk result (λ shifts. shifts.items ≡ losses self.now.nodes ids.now) }
+    {
+        losses(self.alloc, &self.nodes, ids)
+    }
+
+    /// Takes these nodes out, which are those on whose path from the root the edge stands.
+    fn take(&mut self, edge: EdgeId, ids: &[NodeId])
+        requires { AreBelow self.old edge ids.now }
+        ensures gone { Cuts self.old self.new edge }
+        ensures beside { IsSameBeside self.old self.new }
+    {
+        if ids.is_empty() {
+            return;
         }
-        take_out(&mut self.nodes, &cut);
+        take_out(&mut self.nodes, ids);
         retain_dues(&mut self.dues, &self.nodes);
         give_back(&mut self.dues);
-        Ok(cut)
     }
 
     /// The nodes on whose path from the root the edge stands.
     fn below(&self, edge: EdgeId) -> Result<Vec<NodeId>, NoMemory>
         ensures { IfOk result (λ ids. AreBelow self.now edge ids.items) }
     {
-        if !has_edge(&self.nodes, edge) {
+        if !self.nodes.has_edge(edge) {
             return Ok(Vec::new(self.alloc));
         }
         let below = self.set_below(edge)?;

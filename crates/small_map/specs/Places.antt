@@ -1,4 +1,4 @@
--- The places of keys among the entries of a map; no public contract cites these.
+-- The places of keys among the entries of a map.
 use Rattle.std.specs.Prelude.{◌≡◌, ℕ, Bool, true, List, Option, Some, None, slice_get}
 use Rattle.std.specs.Option.{MatchOption}
 use Rattle.std.specs.Map.{lookup}

@@ -6,7 +6,8 @@
 //! next one the place of each key is kept by its hash as well, until 16 are left.
 //!
 //! The contract for the layers above: a map is the list of its entries, in which each key stands
-//! once; each call answers and changes exactly what a look-up of each key finds.
+//! once; each call answers and changes exactly what a look-up of each key finds. A caller that
+//! keeps other lists beside the map finds a place once, and changes the entry there.
 #![tactic(auto)]
 
 mod map;
@@ -16,3 +17,4 @@ mod room;
 mod tests;
 
 pub use map::SmallMap;
+pub use room::{give_back, make_room};

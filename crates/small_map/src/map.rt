@@ -1,8 +1,9 @@
 //! A map of few entries or many.
 
-ghost use Rattle.std.specs.Prelude.{◌≡◌, ◌==◌, ◌<◌, [], length, cond, is_some, slice_get, IfOk, OnOk, OnErr, None, Some};
+ghost use Rattle.std.specs.Prelude.{◌≡◌, ◌==◌, ◌<◌, ◌++◌, ◌∷◌, [], length, cond, is_some, IfOk, OnOk, OnErr, None, Some};
+ghost use Rattle.std.specs.Prelude.{slice_get, slice_set};
 ghost use Rattle.std.specs.Option.{option_copied};
-ghost use Rattle.std.specs.List.{IsDistinct};
+ghost use Rattle.std.specs.List.{IsDistinct, swap_remove};
 ghost use Rattle.std.specs.Map.{keys_of, lookup};
 ghost use Rattle.small_map.specs.Places.{IsPlace};
 
@@ -85,7 +86,7 @@ impl<K: Eq + Hash + Copy, V: Copy> SmallMap<K, V> {
         ensures value { option_copied result ≡ lookup (K.eq key.now) self.now }
         ensures once { IsDistinct K.eq (keys_of self.now) }
     {
-        match self.find(key) {
+        match self.place_of(key) {
             Some(place) => Some(&self.entries[place].1),
             None => None,
         }
@@ -95,7 +96,51 @@ impl<K: Eq + Hash + Copy, V: Copy> SmallMap<K, V> {
     pub fn contains_key(&self, key: &K) -> bool
         ensures { result ≡ is_some (lookup (K.eq key.now) self.now) }
     {
-        self.find(key).is_some()
+        self.place_of(key).is_some()
+    }
+
+    /// The place of the key's entry, or none where the key has no value.
+    pub fn place_of(&self, key: &K) -> Option<usize>
+        ensures place { IsPlace K.eq self.now key.now result }
+        ensures once { IsDistinct K.eq (keys_of self.now) }
+    {
+        match &self.places {
+            Some(places) => look_up(places, &self.entries, key),
+            None => scan(&self.entries, key),
+        }
+    }
+
+    /// Gives the key of this place another value.
+    pub fn set_at(&mut self, place: usize, value: V)
+        requires { place < length self.old }
+        ensures { (entry : K × V) → slice_get self.old place ≡ Some entry →
+            self.new ≡ slice_set self.old place (entry.0, value) }
+    {
+        self.entries[place].1 = value;
+    }
+
+    /// Gives a key that has none a value, behind the others. The only error is want of memory,
+    /// after which the map is as before.
+    pub fn push(&mut self, key: K, value: V) -> Result<(), AllocError>
+        requires { lookup (K.eq key) self.old ≡ None }
+        ensures pushed { OnOk result (self.new ≡ self.old ++ (key, value) ∷ []) }
+        ensures unchanged { OnErr result (self.new ≡ self.old) }
+    {
+        make_room(&mut self.entries)?;
+        note(self.alloc, &mut self.places, &self.entries, key)?;
+        self.entries.push_reserved((key, value));
+        Ok(())
+    }
+
+    /// Takes the entry of this place out. The last entry comes into its place.
+    pub fn remove_at(&mut self, place: usize)
+        requires { place < length self.old }
+        ensures { (entry : K × V) → slice_get self.old place ≡ Some entry →
+            self.new ≡ swap_remove self.old place entry }
+    {
+        forget(&mut self.places, &self.entries, place);
+        self.entries.swap_remove(place);
+        give_back(&mut self.entries);
     }
 
     /// Gives a key a value, and answers whether it had one. The only error is want of memory, after
@@ -107,13 +152,11 @@ impl<K: Eq + Hash + Copy, V: Copy> SmallMap<K, V> {
         ensures once { IsDistinct K.eq (keys_of self.new) }
         ensures unchanged { OnErr result (self.new ≡ self.old) }
     {
-        if let Some(place) = self.find(&key) {
-            self.entries[place].1 = value;
+        if let Some(place) = self.place_of(&key) {
+            self.set_at(place, value);
             return Ok(true);
         }
-        make_room(&mut self.entries)?;
-        note(self.alloc, &mut self.places, &self.entries, key)?;
-        self.entries.push_reserved((key, value));
+        self.push(key, value)?;
         Ok(false)
     }
 
@@ -125,12 +168,10 @@ impl<K: Eq + Hash + Copy, V: Copy> SmallMap<K, V> {
         ensures had { result ≡ is_some (lookup (K.eq key.now) self.old) }
         ensures once { IsDistinct K.eq (keys_of self.new) }
     {
-        let Some(place) = self.find(key) else {
+        let Some(place) = self.place_of(key) else {
             return false;
         };
-        forget(&mut self.places, &self.entries, place);
-        self.entries.swap_remove(place);
-        give_back(&mut self.entries);
+        self.remove_at(place);
         true
     }
 
@@ -140,16 +181,5 @@ impl<K: Eq + Hash + Copy, V: Copy> SmallMap<K, V> {
     {
         self.entries = Vec::new(self.alloc);
         self.places = None;
-    }
-
-    /// The place of the key's entry.
-    fn find(&self, key: &K) -> Option<usize>
-        ensures place { IsPlace K.eq self.now key.now result }
-        ensures once { IsDistinct K.eq (keys_of self.now) }
-    {
-        match &self.places {
-            Some(places) => look_up(places, &self.entries, key),
-            None => scan(&self.entries, key),
-        }
     }
 }

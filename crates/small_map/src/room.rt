@@ -5,7 +5,7 @@ ghost use Rattle.std.specs.Prelude.{◌≡◌, ◌<◌, vec_len, vec_capacity, O
 use std::alloc::AllocError;
 
 /// Makes room for one more element: for two in an empty list, and else for twice as many.
-pub(crate) fn make_room<T>(list: &mut Vec<T>) -> Result<(), AllocError>
+pub fn make_room<T>(list: &mut Vec<T>) -> Result<(), AllocError>
     ensures same { list.new.items ≡ list.old.items }
     ensures room { OnOk result (vec_len list.new < vec_capacity list.new) }
 {
@@ -16,7 +16,7 @@ pub(crate) fn make_room<T>(list: &mut Vec<T>) -> Result<(), AllocError>
 }
 
 /// Gives memory back where three quarters of the room aren't used.
-pub(crate) fn give_back<T>(list: &mut Vec<T>)
+pub fn give_back<T>(list: &mut Vec<T>)
     ensures { list.new.items ≡ list.old.items }
 {
     if list.len() <= list.capacity() / 4 {

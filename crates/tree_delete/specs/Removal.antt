@@ -4,7 +4,8 @@ use Rattle.edge_store.specs.declared.edge.EdgeId.{EdgeId}
 use Rattle.edge_store.specs.Edges.{Edges}
 use Rattle.delta_tree.specs.declared.node.NodeId.{NodeId}
 use Rattle.delta_tree.specs.declared.node.Node.{Node}
-use Rattle.delta_tree.specs.Nodes.{TreeValue, node_of}
+use Rattle.delta_tree.specs.declared.node.Shift.{Shift}
+use Rattle.delta_tree.specs.Nodes.{TreeValue, node_of, value_of}
 use Rattle.delta_tree.specs.Paths.{IsBelow}
 use Rattle.tree_insert.specs.Trees.{IsOptimal, count_outs}
 use Rattle.tree_delete.specs.Entries.{count_ins}
@@ -28,6 +29,14 @@ pub record KeepsApart (old new : TreeValue) (edge : EdgeId) : Type 0 where
       node_of new id ≡ Some after →
       ((before : Node) → node_of old id ≡ Some before → IsBelow old edge id) →
       old.puts ≤ after.stamp
+
+-- the place with the value before, and with the one that it has in this tree
+abbrev pub with_after : TreeValue → Shift → Shift
+with_after tree shift = record {
+  id = shift.id;
+  before = shift.before;
+  after = value_of tree shift.id;
+}
 
 -- the steps are at most the edges that end at and leave the nodes on whose path the edge stood,
 -- each node once

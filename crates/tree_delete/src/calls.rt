@@ -1,16 +1,16 @@
 //! The call after the removal of an edge.
 
-ghost use Rattle.std.specs.Prelude.{◌≡◌, ◌^◌, ◌<◌, IfOk, OnErr, OnOk, None};
+ghost use Rattle.std.specs.Prelude.{◌≡◌, ◌^◌, ◌<◌, map, IfOk, OnErr, OnOk, None};
 ghost use Rattle.edge_store.specs.Edges.{value_of};
 ghost use Rattle.dfa_table.specs.DfaValue.{step_of};
 ghost use Rattle.delta_tree.specs.declared.node.NodeId.{NodeId};
 ghost use Rattle.delta_tree.specs.Nodes.{IsTree, node_of};
-ghost use Rattle.delta_tree.specs.Changes.{AreBelow, ChangesAtMost, Cuts, IsSameBeside};
+ghost use Rattle.delta_tree.specs.Changes.{AreBelow, AreShifts, Cuts, IsSameBeside, shift_ids};
 ghost use Rattle.tree_insert.specs.Trees.{HasOwnWays, IsLater, IsOptimal};
-ghost use Rattle.tree_delete.specs.Removal.{CountsCut, KeepsApart, WasOptimalWith};
+ghost use Rattle.tree_delete.specs.Removal.{CountsCut, KeepsApart, WasOptimalWith, with_after};
 
 use crate::entries::best_entries;
-use delta_tree::{NodeId, Tree};
+use delta_tree::{NodeId, Shift, Tree};
 use dfa_table::Dfa;
 use edge_store::{EdgeId, EdgeStore, NoMemory, Steps};
 use std::alloc::Global;
@@ -19,15 +19,16 @@ use tree_insert::Search;
 
 /// Cuts the nodes on whose path the edge stands. Where memory is lacking all nodes go, so that none
 /// stays on a path by this edge.
-fn cut(tree: &mut Tree, edge: EdgeId) -> Result<Vec<NodeId>, NoMemory>
+fn cut(tree: &mut Tree, edge: EdgeId) -> Result<Vec<Shift>, NoMemory>
     requires { IsTree tree.old }
-    ensures below { IfOk result (λ cut. AreBelow tree.old edge cut.items) }
+    ensures below { IfOk result (λ shifts. AreBelow tree.old edge (shift_ids shifts.items)) }
+    ensures shifts { IfOk result (λ shifts. AreShifts tree.old tree.new shifts.items) }
     ensures cut { OnOk result (Cuts tree.old tree.new edge) }
     ensures beside { IsSameBeside tree.old tree.new }
     ensures empty { OnErr result ((id : NodeId) → node_of tree.new id ≡ None) }
 {
-    match tree.cut_below(edge) {
-        Ok(cut) => Ok(cut),
+    match tree.cut_edge(edge) {
+        Ok(shifts) => Ok(shifts),
         Err(NoMemory) => {
             tree.expire(u64::MAX);
             Err(NoMemory)
@@ -35,13 +36,23 @@ fn cut(tree: &mut Tree, edge: EdgeId) -> Result<Vec<NodeId>, NoMemory>
     }
 }
 
+/// Tells which values the places have in the tree now.
+fn tell_values(tree: &Tree, shifts: &mut Vec<Shift>)
+    ensures { shifts.new.items ≡ map (with_after tree.now) shifts.old.items }
+{
+    for shift in shifts.iter_mut() {
+        shift.after = tree.value_of(shift.id.vertex, shift.id.state);
+    }
+}
+
 /// Makes a tree optimal that was so before the edge left the store, in the room of a search.
 ///
 /// The nodes on whose path the edge stood are cut. For each of them the best way from a node that
 /// stayed is sought among the edges that end at its vertex; from there a search puts back those
-/// that other paths reach. Answers the nodes that were cut, also those that came back. The only
-/// error is [`NoMemory`], after which the paths of the tree are paths of the store, but nodes may
-/// be missing.
+/// that other paths reach. Answers the places of the nodes that were cut, with the values before
+/// and after, also of those that came back with the value that they had. The only error is
+/// [`NoMemory`], after which the paths of the tree are paths of the store, but nodes may be
+/// missing.
 pub fn tree_remove_with<L: Ledger>(
     search: &mut Search,
     alloc: Global,
@@ -50,7 +61,7 @@ pub fn tree_remove_with<L: Ledger>(
     dfa: &Dfa,
     edge: EdgeId,
     steps: &mut Steps<L>,
-) -> Result<Vec<NodeId>, NoMemory>
+) -> Result<Vec<Shift>, NoMemory>
     requires puts { tree.old.puts < 2 ^ 126 }
     requires before { WasOptimalWith (value_of store.now) (step_of dfa.now) tree.old edge }
     ensures optimal { OnOk result (IsOptimal (value_of store.now) (step_of dfa.now) tree.new) }
@@ -58,17 +69,18 @@ pub fn tree_remove_with<L: Ledger>(
     ensures keeps { OnOk result (KeepsApart tree.old tree.new edge) }
     ensures later { IsLater tree.old tree.new }
     ensures steps { OnOk result (CountsCut store.now tree.old edge steps.old steps.new) }
-    ensures cut { IfOk result (λ cut. AreBelow tree.old edge cut.items) }
-    ensures others { IfOk result (λ cut. ChangesAtMost tree.old tree.new cut.items) }
+    ensures cut { IfOk result (λ shifts. AreBelow tree.old edge (shift_ids shifts.items)) }
+    ensures shifts { IfOk result (λ shifts. AreShifts tree.old tree.new shifts.items) }
 {
     let root = NodeId {
         vertex: tree.root(),
         state: 0,
     };
-    let cut = cut(tree, edge)?;
-    let tries = best_entries(alloc, tree, store, dfa, root, &cut, steps)?;
+    let mut shifts = cut(tree, edge)?;
+    let tries = best_entries(alloc, tree, store, dfa, root, &shifts, steps)?;
     search.relax(tree, store, dfa, &tries, steps)?;
-    Ok(cut)
+    tell_values(tree, &mut shifts);
+    Ok(shifts)
 }
 
 /// Makes a tree optimal that was so before the edge left the store; see [`tree_remove_with`].

@@ -5,13 +5,13 @@ ghost use Rattle.edge_store.specs.declared.edge.EdgeId.{EdgeId};
 ghost use Rattle.edge_store.specs.Edges.{ins_of, value_of};
 ghost use Rattle.dfa_table.specs.DfaValue.{step_of};
 ghost use Rattle.delta_tree.specs.Nodes.{node_id, root_id};
-ghost use Rattle.delta_tree.specs.Changes.{Carries};
+ghost use Rattle.delta_tree.specs.Changes.{Carries, shift_ids};
 ghost use Rattle.tree_insert.specs.Best.{IsAtLeast};
 ghost use Rattle.tree_insert.specs.Trees.{IsValid};
 ghost use Rattle.tree_delete.specs.Entries.{CanEnter, HasEntries, IsEntry, IsEntryBy, count_ins, steps_in, value_in};
 
 use crate::entry::{Entry, better};
-use delta_tree::{NodeId, Tree, Try};
+use delta_tree::{NodeId, Shift, Tree, Try};
 use dfa_table::Dfa;
 use edge_store::{EdgeId, EdgeStore, NoMemory, Steps};
 use std::alloc::Global;
@@ -111,26 +111,30 @@ fn add(tries: &mut Vec<Try>, entry: Option<Entry>) -> Result<(), NoMemory>
     Ok(())
 }
 
-/// The best entries of these nodes, for each that has one.
+/// The best entries of the nodes that were cut, for each that has one.
 pub(crate) fn best_entries<L: Ledger>(
     alloc: Global,
     tree: &Tree,
     store: &EdgeStore,
     dfa: &Dfa,
     root: NodeId,
-    ids: &[NodeId],
+    cut: &[Shift],
     steps: &mut Steps<L>,
 ) -> Result<Vec<Try>, NoMemory>
     requires { root ≡ root_id tree.now }
     ensures valid { IfOk result (λ tries.
         All (IsValid (value_of store.now) (step_of dfa.now) tree.now) tries.items) }
     ensures best { IfOk result (λ tries.
-        HasEntries (value_of store.now) (step_of dfa.now) tree.now ids.now tries.items) }
-    ensures counted { steps.new ≤ steps.old + count_ins store.now ids.now }
+        HasEntries (value_of store.now) (step_of dfa.now) tree.now (shift_ids cut.now)
+        tries.items) }
+    ensures counted { steps.new ≤ steps.old + count_ins store.now (shift_ids cut.now) }
 {
-    let mut tries = Vec::with_capacity(alloc, ids.len())?;
-    for id in ids {
-        add(&mut tries, best_entry(tree, store, dfa, root, *id, steps))?;
+    let mut tries = Vec::with_capacity(alloc, cut.len())?;
+    for shift in cut {
+        add(
+            &mut tries,
+            best_entry(tree, store, dfa, root, shift.id, steps),
+        )?;
     }
     Ok(tries)
 }

@@ -5,6 +5,7 @@ mod TestTables
 pub mod Nodes
 mod UnderWay
 mod Outs
+mod Shifts
 pub mod OpenTries
 pub mod Paths
 pub mod SameEdges

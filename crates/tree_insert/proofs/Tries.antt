@@ -3,27 +3,27 @@ use Rattle.std.proofs.Common.{◌≡◌, ℕ, ◌≤◌, inl, inr, ⊎_elim, Lis
 use Rattle.std.specs.Prelude.{All}
 use Rattle.std.proofs.lemmas.List.Elements.{All-contains, All-cons, Contains-append_cases, Contains-append_left, Contains-append_right, Contains-push, Contains-push_cases}
 use Rattle.std.proofs.lemmas.List.Sorted.{Contains-permutation, All-permutation, IsPermutation-sym}
-use Rattle.delta_tree.specs.declared.node.NodeId.{NodeId}
+use Rattle.delta_tree.specs.declared.node.Shift.{Shift}
 use Rattle.tree_insert.specs.declared.waiting.Waiting.{Waiting}
 use Rattle.tree_insert.specs.Waiting.{SearchValue, Gains, Takes}
 use Rattle.tree_insert.proofs.Members.{contains_head, contains_tail, contains_cases}
 
 -- a search with these tries
-abbrev pub search_of : List Waiting → List Waiting → ℕ → List NodeId → SearchValue
-search_of stack heap level risen = record {
+abbrev pub search_of : List Waiting → List Waiting → ℕ → List Shift → SearchValue
+search_of stack heap level shifts = record {
   waiting = stack ++ heap;
   level = level;
-  risen = risen;
+  shifts = shifts;
 }
 
 -- ---- one more
 
 pub gains_stack : (stack stack' heap : List Waiting) (level : ℕ)
-    (risen : List NodeId) (new : Waiting) →
+    (shifts : List Shift) (new : Waiting) →
     stack' ≡ stack ++ new ∷ [] →
-    Gains (search_of stack heap level risen) (search_of stack' heap level risen)
+    Gains (search_of stack heap level shifts) (search_of stack' heap level shifts)
     (λ each. each ≡ new)
-gains_stack stack stack' heap level risen new is = record {
+gains_stack stack stack' heap level shifts new is = record {
   kept = λ each there. ⊎_elim
       (λ (here : Contains stack each). subst (λ s. Contains (s ++ heap) each) (sym is)
       (Contains-append_left (stack ++ new ∷ []) heap each
@@ -38,15 +38,15 @@ gains_stack stack stack' heap level risen new is = record {
       (λ (other : Contains heap each). inl (Contains-append_right stack heap each other))
       (Contains-append_cases stack' heap each there);
   level = refl;
-  risen = refl;
+  shifts = refl;
 }
 
-pub gains_heap : (stack heap heap' : List Waiting) (level : ℕ) (risen : List NodeId)
+pub gains_heap : (stack heap heap' : List Waiting) (level : ℕ) (shifts : List Shift)
     (new : Waiting) →
     IsPermutation (new ∷ heap) heap' →
-    Gains (search_of stack heap level risen) (search_of stack heap' level risen)
+    Gains (search_of stack heap level shifts) (search_of stack heap' level shifts)
     (λ each. each ≡ new)
-gains_heap stack heap heap' level risen new moved = record {
+gains_heap stack heap heap' level shifts new moved = record {
   kept = λ each there. ⊎_elim
       (λ (here : Contains stack each). Contains-append_left stack heap' each here)
       (λ (other : Contains heap each). Contains-append_right stack heap' each
@@ -61,7 +61,7 @@ gains_heap stack heap heap' level risen new moved = record {
       other)))
       (Contains-append_cases stack heap' each there);
   level = refl;
-  risen = refl;
+  shifts = refl;
 }
 
 pub heap_has : (stack heap heap' : List Waiting) (new : Waiting) →
@@ -80,12 +80,12 @@ heap_below heap heap' level new moved below all =
 
 -- ---- one less
 
-pub takes_stack : (stack stack' heap : List Waiting) (level : ℕ) (risen : List NodeId)
+pub takes_stack : (stack stack' heap : List Waiting) (level : ℕ) (shifts : List Shift)
     (taken : Waiting) →
     stack ≡ stack' ++ taken ∷ [] →
     All (λ (each : Waiting). each.value ≡ level) stack →
-    Takes (search_of stack heap level risen) (search_of stack' heap level risen) taken
-takes_stack stack stack' heap level risen taken is all =
+    Takes (search_of stack heap level shifts) (search_of stack' heap level shifts) taken
+takes_stack stack stack' heap level shifts taken is all =
     let there : Contains stack taken =
     subst (λ s. Contains s taken) (sym is) (Contains-push stack' taken) in
     let same : taken.value ≡ level =
@@ -109,16 +109,16 @@ takes_stack stack stack' heap level risen taken is all =
           (λ (other : Contains heap each). Contains-append_right stack heap each other)
           (Contains-append_cases stack' heap each has);
       level = sym same;
-      risen = refl;
+      shifts = refl;
       greatest = omega (arith, same);
     }
 
-pub takes_heap : (stack stack' heap heap' : List Waiting) (level : ℕ) (risen : List NodeId)
+pub takes_heap : (stack stack' heap heap' : List Waiting) (level : ℕ) (shifts : List Shift)
     (taken : Waiting) →
     stack ≡ stack' → IsPermutation heap (taken ∷ heap') →
     All (λ (each : Waiting). each.value ≤ level) heap →
-    Takes (search_of stack heap level risen) (search_of stack' heap' taken.value risen) taken
-takes_heap stack stack' heap heap' level risen taken is moved all =
+    Takes (search_of stack heap level shifts) (search_of stack' heap' taken.value shifts) taken
+takes_heap stack stack' heap heap' level shifts taken is moved all =
     let back = IsPermutation-sym heap (taken ∷ heap') moved in
     let there : Contains heap taken =
     Contains-permutation (taken ∷ heap') heap taken back (contains_head taken heap') in
@@ -143,6 +143,6 @@ takes_heap stack stack' heap heap' level risen taken is moved all =
           (contains_tail taken heap' each other)))
           (Contains-append_cases stack' heap' each has);
       level = refl;
-      risen = refl;
+      shifts = refl;
       greatest = All-contains (λ (each : Waiting). each.value ≤ level) heap taken all there;
     }

@@ -1,7 +1,7 @@
 -- A search under way.
 use Rattle.std.proofs.Common.{◌≡◌, ◌≢◌, ℕ, ◌≤◌, ◌<◌, ◌+◌, inl, inr, ⊎_elim, List, [], ◌∷◌, ◌++◌, length, Option, Some, refl, sym, ap, subst, ◌∙◌, arith, Contains, All}
 use Rattle.std.proofs.lemmas.Option.{same_Some}
-use Rattle.std.proofs.lemmas.List.Elements.{All-head, All-nil, All-push, All-weaker, All-get_or, Contains-append_left, Contains-push}
+use Rattle.std.proofs.lemmas.List.Elements.{All-head, All-nil, All-push, All-weaker, All-get_or}
 use Rattle.std.proofs.lemmas.List.Quantifiers.{all_pairs_push}
 use Rattle.std.proofs.lemmas.List.Sums.{sum_by_push}
 use Rattle.edge_store.specs.declared.edge.EdgeId.{EdgeId}
@@ -9,8 +9,9 @@ use Rattle.edge_store.specs.Edges.{Edges, outs_of}
 use Rattle.dfa_table.specs.DfaValue.{DfaValue}
 use Rattle.delta_tree.specs.declared.node.NodeId.{NodeId}
 use Rattle.delta_tree.specs.declared.node.Node.{Node}
+use Rattle.delta_tree.specs.declared.node.Shift.{Shift}
 use Rattle.delta_tree.specs.Nodes.{TreeValue, node_of, value_of, node_id}
-use Rattle.delta_tree.specs.Changes.{Carries, ChangesAtMost, Raises, Puts}
+use Rattle.delta_tree.specs.Changes.{Carries, Raises, Puts, shift_ids}
 use Rattle.tree_insert.specs.declared.waiting.Waiting.{Waiting}
 use Rattle.tree_insert.specs.Best.{IsAtLeast}
 use Rattle.tree_insert.specs.Trees.{count_outs, IsRisen, CountsOuts, Keeps}
@@ -19,7 +20,7 @@ use Rattle.tree_insert.specs.Waiting.{SearchValue, Gains, Takes, source_of, targ
 use Rattle.tree_insert.specs.UnderWay.{IsSupported, AreSupported, IsOpen, AreOpen, IsServed, IsServedFrom, AreServed, Leaves, Rises, IsCounted}
 use Rattle.tree_insert.proofs.Bests.{weaker}
 use Rattle.tree_insert.proofs.Members.{contains_cases, contains_none}
-use Rattle.tree_insert.proofs.Nodes.{value_reached, node_reached, raises_apart, raises_or_reached, put_here, put_cases, put_node_cases, put_rises, put_reached, put_carries, put_carried}
+use Rattle.tree_insert.proofs.Nodes.{value_reached, node_reached, raises_apart, raises_or_reached, put_here, put_node_cases, put_rises, put_reached, put_carries, put_carried}
 
 -- ---- tries that wait
 
@@ -29,7 +30,7 @@ gains_kind old new kind other gains same = record {
   kept = gains.kept;
   only = λ each there. ⊎_elim (λ was. inl was) (λ is. inr (same each is)) (gains.only each there);
   level = gains.level;
-  risen = gains.risen;
+  shifts = gains.shifts;
 }
 
 pub gains_none : (search : SearchValue) (kind : Waiting → Type 0) → Gains search search kind
@@ -37,7 +38,7 @@ gains_none search kind = record {
   kept = λ each there. there;
   only = λ each there. inl there;
   level = refl;
-  risen = refl;
+  shifts = refl;
 }
 
 pub gains_twice : (old middle new : SearchValue) (kind : Waiting → Type 0) → Gains old middle kind →
@@ -46,7 +47,7 @@ gains_twice old middle new kind first second = record {
   kept = λ each there. second.kept each (first.kept each there);
   only = λ each there. ⊎_elim (λ was. first.only each was) (λ is. inr is) (second.only each there);
   level = second.level ∙ first.level;
-  risen = second.risen ∙ first.risen;
+  shifts = second.shifts ∙ first.shifts;
 }
 
 pub served_more : (tree : TreeValue) (waits more : List Waiting) (id : NodeId) (number : ℕ) →
@@ -236,15 +237,6 @@ counted_lower store first tree nodes level lower start steps below counted = rec
 
 module _ (store : Edges) (first old new : TreeValue) (nodes : List NodeId) (to : NodeId)
     (node : Node) (puts : Puts old new to node) where
-  -- what changes beside the nodes so far is the place of a put
-  pub changes_more : ChangesAtMost first old nodes → ChangesAtMost first new (nodes ++ to ∷ [])
-  changes_more changes id apart = ⊎_elim
-      (λ (same : to ≡ id).
-      absurd (apart (subst (Contains (nodes ++ to ∷ [])) same (Contains-push nodes to))))
-      (λ (kept : node_of new id ≡ node_of old id).
-      kept ∙ changes id (λ there. apart (Contains-append_left nodes (to ∷ []) id there)))
-      (put_cases old new to node puts id)
-
   module _ (start : ℕ) (raises : Raises old to node.value) where
     -- a put keeps what was counted
     pub counted_put : (level steps : ℕ) → IsCounted store first old nodes level start steps →
@@ -337,18 +329,14 @@ served_taken values step tree old new taken takes served edge before number stat
 
 pub counted_taken : (store : Edges) (first tree : TreeValue) (old new : SearchValue)
     (taken : Waiting) (start steps : ℕ) → Takes old new taken →
-    IsCounted store first tree old.risen old.level start steps →
-    IsCounted store first tree new.risen new.level start steps
+    IsCounted store first tree (shift_ids old.shifts) old.level start steps →
+    IsCounted store first tree (shift_ids new.shifts) new.level start steps
 counted_taken store first tree old new taken start steps takes counted =
-    subst (λ (nodes : List NodeId). IsCounted store first tree nodes new.level start steps)
-    (sym takes.risen)
-    (counted_lower store first tree old.risen old.level new.level start steps
+    subst (λ (shifts : List Shift).
+    IsCounted store first tree (shift_ids shifts) new.level start steps)
+    (sym takes.shifts)
+    (counted_lower store first tree (shift_ids old.shifts) old.level new.level start steps
     (omega (arith, takes.level, takes.greatest)) counted)
-
-pub changes_taken : (first tree : TreeValue) (old new : SearchValue) (taken : Waiting) →
-    Takes old new taken → ChangesAtMost first tree old.risen → ChangesAtMost first tree new.risen
-changes_taken first tree old new taken takes changes =
-    subst (ChangesAtMost first tree) (sym takes.risen) changes
 
 pub open_none : (values : EdgeId → Option ℕ) (dfa : DfaValue) (tree : TreeValue)
     (waits : List Waiting) → waits ≡ [] → AreOpen values dfa tree waits

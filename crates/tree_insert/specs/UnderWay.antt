@@ -131,11 +131,15 @@ pub record IsUnderWay (values : EdgeId → Option ℕ) (step : ℕ → ℕ → O
   pub supported : AreSupported values step tree
   pub rises : Rises first tree
 
+-- these places have at least this value
+abbrev pub AreFirm : TreeValue → ℕ → List NodeId → Type 0
+AreFirm tree level ids = All (λ (id : NodeId). IsAtLeast level (value_of tree id)) ids
+
 -- the steps so far are at most the edges that leave the nodes that rose so far; these have at least
 -- the level as value, so that they aren't raised again
 pub record IsCounted (store : Edges) (first tree : TreeValue) (nodes : List NodeId)
     (level start steps : ℕ) : Type 0 where
   pub apart : AllPairs ◌≢◌ nodes
   pub risen : All (IsRisen first tree) nodes
-  pub firm : All (λ (id : NodeId). IsAtLeast level (value_of tree id)) nodes
+  pub firm : AreFirm tree level nodes
   pub few : steps ≤ start + count_outs store nodes

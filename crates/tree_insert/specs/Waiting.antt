@@ -5,6 +5,7 @@ use Rattle.std.specs.Ordering.{nat_cmp, ordering_then}
 use Rattle.std.specs.BinaryHeap.{IsHeap}
 use Rattle.edge_store.specs.declared.edge.EdgeId.{EdgeId}
 use Rattle.delta_tree.specs.declared.node.NodeId.{NodeId}
+use Rattle.delta_tree.specs.declared.node.Shift.{Shift}
 use Rattle.delta_tree.specs.declared.node.Try.{Try}
 use Rattle.delta_tree.specs.Nodes.{node_id}
 use Rattle.tree_insert.specs.declared.waiting.Waiting.{Waiting}
@@ -40,19 +41,19 @@ waiting_cmp first second =
 
 -- ---- a search
 
--- the tries that wait, a value that none of them is above, and the nodes that were made or raised
--- since the search began
+-- the tries that wait, a value that none of them is above, and the places whose nodes the last call
+-- changed
 pub record SearchValue : Type 0 where
   pub waiting : List Waiting
   pub level : ℕ
-  pub risen : List NodeId
+  pub shifts : List Shift
 
--- with one node more that was made or raised
-abbrev pub with_risen : SearchValue → NodeId → SearchValue
-with_risen search id = record {
+-- with the shift of one place more
+abbrev pub with_shift : SearchValue → Shift → SearchValue
+with_shift search shift = record {
   waiting = search.waiting;
   level = search.level;
-  risen = search.risen ++ id ∷ [];
+  shifts = search.shifts ++ shift ∷ [];
 }
 
 -- the tries of the level on a stack, and those of at most the level in a heap
@@ -66,7 +67,7 @@ pub record Gains (old new : SearchValue) (kind : Waiting → Type 0) : Type 0 wh
   pub kept : (each : Waiting) → Contains old.waiting each → Contains new.waiting each
   pub only : (each : Waiting) → Contains new.waiting each → Contains old.waiting each ⊎ kind each
   pub level : new.level ≡ old.level
-  pub risen : new.risen ≡ old.risen
+  pub shifts : new.shifts ≡ old.shifts
 
 -- the try waited and is taken, the others go on to wait; its value is the level now, and none is
 -- above it
@@ -75,5 +76,5 @@ pub record Takes (old new : SearchValue) (taken : Waiting) : Type 0 where
   pub rest : (each : Waiting) → Contains old.waiting each → Contains (taken ∷ new.waiting) each
   pub only : (each : Waiting) → Contains new.waiting each → Contains old.waiting each
   pub level : new.level ≡ taken.value
-  pub risen : new.risen ≡ old.risen
+  pub shifts : new.shifts ≡ old.shifts
   pub greatest : taken.value ≤ old.level

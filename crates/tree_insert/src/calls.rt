@@ -1,9 +1,9 @@
 //! The calls: from a list of tries, and after the raise of an edge.
 
-ghost use Rattle.std.specs.Prelude.{◌≡◌, ◌+◌, ◌≢◌, ◌^◌, ◌<◌, All, AllPairs, OnOk};
+ghost use Rattle.std.specs.Prelude.{◌≡◌, ◌+◌, ◌^◌, ◌<◌, All, OnOk};
 ghost use Rattle.edge_store.specs.Edges.{value_of};
 ghost use Rattle.dfa_table.specs.DfaValue.{step_of};
-ghost use Rattle.delta_tree.specs.Changes.{ChangesAtMost};
+ghost use Rattle.delta_tree.specs.Changes.{AreShifts, shift_ids};
 ghost use Rattle.tree_insert.specs.Trees.{CountsOuts, HasAll, HasBest, HasOwnWays, IsLater, IsOptimal, IsRisen, IsValid, Keeps, WasOptimal};
 
 use crate::offers::{offer_edge, offer_tries};
@@ -37,9 +37,8 @@ impl Search {
         ensures keeps { Keeps tree.old tree.new }
         ensures later { IsLater tree.old tree.new }
         ensures steps { CountsOuts store.now tree.old tree.new steps.old steps.new }
-        ensures risen { OnOk result (All (IsRisen tree.old tree.new) self.new.risen) }
-        ensures once { OnOk result (AllPairs ◌≢◌ self.new.risen) }
-        ensures others { OnOk result (ChangesAtMost tree.old tree.new self.new.risen) }
+        ensures risen { OnOk result (All (IsRisen tree.old tree.new) (shift_ids self.new.shifts)) }
+        ensures shifts { OnOk result (AreShifts tree.old tree.new self.new.shifts) }
     {
         self.clear();
         offer_tries(self, tree, store, dfa, tries)?;
@@ -64,9 +63,8 @@ impl Search {
         ensures keeps { Keeps tree.old tree.new }
         ensures later { IsLater tree.old tree.new }
         ensures steps { CountsOuts store.now tree.old tree.new steps.old steps.new }
-        ensures risen { OnOk result (All (IsRisen tree.old tree.new) self.new.risen) }
-        ensures once { OnOk result (AllPairs ◌≢◌ self.new.risen) }
-        ensures others { OnOk result (ChangesAtMost tree.old tree.new self.new.risen) }
+        ensures risen { OnOk result (All (IsRisen tree.old tree.new) (shift_ids self.new.shifts)) }
+        ensures shifts { OnOk result (AreShifts tree.old tree.new self.new.shifts) }
     {
         self.clear();
         offer_edge(self, tree, store, dfa, edge)?;

@@ -2,10 +2,13 @@
 
 ghost use Rattle.std.specs.Prelude.{◌≡◌, ◌^◌, ◌-◌, ◌≤◌, [], Contains, IfNone, IfSome, OnErr, OnOk};
 ghost use Rattle.tree_insert.specs.declared.waiting.Waiting.{Waiting};
-ghost use Rattle.tree_insert.specs.Waiting.{Gains, Takes, with_risen};
+ghost use Rattle.tree_insert.specs.Waiting.{Gains, Takes, with_shift};
+ghost use Rattle.std.specs.Prelude.{IsPermutation, IsSorted};
+ghost use Rattle.delta_tree.specs.Changes.{AreDue, AreShifts, Expires, IsSameBeside, shift_ids};
+ghost use Rattle.delta_tree.specs.Dues.{id_cmp};
 
 use crate::waiting::Waiting;
-use delta_tree::NodeId;
+use delta_tree::{Shift, Tree};
 use edge_store::NoMemory;
 use std::alloc::Global;
 use std::collections::BinaryHeap;
@@ -21,7 +24,8 @@ pub struct Search {
     /// The tries whose value is at most the level.
     later: BinaryHeap<Waiting>,
     level: u64,
-    risen: Vec<NodeId>,
+    /// The places whose nodes the last call changed.
+    shifts: Vec<Shift>,
 }
 
 impl Model for Search {
@@ -34,7 +38,7 @@ impl Model for Search {
     ghost view = { λ search. record {
       waiting = search.stack.items ++ heap_items search.later;
       level = search.level;
-      risen = search.risen.items;
+      shifts = search.shifts.items;
     } };
 
     ghost invariant = { λ search.
@@ -48,35 +52,54 @@ impl Search {
             stack: Vec::new(alloc),
             later: BinaryHeap::new(alloc),
             level: u64::MAX,
-            risen: Vec::new(alloc),
+            shifts: Vec::new(alloc),
         }
     }
 
-    /// The nodes that the last search made or raised, each once, in the order in which it did.
-    pub fn risen(&self) -> &[NodeId]
-        ensures { result.now ≡ self.now.risen }
+    /// The places whose nodes the last call changed, each once.
+    pub fn shifts(&self) -> &[Shift]
+        ensures { result.now ≡ self.now.shifts }
     {
-        &self.risen
+        &self.shifts
     }
 
-    /// No try waits, and no node rose.
+    /// Puts the shifts in the order of their places, by vertex and then by state.
+    pub fn sort_shifts(&mut self)
+        ensures same { IsPermutation self.old.shifts self.new.shifts }
+        ensures sorted { IsSorted id_cmp (shift_ids self.new.shifts) }
+    {
+        self.shifts.sort_unstable_by_key(|shift| shift.id);
+    }
+
+    /// Takes exactly the nodes out of a tree whose value is at most `now`. The only error is
+    /// [`NoMemory`], after which they are out too.
+    pub fn expire(&mut self, tree: &mut Tree, now: u64) -> Result<(), NoMemory>
+        ensures due { OnOk result (AreDue tree.old now (shift_ids self.new.shifts)) }
+        ensures shifts { OnOk result (AreShifts tree.old tree.new self.new.shifts) }
+        ensures gone { Expires tree.old tree.new now }
+        ensures beside { IsSameBeside tree.old tree.new }
+    {
+        tree.cut_due(now, &mut self.shifts)
+    }
+
+    /// No try waits, and no place is told.
     pub(crate) fn clear(&mut self)
         ensures empty { self.new.waiting ≡ [] }
         ensures level { self.new.level ≡ 2 ^ 64 - 1 }
-        ensures risen { self.new.risen ≡ [] }
+        ensures shifts { self.new.shifts ≡ [] }
     {
         self.stack.clear();
         self.later.clear();
         self.level = u64::MAX;
-        self.risen.clear();
+        self.shifts.clear();
     }
 
-    /// Adds a node to those that rose.
-    pub(crate) fn add_risen(&mut self, id: NodeId) -> Result<(), NoMemory>
-        ensures added { OnOk result (self.new ≡ with_risen self.old id) }
+    /// Tells one place more.
+    pub(crate) fn add_shift(&mut self, shift: Shift) -> Result<(), NoMemory>
+        ensures added { OnOk result (self.new ≡ with_shift self.old shift) }
         ensures unchanged { OnErr result (self.new ≡ self.old) }
     {
-        self.risen.push(id)?;
+        self.shifts.push(shift)?;
         Ok(())
     }
 
@@ -99,7 +122,7 @@ impl Search {
         ensures some { IfSome result (λ taken. Takes self.old self.new taken) }
         ensures none { IfNone result
             ((each : Waiting) → Contains self.old.waiting each → ⊥) }
-        ensures risen { self.new.risen ≡ self.old.risen }
+        ensures shifts { self.new.shifts ≡ self.old.shifts }
     {
         if let Some(next) = self.stack.pop() {
             return Some(next);

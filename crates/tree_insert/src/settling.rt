@@ -1,15 +1,15 @@
 //! Taking the tries that wait until none is left.
 
-ghost use Rattle.std.specs.Prelude.{◌≡◌, ◌≢◌, ℕ, ◌+◌, ◌^◌, ◌<◌, ◌≤◌, [], ◌∷◌, length, All, AllPairs, OnOk, Some};
+ghost use Rattle.std.specs.Prelude.{◌≡◌, ℕ, ◌+◌, ◌^◌, ◌<◌, ◌≤◌, [], ◌∷◌, length, All, OnOk, Some};
 ghost use Rattle.dfa_table.specs.DfaValue.{step_of};
 ghost use Rattle.edge_store.specs.Edges.{outs_of, value_of};
 ghost use Rattle.delta_tree.specs.Nodes.{TreeValue};
-ghost use Rattle.delta_tree.specs.Changes.{ChangesAtMost, Raises};
+ghost use Rattle.delta_tree.specs.Changes.{AreShifts, shift_ids};
 ghost use Rattle.tree_insert.specs.Trees.{CountsOuts, IsRisen};
 ghost use Rattle.tree_insert.specs.Waiting.{Gains, target_of};
-ghost use Rattle.tree_insert.specs.UnderWay.{AreOpen, AreServed, IsCounted, IsOpen, IsServedFrom, IsUnderWay, Leaves, Rises};
+ghost use Rattle.tree_insert.specs.UnderWay.{AreFirm, AreOpen, AreServed, IsCounted, IsOpen, IsServedFrom, IsUnderWay, Leaves, Rises};
 
-use crate::offers::{is_below, offer_out};
+use crate::offers::offer_out;
 use crate::search::Search;
 use crate::waiting::{Rise, Waiting};
 use delta_tree::Tree;
@@ -62,27 +62,26 @@ fn follow<L: Ledger>(
         IsUnderWay (value_of store.now) (step_of dfa.now) first tree.old →
         IsUnderWay (value_of store.now) (step_of dfa.now) first tree.new }
     ensures counted { (first : TreeValue) (start : ℕ) → Rises first tree.old →
-        IsCounted store.now first tree.old search.old.risen search.old.level start steps.old →
-        IsCounted store.now first tree.new search.new.risen search.new.level start steps.new }
-    ensures others { OnOk result ((first : TreeValue) →
-        ChangesAtMost first tree.old search.old.risen →
-        ChangesAtMost first tree.new search.new.risen) }
+        IsCounted store.now first tree.old (shift_ids search.old.shifts) search.old.level start
+        steps.old →
+        IsCounted store.now first tree.new (shift_ids search.new.shifts) search.new.level start
+        steps.new }
+    ensures shifts { OnOk result ((first : TreeValue) →
+        AreFirm tree.old search.old.level (shift_ids search.old.shifts) →
+        AreShifts first tree.old search.old.shifts → AreShifts first tree.new search.new.shifts) }
     ensures waiting { AreOpen (value_of store.now) dfa.now tree.old search.old.waiting →
         AreOpen (value_of store.now) dfa.now tree.new search.new.waiting }
     ensures served { OnOk result (
         AreServed (value_of store.now) (step_of dfa.now) tree.old (taken ∷ search.old.waiting) →
         AreServed (value_of store.now) (step_of dfa.now) tree.new search.new.waiting) }
 {
-    let before = tree.value_of(taken.edge.to, taken.state);
-    if !is_below(before, taken.value) {
+    let Some(shift) = tree.raise(taken.step(), taken.value)? else {
         return Ok(());
-    }
-    let id = taken.target();
-    tree.put(taken.step(), taken.value)?;
-    search.add_risen(id)?;
+    };
+    search.add_shift(shift)?;
     let rise = Rise {
-        id,
-        before,
+        id: shift.id,
+        before: shift.before,
         value: taken.value,
     };
     offer_outs(search, tree, store, dfa, rise, steps)
@@ -101,13 +100,12 @@ pub(crate) fn settle<L: Ledger>(
     requires puts { tree.old.puts < 2 ^ 126 }
     requires tree { IsUnderWay (value_of store.now) (step_of dfa.now) tree.old tree.old }
     requires open { AreOpen (value_of store.now) dfa.now tree.old search.old.waiting }
-    requires begins { search.old.risen ≡ [] }
+    requires begins { search.old.shifts ≡ [] }
     ensures tree { IsUnderWay (value_of store.now) (step_of dfa.now) tree.old tree.new }
     ensures puts { tree.new.puts < tree.old.puts + 2 ^ 64 }
     ensures counted { CountsOuts store.now tree.old tree.new steps.old steps.new }
-    ensures risen { All (IsRisen tree.old tree.new) search.new.risen }
-    ensures once { AllPairs ◌≢◌ search.new.risen }
-    ensures others { OnOk result (ChangesAtMost tree.old tree.new search.new.risen) }
+    ensures risen { All (IsRisen tree.old tree.new) (shift_ids search.new.shifts) }
+    ensures shifts { OnOk result (AreShifts tree.old tree.new search.new.shifts) }
     ensures served { OnOk result (
         AreServed (value_of store.now) (step_of dfa.now) tree.old search.old.waiting →
         AreServed (value_of store.now) (step_of dfa.now) tree.new []) }

@@ -1,7 +1,7 @@
 //! Tries that wait.
 
 ghost use Rattle.std.specs.Prelude.{◌≡◌};
-ghost use Rattle.tree_insert.specs.Waiting.{target_of, try_of};
+ghost use Rattle.tree_insert.specs.Waiting.{try_of};
 
 use delta_tree::{NodeId, Try};
 use edge_store::EdgeId;
@@ -18,16 +18,6 @@ pub(crate) struct Waiting {
 }
 
 impl Waiting {
-    /// The place that it would raise.
-    pub(crate) fn target(self) -> NodeId
-        ensures { result ≡ target_of self }
-    {
-        NodeId {
-            vertex: self.edge.to,
-            state: self.state,
-        }
-    }
-
     /// The step that it takes.
     pub(crate) fn step(self) -> Try
         ensures { result ≡ try_of self }

@@ -1,4 +1,4 @@
-use Rattle.std.proofs.Common.{◌≡◌, None, cond, Contains, sym, ap, ◌∙◌, subst, refl, ◌≤◌}
+use Rattle.std.proofs.Common.{◌≡◌, None, cond, Contains, sym, ap, ◌∙◌, subst, refl, ◌≤◌, arith}
 use Rattle.std.specs.BinaryHeap.{heap_items}
 use Rattle.delta_tree.specs.declared.node.NodeId.{NodeId}
 use Rattle.delta_tree.specs.Nodes.{node_in, same_node}
@@ -11,38 +11,40 @@ use Rattle.delta_tree.proofs.nodes.drop_or_note.Goals as goal
 
 pub returns-in-Some-clause-pending : goal.returns-in-Some-clause-pending
 returns-in-Some-clause-pending c =
-    pending_later c.args.now c.in-Some.value (heap_items c.args.dues.now)
-    (heap_items c.note.new.dues) c.args.id c.if-value-now.true c.note.ensures.noted
+    pending_later c.args.now c.in-Some.spot.value (heap_items c.args.dues.now)
+    (heap_items c.note.new.dues) c.args.id c.if-spot-now.true c.note.ensures.noted
 
 pub returns-in-Some-clause-kept : goal.returns-in-Some-clause-kept
 returns-in-Some-clause-kept c =
     keeps_dues (heap_items c.args.dues.now) (heap_items c.note.new.dues)
-    (due c.args.id c.in-Some.value) c.note.ensures.noted
+    (due c.args.id c.in-Some.spot.value) c.note.ensures.noted
 
 pub returns-in-Some-clause-noted : goal.returns-in-Some-clause-noted
 returns-in-Some-clause-noted c node is =
     subst (λ value. Contains (heap_items c.note.new.dues) (due c.args.id value))
-    (sym (value_is (node_in c.args.nodes.now c.args.id) node c.in-Some.value is
-    (sym c.value_in.ensures ∙ c.in-Some.is)))
+    (sym (value_is (node_in c.args.nodes.now c.args.id) node c.in-Some.spot.value is
+    (sym c.in-Some.ensures.value)))
     (adds_due (heap_items c.args.dues.now) (heap_items c.note.new.dues)
-    (due c.args.id c.in-Some.value) c.note.ensures.noted)
+    (due c.args.id c.in-Some.spot.value) c.note.ensures.noted)
 
 -- the node that was taken out is at most the clock
 gone : (c : goal.After-give_back) → living c.args.now
     (node_in c.args.nodes.now c.args.id) ≡ None
 gone c =
-    let (node, is) = value_has_node (node_in c.args.nodes.now c.args.id) c.in-Some.value
-    (sym c.value_in.ensures ∙ c.in-Some.is) in
+    let (node, is) = value_has_node (node_in c.args.nodes.now c.args.id) c.in-Some.spot.value
+    (sym c.in-Some.ensures.value) in
     living_gone c.args.now (node_in c.args.nodes.now c.args.id) node is
     (subst (λ value. value ≤ c.args.now)
-    (sym (value_is (node_in c.args.nodes.now c.args.id) node c.in-Some.value is
-    (sym c.value_in.ensures ∙ c.in-Some.is)))
-    c.if-value-now.false)
+    (sym (value_is (node_in c.args.nodes.now c.args.id) node c.in-Some.spot.value is
+    (sym c.in-Some.ensures.value)))
+    c.if-spot-now.false)
 
 -- what is left of the nodes
-left : (c : goal.After-give_back) (each : NodeId) → node_in c.remove.new.self each
+left : (c : goal.After-give_back) (each : NodeId) → node_in c.remove_at.new.self each
     ≡ cond (same_node c.args.id each) None (node_in c.args.nodes.now each)
-left c each = c.remove.ensures.gone each
+left c each =
+    let (node, stands, found, is) = c.in-Some.ensures.spot in
+    c.remove_at.ensures c.args.id node stands each
 
 pub returns-in-Some-2-clause-nodes : goal.returns-in-Some-2-clause-nodes
 returns-in-Some-2-clause-nodes c each =
@@ -55,3 +57,23 @@ returns-in-Some-2-clause-noted c node is =
     (sym (left c c.args.id
     ∙ changed_there (node_in c.args.nodes.now c.args.id) c.args.id c.args.id None refl)
     ∙ is))
+
+-- ---- what is told
+
+pub returns-in-Some-clause-dropped : goal.returns-in-Some-clause-dropped
+returns-in-Some-clause-dropped c (node, is, reached) = omega (
+  arith,
+  value_is (node_in c.args.nodes.now c.args.id) node c.in-Some.spot.value is
+      (sym c.in-Some.ensures.value),
+  reached,
+  c.if-spot-now.true,
+)
+
+pub returns-in-Some-2-clause-dropped : goal.returns-in-Some-2-clause-dropped
+returns-in-Some-2-clause-dropped c =
+    let (node, stands, found, is) = c.in-Some.ensures.spot in
+    (node, found, is, c.if-spot-now.false)
+
+pub returns-in-None-clause-dropped : goal.returns-in-None-clause-dropped
+returns-in-None-clause-dropped c (node, is, reached) =
+    none_or_some node (sym c.in-None.ensures.spot ∙ is)

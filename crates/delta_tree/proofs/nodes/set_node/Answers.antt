@@ -1,26 +1,50 @@
-use Rattle.std.proofs.Common.{sym, ◌∙◌, subst, ◌∷◌}
+use Rattle.std.proofs.Common.{◌≡◌, None, subst, ◌∷◌}
 use Rattle.std.specs.BinaryHeap.{heap_items}
 use Rattle.std.specs.List.Sorted.{IsPermutation}
+use Rattle.std.specs.Option.{MatchOption}
+use Rattle.std.proofs.lemmas.Option.{slice_get_within}
 use Rattle.delta_tree.specs.Nodes.{node_in}
-use Rattle.delta_tree.specs.Dues.{due, IsNoted}
-use Rattle.delta_tree.proofs.Ids.{some_is_found}
+use Rattle.delta_tree.specs.Dues.{due}
+use Rattle.delta_tree.specs.Spots.{IsSpot}
 use Rattle.delta_tree.proofs.Queue.{noted_new, noted_raised}
 use Rattle.delta_tree.proofs.nodes.set_node.Goals as goal
 
-pub returns-then-not-had-clause-noted : goal.returns-then-not-had-clause-noted
-returns-then-not-had-clause-noted c =
-    noted_new c.args.nodes.now c.put.new.self (heap_items c.args.dues.now)
+-- ---- a node that is raised
+
+pub set_at-requires : goal.set_at-requires
+set_at-requires c =
+    let (old, stands, found, is) = subst (λ spot. MatchOption spot
+    (node_in c.args.nodes.now c.args.id ≡ None) (IsSpot c.args.nodes.now c.args.id))
+    c.in-Some.is c.requires.spot in
+    slice_get_within c.args.nodes.now c.in-Some.spot.place (c.args.id, old) stands
+
+pub returns-in-Some-clause-nodes : goal.returns-in-Some-clause-nodes
+returns-in-Some-clause-nodes c each =
+    let (old, stands, found, is) = subst (λ spot. MatchOption spot
+    (node_in c.args.nodes.now c.args.id ≡ None) (IsSpot c.args.nodes.now c.args.id))
+    c.in-Some.is c.requires.spot in
+    c.set_at.ensures c.args.id old stands each
+
+pub returns-in-Some-clause-noted : goal.returns-in-Some-clause-noted
+returns-in-Some-clause-noted c =
+    let (old, stands, found, is) = subst (λ spot. MatchOption spot
+    (node_in c.args.nodes.now c.args.id ≡ None) (IsSpot c.args.nodes.now c.args.id))
+    c.in-Some.is c.requires.spot in
+    noted_raised c.args.nodes.now c.set_at.new.self (heap_items c.args.dues.now)
+    c.args.id c.args.node old c.requires.noted (c.set_at.ensures c.args.id old stands) found
+    (c.requires.raises old found)
+
+-- ---- a new node
+
+pub push-requires : goal.push-requires
+push-requires c =
+    subst (λ spot. MatchOption spot (node_in c.args.nodes.now c.args.id ≡ None)
+    (IsSpot c.args.nodes.now c.args.id)) c.in-None.is c.requires.spot
+
+pub returns-in_ok-push-in-None-clause-noted : goal.returns-in_ok-push-in-None-clause-noted
+returns-in_ok-push-in-None-clause-noted c =
+    noted_new c.args.nodes.now c.push.new.self (heap_items c.args.dues.now)
     (heap_items c.note.new.dues) c.args.id c.args.node
-    c.requires.noted c.in_ok-had.ensures.put
+    c.requires.noted c.in_ok-push-in-None.ensures.put
     (subst (λ dues. IsPermutation (due c.args.id c.args.node.value ∷ dues)
     (heap_items c.note.new.dues)) c.reserve.ensures.items c.note.ensures.noted)
-
-pub returns-else-not-had-clause-noted : goal.returns-else-not-had-clause-noted
-returns-else-not-had-clause-noted c =
-    let (old, stood) = some_is_found (node_in c.args.nodes.now c.args.id)
-    (sym c.in_ok-had.ensures.had ∙ c.if-not-had.false) in
-    subst (IsNoted c.put.new.self) (sym c.reserve.ensures.items)
-    (noted_raised c.args.nodes.now c.put.new.self (heap_items c.args.dues.now)
-    c.args.id c.args.node old
-    c.requires.noted c.in_ok-had.ensures.put stood
-    (c.requires.raises old stood))

@@ -1,24 +1,26 @@
 use Rattle.std.proofs.Common.{◌≤◌, ◌+◌, List, sym, subst}
 use Rattle.edge_store.specs.Edges.{value_of}
 use Rattle.dfa_table.specs.DfaValue.{step_of}
-use Rattle.delta_tree.specs.declared.node.NodeId.{NodeId}
 use Rattle.delta_tree.specs.declared.node.Try.{Try}
+use Rattle.delta_tree.specs.declared.node.Shift.{Shift}
+use Rattle.delta_tree.specs.Changes.{AreBelow, AreShifts, shift_ids}
 use Rattle.tree_insert.specs.Trees.{HasBest}
 use Rattle.tree_delete.specs.Entries.{HasEntries, count_ins}
 use Rattle.tree_delete.proofs.CutTrees.{cut_ways, cut_best, cut_changes, cut_keeps, cut_counts}
+use Rattle.tree_delete.proofs.Told.{ids_told, told_shifts}
 use Rattle.tree_delete.proofs.calls.tree_remove_with.Goals as goal
 
 pub returns-in_err-tries-clause-paths : goal.returns-in_err-tries-clause-paths
 returns-in_err-tries-clause-paths g c =
     cut_ways c.requires.before.0 (value_of c.args.store.now) c.args.edge c.requires.before.2
     (step_of c.args.dfa.now) c.args.tree.now c.cut.new.tree
-    c.root.ensures.tree c.requires.before.1 c.in_ok-cut.ensures.cut c.cut.ensures.beside
+    c.root.ensures.tree c.requires.before.1 c.in_ok-shifts.ensures.cut c.cut.ensures.beside
 
 pub relax-requires-clause-paths : goal.relax-requires-clause-paths
 relax-requires-clause-paths g c =
     cut_ways c.requires.before.0 (value_of c.args.store.now) c.args.edge c.requires.before.2
     (step_of c.args.dfa.now) c.args.tree.now c.cut.new.tree
-    c.root.ensures.tree c.requires.before.1 c.in_ok-cut.ensures.cut c.cut.ensures.beside
+    c.root.ensures.tree c.requires.before.1 c.in_ok-shifts.ensures.cut c.cut.ensures.beside
 
 pub relax-requires-clause-best : goal.relax-requires-clause-best
 relax-requires-clause-best g c =
@@ -28,9 +30,10 @@ relax-requires-clause-best g c =
     (sym c.deref-2.ensures.value)
     (cut_best c.requires.before.0 values c.args.edge c.requires.before.2 step c.args.tree.now
     c.cut.new.tree c.root.ensures.tree c.requires.before.1
-    c.in_ok-cut.ensures.cut c.cut.ensures.beside c.in_ok-cut.cut.items c.in_ok-cut.ensures.below
+    c.in_ok-shifts.ensures.cut c.cut.ensures.beside (shift_ids c.in_ok-shifts.shifts.items)
+    c.in_ok-shifts.ensures.below
     c.in_ok-tries.tries.items
-    (subst (λ (ids : List NodeId). HasEntries values step c.cut.new.tree ids
+    (subst (λ (cut : List Shift). HasEntries values step c.cut.new.tree (shift_ids cut)
     c.in_ok-tries.tries.items) c.deref.ensures.value c.in_ok-tries.ensures.best))
 
 pub returns-clause-keeps : goal.returns-clause-keeps
@@ -38,7 +41,8 @@ returns-clause-keeps g c =
     cut_keeps c.requires.before.0 (value_of c.args.store.now) c.args.edge c.requires.before.2
     (step_of c.args.dfa.now) c.args.tree.now
     c.cut.new.tree c.root.ensures.tree c.requires.before.1
-    c.in_ok-cut.ensures.cut c.cut.ensures.beside c.in_ok-cut.cut.items c.in_ok-cut.ensures.below
+    c.in_ok-shifts.ensures.cut c.cut.ensures.beside (shift_ids c.in_ok-shifts.shifts.items)
+    c.in_ok-shifts.ensures.below
     c.relax.new.tree c.relax.ensures.later c.relax.ensures.keeps c.in_ok-relax.ensures.optimal
 
 pub returns-clause-steps : goal.returns-clause-steps
@@ -46,17 +50,30 @@ returns-clause-steps g c =
     cut_counts c.requires.before.0 (value_of c.args.store.now) c.args.edge c.requires.before.2
     (step_of c.args.dfa.now) c.args.tree.now
     c.cut.new.tree c.root.ensures.tree c.requires.before.1
-    c.in_ok-cut.ensures.cut c.cut.ensures.beside c.in_ok-cut.cut.items c.in_ok-cut.ensures.below
+    c.in_ok-shifts.ensures.cut c.cut.ensures.beside (shift_ids c.in_ok-shifts.shifts.items)
+    c.in_ok-shifts.ensures.below
     c.relax.new.tree c.relax.ensures.later c.relax.ensures.keeps c.in_ok-relax.ensures.optimal
     c.args.store.now c.args.steps.now c.best_entries.new.steps c.relax.new.steps
-    (subst (λ (ids : List NodeId). c.best_entries.new.steps ≤ c.args.steps.now + count_ins
-    c.args.store.now ids) c.deref.ensures.value c.best_entries.ensures.counted)
+    (subst (λ (cut : List Shift). c.best_entries.new.steps ≤ c.args.steps.now + count_ins
+    c.args.store.now (shift_ids cut)) c.deref.ensures.value c.best_entries.ensures.counted)
     c.relax.ensures.steps
 
-pub returns-clause-others : goal.returns-clause-others
-returns-clause-others g c =
-    cut_changes c.requires.before.0 (value_of c.args.store.now) c.args.edge c.requires.before.2
+pub returns-clause-cut : goal.returns-clause-cut
+returns-clause-cut g c =
+    let old = c.in_ok-shifts.shifts.items in
+    subst (λ (shifts : List Shift). AreBelow c.args.tree.now c.args.edge (shift_ids shifts))
+    (sym c.tell_values.ensures)
+    (subst (AreBelow c.args.tree.now c.args.edge) (sym (ids_told c.relax.new.tree old))
+    c.in_ok-shifts.ensures.below)
+
+pub returns-clause-shifts : goal.returns-clause-shifts
+returns-clause-shifts g c =
+    subst (AreShifts c.args.tree.now c.relax.new.tree) (sym c.tell_values.ensures)
+    (told_shifts c.args.tree.now c.cut.new.tree c.relax.new.tree c.in_ok-shifts.shifts.items
+    c.in_ok-shifts.ensures.shifts
+    (cut_changes c.requires.before.0 (value_of c.args.store.now) c.args.edge c.requires.before.2
     (step_of c.args.dfa.now) c.args.tree.now
     c.cut.new.tree c.root.ensures.tree c.requires.before.1
-    c.in_ok-cut.ensures.cut c.cut.ensures.beside c.in_ok-cut.cut.items c.in_ok-cut.ensures.below
-    c.relax.new.tree c.relax.ensures.later c.relax.ensures.keeps c.in_ok-relax.ensures.optimal
+    c.in_ok-shifts.ensures.cut c.cut.ensures.beside (shift_ids c.in_ok-shifts.shifts.items)
+    c.in_ok-shifts.ensures.below
+    c.relax.new.tree c.relax.ensures.later c.relax.ensures.keeps c.in_ok-relax.ensures.optimal))

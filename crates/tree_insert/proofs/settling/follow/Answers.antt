@@ -1,179 +1,208 @@
-use Rattle.std.proofs.Common.{ℕ, List, [], ◌∷◌, ◌++◌, Option, ◌≤◌, ◌+◌, length, refl, sym, subst, ◌∙◌, arith}
+use Rattle.std.proofs.Common.{◌≡◌, List, [], ◌∷◌, ◌++◌, Option, Ok, Some, ◌≤◌, ◌+◌, length, refl, sym, ap, subst, ◌∙◌, arith}
 use Rattle.std.proofs.lemmas.Result.{on_ok_weaker}
 use Rattle.edge_store.specs.Edges.{value_of, outs_of}
 use Rattle.dfa_table.specs.DfaValue.{step_of}
 use Rattle.delta_tree.specs.declared.node.NodeId.{NodeId}
+use Rattle.delta_tree.specs.declared.node.Shift.{Shift}
 use Rattle.delta_tree.specs.declared.node.Try.{Try}
 use Rattle.delta_tree.specs.declared.node.Node.{Node}
 use Rattle.delta_tree.specs.Nodes.{TreeValue}
-use Rattle.tree_insert.specs.Best.{IsAtLeast}
-use Rattle.delta_tree.specs.Changes.{ChangesAtMost, Puts, Raises, put_node}
-use Rattle.tree_insert.specs.Waiting.{Gains, SearchValue, target_of, try_of, with_risen}
-use Rattle.tree_insert.specs.UnderWay.{AreOpen, IsCounted, IsOpen, IsServedFrom, IsUnderWay, Leaves}
-use Rattle.tree_insert.proofs.Nodes.{put_here, raises_unless_reached}
+use Rattle.delta_tree.specs.Nodes as nodes
+use Rattle.delta_tree.specs.Changes.{AreShifts, HasAsMuch, Lifts, put_node, shift_ids}
+use Rattle.tree_insert.specs.Waiting.{Gains, SearchValue, target_of, try_of, with_shift}
+use Rattle.tree_insert.specs.UnderWay.{AreFirm, AreOpen, AreServed, IsCounted, IsOpen, IsServedFrom, IsUnderWay, Leaves}
+use Rattle.tree_insert.proofs.Nodes.{put_here, value_reached}
+use Rattle.tree_insert.proofs.Shifts.{ids_push, shifts_more}
 use Rattle.delta_tree.proofs.Trees.{put_keeps}
-use Rattle.tree_insert.proofs.UnderWay.{gains_kind, rises_more, supported_more, open_more, open_gained, leaves_open, changes_more, counted_more, counted_put, served_put, served_without}
+use Rattle.tree_insert.proofs.UnderWay.{gains_kind, rises_more, supported_more, open_more, open_gained, leaves_open, counted_more, counted_put, served_put, served_without}
 use Rattle.tree_insert.proofs.settling.follow.Given.{Over}
 use Rattle.tree_insert.proofs.settling.follow.Goals as goal
-use Rattle.tree_insert.proofs.settling.follow.Goals.{After-offer_outs, In_ok-put}
+use Rattle.tree_insert.proofs.settling.follow.Goals.{After-offer_outs, In-Some, In_default}
 
--- ---- the put
+-- ---- the raise
+
+lifted : (g : Over) (c : In-Some g) → Lifts c.args.tree.now c.raise.new.self (try_of c.args.taken)
+    c.args.taken.value c.in-Some.shift
+lifted g c =
+    subst (λ (step : Try). Lifts c.args.tree.now c.raise.new.self step c.args.taken.value
+    c.in-Some.shift) c.step.ensures
+    (c.raise.ensures.lifts c.in-Some.shift
+    (c.in_ok-shift.was ∙ ap (λ (told : Option Shift). Ok told) c.in-Some.is))
 
 -- the node that the try makes
-abbrev new_node : (g : Over) (c : In_ok-put g) → Node
+abbrev new_node : (g : Over) (c : In-Some g) → Node
 new_node g c = put_node c.args.tree.now (try_of c.args.taken) c.args.taken.value
 
-placed : (g : Over) (c : In_ok-put g) → Puts c.args.tree.now c.put.new.self (target_of c.args.taken)
-    (new_node g c)
-placed g c =
-    subst (λ (step : Try). Puts c.args.tree.now c.put.new.self step.to
-    (put_node c.args.tree.now step c.args.taken.value)) c.step.ensures
-    c.in_ok-put.ensures.node
-
-raised : (g : Over) (c : In_ok-put g) →
-    Raises c.args.tree.now (target_of c.args.taken) c.args.taken.value
-raised g c = raises_unless_reached c.args.tree.now (target_of c.args.taken) c.args.taken.value
-    (subst (λ (kept : Option ℕ). IsAtLeast c.args.taken.value kept → ⊥) c.value_of-before.ensures
-    c.if-not-is_below.ensures.yes)
+-- its place, with the value before
+abbrev told : (g : Over) (c : In-Some g) → Shift
+told g c = record {
+  id = target_of c.args.taken;
+  before = nodes.value_of c.args.tree.now (target_of c.args.taken);
+  after = Some c.args.taken.value;
+}
 
 -- the tree goes on to be one that comes by raises
-under_more : (g : Over) (c : In_ok-put g) (first : TreeValue) →
+under_more : (g : Over) (c : In-Some g) (first : TreeValue) →
     IsUnderWay (value_of c.args.store.now) (step_of c.args.dfa.now) first c.args.tree.now →
-    IsUnderWay (value_of c.args.store.now) (step_of c.args.dfa.now) first c.put.new.self
+    IsUnderWay (value_of c.args.store.now) (step_of c.args.dfa.now) first c.raise.new.self
 under_more g c first under =
     let old = c.args.tree.now in
-    let new = c.put.new.self in
+    let new = c.raise.new.self in
     let to = target_of c.args.taken in
-    let raises = raised g c in
+    let lifts = lifted g c in
     record {
-      tree_is = put_keeps old new (try_of c.args.taken) c.args.taken.value under.tree_is raises
-          (placed g c) c.in_ok-put.ensures.root c.in_ok-put.ensures.counted
+      tree_is = put_keeps old new (try_of c.args.taken) c.args.taken.value under.tree_is
+          lifts.raises lifts.node c.raise.ensures.root lifts.counted
           c.requires.open.source c.requires.open.some (record { leaves = refl; ends = refl })
           (omega arith);
       supported = supported_more (value_of c.args.store.now) (step_of c.args.dfa.now) old new to
-          (new_node g c) under.supported (placed g c)
+          (new_node g c) under.supported lifts.node
           (record { edge = c.requires.open.edge; leads = c.requires.open.leads });
-      rises = rises_more first old new to (new_node g c) under.rises (placed g c) raises refl
-          c.in_ok-put.ensures.root c.in_ok-put.ensures.counted;
+      rises = rises_more first old new to (new_node g c) under.rises lifts.node lifts.raises refl
+          c.raise.ensures.root lifts.counted;
     }
 
 -- and what could be taken still can be
-opens_more : (g : Over) (c : In_ok-put g) →
+opens_more : (g : Over) (c : In-Some g) →
     AreOpen (value_of c.args.store.now) c.args.dfa.now c.args.tree.now c.args.search.now.waiting →
-    AreOpen (value_of c.args.store.now) c.args.dfa.now c.put.new.self c.args.search.now.waiting
+    AreOpen (value_of c.args.store.now) c.args.dfa.now c.raise.new.self c.args.search.now.waiting
 opens_more g c opens = open_more (value_of c.args.store.now) c.args.dfa.now c.args.tree.now
-    c.put.new.self (target_of c.args.taken) (new_node g c) c.args.search.now.waiting opens
-    (placed g c) (raised g c) c.in_ok-put.ensures.root
+    c.raise.new.self (target_of c.args.taken) (new_node g c) c.args.search.now.waiting opens
+    (lifted g c).node (lifted g c).raises c.raise.ensures.root
 
 -- ---- the tries by the edges that leave its place
 
-gained : (g : Over) (c : After-offer_outs g) →
-    Gains (with_risen c.args.search.now (target_of c.args.taken)) c.offer_outs.new.search
-    (Leaves (value_of c.args.store.now) c.args.dfa.now (target_of c.args.taken) c.args.taken.value)
-gained g c =
-    subst (λ (id : NodeId). Gains (with_risen c.args.search.now id) c.offer_outs.new.search
-    (Leaves (value_of c.args.store.now) c.args.dfa.now id c.args.taken.value)) c.target-id.ensures
+gained : (g : Over) (c : After-offer_outs g) (at : In-Some g) →
+    c.in-Some.shift ≡ told g at →
+    Gains (with_shift c.args.search.now (told g at)) c.offer_outs.new.search
+    (Leaves (value_of c.args.store.now) c.args.dfa.now (told g at).id c.args.taken.value)
+gained g c at is =
+    subst (λ (shift : Shift). Gains (with_shift c.args.search.now shift) c.offer_outs.new.search
+    (Leaves (value_of c.args.store.now) c.args.dfa.now shift.id c.args.taken.value)) is
     (subst (λ (old : SearchValue). Gains old c.offer_outs.new.search
-    (Leaves (value_of c.args.store.now) c.args.dfa.now c.target-id.result c.args.taken.value))
-    c.in_ok-add_risen.ensures.added c.offer_outs.ensures.gains)
+    (Leaves (value_of c.args.store.now) c.args.dfa.now c.in-Some.shift.id c.args.taken.value))
+    c.in_ok-add_shift.ensures.added c.offer_outs.ensures.gains)
 
 -- ---- where nothing is raised
 
-pub returns-then-not-is_below-clause-served : goal.returns-then-not-is_below-clause-served
-returns-then-not-is_below-clause-served g c served =
-    served_without (value_of c.args.store.now) (step_of c.args.dfa.now) c.args.tree.now c.args.taken
-    c.args.search.now.waiting served
-    (subst (IsAtLeast c.args.taken.value) c.value_of-before.ensures c.if-not-is_below.ensures.no)
+same : (g : Over) (c : In_default g) →
+    HasAsMuch c.args.tree.now c.raise.new.self (target_of c.args.taken) c.args.taken.value
+same g c =
+    subst (λ (step : Try). HasAsMuch c.args.tree.now c.raise.new.self step.to c.args.taken.value)
+    c.step.ensures
+    (c.raise.ensures.stays (c.in_ok-shift.was ∙ ap (λ (told : Option Shift). Ok told)
+    c.in_default.is))
 
-pub returns-in_err-put-clause-waiting : goal.returns-in_err-put-clause-waiting
-returns-in_err-put-clause-waiting g c opens =
+pub returns-in_default-clause-waiting : goal.returns-in_default-clause-waiting
+returns-in_default-clause-waiting g c opens =
     subst (λ tree. AreOpen (value_of c.args.store.now) c.args.dfa.now tree
-    c.args.search.now.waiting) (sym c.in_err-put.ensures.unchanged) opens
+    c.args.search.now.waiting) (sym (same g c).same) opens
 
--- ---- where the node isn't noted
+pub returns-in_default-clause-served : goal.returns-in_default-clause-served
+returns-in_default-clause-served g c served =
+    let has = (same g c).enough in
+    subst (λ tree. AreServed (value_of c.args.store.now) (step_of c.args.dfa.now) tree
+    c.args.search.now.waiting) (sym (same g c).same)
+    (served_without (value_of c.args.store.now) (step_of c.args.dfa.now) c.args.tree.now
+    c.args.taken c.args.search.now.waiting served
+    (value_reached c.args.tree.now (target_of c.args.taken) has.0 c.args.taken.value has.1 has.2))
 
-pub returns-in_err-add_risen-clause-tree : goal.returns-in_err-add_risen-clause-tree
-returns-in_err-add_risen-clause-tree g c =
-    under_more g (goal.at.returns-in_err-add_risen-clause-tree g c).In_ok-put
+pub returns-in_err-shift-clause-waiting : goal.returns-in_err-shift-clause-waiting
+returns-in_err-shift-clause-waiting g c opens =
+    subst (λ tree. AreOpen (value_of c.args.store.now) c.args.dfa.now tree
+    c.args.search.now.waiting) (sym c.in_err-shift.ensures.unchanged) opens
 
-pub returns-in_err-add_risen-clause-counted : goal.returns-in_err-add_risen-clause-counted
-returns-in_err-add_risen-clause-counted g c first start rises counted =
-    let at = (goal.at.returns-in_err-add_risen-clause-counted g c).In_ok-put in
-    subst (λ (search : SearchValue). IsCounted c.args.store.now first c.put.new.self search.risen
-    search.level start c.args.steps.now) (sym c.in_err-add_risen.ensures.unchanged)
-    (counted_put c.args.store.now first c.args.tree.now c.put.new.self c.args.search.now.risen
-    (target_of c.args.taken) (new_node g at) (placed g at) start (raised g at)
-    c.args.search.now.level c.args.steps.now counted)
+-- ---- where the place isn't told
 
-pub returns-in_err-add_risen-clause-waiting : goal.returns-in_err-add_risen-clause-waiting
-returns-in_err-add_risen-clause-waiting g c opens =
-    let at = (goal.at.returns-in_err-add_risen-clause-waiting g c).In_ok-put in
+pub returns-in_err-add_shift-clause-tree : goal.returns-in_err-add_shift-clause-tree
+returns-in_err-add_shift-clause-tree g c =
+    under_more g (goal.at.returns-in_err-add_shift-clause-tree g c).In-Some
+
+pub returns-in_err-add_shift-clause-counted : goal.returns-in_err-add_shift-clause-counted
+returns-in_err-add_shift-clause-counted g c first start rises counted =
+    let at = (goal.at.returns-in_err-add_shift-clause-counted g c).In-Some in
+    subst (λ (search : SearchValue). IsCounted c.args.store.now first c.raise.new.self
+    (shift_ids search.shifts) search.level start c.args.steps.now)
+    (sym c.in_err-add_shift.ensures.unchanged)
+    (counted_put c.args.store.now first c.args.tree.now c.raise.new.self
+    (shift_ids c.args.search.now.shifts) (target_of c.args.taken) (new_node g at)
+    (lifted g at).node start (lifted g at).raises c.args.search.now.level c.args.steps.now counted)
+
+pub returns-in_err-add_shift-clause-waiting : goal.returns-in_err-add_shift-clause-waiting
+returns-in_err-add_shift-clause-waiting g c opens =
+    let at = (goal.at.returns-in_err-add_shift-clause-waiting g c).In-Some in
     subst (λ (search : SearchValue). AreOpen (value_of c.args.store.now) c.args.dfa.now
-    c.put.new.self search.waiting) (sym c.in_err-add_risen.ensures.unchanged)
+    c.raise.new.self search.waiting) (sym c.in_err-add_shift.ensures.unchanged)
     (opens_more g at opens)
 
 -- ---- where the target is raised
 
 pub returns-clause-tree : goal.returns-clause-tree
-returns-clause-tree g c = under_more g (goal.at.returns-clause-tree g c).In_ok-put
+returns-clause-tree g c = under_more g (goal.at.returns-clause-tree g c).In-Some
 
 pub returns-clause-counted : goal.returns-clause-counted
 returns-clause-counted g c first start rises counted =
-    let at = (goal.at.returns-clause-counted g c).In_ok-put in
+    let at = (goal.at.returns-clause-counted g c).In-Some in
     let to = target_of c.args.taken in
-    let nodes : List NodeId = c.args.search.now.risen ++ to ∷ [] in
-    let gains = gained g c in
-    subst (λ (risen : List NodeId). IsCounted c.args.store.now first c.put.new.self risen
-    c.offer_outs.new.search.level start c.offer_outs.new.steps) (sym gains.risen)
-    (subst (λ level. IsCounted c.args.store.now first c.put.new.self nodes level start
-    c.offer_outs.new.steps) (c.requires.level ∙ sym gains.level)
-    (counted_more c.args.store.now first c.args.tree.now c.put.new.self c.args.search.now.risen to
-    (new_node g at) (placed g at) start (raised g at) c.args.steps.now c.offer_outs.new.steps
-    (subst (λ level. IsCounted c.args.store.now first c.args.tree.now c.args.search.now.risen level
-    start c.args.steps.now) (sym c.requires.level) counted)
+    let old = c.args.search.now.shifts in
+    let gains = gained g c at (lifted g at).shift in
+    let level = c.requires.level in
+    subst (λ (shifts : List Shift). IsCounted c.args.store.now first c.raise.new.self
+    (shift_ids shifts) c.offer_outs.new.search.level start c.offer_outs.new.steps)
+    (sym gains.shifts)
+    (subst (λ (ids : List NodeId). IsCounted c.args.store.now first c.raise.new.self ids
+    c.offer_outs.new.search.level start c.offer_outs.new.steps) (sym (ids_push old (told g at)))
+    (subst (λ level. IsCounted c.args.store.now first c.raise.new.self (shift_ids old ++ to ∷ [])
+    level start c.offer_outs.new.steps) (level ∙ sym gains.level)
+    (counted_more c.args.store.now first c.args.tree.now c.raise.new.self (shift_ids old) to
+    (new_node g at) (lifted g at).node start (lifted g at).raises c.args.steps.now
+    c.offer_outs.new.steps
+    (subst (λ level. IsCounted c.args.store.now first c.args.tree.now (shift_ids old) level
+    start c.args.steps.now) (sym level) counted)
     rises
-    (subst (λ (id : NodeId). c.offer_outs.new.steps ≤ c.args.steps.now + length
-    (outs_of c.args.store.now id.vertex)) c.target-id.ensures
-    c.offer_outs.ensures.counted)))
+    (subst (λ (shift : Shift). c.offer_outs.new.steps ≤ c.args.steps.now + length
+    (outs_of c.args.store.now shift.id.vertex)) (lifted g at).shift
+    c.offer_outs.ensures.counted))))
 
-pub returns-clause-others : goal.returns-clause-others
-returns-clause-others g c =
-    let at = (goal.at.returns-clause-others g c).In_ok-put in
+pub returns-clause-shifts : goal.returns-clause-shifts
+returns-clause-shifts g c =
+    let at = (goal.at.returns-clause-shifts g c).In-Some in
+    let old = c.args.search.now.shifts in
     on_ok_weaker c.offer_outs.result
-    (λ _. λ first changes.
-    subst (ChangesAtMost first c.put.new.self) (sym (gained g c).risen)
-    (changes_more c.args.store.now first c.args.tree.now c.put.new.self c.args.search.now.risen
-    (target_of c.args.taken) (new_node g at) (placed g at) changes))
+    (λ _. λ first firm shifts.
+    subst (AreShifts first c.raise.new.self) (sym (gained g c at (lifted g at).shift).shifts)
+    (shifts_more first c.args.tree.now c.raise.new.self old (target_of c.args.taken)
+    (new_node g at) (lifted g at).node (lifted g at).raises
+    (subst (λ level. AreFirm c.args.tree.now level (shift_ids old)) (sym c.requires.level) firm)
+    shifts))
     c.offer_outs.ensures.served
 
 pub returns-clause-waiting : goal.returns-clause-waiting
 returns-clause-waiting g c opens =
-    let at = (goal.at.returns-clause-waiting g c).In_ok-put in
+    let at = (goal.at.returns-clause-waiting g c).In-Some in
     let values = value_of c.args.store.now in
     let to = target_of c.args.taken in
-    let old = with_risen c.args.search.now to in
-    open_gained values c.args.dfa.now c.put.new.self old c.offer_outs.new.search
+    let old = with_shift c.args.search.now (told g at) in
+    open_gained values c.args.dfa.now c.raise.new.self old c.offer_outs.new.search
     (opens_more g at opens)
     (gains_kind old c.offer_outs.new.search (Leaves values c.args.dfa.now to c.args.taken.value)
-    (IsOpen values c.args.dfa.now c.put.new.self) (gained g c)
-    (λ each leaves. leaves_open values c.args.dfa.now c.put.new.self to (new_node g at) each
-    (put_here c.args.tree.now c.put.new.self to (new_node g at) (placed g at)) leaves))
+    (IsOpen values c.args.dfa.now c.raise.new.self) (gained g c at (lifted g at).shift)
+    (λ each leaves. leaves_open values c.args.dfa.now c.raise.new.self to (new_node g at) each
+    (put_here c.args.tree.now c.raise.new.self to (new_node g at) (lifted g at).node) leaves))
 
 pub returns-clause-served : goal.returns-clause-served
 returns-clause-served g c =
-    let at = (goal.at.returns-clause-served g c).In_ok-put in
+    let at = (goal.at.returns-clause-served g c).In-Some in
     let values = value_of c.args.store.now in
     let step = step_of c.args.dfa.now in
     on_ok_weaker c.offer_outs.result
-    (λ (outs : IsServedFrom values step c.put.new.self c.offer_outs.new.search.waiting
-    c.target-id.result c.args.taken.value c.value_of-before.result).
+    (λ (outs : IsServedFrom values step c.raise.new.self c.offer_outs.new.search.waiting
+    c.in-Some.shift.id c.args.taken.value c.in-Some.shift.before).
     λ served.
-    served_put values step c.args.tree.now c.put.new.self c.args.taken (new_node g at)
-    c.args.search.now.waiting c.offer_outs.new.search.waiting served (placed g at) refl
-    (raised g at)
-    c.in_ok-put.ensures.root (gained g c).kept
-    (subst (IsServedFrom values step c.put.new.self c.offer_outs.new.search.waiting
-    (target_of c.args.taken) c.args.taken.value) c.value_of-before.ensures
-    (subst (λ (id : NodeId). IsServedFrom values step c.put.new.self c.offer_outs.new.search.waiting
-    id c.args.taken.value c.value_of-before.result) c.target-id.ensures outs)))
+    served_put values step c.args.tree.now c.raise.new.self c.args.taken (new_node g at)
+    c.args.search.now.waiting c.offer_outs.new.search.waiting served (lifted g at).node refl
+    (lifted g at).raises c.raise.ensures.root (gained g c at (lifted g at).shift).kept
+    (subst (λ (shift : Shift). IsServedFrom values step c.raise.new.self
+    c.offer_outs.new.search.waiting shift.id c.args.taken.value shift.before)
+    (lifted g at).shift outs))
     c.offer_outs.ensures.served

@@ -1,13 +1,28 @@
-use Rattle.std.proofs.Common.{◌≢◌, All, AllPairs, sym, subst, arith}
+use Rattle.std.proofs.Common.{List, All, sym, subst, arith}
 use Rattle.edge_store.specs.Edges.{value_of}
 use Rattle.dfa_table.specs.DfaValue.{step_of}
-use Rattle.delta_tree.specs.Changes.{ChangesAtMost}
+use Rattle.delta_tree.specs.declared.node.Shift.{Shift}
+use Rattle.delta_tree.specs.Changes.{AreShifts, shift_ids}
 use Rattle.tree_insert.specs.Trees.{IsRisen}
 use Rattle.tree_insert.specs.UnderWay.{IsCounted}
-use Rattle.tree_insert.proofs.UnderWay.{changes_taken, counts_outs, counted_taken, open_taken, served_taken, served_none}
+use Rattle.tree_insert.proofs.UnderWay.{counted_none, counts_outs, counted_taken, open_taken, served_taken, served_none}
+use Rattle.tree_insert.proofs.Shifts.{shifts_none}
 use Rattle.tree_insert.proofs.settling.settle.Given.{Over}
 use Rattle.tree_insert.proofs.settling.settle.Goals as goal
 use Rattle.tree_insert.proofs.settling.settle.Goals.{After-follow}
+
+pub loop-turn-init : goal.loop-turn-init
+loop-turn-init g c = record {
+  under = c.requires.tree;
+  ready = c.requires.open;
+  puts = omega arith;
+  counted = subst (λ (shifts : List Shift). IsCounted c.args.store.now c.args.tree.now
+      c.args.tree.now (shift_ids shifts) c.args.search.now.level c.args.steps.now c.args.steps.now)
+      (sym c.requires.begins) (counted_none c.args.store.now c.args.tree.now
+      c.args.search.now.level c.args.steps.now);
+  shifts = shifts_none c.args.tree.now c.args.search.now.shifts c.requires.begins;
+  served = λ served. served;
+}
 
 pub returns-in_default-clause-served : goal.returns-in_default-clause-served
 returns-in_default-clause-served g c served =
@@ -17,17 +32,13 @@ returns-in_default-clause-served g c served =
 
 pub returns-in_default-clause-risen : goal.returns-in_default-clause-risen
 returns-in_default-clause-risen g c =
-    subst (All (IsRisen c.args.tree.now c.loop-turn.tree)) (sym c.in_default.ensures.risen)
-    c.loop-turn.invariant.counted.risen
+    subst (λ (shifts : List Shift). All (IsRisen c.args.tree.now c.loop-turn.tree)
+    (shift_ids shifts)) (sym c.in_default.ensures.shifts) c.loop-turn.invariant.counted.risen
 
-pub returns-in_default-clause-once : goal.returns-in_default-clause-once
-returns-in_default-clause-once g c =
-    subst (AllPairs ◌≢◌) (sym c.in_default.ensures.risen) c.loop-turn.invariant.counted.apart
-
-pub returns-in_default-clause-others : goal.returns-in_default-clause-others
-returns-in_default-clause-others g c =
-    subst (ChangesAtMost c.args.tree.now c.loop-turn.tree) (sym c.in_default.ensures.risen)
-    c.loop-turn.invariant.others
+pub returns-in_default-clause-shifts : goal.returns-in_default-clause-shifts
+returns-in_default-clause-shifts g c =
+    subst (AreShifts c.args.tree.now c.loop-turn.tree) (sym c.in_default.ensures.shifts)
+    c.loop-turn.invariant.shifts
 
 pub follow-requires-clause-open : goal.follow-requires-clause-open
 follow-requires-clause-open g c =
@@ -37,29 +48,34 @@ pub returns-in_err-follow-clause-tree : goal.returns-in_err-follow-clause-tree
 returns-in_err-follow-clause-tree g c =
     c.follow.ensures.tree c.args.tree.now c.loop-turn.invariant.under
 
+-- the steps before it
+counted_now : (g : Over) (c : After-follow g) →
+    IsCounted c.args.store.now c.args.tree.now c.loop-turn.tree (shift_ids c.take.new.self.shifts)
+    c.take.new.self.level c.args.steps.now c.loop-turn.steps
+counted_now g c =
+    counted_taken c.args.store.now c.args.tree.now c.loop-turn.tree c.loop-turn.search
+    c.take.new.self c.in-Some.taken c.args.steps.now c.loop-turn.steps
+    c.in-Some.ensures.some c.loop-turn.invariant.counted
+
 -- the steps after one try more
 counted_more : (g : Over) (c : After-follow g) →
-    IsCounted c.args.store.now c.args.tree.now c.follow.new.tree c.follow.new.search.risen
-    c.follow.new.search.level c.args.steps.now c.follow.new.steps
+    IsCounted c.args.store.now c.args.tree.now c.follow.new.tree
+    (shift_ids c.follow.new.search.shifts) c.follow.new.search.level c.args.steps.now
+    c.follow.new.steps
 counted_more g c =
     c.follow.ensures.counted c.args.tree.now c.args.steps.now c.loop-turn.invariant.under.rises
-    (counted_taken c.args.store.now c.args.tree.now c.loop-turn.tree c.loop-turn.search
-    c.take.new.self c.in-Some.taken c.args.steps.now c.loop-turn.steps
-    c.in-Some.ensures.some c.loop-turn.invariant.counted)
+    (counted_now g c)
 
 pub returns-in_err-follow-clause-counted : goal.returns-in_err-follow-clause-counted
 returns-in_err-follow-clause-counted g c =
-    counts_outs c.args.store.now c.args.tree.now c.follow.new.tree c.follow.new.search.risen
-    c.follow.new.search.level c.args.steps.now c.follow.new.steps
+    counts_outs c.args.store.now c.args.tree.now c.follow.new.tree
+    (shift_ids c.follow.new.search.shifts) c.follow.new.search.level c.args.steps.now
+    c.follow.new.steps
     (counted_more g (goal.at.returns-in_err-follow-clause-counted g c).After-follow)
 
 pub returns-in_err-follow-clause-risen : goal.returns-in_err-follow-clause-risen
 returns-in_err-follow-clause-risen g c =
     (counted_more g (goal.at.returns-in_err-follow-clause-risen g c).After-follow).risen
-
-pub returns-in_err-follow-clause-once : goal.returns-in_err-follow-clause-once
-returns-in_err-follow-clause-once g c =
-    (counted_more g (goal.at.returns-in_err-follow-clause-once g c).After-follow).apart
 
 pub loop-turn-preserved : goal.loop-turn-preserved
 loop-turn-preserved g c = record {
@@ -70,9 +86,10 @@ loop-turn-preserved g c = record {
       c.loop-turn.invariant.ready);
   puts = omega (arith, c.follow.ensures.puts, c.loop-turn.invariant.puts);
   counted = counted_more g (goal.at.loop-turn-preserved g c).After-follow;
-  others = c.in_ok-follow.ensures.others c.args.tree.now
-      (changes_taken c.args.tree.now c.loop-turn.tree c.loop-turn.search c.take.new.self
-      c.in-Some.taken c.in-Some.ensures.some c.loop-turn.invariant.others);
+  shifts = c.in_ok-follow.ensures.shifts c.args.tree.now (counted_now g
+      (goal.at.loop-turn-preserved g c).After-follow).firm
+      (subst (AreShifts c.args.tree.now c.loop-turn.tree) (sym c.in-Some.ensures.some.shifts)
+      c.loop-turn.invariant.shifts);
   served = λ served. c.in_ok-follow.ensures.served
       (served_taken (value_of c.args.store.now) (step_of c.args.dfa.now) c.loop-turn.tree
       c.loop-turn.search c.take.new.self c.in-Some.taken c.in-Some.ensures.some

@@ -2,7 +2,7 @@ use Rattle.std.proofs.Common.{◌≡◌}
 use Rattle.std.specs.Bool.{OnTrue}
 use Rattle.std.specs.BinaryHeap.{heap_items}
 use Rattle.delta_tree.specs.Dues.{pending}
-use Rattle.delta_tree.proofs.Expiry.{IsExpiring, AreGone}
+use Rattle.delta_tree.proofs.Expiry.{IsExpiring, AreTold}
 use Rattle.delta_tree.proofs.tree.Tree.cut_due.Given as goal
 
 -- what is above the clock stays, and what was taken out is in the list
@@ -12,8 +12,8 @@ invariant-loop-id l = record {
       (heap_items l.self-inside.dues);
   root : l.self-inside.root ≡ l.initial.self-inside.root;
   puts : l.self-inside.puts ≡ l.initial.self-inside.puts;
-  gone : OnTrue l.whole (AreGone l.now l.initial.self-inside.nodes
-      l.self-inside.nodes l.cut.items);
+  told : OnTrue l.whole (AreTold l.now l.initial.self-inside.nodes
+      l.self-inside.nodes l.shifts.items);
 }
 
 abbrev pub decreases-loop-id : goal.decreases-loop-id

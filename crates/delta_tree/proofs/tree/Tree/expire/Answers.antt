@@ -26,7 +26,7 @@ loop-id-preserved c =
           c.self.inside.nodes (heap_items c.loop-id.self-inside.dues)
           (heap_items c.next_due.new.dues) (heap_items c.drop_or_note.new.dues) value
           c.loop-id.invariant.expiring moved c.drop_or_note.ensures.kept
-          c.drop_or_note.ensures.noted c.drop_or_note.ensures.once c.drop_or_note.ensures.order;
+          c.drop_or_note.ensures.noted c.drop_or_note.ensures.order;
       root = c.loop-id.invariant.root;
       puts = c.loop-id.invariant.puts;
     }

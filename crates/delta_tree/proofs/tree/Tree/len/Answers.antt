@@ -10,4 +10,4 @@ returns-clause-walk c =
       nodes = c.self.inside.nodes;
       puts = c.self.inside.puts;
     } in
-    subst GivesNodes c.self.view_is (gives_nodes tree c.self.invariant.once)
+    subst GivesNodes c.self.view_is (gives_nodes tree c.len.ensures.once)

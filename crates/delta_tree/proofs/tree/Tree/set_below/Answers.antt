@@ -26,8 +26,7 @@ loop-rank-preserved c =
     (record {
       sorted = c.in_ok-ranks.ensures.sorted;
       all = c.in_ok-ranks.ensures.all;
-      once =
-          c.self.invariant.once;
+      once = c.in_order.ensures.once;
     })) in
     elim c.if-hangs.branch [
       | then-hangs+in_ok-insert w ↦
@@ -69,7 +68,6 @@ returns c =
     (record {
       sorted = c.in_ok-ranks.ensures.sorted;
       all = c.in_ok-ranks.ensures.all;
-      once =
-          c.self.invariant.once;
+      once = c.in_order.ensures.once;
     })))
     c.loop-rank-test.false c.loop-rank.invariant

@@ -5,5 +5,5 @@ use Rattle.small_map.proofs.map.SmallMap.contains_key.Goals as goal
 pub returns : goal.returns
 returns g c =
     c.is_some.ensures
-    ∙ has_place g.met.K.Eq.laws c.args.self.now c.args.key.now c.find.result c.find.ensures.once
-    c.find.ensures.place
+    ∙ has_place g.met.K.Eq.laws c.args.self.now c.args.key.now c.place_of.result
+    c.place_of.ensures.once c.place_of.ensures.place

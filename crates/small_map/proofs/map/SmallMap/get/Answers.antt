@@ -10,4 +10,4 @@ returns-in-Some-clause-value g c =
     ∙ ap (λ entries. get_or entries c.in-Some.place c.index.result.now) c.self.view_is
     ∙ get_or_from_slice_get c.args.self.now c.in-Some.place entry c.index.result.now at)
     ∙ sym (value_at g.met.K.Eq.laws c.args.self.now c.args.key.now c.in-Some.place entry
-    c.find.ensures.once at same)
+    c.place_of.ensures.once at same)

@@ -19,21 +19,21 @@ pub returns-in_ok-push-clause-gains : goal.returns-in_ok-push-clause-gains
 returns-in_ok-push-clause-gains c =
     subst (λ old. Gains old
     (search_of c.push.new.self.items (heap_items c.self.inside.later) c.self.inside.level
-    c.self.inside.risen.items)
+    c.self.inside.shifts.items)
     (λ each. each ≡ c.args.waiting))
     c.self.view_is
     (gains_stack c.self.inside.stack.items c.push.new.self.items (heap_items c.self.inside.later)
-    c.self.inside.level c.self.inside.risen.items c.args.waiting
+    c.self.inside.level c.self.inside.shifts.items c.args.waiting
     c.in_ok-push.ensures.items)
 
 pub returns-in_ok-push-2-clause-gains : goal.returns-in_ok-push-2-clause-gains
 returns-in_ok-push-2-clause-gains c =
     subst (λ old. Gains old
     (search_of c.self.inside.stack.items (heap_items c.push-else-waiting-self.new.self)
-    c.self.inside.level c.self.inside.risen.items) (λ each. each ≡ c.args.waiting))
+    c.self.inside.level c.self.inside.shifts.items) (λ each. each ≡ c.args.waiting))
     c.self.view_is
     (gains_heap c.self.inside.stack.items (heap_items c.self.inside.later)
-    (heap_items c.push-else-waiting-self.new.self) c.self.inside.level c.self.inside.risen.items
+    (heap_items c.push-else-waiting-self.new.self) c.self.inside.level c.self.inside.shifts.items
     c.args.waiting c.in_ok-push-2.ensures.permutation)
 
 pub returns-in_ok-push-2-clause-added : goal.returns-in_ok-push-2-clause-added

@@ -8,19 +8,19 @@ pub returns-in-Some-clause-some : goal.returns-in-Some-clause-some
 returns-in-Some-clause-some c =
     subst (λ old. Takes old
     (search_of c.pop.new.self.items (heap_items c.self.inside.later) c.self.inside.level
-    c.self.inside.risen.items)
+    c.self.inside.shifts.items)
     c.in-Some.next) c.self.view_is
     (takes_stack c.self.inside.stack.items c.pop.new.self.items (heap_items c.self.inside.later)
-    c.self.inside.level c.self.inside.risen.items c.in-Some.next
+    c.self.inside.level c.self.inside.shifts.items c.in-Some.next
     c.in-Some.ensures.items c.self.invariant.now)
 
 pub returns-clause-some : goal.returns-clause-some
 returns-clause-some c =
     subst (λ old. Takes old
     (search_of c.pop.new.self.items (heap_items c.pop-2.new.self) c.in_ok-next.next.value
-    c.self.inside.risen.items)
+    c.self.inside.shifts.items)
     c.in_ok-next.next) c.self.view_is
     (takes_heap c.self.inside.stack.items c.pop.new.self.items (heap_items c.self.inside.later)
-    (heap_items c.pop-2.new.self) c.self.inside.level c.self.inside.risen.items
+    (heap_items c.pop-2.new.self) c.self.inside.level c.self.inside.shifts.items
     c.in_ok-next.next (c.in_default.ensures.items ∙ append-nil c.pop.new.self.items)
     c.in_ok-next.ensures.permutation c.self.invariant.later)

@@ -2,7 +2,7 @@ use Rattle.std.proofs.Common.{◌+◌, sym, subst, refl}
 use Rattle.delta_tree.specs.Nodes.{TreeValue}
 use Rattle.delta_tree.specs.Changes.{Carries, Raises}
 use Rattle.delta_tree.proofs.Trees.{put_keeps}
-use Rattle.delta_tree.proofs.tree.Tree.put.Goals as goal
+use Rattle.delta_tree.proofs.tree.Tree.put_at.Goals as goal
 
 pub invariant_of-self-2 : goal.invariant_of-self-2
 invariant_of-self-2 c =
@@ -26,7 +26,6 @@ invariant_of-self-2 c =
           (subst (λ tree. Carries tree c.args.step.from c.args.value) (sym c.self.view_is)
           c.requires.from)
           c.requires.state c.requires.joins c.ranges.value.fits;
-      once = c.in_ok-set_node.ensures.once;
       noted = c.in_ok-set_node.ensures.noted;
       order = c.set_node.ensures.order;
     }

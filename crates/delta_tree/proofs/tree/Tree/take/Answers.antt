@@ -1,32 +1,24 @@
-use Rattle.std.proofs.Common.{◌≡◌, None, cond, sym, ap, subst, refl, ◌∙◌, arith}
+use Rattle.std.proofs.Common.{◌≡◌, None, cond, length, sym, subst, refl}
 use Rattle.std.proofs.lemmas.Bool.{eqb-true}
 use Rattle.std.specs.List.{list_any}
-use Rattle.std.specs.Vec.{vec_len}
 use Rattle.delta_tree.specs.declared.node.NodeId.{NodeId}
 use Rattle.delta_tree.specs.Nodes.{TreeValue, node_in, same_node}
 use Rattle.delta_tree.specs.Changes.{AreBelow, Cuts}
 use Rattle.delta_tree.specs.Dues.{IsNoted, IsQueue}
 use Rattle.delta_tree.proofs.Below.{nothing_cut, all_cut}
 use Rattle.delta_tree.proofs.Trees.{cut_keeps}
-use Rattle.delta_tree.proofs.tree.Tree.cut_below.Goals as goal
+use Rattle.delta_tree.proofs.tree.Tree.take.Goals as goal
 
 pub returns-then-is_empty-clause-gone : goal.returns-then-is_empty-clause-gone
 returns-then-is_empty-clause-gone c =
-    nothing_cut c.args.self.now c.args.edge c.in_ok-cut.cut.items c.in_ok-cut.ensures
-    (omega (
-      arith,
-      eqb-true (vec_len c.in_ok-cut.cut) 0 (sym c.if-is_empty.ensures),
-      c.in_ok-cut.cut.ok.0,
-    ))
+    nothing_cut c.args.self.now c.args.edge c.args.ids.now c.requires
+    (eqb-true (length c.args.ids.now) 0 (sym c.if-is_empty.ensures))
 
 -- the nodes that are left
 left : (c : goal.After-give_back) (id : NodeId) → node_in c.take_out.new.nodes id
-    ≡ cond (list_any (same_node id) c.in_ok-cut.cut.items) None
+    ≡ cond (list_any (same_node id) c.args.ids.now) None
     (node_in c.self.inside.nodes id)
-left c id =
-    c.take_out.ensures.gone id
-    ∙ ap (λ ids. cond (list_any (same_node id) ids) None (node_in c.self.inside.nodes id))
-    c.deref.ensures.value
+left c id = c.take_out.ensures id
 
 pub invariant_of-self : goal.invariant_of-self
 invariant_of-self c =
@@ -41,15 +33,14 @@ invariant_of-self c =
       puts =
           c.self.inside.puts;
     } in
-    let below : AreBelow old c.args.edge c.in_ok-cut.cut.items =
-    subst (λ (tree : TreeValue). AreBelow tree c.args.edge c.in_ok-cut.cut.items)
-    (sym c.self.view_is) c.in_ok-cut.ensures in
+    let below : AreBelow old c.args.edge c.args.ids.now =
+    subst (λ (tree : TreeValue). AreBelow tree c.args.edge c.args.ids.now)
+    (sym c.self.view_is) c.requires in
     record {
       is_tree =
           cut_keeps old new c.args.edge c.self.invariant.is_tree
-          (all_cut old new c.args.edge c.in_ok-cut.cut.items below (left c))
+          (all_cut old new c.args.edge c.args.ids.now below (left c))
           (record { root = refl; puts = refl });
-      once = c.take_out.ensures.once;
       noted =
           subst (IsNoted c.take_out.new.nodes) (sym c.give_back.ensures)
           c.retain_dues.ensures.noted;
@@ -69,8 +60,8 @@ returns-clause-gone c =
       puts =
           c.self.inside.puts;
     } in
-    let below : AreBelow old c.args.edge c.in_ok-cut.cut.items =
-    subst (λ (tree : TreeValue). AreBelow tree c.args.edge c.in_ok-cut.cut.items)
-    (sym c.self.view_is) c.in_ok-cut.ensures in
+    let below : AreBelow old c.args.edge c.args.ids.now =
+    subst (λ (tree : TreeValue). AreBelow tree c.args.edge c.args.ids.now)
+    (sym c.self.view_is) c.requires in
     subst (λ (tree : TreeValue). Cuts tree new c.args.edge) c.self.view_is
-    (all_cut old new c.args.edge c.in_ok-cut.cut.items below (left c))
+    (all_cut old new c.args.edge c.args.ids.now below (left c))

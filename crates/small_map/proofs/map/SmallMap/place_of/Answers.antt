@@ -1,6 +1,6 @@
 use Rattle.std.proofs.Common.{position, ap, ◌∙◌}
 use Rattle.small_map.proofs.Placed.{scanned}
-use Rattle.small_map.proofs.map.SmallMap.find.Goals as goal
+use Rattle.small_map.proofs.map.SmallMap.place_of.Goals as goal
 
 pub returns-in-None-clause-place : goal.returns-in-None-clause-place
 returns-in-None-clause-place g c =
