@@ -1,5 +1,5 @@
 -- Roots that are settled one after another.
-use Rattle.std.proofs.Common.{◌≡◌, ◌≢◌, ℕ, ◌+◌, ◌<◌, Bool, false, cond, List, [], ◌∷◌, ◌++◌, length, take, drop, get_or, filter, Option, Some, None, refl, sym, ap, subst, ◌∙◌, inl, ⊎_elim, Contains, arith, append-nil}
+use Rattle.std.proofs.Common.{◌≡◌, ◌≢◌, ℕ, ◌+◌, ◌<◌, Bool, true, false, cond, List, [], ◌∷◌, ◌++◌, length, take, drop, get_or, filter, Option, Some, None, refl, sym, ap, subst, ◌∙◌, inl, ⊎_elim, Contains, arith, append-nil}
 use Rattle.std.specs.Prelude.{AllPairs, flat_map, option_map}
 use Rattle.std.specs.Option.{unwrap_or}
 use Rattle.std.specs.Ordering.{nat_cmp}
@@ -12,12 +12,14 @@ use Rattle.std.proofs.lemmas.List.Kept.{AllPairs-from_increasing}
 use Rattle.std.proofs.lemmas.Map.Keys.{IsStrictlyIncreasing-from_sorted}
 use Rattle.rpq_base.proofs.Members.{HasOneMore, cons_members, none_in}
 use Rattle.delta_tree.specs.Nodes.{IsTree}
+use Rattle.source_tree.specs.declared.change.Change.{Change}
 use Rattle.source_tree.specs.declared.change.EndChange.{EndChange}
 use Rattle.source_tree.specs.Ends.{SourceValue}
+use Rattle.source_tree.specs.Taking.{is_raise}
 use Rattle.source_index.specs.Dues.{due_of}
 use Rattle.source_table.specs.Sources.{AreApart, GivesSource, source_in}
 use Rattle.delta_forest.specs.Keeping.{IsDueFor}
-use Rattle.delta_forest.specs.Settling.{AreFound, AreSettled, FindsAt, FindsMore, HoldsAnew, IsFollowed, IsLeft, is_touched, log_at, touched_at}
+use Rattle.delta_forest.specs.Settling.{AreFound, AreSettled, FindsAt, FindsMore, HoldsAnew, IsFollowed, IsLeft, is_sooner, log_at, log_of, moved_of, touched_at}
 use Rattle.delta_forest.specs.declared.index.Index.{Index}
 use Rattle.delta_forest.specs.declared.index.Findings.{Findings}
 use Rattle.delta_forest.proofs.Logs.{pairs_head, pairs_tail}
@@ -44,8 +46,9 @@ left_on old now new root first second = record {
 
 -- ---- one root
 
-pub settled_nothing : (index : Index) → AreApart index.sources → AreSettled index index []
-settled_nothing index apart = record {
+pub settled_nothing : (change : Change) (index : Index) → AreApart index.sources →
+    AreSettled change index index []
+settled_nothing change index apart = record {
   apart = apart;
   kept = λ root source found some. found;
   only = λ root source found. found;
@@ -56,9 +59,9 @@ settled_nothing index apart = record {
   left = λ root unlisted. left_itself index root;
 }
 
-pub settled_absent : (index : Index) (root : ℕ) → AreApart index.sources →
-    source_in index.sources root ≡ None → AreSettled index index (root ∷ [])
-settled_absent index root apart none = record {
+pub settled_absent : (change : Change) (index : Index) (root : ℕ) → AreApart index.sources →
+    source_in index.sources root ≡ None → AreSettled change index index (root ∷ [])
+settled_absent change index root apart none = record {
   apart = apart;
   kept = λ each source found some. found;
   only = λ each source found. found;
@@ -73,23 +76,25 @@ settled_absent index root apart none = record {
   left = λ each unlisted. left_itself index each;
 }
 
-module _ (old new : Index) (root : ℕ) (source : SourceValue)
+module _ (change : Change) (old new : Index) (root : ℕ) (source : SourceValue)
     (found : source_in old.sources root ≡ Some source) (tree : IsTree source.tree)
-    (held : HoldsAnew old.holders new.holders root source.tree source.changed)
-    (due : IsDueFor new.dues root source.tree)
+    (held : HoldsAnew old.holders new.holders root (is_raise change) (moved_of source))
+    (due : is_sooner change source ≡ true → IsDueFor new.dues root source.tree)
+    (same_due : is_sooner change source ≡ false → due_of new.dues root ≡ due_of old.dues root)
     (others : (each : ℕ) → each ≢ root → due_of new.dues each ≡ due_of old.dues each) where
   followed_here : (each : ℕ) (other : SourceValue) → Contains (root ∷ []) each →
-      source_in old.sources each ≡ Some other → IsFollowed old new each other
+      source_in old.sources each ≡ Some other → IsFollowed change old new each other
   followed_here each other listed there =
       let here = one_member root each listed in
       let same = same_Some source other
       (sym found ∙ (ap (λ (at : ℕ). source_in old.sources at) here ∙ there)) in
-      subst (λ (at : ℕ). IsFollowed old new at other) here
-      (subst (IsFollowed old new root) same (record {
+      subst (λ (at : ℕ). IsFollowed change old new at other) here
+      (subst (IsFollowed change old new root) same (record {
         tree = tree;
         listed = held.listed;
         unlisted = held.unlisted;
         due = due;
+        same = same_due;
       }))
 
   left_there : (each : ℕ) → each ≢ root → IsLeft old new each
@@ -103,7 +108,7 @@ module _ (old new : Index) (root : ℕ) (source : SourceValue)
       (sym none ∙ (ap (λ (at : ℕ). source_in old.sources at) here ∙ found))
 
   pub settled_kept : AreApart old.sources → new.sources ≡ old.sources → source.tree.nodes ≢ [] →
-      AreSettled old new (root ∷ [])
+      AreSettled change old new (root ∷ [])
   settled_kept apart same some = record {
     apart = subst AreApart (sym same) apart;
     kept = λ each other there nodes.
@@ -122,7 +127,7 @@ module _ (old new : Index) (root : ℕ) (source : SourceValue)
   }
 
   pub settled_gone : AreApart new.sources → GivesSource old.sources new.sources root None →
-      source.tree.nodes ≡ [] → AreSettled old new (root ∷ [])
+      source.tree.nodes ≡ [] → AreSettled change old new (root ∷ [])
   settled_gone apart gives bare = record {
     apart = apart;
     kept = λ each other there nodes. ⊎_elim
@@ -155,10 +160,10 @@ module _ (old new : Index) (root : ℕ) (source : SourceValue)
 
 -- ---- one root more
 
-pub settled_more : (old now new : Index) (done more : List ℕ) (root : ℕ) →
-    AreSettled old now done → AreSettled now new (root ∷ []) → (Contains done root → ⊥) →
-    HasOneMore done root more → AreSettled old new more
-settled_more old now new done more root first second apart one = record {
+pub settled_more : (change : Change) (old now new : Index) (done more : List ℕ) (root : ℕ) →
+    AreSettled change old now done → AreSettled change now new (root ∷ []) →
+    (Contains done root → ⊥) → HasOneMore done root more → AreSettled change old new more
+settled_more change old now new done more root first second apart one = record {
   apart = second.apart;
   kept = λ each source found some. second.kept each source (first.kept each source found some) some;
   only = λ each source found. first.only each source (second.only each source found);
@@ -186,8 +191,9 @@ settled_more old now new done more root first second apart one = record {
           (λ holds. (was.unlisted id none).0 ((left.held id).0 holds)),
           (λ holds. (left.held id).1 ((was.unlisted id none).1 holds)),
         );
-        due = λ id node is.
-            let number = was.due id node is in (number.0, left.due ∙ number.1, number.2);
+        due = λ sooner id node is.
+            let number = was.due sooner id node is in (number.0, left.due ∙ number.1, number.2);
+        same = λ late. left.due ∙ was.same late;
       })
       (λ (here : root ≡ each).
       let fresh : Contains done each → ⊥ = λ before.
@@ -203,6 +209,7 @@ settled_more old now new done more root first second apart one = record {
           (λ holds. (is.unlisted id none).1 ((left.held id).1 holds)),
         );
         due = is.due;
+        same = λ late. is.same late ∙ left.due;
       })
       (one.cases each listed);
   absent = λ each none.
@@ -259,7 +266,8 @@ found_more sources now roots place root old new was finds same within is = recor
   touched = finds.touched
       ∙ (ap (λ (before : List ℕ). before ++ cond (touched_at now root) (root ∷ []) []) was.touched
       ∙ (ap (λ (b : Bool). filter (touched_at sources) (take place roots) ++ cond b (root ∷ []) [])
-      (ap (λ (found : Option SourceValue). unwrap_or (option_map is_touched found) false) same)
+      (ap (λ (found : Option SourceValue).
+      unwrap_or (option_map (λ (each : SourceValue). each.touched) found) false) same)
       ∙ (ap (λ (one : ℕ). filter (touched_at sources) (take place roots)
       ++ cond (touched_at sources one) (one ∷ []) []) is
       ∙ sym (filter_more (touched_at sources) roots place root within))));
@@ -267,7 +275,7 @@ found_more sources now roots place root old new was finds same within is = recor
       ∙ (ap (λ (before : List EndChange). before ++ log_at now root) was.log
       ∙ (ap (λ (more : List EndChange). flat_map (log_at sources) (take place roots) ++ more)
       (ap (λ (found : Option SourceValue).
-      unwrap_or (option_map (λ (each : SourceValue). each.log) found) []) same)
+      unwrap_or (option_map log_of found) []) same)
       ∙ (flat_map_more (log_at sources) [] (take place roots) root
       ∙ ap (flat_map (log_at sources)) (ap (λ (one : ℕ). take place roots ++ one ∷ []) is
       ∙ sym (take_more roots place root within)))));
@@ -278,10 +286,11 @@ pub finds_at_source : (sources : List SourceValue) (old new : Findings) (source 
     FindsAt sources old new root
 finds_at_source sources old new source root found more = record {
   touched = more.touched ∙ ap (λ (one : Option SourceValue).
-      old.touched.items ++ cond (unwrap_or (option_map is_touched one) false) (root ∷ []) [])
+      old.touched.items ++ cond (unwrap_or (option_map (λ (each : SourceValue). each.touched) one)
+      false) (root ∷ []) [])
       (sym found);
   log = more.log ∙ ap (λ (one : Option SourceValue).
-      old.log.items ++ unwrap_or (option_map (λ (each : SourceValue). each.log) one) [])
+      old.log.items ++ unwrap_or (option_map log_of one) [])
       (sym found);
 }
 
@@ -289,9 +298,10 @@ pub finds_nothing : (sources : List SourceValue) (found : Findings) (root : ℕ)
     source_in sources root ≡ None → FindsAt sources found found root
 finds_nothing sources found root none = record {
   touched = sym (append-nil found.touched.items) ∙ ap (λ (one : Option SourceValue).
-      found.touched.items ++ cond (unwrap_or (option_map is_touched one) false) (root ∷ []) [])
+      found.touched.items ++ cond (unwrap_or (option_map (λ (each : SourceValue). each.touched) one)
+      false) (root ∷ []) [])
       (sym none);
   log = sym (append-nil found.log.items) ∙ ap (λ (one : Option SourceValue).
-      found.log.items ++ unwrap_or (option_map (λ (each : SourceValue). each.log) one) [])
+      found.log.items ++ unwrap_or (option_map log_of one) [])
       (sym none);
 }

@@ -1,5 +1,5 @@
 -- The ends that a change changed.
-use Rattle.std.proofs.Common.{◌≡◌, ◌≢◌, ℕ, Bool, List, [], filter, Option, Some, None, sym, ap, subst, ◌∙◌, inr, ⊎_elim, Contains, arith}
+use Rattle.std.proofs.Common.{◌≡◌, ◌≢◌, ℕ, Bool, true, false, cond, List, [], filter, Option, Some, None, sym, ap, subst, ◌∙◌, inr, ⊎_elim, Contains, arith}
 use Rattle.std.specs.Prelude.{AllPairs, flat_map, option_map}
 use Rattle.std.specs.Option.{unwrap_or}
 use Rattle.std.proofs.lemmas.List.Kept.{AllPairs-from_increasing}
@@ -15,12 +15,14 @@ use Rattle.source_table.specs.Sources.{source_in}
 use Rattle.delta_forest.specs.Forest.{ForestValue, IsEnd, IsFinalValue}
 use Rattle.delta_forest.specs.Changes.{AreEndChangesOf}
 use Rattle.delta_forest.specs.Keeping.{AreFinals, forest_with}
-use Rattle.delta_forest.specs.Settling.{log_at, touched_at}
+use Rattle.delta_forest.specs.Settling.{log_at, log_of, touched_at}
 use Rattle.delta_forest.specs.declared.index.Index.{Index}
 use Rattle.delta_forest.proofs.Ends.{end_from, ends_are_one, greatest_like}
 use Rattle.delta_forest.proofs.Logs.{AreApart, joined_members, logs_once}
 use Rattle.delta_forest.proofs.Sources.{found_or_not, found_root, listed_or_not}
+use Rattle.delta_forest.proofs.Grown.{grown_tree}
 use Rattle.delta_forest.proofs.Following.{Follows, after}
+use Rattle.delta_forest.proofs.Settled.{settled_tree}
 use Rattle.delta_forest.proofs.Touched.{new_value, old_value, others_kept, took, touched_is}
 
 module _ {change : Change} {dfa : DfaValue} {finals : List ℕ} {calls : ℕ} {old new : Edges}
@@ -38,20 +40,42 @@ module _ {change : Change} {dfa : DfaValue} {finals : List ℕ} {calls : ℕ} {o
       (vertex : ℕ) → IsEnd before_it root vertex
       (end_in finals (after follows root source found).before.tree vertex)
   old_end root source found vertex =
-      end_from before_it finals root vertex (after follows root source found).before.tree exact
+      let was = after follows root source found in
+      end_from before_it finals root vertex was.before.tree exact
+      (grown_tree follows.kept follows.are root was.before was.found)
       (λ state. old_value follows root source found vertex state)
 
   new_end : (root : ℕ) (source : SourceValue) (found : source_in table root ≡ Some source)
       (vertex : ℕ) → IsEnd after_it root vertex (end_in finals source.tree vertex)
   new_end root source found vertex =
       end_from after_it finals root vertex source.tree exact
+      (settled_tree follows root source found)
       (λ state. new_value follows root source found vertex state)
 
   log_found : (root : ℕ) (source : SourceValue) → source_in table root ≡ Some source →
-      log_at table root ≡ source.log
+      log_at table root ≡ log_of source
   log_found root source found =
-      ap (λ (each : Option SourceValue).
-      unwrap_or (option_map (λ (one : SourceValue). one.log) each) []) found
+      ap (λ (each : Option SourceValue). unwrap_or (option_map log_of each) []) found
+
+  -- it has no more than the source's, and all of it where the source was touched
+  in_log : (source : SourceValue) (each : EndChange) → Contains (log_of source) each →
+      Contains source.log each
+  in_log source each member = by source.touched member
+    where
+      by : (b : Bool) → Contains (cond b source.log []) each → Contains source.log each
+      by true there = there
+      by false there = absurd (none_in each there)
+
+  all_log : (source : SourceValue) → source.touched ≡ true → log_of source ≡ source.log
+  all_log source touched = ap (λ (b : Bool). cond b source.log []) touched
+
+  apart_log : (source : SourceValue) → AllPairs AreApart source.log →
+      AllPairs AreApart (log_of source)
+  apart_log source once = by source.touched
+    where
+      by : (b : Bool) → AllPairs AreApart (cond b source.log [])
+      by true = once
+      by false = λ i j d less within. absurd (omega (arith, within))
 
   -- an entry is one of the log of a listed source
   record IsLogged (root : ℕ) (each : EndChange) : Type 0 where
@@ -68,13 +92,13 @@ module _ {change : Change} {dfa : DfaValue} {finals : List ℕ} {calls : ℕ} {o
         source = there.0;
         found = there.1;
         listed = listed;
-        member = subst (λ (log : List EndChange). Contains log each)
-            (log_found root there.0 there.1) member;
+        member = in_log there.0 each (subst (λ (log : List EndChange). Contains log each)
+            (log_found root there.0 there.1) member);
       })
       (λ (none : source_in table root ≡ None).
       absurd (none_in each (subst (λ (log : List EndChange). Contains log each)
       (ap (λ (one : Option SourceValue).
-      unwrap_or (option_map (λ (source : SourceValue). source.log) one) []) none) member)))
+      unwrap_or (option_map log_of one) []) none) member)))
       (found_or_not (source_in table root))
 
   took_listed : (root : ℕ) (source : SourceValue)
@@ -155,7 +179,7 @@ module _ {change : Change} {dfa : DfaValue} {finals : List ℕ} {calls : ℕ} {o
         at.listed,
         subst (λ (log : List EndChange).
             Contains log (end_change root vertex before later))
-            (sym (log_found root at.source at.found))
+            (sym (log_found root at.source at.found ∙ all_log at.source at.some))
             ((log.exact (end_change root vertex before later)).1 (
               entry,
               λ same. differ (before_is ∙ (same ∙ sym later_is)),
@@ -186,10 +210,10 @@ module _ {change : Change} {dfa : DfaValue} {finals : List ℕ} {calls : ℕ} {o
       once_at root listed = ⊎_elim
           (λ (there : (source : SourceValue) × (source_in table root ≡ Some source)).
           subst (AllPairs AreApart) (sym (log_found root there.0 there.1))
-          (λ i j d less within.
-          inr ((took_listed root there.0 there.1 listed).log.once i j d less within)))
+          (apart_log there.0 (λ i j d less within.
+          inr ((took_listed root there.0 there.1 listed).log.once i j d less within))))
           (λ (none : source_in table root ≡ None).
           subst (AllPairs AreApart) (sym (ap (λ (one : Option SourceValue).
-          unwrap_or (option_map (λ (source : SourceValue). source.log) one) []) none))
+          unwrap_or (option_map log_of one) []) none))
           (λ i j d less within. absurd (omega (arith, within))))
           (found_or_not (source_in table root))

@@ -1,5 +1,5 @@
 -- Trees that a change leaves optimal, and trees before and after a change.
-use Rattle.std.proofs.Common.{◌≡◌, ◌≢◌, ℕ, ◌<◌, Bool, true, false, cond, List, [], ◌∷◌, Option, Some, None, refl, sym, ap, subst, ◌∙◌, inl, inr, ⊎_elim, Contains}
+use Rattle.std.proofs.Common.{◌≡◌, ◌≢◌, ℕ, ◌<◌, ◌≤◌, Bool, true, false, cond, List, [], ◌∷◌, Option, Some, None, refl, sym, ap, subst, ◌∙◌, inl, inr, ⊎_elim, Contains}
 use Rattle.std.proofs.lemmas.Option.{same_Some}
 use Rattle.std.proofs.lemmas.Bool.{both_ways}
 use Rattle.std.proofs.lemmas.List.Elements.{All-weaker}
@@ -111,12 +111,12 @@ keeps_itself (Expire now) step tree elsewhere = record {
 
 -- ---- trees after a raise
 
--- a node of a tree that was optimal stands in the one that is so after a raise
+-- a node of a tree that was optimal stands in the one that is so after a raise, and is no lower
 pub raise_keeps_nodes : (before after : EdgeId → Option ℕ) (step : ℕ → ℕ → Option ℕ)
     (old new : TreeValue) (edge : EdgeId) (id : NodeId) (node : Node) →
     IsOptimal before step old → IsOptimal after step new → IsRaised before after edge →
     new.root ≡ old.root → node_of old id ≡ Some node →
-    (there : Node) × (node_of new id ≡ Some there)
+    (there : Node) × (node_of new id ≡ Some there) × (node.value ≤ there.value)
 raise_keeps_nodes before after step old new edge id node was is raised root there =
     let kind =
     λ (number : ℕ). (path : List EdgeId) × IsWay before step old.root id.vertex id.state
@@ -135,9 +135,8 @@ raise_keeps_nodes before after step old new edge id node was is raised root ther
     } in
     let moved =
     subst (λ (at : ℕ). IsWay after step at id.vertex id.state node.value way.0) (sym root) still in
-    let found = node_reached new id node.value
-    (greatest_reached (value_of new id) goal node.value (is.best id) (way.0, moved)) in
-    (found.0, found.1)
+    node_reached new id node.value
+    (greatest_reached (value_of new id) goal node.value (is.best id) (way.0, moved))
   where
     higher : (each : EdgeId) → IsAtLeast node.value (before each) →
         IsAtLeast node.value (after each)

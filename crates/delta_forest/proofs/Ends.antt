@@ -1,13 +1,14 @@
 -- The ends of vertices: the greatest values that they have with final states.
 use Rattle.std.proofs.Common.{◌≡◌, ℕ, zero, suc, ◌<◌, ◌≤◌, max, Bool, true, false, cond, List, [], ◌∷◌, length, map, Option, Some, None, refl, sym, ap, subst, ◌∙◌, ◌⊎◌, inl, inr, ⊎_elim, arith}
-use Rattle.std.specs.Prelude.{◌↔◌, Contains, slice_index_or}
+use Rattle.std.specs.Prelude.{◌↔◌, Contains, IsTrue, slice_index_or}
 use Rattle.std.proofs.lemmas.Bool.{cases_lt, cases_eq, both_ways, false≢true}
 use Rattle.std.proofs.lemmas.Option.{none-some, same_Some}
 use Rattle.rpq_base.proofs.Members.{cons_members, none_in}
 use Rattle.dfa_table.specs.DfaValue.{DfaValue, is_final}
 use Rattle.tree_insert.specs.Best.{IsGreatestOf}
 use Rattle.tree_insert.proofs.Bests.{greatest_one}
-use Rattle.delta_tree.specs.Nodes.{TreeValue, node_id, value_of}
+use Rattle.tree_insert.proofs.Nodes.{node_is}
+use Rattle.delta_tree.specs.Nodes.{TreeValue, node_id, value_of, IsTree}
 use Rattle.source_tree.specs.Ends.{end_in, greatest, later}
 use Rattle.delta_forest.specs.Forest.{ForestValue, IsEnd, IsFinalValue, kept}
 use Rattle.delta_forest.specs.Laws.{EachHasAnEnd, EndsAreOne}
@@ -127,7 +128,11 @@ within [] place is = absurd (false≢true is)
 within (first ∷ rest) zero is = omega arith
 within (first ∷ rest) (suc place) is = let less = within rest place is in omega (arith, less)
 
-finals_of : (dfa : DfaValue) → (finals : List ℕ) × AreFinals dfa finals
+-- these are exactly the final states, with the state 0 where it is one
+abbrev AreAllFinals : DfaValue → List ℕ → Type 0
+AreAllFinals dfa finals = (state : ℕ) → Contains finals state ↔ IsTrue (is_final dfa state)
+
+finals_of : (dfa : DfaValue) → (finals : List ℕ) × AreAllFinals dfa finals
 finals_of dfa =
     let bound = length dfa.finals in
     let members = passing_members (is_final dfa) bound in (
@@ -140,8 +145,8 @@ finals_of dfa =
 
 -- ---- ends
 
-pub end_is : (forest : ForestValue) (finals : List ℕ) (root vertex : ℕ) →
-    AreFinals forest.dfa finals →
+end_is : (forest : ForestValue) (finals : List ℕ) (root vertex : ℕ) →
+    AreAllFinals forest.dfa finals →
     IsEnd forest root vertex (greatest (map (kept forest root vertex) finals))
 end_is forest finals root vertex are =
     let at = kept forest root vertex in
@@ -152,17 +157,21 @@ end_is forest finals root vertex are =
     ))
     (greatest_of finals at)
 
--- the end of a vertex is that in the tree of the root
+-- the end of a vertex is that in the tree of the root, where no node stands with the state 0
 pub end_from : (forest : ForestValue) (finals : List ℕ) (root vertex : ℕ) (tree : TreeValue) →
-    AreFinals forest.dfa finals →
+    AreFinals forest.dfa finals → IsTree tree →
     ((state : ℕ) → kept forest root vertex state ≡ value_of tree (node_id vertex state)) →
     IsEnd forest root vertex (end_in finals tree vertex)
-end_from forest finals root vertex tree are same =
+end_from forest finals root vertex tree are is_tree same =
     let at = λ (state : ℕ). value_of tree (node_id vertex state) in
     greatest_like (greatest (map at finals)) (IsAtOne finals at) (IsFinalValue forest root vertex)
     (λ number. (
-      (λ has. (has.0, (are has.0).0 has.1, same has.0 ∙ has.2)),
-      (λ has. (has.0, (are has.0).1 has.1, sym (same has.0) ∙ has.2)),
+      (λ has. (has.0, ((are has.0).0 has.1).1, same has.0 ∙ has.2)),
+      (λ has.
+          let is = sym (same has.0) ∙ has.2 in
+          let node = node_is tree (node_id vertex has.0) number is in
+          let above = (is_tree (node_id vertex has.0) node.0 node.1).state in
+          (has.0, (are has.0).1 (above, has.1), is)),
     ))
     (greatest_of finals at)
 

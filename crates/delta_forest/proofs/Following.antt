@@ -25,11 +25,11 @@ pub record Follows (change : Change) (dfa : DfaValue) (finals : List ℕ) (calls
     (old new : Edges) (index grown : Index) (roots : List ℕ) (table : List SourceValue)
     (settled : Index) : Type 0 where
   pub takes : TakesChange change old new
-  pub kept : IsKept dfa finals old calls index
-  pub are : AreCandidates change (step_of dfa) finals index grown roots
+  pub kept : IsKept dfa old calls index
+  pub are : AreCandidates change (step_of dfa) index grown roots
   pub taken : HaveTaken change (value_in new) (step_of dfa) finals roots grown.sources table
   pub same : roots_of table ≡ roots_of grown.sources
-  pub settles : AreSettled
+  pub settles : AreSettled change
       (record { sources = table; holders = grown.holders; dues = grown.dues }) settled roots
   pub raises : RaiseElsewhereKeepsOptimal
   pub removes : RemovalElsewhereKeepsOptimal

@@ -1,6 +1,6 @@
 -- The roots that a change may touch, gathered place by place.
-use Rattle.std.proofs.Common.{◌≡◌, ◌≢◌, ℕ, ◌+◌, ◌<◌, ◌≤◌, Bool, true, false, cond, ◌==◌, ◌||◌, List, [], ◌∷◌, ◌++◌, length, Option, Some, None, refl, sym, ap, subst, ◌∙◌, ◌⊎◌, inl, inr, ⊎_elim, Contains, arith}
-use Rattle.std.specs.Prelude.{◌↔◌, IsSome, IsTrue, is_some, option_map}
+use Rattle.std.proofs.Common.{◌≡◌, ◌≢◌, ℕ, ◌+◌, ◌<◌, ◌≤◌, max, Bool, true, false, cond, ◌==◌, ◌||◌, List, [], ◌∷◌, ◌++◌, length, Option, Some, None, refl, sym, ap, subst, ◌∙◌, ◌⊎◌, inl, inr, ⊎_elim, Contains, arith}
+use Rattle.std.specs.Prelude.{◌↔◌, IsSome, is_some, option_map}
 use Rattle.std.specs.Option.{option_or}
 use Rattle.std.specs.List.{IsDistinct, list_any}
 use Rattle.std.proofs.lemmas.Bool.{cases_eq, eq-eqb, ne_eqb, true≢false, false≢true}
@@ -29,7 +29,7 @@ use Rattle.source_index.specs.Dues.{DuesValue}
 use Rattle.source_index.specs.Holders.{HoldersValue, Holds}
 use Rattle.source_table.specs.Sources.{AreApart, roots_of, source_in}
 use Rattle.delta_forest.specs.Keeping.{IsKept}
-use Rattle.delta_forest.specs.Candidates.{Adds, AddsSource, AreCandidates, AreInOrder, AreRaised, AreTaken, IsBareAt, IsHeldBy, IsRaisedAt, IsRemovedAt, StartsBy}
+use Rattle.delta_forest.specs.Candidates.{Adds, AddsSource, AreCandidates, AreInOrder, AreRaised, AreTaken, IsBareAt, IsHeldBy, IsHeldBySome, IsRaisedAt, IsRemovedAt, StartsBy}
 use Rattle.delta_forest.specs.declared.index.Index.{Index}
 use Rattle.delta_forest.proofs.Sources.{found_or_not, found_root, some_found}
 
@@ -107,14 +107,23 @@ next_hung done more one kind has root = (
 -- all states with a step
 pub all_held : (holders : HoldersValue) (dfa : DfaValue) (edge : EdgeId) (bound root : ℕ) →
     length dfa.rows ≤ bound →
-    ((at : ℕ) × (at < bound) × IsHeldBy holders (step_of dfa) edge at root)
-    ↔ ((state : ℕ) × IsHeldBy holders (step_of dfa) edge state root)
+    ((at : ℕ) × (at < bound) × ((0 < at) × IsHeldBy holders (step_of dfa) edge at root))
+    ↔ IsHeldBySome holders (step_of dfa) edge root
 all_held holders dfa edge bound root many = (
   (λ has. (has.0, has.2)),
   (λ has.
-      let next = some_found (step_of dfa has.0 edge.label) has.1.0 in
+      let next = some_found (step_of dfa has.0 edge.label) has.1.1.0 in
       let within = step_within dfa has.0 edge.label next.0 next.1 in
       (has.0, omega (arith, many, within), has.1)),
+)
+
+-- all states of an automaton, though it may have none
+pub all_removed : (sources : List SourceValue) (holders : HoldersValue) (edge : EdgeId)
+    (states bound root : ℕ) → states ≤ bound → bound ≤ max 1 states →
+    IsRemovedAt sources holders bound edge root ↔ IsRemovedAt sources holders states edge root
+all_removed sources holders edge states bound root many few = (
+  (λ has. (has.0, omega (arith, few, has.1, has.2.0), has.2)),
+  (λ has. (has.0, omega (arith, many, has.1), has.2)),
 )
 
 -- ---- a new source
@@ -256,19 +265,19 @@ few_in_order roots few = record {
 pub raised_adds : (holders : HoldersValue) (step : ℕ → ℕ → Option ℕ) (edge : EdgeId)
     (start roots : List ℕ) →
     Adds [] start (λ root. IsSome (step 0 edge.label) × (root ≡ edge.from)) →
-    Adds start roots (λ root. (state : ℕ) × IsHeldBy holders step edge state root) →
+    Adds start roots (IsHeldBySome holders step edge) →
     Adds [] roots (IsRaisedAt holders step edge)
 raised_adds holders step edge start roots first second =
     adds_both [] start roots (λ root. IsSome (step 0 edge.label) × (root ≡ edge.from))
-    (λ root. (state : ℕ) × IsHeldBy holders step edge state root) (IsRaisedAt holders step edge)
+    (IsHeldBySome holders step edge) (IsRaisedAt holders step edge)
     first second (λ root. ((λ either. either), (λ either. either)))
 
-module _ (dfa : DfaValue) (finals : List ℕ) (store : Edges) (calls : ℕ) (index : Index)
-    (kept : IsKept dfa finals store calls index) where
+module _ (dfa : DfaValue) (store : Edges) (calls : ℕ) (index : Index)
+    (kept : IsKept dfa store calls index) where
   pub raise_candidates : (edge : EdgeId) (value : ℕ) (sources : List SourceValue)
       (roots : List ℕ) →
       AreRaised index.sources sources index.holders (step_of dfa) edge roots →
-      AreCandidates (Raise edge value) (step_of dfa) finals index
+      AreCandidates (Raise edge value) (step_of dfa) index
       (record { sources = sources; holders = index.holders; dues = index.dues }) roots
   raise_candidates edge value sources roots are =
       let starts = are.starts.1 in
@@ -286,7 +295,6 @@ module _ (dfa : DfaValue) (finals : List ℕ) (store : Edges) (calls : ℕ) (ind
               root_is = new_one.2.root_is ∙ sym new_one.0;
               bare = new_one.2.bare;
               puts = new_one.2.puts;
-              ends = new_one.2.ends finals;
               listed = (exact root).1 (inl (new_one.3, new_one.0));
             }))
             (starts.only root source found);
@@ -306,19 +314,23 @@ module _ (dfa : DfaValue) (finals : List ℕ) (store : Edges) (calls : ℕ) (ind
             (exact root).1 (inr (
               goes.id.state,
               (
-                ap is_some goes.leads,
-                subst (λ (vertex : ℕ). Holds index.holders (node_id vertex goes.id.state) root)
-                    goes.leaves holds,
+                ((kept.sound root source found).tree goes.id node.0 node.1).state,
+                (
+                  ap is_some goes.leads,
+                  subst (λ (vertex : ℕ). Holds index.holders (node_id vertex goes.id.state) root)
+                      goes.leaves holds,
+                ),
               ),
             )))
             goes.place);
         reason = λ root member. ⊎_elim
             (λ (both : IsSome (step_of dfa 0 edge.label) × (root ≡ edge.from)). inl both.1)
-            (λ (has : (state : ℕ) × IsHeldBy index.holders (step_of dfa) edge state root).
-            inr (has.0, (kept.held root (node_id edge.from has.0)).0 has.1.1))
+            (λ (has : IsHeldBySome index.holders (step_of dfa) edge root).
+            inr (has.0, (kept.held root (node_id edge.from has.0)).0 has.1.1.1))
             ((exact root).0 member);
         holders = refl;
         dues = λ root unlisted. refl;
+        still = refl;
       }
 
   -- a node of an optimal tree has one of the automaton's states
@@ -340,7 +352,7 @@ module _ (dfa : DfaValue) (finals : List ℕ) (store : Edges) (calls : ℕ) (ind
 
   pub remove_candidates : (edge : EdgeId) (roots : List ℕ) → IsDfa dfa →
       AreInOrder (IsRemovedAt index.sources index.holders (length dfa.rows) edge) roots →
-      AreCandidates (Remove edge) (step_of dfa) finals index index roots
+      AreCandidates (Remove edge) (step_of dfa) index index roots
   remove_candidates edge roots valid are = record {
     sorted = are.sorted;
     apart = kept.apart;
@@ -359,13 +371,16 @@ module _ (dfa : DfaValue) (finals : List ℕ) (store : Edges) (calls : ℕ) (ind
           id.state,
           state_within valid source.tree id hangs.0 sound.optimal hangs.1,
           (
-            subst (λ (each : NodeId). Holds index.holders each root) at holds,
-            (source, found, subst (HangsBy source.tree edge) at hangs),
+            stands.state,
+            (
+              subst (λ (each : NodeId). Holds index.holders each root) at holds,
+              (source, found, subst (HangsBy source.tree edge) at hangs),
+            ),
           ),
         ));
     reason = λ root member.
         let has = (are.exact root).0 member in
-        let source = has.2.1 in
+        let source = has.2.1.1 in
         record {
           source = source.0;
           id = node_id edge.to has.0;
@@ -374,11 +389,12 @@ module _ (dfa : DfaValue) (finals : List ℕ) (store : Edges) (calls : ℕ) (ind
         };
     holders = refl;
     dues = λ root unlisted. refl;
+    still = refl;
   }
 
   pub expire_candidates : (now : ℕ) (dues : DuesValue) (roots : List ℕ) →
       AreTaken index.dues dues now roots →
-      AreCandidates (Expire now) (step_of dfa) finals index
+      AreCandidates (Expire now) (step_of dfa) index
       (record { sources = index.sources; holders = index.holders; dues = dues }) roots
   expire_candidates now dues roots are = record {
     sorted = are.sorted;
@@ -393,19 +409,20 @@ module _ (dfa : DfaValue) (finals : List ℕ) (store : Edges) (calls : ℕ) (ind
     reason = λ root member. tt;
     holders = refl;
     dues = are.others;
+    still = tt;
   }
 
 -- ---- final states
 
--- those that pass a test below a state more
-pub next_final : (test : ℕ → Bool) (bound : ℕ) (old new : List ℕ) →
-    ((state : ℕ) → Contains old state ↔ ((state < bound) × IsTrue (test state))) →
-    Adds old new (λ each. (each ≡ bound) × IsTrue (test each)) → (state : ℕ) →
-    Contains new state ↔ ((state < bound + 1) × IsTrue (test state))
-next_final test bound old new before adds state = (
+-- those of a kind below a state more
+pub next_final : (kind : ℕ → Type 0) (bound : ℕ) (old new : List ℕ) →
+    ((state : ℕ) → Contains old state ↔ ((state < bound) × kind state)) →
+    Adds old new (λ each. (each ≡ bound) × kind each) → (state : ℕ) →
+    Contains new state ↔ ((state < bound + 1) × kind state)
+next_final kind bound old new before adds state = (
   (λ member. ⊎_elim
       (λ was. let both = (before state).0 was in (omega (arith, both.0), both.1))
-      (λ (both : (state ≡ bound) × IsTrue (test state)). (omega (arith, both.0), both.1))
+      (λ (both : (state ≡ bound) × kind state). (omega (arith, both.0), both.1))
       ((adds state).0 member)),
   (λ both. (adds state).1 (⊎_elim
       (λ (here : state ≡ bound). inr (here, both.1))

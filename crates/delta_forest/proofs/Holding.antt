@@ -1,16 +1,17 @@
 -- Roots that are held anew, and numbers that are noted.
-use Rattle.std.proofs.Common.{◌≡◌, ℕ, ◌≤◌, Bool, true, cond, List, [], ◌∷◌, Option, Some, None, refl, sym, ap, subst, ◌∙◌, inl, inr, ⊎_elim, Contains, arith}
+use Rattle.std.proofs.Common.{◌≡◌, ℕ, ◌≤◌, Bool, true, false, cond, List, [], ◌∷◌, Option, Some, None, refl, sym, ap, subst, ◌∙◌, inl, inr, ⊎_elim, Contains, arith}
 use Rattle.std.specs.Prelude.{◌↔◌, is_some}
-use Rattle.std.proofs.lemmas.Bool.{eq-eqb}
+use Rattle.std.proofs.lemmas.Bool.{eq-eqb, false≢true}
 use Rattle.rpq_base.proofs.Members.{HasOneMore, cons_members, none_in}
 use Rattle.delta_tree.specs.declared.node.NodeId.{NodeId}
-use Rattle.delta_tree.specs.Nodes.{TreeValue, value_of}
+use Rattle.delta_tree.specs.declared.node.Node.{Node}
+use Rattle.delta_tree.specs.Nodes.{TreeValue, node_of, value_of}
 use Rattle.delta_tree.specs.Changes.{IsFloor}
 use Rattle.tree_insert.proofs.Nodes.{node_is, value_is}
 use Rattle.source_index.specs.Dues.{DuesValue, GivesDue, due_of, lowered}
 use Rattle.source_index.specs.Holders.{AddsHolder, DropsHolder, HoldersValue}
 use Rattle.delta_forest.specs.Keeping.{IsDueFor}
-use Rattle.delta_forest.specs.Settling.{HoldsAnew, Stands}
+use Rattle.delta_forest.specs.Settling.{HoldsAnew}
 use Rattle.delta_forest.proofs.Sources.{same_or_not, some_found}
 
 -- a list of one
@@ -20,6 +21,10 @@ one_member one x member =
 
 pub member_one : {X : Type 0} (one x : X) → one ≡ x → Contains (one ∷ []) x
 member_one one x is = (cons_members one [] x).1 (inl is)
+
+-- a node stands there
+abbrev pub Stands : TreeValue → NodeId → Type 0
+Stands tree id = (node : Node) × (node_of tree id ≡ Some node)
 
 -- a node stands exactly where there is a value
 pub stands_or_not : (tree : TreeValue) (id : NodeId) →
@@ -32,14 +37,13 @@ stands_or_not tree id = (
   (λ stands. ap is_some (value_is tree id stands.0 stands.1)),
 )
 
-pub held_added : (old new : HoldersValue) (id : NodeId) (root : ℕ) (tree : TreeValue) →
-    AddsHolder old new id root → Stands tree id → HoldsAnew old new root tree (id ∷ [])
-held_added old new id root tree adds is = record {
-  listed = λ at member.
-      let here = one_member id at member in (
-        (λ holds. subst (Stands tree) here is),
-        (λ stands. (adds at root).1 (inr (sym here, refl))),
-      );
+pub held_added : (old new : HoldersValue) (id : NodeId) (root : ℕ) →
+    AddsHolder old new id root → HoldsAnew old new root true (id ∷ [])
+held_added old new id root adds = record {
+  listed = λ at member. (
+    (λ holds. refl),
+    (λ held. (adds at root).1 (inr (sym (one_member id at member), refl))),
+  );
   unlisted = λ at none. (
     (λ holds. ⊎_elim (λ was. was)
         (λ (both : (at ≡ id) × (root ≡ root)). absurd (none (member_one id at (sym both.0))))
@@ -54,14 +58,13 @@ held_added old new id root tree adds is = record {
   );
 }
 
-pub held_dropped : (old new : HoldersValue) (id : NodeId) (root : ℕ) (tree : TreeValue) →
-    DropsHolder old new id root → (Stands tree id → ⊥) → HoldsAnew old new root tree (id ∷ [])
-held_dropped old new id root tree drops none = record {
-  listed = λ at member.
-      let here = one_member id at member in (
-        (λ holds. absurd (((drops at root).0 holds).1 (sym here, refl))),
-        (λ stands. absurd (none (subst (Stands tree) (sym here) stands))),
-      );
+pub held_dropped : (old new : HoldersValue) (id : NodeId) (root : ℕ) →
+    DropsHolder old new id root → HoldsAnew old new root false (id ∷ [])
+held_dropped old new id root drops = record {
+  listed = λ at member. (
+    (λ holds. absurd (((drops at root).0 holds).1 (sym (one_member id at member), refl))),
+    (λ held. absurd (false≢true held)),
+  );
   unlisted = λ at apart. (
     (λ holds. ((drops at root).0 holds).0),
     (λ holds. (drops at root).1 (holds, λ both. apart (member_one id at (sym both.0)))),
@@ -72,25 +75,25 @@ held_dropped old new id root tree drops none = record {
   );
 }
 
-pub holds_none : (old : HoldersValue) (root : ℕ) (tree : TreeValue) → HoldsAnew old old root tree []
-holds_none old root tree = record {
+pub holds_none : (old : HoldersValue) (root : ℕ) (held : Bool) → HoldsAnew old old root held []
+holds_none old root held = record {
   listed = λ id member. absurd (none_in id member);
   unlisted = λ id none. ((λ holds. holds), (λ holds. holds));
   others = λ id each differ. ((λ holds. holds), (λ holds. holds));
 }
 
-pub holds_more : (old now new : HoldersValue) (root : ℕ) (tree : TreeValue)
-    (done more : List NodeId) (id : NodeId) → HoldsAnew old now root tree done →
-    HoldsAnew now new root tree (id ∷ []) → HasOneMore done id more →
-    HoldsAnew old new root tree more
-holds_more old now new root tree done more id first second one = record {
+pub holds_more : (old now new : HoldersValue) (root : ℕ) (held : Bool)
+    (done more : List NodeId) (id : NodeId) → HoldsAnew old now root held done →
+    HoldsAnew now new root held (id ∷ []) → HasOneMore done id more →
+    HoldsAnew old new root held more
+holds_more old now new root held done more id first second one = record {
   listed = λ at member. ⊎_elim
       (λ (here : id ≡ at). second.listed at (member_one id at here))
       (λ differ.
       let was = first.listed at (⊎_elim (λ there. there)
       (λ here. absurd (differ here)) (one.cases at member)) in
       let is = second.unlisted at (λ member. differ (one_member id at member)) in
-      ((λ holds. was.0 (is.0 holds)), (λ stands. is.1 (was.1 stands))))
+      ((λ holds. was.0 (is.0 holds)), (λ so. is.1 (was.1 so))))
       (same_or_not id at);
   unlisted = λ at none.
       let was = first.unlisted at (λ member. none (one.still at member)) in

@@ -13,7 +13,7 @@ use Rattle.delta_tree.specs.Nodes.{TreeValue}
 use Rattle.tree_insert.specs.Trees.{IsOptimal}
 use Rattle.source_tree.specs.declared.change.EndChange.{EndChange}
 use Rattle.source_tree.specs.declared.change.Reached.{Reached}
-use Rattle.source_tree.specs.Ends.{AreReached, SourceValue, end_at, end_in}
+use Rattle.source_tree.specs.Ends.{AreReached, SourceValue, end_in}
 use Rattle.source_index.specs.Holders.{HoldersValue, Holds}
 use Rattle.source_table.specs.Sources.{AreApart, source_in}
 use Rattle.delta_forest.specs.Forest.{ForestValue, IsEnd, IsIndexed, tree_in}
@@ -23,11 +23,11 @@ use Rattle.delta_forest.specs.declared.index.Index.{Index}
 use Rattle.delta_forest.proofs.Ends.{end_from, ends_are_one}
 use Rattle.delta_forest.proofs.Sources.{all_sources, found_kept, found_some, none_kept, some_found, tree_found}
 
-pub indexed : (dfa : DfaValue) (finals : List ℕ) (store : Edges) (calls number : ℕ) (index : Index)
+pub indexed : (dfa : DfaValue) (store : Edges) (calls number : ℕ) (index : Index)
     (broken : Bool) (touched : List ℕ) (log : List EndChange) →
-    IsKept dfa finals store calls index →
+    IsKept dfa store calls index →
     IsIndexed (forest_with dfa store index.sources number broken touched log)
-indexed dfa finals store calls number index broken touched log kept = record {
+indexed dfa store calls number index broken touched log kept = record {
   optimal = All-map (IsOptimal (value_in store) (step_of dfa))
       (λ (each : SourceValue). each.tree) index.sources
       (all_sources index.sources
@@ -53,9 +53,9 @@ unfolding IsDistinct
 none_apart = tt
 
 -- a forest without edges and sources is kept
-pub kept_new : (dfa : DfaValue) (finals : List ℕ) (store : Edges) (calls : ℕ) (index : Index) →
-    IsEmpty store → index.sources ≡ [] → index.holders ≡ [] → IsKept dfa finals store calls index
-kept_new dfa finals store calls index empty sources holders = record {
+pub kept_new : (dfa : DfaValue) (store : Edges) (calls : ℕ) (index : Index) →
+    IsEmpty store → index.sources ≡ [] → index.holders ≡ [] → IsKept dfa store calls index
+kept_new dfa store calls index empty sources holders = record {
   apart = subst AreApart (sym sources) none_apart;
   sound = λ root source found. absurd (gone root source found);
   some = λ root source found. absurd (gone root source found);
@@ -93,17 +93,17 @@ reached_none dfa store sources calls broken touched log root none = record {
 
 pub reached_some : (dfa : DfaValue) (finals : List ℕ) (store : Edges) (calls : ℕ) (index : Index)
     (broken : Bool) (touched : List ℕ) (log : List EndChange) (root : ℕ) (source : SourceValue)
-    (reached : List Reached) → AreFinals dfa finals → IsKept dfa finals store calls index →
-    source_in index.sources root ≡ Some source → AreReached source reached →
+    (reached : List Reached) → AreFinals dfa finals → IsKept dfa store calls index →
+    source_in index.sources root ≡ Some source → AreReached finals source.tree reached →
     AreReachedFrom (forest_with dfa store index.sources calls broken touched log) root reached
 reached_some dfa finals store calls index broken touched log root source reached are kept found is =
     record {
       exact = λ vertex value. (
         (λ member. subst (IsEnd forest root vertex)
-            (sym (ends vertex) ∙ (is.exact vertex value).0 member) (end vertex)),
+            ((is.exact vertex value).0 member) (end vertex)),
         (λ has. (is.exact vertex value).1
-            (ends vertex ∙ ends_are_one forest root vertex (end_in finals source.tree vertex)
-            (Some value) (end vertex) has)),
+            (ends_are_one forest root vertex (end_in finals source.tree vertex) (Some value)
+            (end vertex) has)),
       );
       sorted = is.sorted;
     }
@@ -111,9 +111,7 @@ reached_some dfa finals store calls index broken touched log root source reached
     forest : ForestValue
     forest = forest_with dfa store index.sources calls broken touched log
 
-    ends : (vertex : ℕ) → end_at source vertex ≡ end_in finals source.tree vertex
-    ends vertex = (kept.sound root source found).ends vertex
-
     end : (vertex : ℕ) → IsEnd forest root vertex (end_in finals source.tree vertex)
     end vertex = end_from forest finals root vertex source.tree are
+        (kept.sound root source found).tree
         (λ state. found_kept index.sources root source found vertex state)

@@ -1,9 +1,9 @@
 -- What is kept before and after a change, and the roots that it touched.
-use Rattle.std.proofs.Common.{◌≡◌, ℕ, ◌<◌, Bool, true, false, List, [], length, filter, Option, Some, None, refl, sym, ap, ◌∙◌, inl, inr, ⊎_elim, Contains, arith}
-use Rattle.std.specs.Prelude.{is_some, slice_index_or, option_map}
+use Rattle.std.proofs.Common.{◌≡◌, ℕ, Bool, true, false, List, [], filter, Option, Some, None, refl, sym, ap, ◌∙◌, inl, inr, ⊎_elim, Contains}
+use Rattle.std.specs.Prelude.{is_some, option_map}
 use Rattle.std.specs.Option.{unwrap_or}
 use Rattle.std.specs.Ordering.{nat_cmp}
-use Rattle.std.proofs.lemmas.Bool.{false≢true, lt-ltb, ltb-true}
+use Rattle.std.proofs.lemmas.Bool.{false≢true}
 use Rattle.std.proofs.lemmas.Option.{none-some, same_Some}
 use Rattle.std.proofs.lemmas.List.Kept.{IsStrictlySortedBy-filter}
 use Rattle.rpq_base.proofs.Members.{kept_members}
@@ -19,13 +19,13 @@ use Rattle.source_tree.specs.declared.change.Change.{Change}
 use Rattle.source_tree.specs.declared.change.Change.TheVariants.{Raise, Remove, Expire}
 use Rattle.source_tree.specs.declared.change.EndChange.{EndChange}
 use Rattle.source_tree.specs.Ends.{SourceValue}
-use Rattle.source_tree.specs.Taking.{HasTaken, IsTouched, TouchesAtMost}
+use Rattle.source_tree.specs.Taking.{HasTaken, IsTouched}
 use Rattle.source_table.specs.Sources.{source_in}
 use Rattle.delta_forest.specs.Forest.{ForestValue}
 use Rattle.delta_forest.specs.Changes.{AreTouched, MayTouch, TakesChange}
 use Rattle.delta_forest.specs.Keeping.{HasNode, forest_with}
 use Rattle.delta_forest.specs.Candidates.{IsFresh, HasReason}
-use Rattle.delta_forest.specs.Settling.{is_touched, touched_at}
+use Rattle.delta_forest.specs.Settling.{touched_at}
 use Rattle.delta_forest.specs.declared.index.Index.{Index}
 use Rattle.delta_forest.proofs.Sources.{found_kept, found_or_not, found_root, kept_of, none_kept}
 use Rattle.delta_forest.proofs.Elsewhere.{bare_or_not, no_value, raise_keeps_nodes}
@@ -44,7 +44,7 @@ module _ {change : Change} {dfa : DfaValue} {finals : List ℕ} {calls : ℕ} {o
       let was = after follows root source found in ⊎_elim
       (λ (is : source_in index.sources root ≡ Some was.before).
       found_kept index.sources root was.before is vertex state)
-      (λ (fresh : IsFresh finals roots index.sources root was.before).
+      (λ (fresh : IsFresh roots index.sources root was.before).
       none_kept index.sources root fresh.none vertex state
       ∙ sym (no_value was.before.tree (node_id vertex state) fresh.bare))
       (follows.are.only root was.before was.found)
@@ -83,13 +83,13 @@ module _ {change : Change} {dfa : DfaValue} {finals : List ℕ} {calls : ℕ} {o
     pub source : SourceValue
     pub found : source_in table root ≡ Some source
     pub listed : Contains roots root
-    pub some : 0 < length source.changed
+    pub some : source.touched ≡ true
 
   touched_value : (source : Option SourceValue) →
-      unwrap_or (option_map is_touched source) false ≡ true →
-      (each : SourceValue) × (source ≡ Some each) × (0 < length each.changed)
+      unwrap_or (option_map (λ (each : SourceValue). each.touched) source) false ≡ true →
+      (each : SourceValue) × (source ≡ Some each) × (each.touched ≡ true)
   touched_value None is = absurd (false≢true is)
-  touched_value (Some source) is = (source, refl, ltb-true 0 (length source.changed) is)
+  touched_value (Some source) is = (source, refl, is)
 
   pub touched_is : (root : ℕ) → Contains (filter (touched_at table) roots) root → IsTouchedAt root
   touched_is root member =
@@ -102,16 +102,19 @@ module _ {change : Change} {dfa : DfaValue} {finals : List ℕ} {calls : ℕ} {o
         some = value.2;
       }
 
-  -- a listed one that wasn't touched has none
+  -- a listed one that isn't among them wasn't touched
   untouched : (root : ℕ) (source : SourceValue) → source_in table root ≡ Some source →
       Contains roots root → (Contains (filter (touched_at table) roots) root → ⊥) →
-      (id : NodeId) → Contains source.changed id → ⊥
-  untouched root source found listed none id member =
-      none ((kept_members roots (touched_at table) root).1 (
+      source.touched ≡ false
+  untouched root source found listed none = by source.touched refl
+    where
+      by : (b : Bool) → source.touched ≡ b → b ≡ false
+      by true is = absurd (none ((kept_members roots (touched_at table) root).1 (
         listed,
-        ap (λ (each : Option SourceValue). unwrap_or (option_map is_touched each) false) found
-            ∙ lt-ltb 0 (length source.changed) (omega (arith, member.1)),
-      ))
+        ap (λ (each : Option SourceValue).
+            unwrap_or (option_map (λ (one : SourceValue). one.touched) each) false) found ∙ is,
+      )))
+      by false is = refl
 
   pub others_kept : (root vertex state : ℕ) →
       (Contains (filter (touched_at table) roots) root → ⊥) →
@@ -125,7 +128,7 @@ module _ {change : Change} {dfa : DfaValue} {finals : List ℕ} {calls : ℕ} {o
       (λ (both : Contains roots root
       × HasTaken change (value_in new) (step_of dfa) finals was.before source).
       ap (λ (node : Option Node). option_map (λ (each : Node). each.value) node)
-      (both.1.touches.others id (untouched root source there.1 both.0 none id)))
+      (both.1.touched.none (untouched root source there.1 both.0 none) id))
       (λ (both : (Contains roots root → ⊥) × (was.before ≡ source)).
       ap (λ (each : SourceValue). value_of each.tree id) (sym both.1))
       was.cases in
@@ -160,17 +163,10 @@ module _ {change : Change} {dfa : DfaValue} {finals : List ℕ} {calls : ℕ} {o
     may : (root : ℕ) → IsTouchedAt root → MayTouch change before_it after_it root
     may root at =
         by change follows.takes (follows.are.reason root at.listed)
-        (first_touched (took root at).touches)
+        ((took root at).touched.some at.some)
       where
         was : IsAfter follows root at.source
         was = after follows root at.source at.found
-
-        first_touched : TouchesAtMost change was.before.tree at.source.tree at.source.changed →
-            (id : NodeId) × IsTouched change was.before.tree at.source.tree id
-        first_touched touches = (
-          slice_index_or at.source.changed 0 (node_id 0 0),
-          touches.touched 0 (node_id 0 0) at.some,
-        )
 
         by : (each : Change) → TakesChange each old new → HasReason each index.sources root →
             (id : NodeId) × IsTouched each was.before.tree at.source.tree id →

@@ -10,7 +10,7 @@ use Rattle.delta_tree.specs.Paths.{HangsBy}
 use Rattle.tree_insert.specs.Trees.{GoesOn}
 use Rattle.source_tree.specs.declared.change.Change.{Change}
 use Rattle.source_tree.specs.declared.change.Change.TheVariants.{Raise, Remove, Expire}
-use Rattle.source_tree.specs.Ends.{SourceValue, HasEnds}
+use Rattle.source_tree.specs.Ends.{SourceValue}
 use Rattle.source_index.specs.Dues.{AllLater, DuesValue, due_of}
 use Rattle.source_index.specs.Holders.{HoldersValue, Holds}
 use Rattle.source_table.specs.Sources.{AreApart, source_in}
@@ -40,13 +40,12 @@ HasReason (Remove edge) sources root = HasHanging sources root edge
 HasReason (Expire now) sources root = ⊤
 
 -- the source is new, and its root one of the list
-pub record IsFresh (finals roots : List ℕ) (sources : List SourceValue) (root : ℕ)
+pub record IsFresh (roots : List ℕ) (sources : List SourceValue) (root : ℕ)
     (source : SourceValue) : Type 0 where
   pub none : source_in sources root ≡ None
   pub root_is : source.tree.root ≡ root
   pub bare : source.tree.nodes ≡ []
   pub puts : source.tree.puts ≡ 0
-  pub ends : HasEnds finals source
   pub listed : Contains roots root
 
 -- a source without nodes that is the root's
@@ -54,7 +53,6 @@ pub record IsBareAt (root : ℕ) (source : SourceValue) : Type 0 where
   pub root_is : source.tree.root ≡ root
   pub bare : source.tree.nodes ≡ []
   pub puts : source.tree.puts ≡ 0
-  pub ends : (finals : List ℕ) → HasEnds finals source
 
 -- the root has a source now, a new one where it had none; the others are as they were
 pub record AddsSource (old new : List SourceValue) (root : ℕ) : Type 0 where
@@ -75,6 +73,11 @@ abbrev pub IsHeldBy : HoldersValue → (ℕ → ℕ → Option ℕ) → EdgeId �
 IsHeldBy holders step edge state root =
     IsSome (step state edge.label) × Holds holders (node_id edge.from state) root
 
+-- so it is with some state but 0, with which no node stands
+abbrev pub IsHeldBySome : HoldersValue → (ℕ → ℕ → Option ℕ) → EdgeId → ℕ → Type 0
+IsHeldBySome holders step edge root =
+    (state : ℕ) × ((0 < state) × IsHeldBy holders step edge state root)
+
 -- the tree of the root hangs there by the edge
 abbrev pub IsHungAt : List SourceValue → EdgeId → NodeId → ℕ → Type 0
 IsHungAt sources edge id root = (source : SourceValue) × (source_in sources root ≡ Some source)
@@ -89,7 +92,7 @@ IsHungBy sources holders edge id root =
 abbrev pub IsRaisedAt : HoldersValue → (ℕ → ℕ → Option ℕ) → EdgeId → ℕ → Type 0
 IsRaisedAt holders step edge root =
     (IsSome (step 0 edge.label) × (root ≡ edge.from))
-    ⊎ ((state : ℕ) × IsHeldBy holders step edge state root)
+    ⊎ IsHeldBySome holders step edge root
 
 -- the roots are in order, each once, and exactly those of the kind
 pub record AreInOrder (kind : ℕ → Type 0) (roots : List ℕ) : Type 0 where
@@ -119,7 +122,8 @@ pub record AreRaised (old new : List SourceValue) (holders : HoldersValue)
 -- those that its removal may touch
 abbrev pub IsRemovedAt : List SourceValue → HoldersValue → ℕ → EdgeId → ℕ → Type 0
 IsRemovedAt sources holders states edge root =
-    (state : ℕ) × (state < states) × IsHungBy sources holders edge (node_id edge.to state) root
+    (state : ℕ) × (state < states)
+    × ((0 < state) × IsHungBy sources holders edge (node_id edge.to state) root)
 
 -- the roots are those whose numbers were at most the clock, in order
 pub record AreTaken (old new : DuesValue) (now : ℕ) (roots : List ℕ) : Type 0 where
@@ -134,16 +138,22 @@ StartsAt (Raise edge value) step sources =
 StartsAt (Remove edge) step sources = ⊤
 StartsAt (Expire now) step sources = ⊤
 
+-- only an expiry takes numbers away
+abbrev pub StaysDue : Change → DuesValue → DuesValue → Type 0
+StaysDue (Raise edge value) old new = new ≡ old
+StaysDue (Remove edge) old new = new ≡ old
+StaysDue (Expire now) old new = ⊤
+
 -- the roots that a change may touch, in order: the change is elsewhere in the trees of all others.
 -- Sources have come in at roots of the list
-pub record AreCandidates (change : Change) (step : ℕ → ℕ → Option ℕ) (finals : List ℕ)
-    (old new : Index) (roots : List ℕ) : Type 0 where
+pub record AreCandidates (change : Change) (step : ℕ → ℕ → Option ℕ) (old new : Index)
+    (roots : List ℕ) : Type 0 where
   pub sorted : IsStrictlySortedBy nat_cmp roots
   pub apart : AreApart new.sources
   pub stays : (root : ℕ) (source : SourceValue) →
       source_in old.sources root ≡ Some source → source_in new.sources root ≡ Some source
   pub only : (root : ℕ) (source : SourceValue) → source_in new.sources root ≡ Some source →
-      (source_in old.sources root ≡ Some source) ⊎ IsFresh finals roots old.sources root source
+      (source_in old.sources root ≡ Some source) ⊎ IsFresh roots old.sources root source
   pub starts : StartsAt change step new.sources
   pub elsewhere : (root : ℕ) (source : SourceValue) →
       source_in old.sources root ≡ Some source → (Contains roots root → ⊥) →
@@ -152,3 +162,4 @@ pub record AreCandidates (change : Change) (step : ℕ → ℕ → Option ℕ) (
   pub holders : new.holders ≡ old.holders
   pub dues : (root : ℕ) → (Contains roots root → ⊥) →
       due_of new.dues root ≡ due_of old.dues root
+  pub still : StaysDue change old.dues new.dues

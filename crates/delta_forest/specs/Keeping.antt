@@ -1,5 +1,5 @@
 -- What a forest keeps between its changes. No public contract cites this file.
-use Rattle.std.specs.Prelude.{◌≡◌, ◌≢◌, ◌↔◌, ℕ, ◌*◌, ◌^◌, ◌≤◌, Bool, List, [], map, Contains, Option, Some, IsSome, IsTrue}
+use Rattle.std.specs.Prelude.{◌≡◌, ◌≢◌, ◌↔◌, ℕ, ◌*◌, ◌^◌, ◌<◌, ◌≤◌, Bool, List, [], map, Contains, Option, Some, IsSome, IsTrue}
 use Rattle.edge_store.specs.declared.edge.EdgeId.{EdgeId}
 use Rattle.edge_store.specs.Edges.{Edges, value_of as value_in}
 use Rattle.dfa_table.specs.DfaValue.{DfaValue, is_final, step_of}
@@ -8,16 +8,17 @@ use Rattle.delta_tree.specs.declared.node.Node.{Node}
 use Rattle.delta_tree.specs.Nodes.{TreeValue, node_of, IsTree}
 use Rattle.tree_insert.specs.Trees.{IsOptimal}
 use Rattle.source_tree.specs.declared.change.EndChange.{EndChange}
-use Rattle.source_tree.specs.Ends.{SourceValue, HasEnds}
+use Rattle.source_tree.specs.Ends.{SourceValue}
 use Rattle.source_index.specs.Holders.{Holds}
 use Rattle.source_index.specs.Dues.{DuesValue, due_of}
 use Rattle.source_table.specs.Sources.{AreApart, source_in}
 use Rattle.delta_forest.specs.Forest.{ForestValue}
 use Rattle.delta_forest.specs.declared.index.Index.{Index}
 
--- these are exactly the final states
+-- these are exactly the final states with which a node can stand
 abbrev pub AreFinals : DfaValue → List ℕ → Type 0
-AreFinals dfa finals = (state : ℕ) → Contains finals state ↔ IsTrue (is_final dfa state)
+AreFinals dfa finals = (state : ℕ) →
+    Contains finals state ↔ ((0 < state) × IsTrue (is_final dfa state))
 
 -- the tree of the root has this node
 pub record HasNode (sources : List SourceValue) (root : ℕ) (id : NodeId) : Type 0 where
@@ -31,22 +32,19 @@ abbrev pub IsDueFor : DuesValue → ℕ → TreeValue → Type 0
 IsDueFor dues root tree = (id : NodeId) (node : Node) → node_of tree id ≡ Some node →
     (number : ℕ) × (due_of dues root ≡ Some number) × (number ≤ node.value)
 
--- a source after so many changes: its tree is optimal for the values, its ends are those of its
--- tree
-pub record IsSound (values : EdgeId → Option ℕ) (step : ℕ → ℕ → Option ℕ) (finals : List ℕ)
-    (calls : ℕ) (source : SourceValue) : Type 0 where
+-- a source after so many changes: its tree is optimal for the values
+pub record IsSound (values : EdgeId → Option ℕ) (step : ℕ → ℕ → Option ℕ) (calls : ℕ)
+    (source : SourceValue) : Type 0 where
   pub tree : IsTree source.tree
   pub optimal : IsOptimal values step source.tree
-  pub ends : HasEnds finals source
   pub puts : source.tree.puts ≤ calls * 2 ^ 64
 
 -- the sources are sound and have nodes, and each edge that leaves the start has one; each node is
 -- held, and nothing else is; each root with nodes has a number that is at most their values
-pub record IsKept (dfa : DfaValue) (finals : List ℕ) (store : Edges) (calls : ℕ) (index : Index)
-    : Type 0 where
+pub record IsKept (dfa : DfaValue) (store : Edges) (calls : ℕ) (index : Index) : Type 0 where
   pub apart : AreApart index.sources
   pub sound : (root : ℕ) (source : SourceValue) → source_in index.sources root ≡ Some source →
-      IsSound (value_in store) (step_of dfa) finals calls source
+      IsSound (value_in store) (step_of dfa) calls source
   pub some : (root : ℕ) (source : SourceValue) → source_in index.sources root ≡ Some source →
       source.tree.nodes ≢ []
   pub sources : (edge : EdgeId) (value state : ℕ) →

@@ -1,15 +1,15 @@
 -- What follows in an index after its sources took a change. No public contract cites this file.
-use Rattle.std.specs.Prelude.{◌≡◌, ◌≢◌, ◌↔◌, ℕ, ◌+◌, Bool, false, nat_lt, List, [], ◌∷◌, ◌++◌, cond, length, filter, flat_map, All, Contains, None, Some, ⊤}
+use Rattle.std.specs.Prelude.{◌≡◌, ◌≢◌, ◌↔◌, ℕ, ◌+◌, Bool, true, false, nat_lt, List, [], ◌∷◌, ◌++◌, cond, length, filter, flat_map, Contains, IsTrue, None, Some}
 use Rattle.std.specs.Option.{option_map, unwrap_or}
 use Rattle.delta_tree.specs.declared.node.NodeId.{NodeId}
-use Rattle.delta_tree.specs.declared.node.Node.{Node}
-use Rattle.delta_tree.specs.Nodes.{TreeValue, node_of, IsTree}
+use Rattle.delta_tree.specs.Nodes.{IsTree}
 use Rattle.edge_store.specs.Edges.{IsEmpty}
 use Rattle.dfa_table.specs.DfaValue.{DfaValue}
 use Rattle.source_tree.specs.declared.change.Change.{Change}
 use Rattle.source_tree.specs.declared.change.Change.TheVariants.{Raise, Remove, Expire}
 use Rattle.source_tree.specs.declared.change.EndChange.{EndChange}
 use Rattle.source_tree.specs.Ends.{SourceValue}
+use Rattle.source_tree.specs.Taking.{is_raise}
 use Rattle.source_index.specs.Dues.{due_of}
 use Rattle.source_index.specs.Holders.{HoldersValue, Holds}
 use Rattle.source_table.specs.Sources.{AreApart, source_in}
@@ -20,58 +20,57 @@ use Rattle.delta_forest.specs.declared.index.Index.{Index}
 use Rattle.delta_forest.specs.declared.index.Findings.{Findings}
 use Rattle.delta_forest.specs.declared.index.State.{State}
 
--- a node stands there
-abbrev pub Stands : TreeValue → NodeId → Type 0
-Stands tree id = (node : Node) × (node_of tree id ≡ Some node)
-
--- after a raise a node stands at a place that it touched
-abbrev pub StandsAfter : Change → TreeValue → NodeId → Type 0
-StandsAfter (Raise edge value) tree id = Stands tree id
-StandsAfter (Remove edge) tree id = ⊤
-StandsAfter (Expire now) tree id = ⊤
-
--- so it is at all places that the last change touched, in the trees of these roots
-abbrev pub StandAfter : Change → List SourceValue → List ℕ → Type 0
-StandAfter change sources roots = (root : ℕ) (source : SourceValue) → Contains roots root →
-    source_in sources root ≡ Some source → All (StandsAfter change source.tree) source.changed
-
--- the root is held at the places of the list where its tree has a node, and elsewhere as before
-pub record HoldsAnew (old new : HoldersValue) (root : ℕ) (tree : TreeValue) (ids : List NodeId)
+-- the root is held at all places of the list, or at none of them, and elsewhere as before
+pub record HoldsAnew (old new : HoldersValue) (root : ℕ) (held : Bool) (ids : List NodeId)
     : Type 0 where
-  pub listed : (id : NodeId) → Contains ids id → Holds new id root ↔ Stands tree id
+  pub listed : (id : NodeId) → Contains ids id → Holds new id root ↔ IsTrue held
   pub unlisted : (id : NodeId) → (Contains ids id → ⊥) → Holds new id root ↔ Holds old id root
   pub others : (id : NodeId) (each : ℕ) → each ≢ root → Holds new id each ↔ Holds old id each
 
--- whether the last change touched the source
-abbrev pub is_touched : SourceValue → Bool
-is_touched source = nat_lt 0 (length source.changed)
+-- the places where nodes of a source came or went, where the last change touched it
+abbrev pub moved_of : SourceValue → List NodeId
+moved_of source = cond source.touched source.moved []
 
--- whether it touched the source of this root
+-- the ends that the last change changed, where it touched the source
+abbrev pub log_of : SourceValue → List EndChange
+log_of source = cond source.touched source.log []
+
+-- whether a node may be due before the number that is noted
+abbrev pub is_sooner : Change → SourceValue → Bool
+is_sooner (Raise edge value) source = nat_lt 0 (length source.moved)
+is_sooner (Remove edge) source = source.touched
+is_sooner (Expire now) source = true
+
+-- whether the last change touched the source of this root
 abbrev pub touched_at : List SourceValue → ℕ → Bool
-touched_at sources root = unwrap_or (option_map is_touched (source_in sources root)) false
+touched_at sources root =
+    unwrap_or (option_map (λ (each : SourceValue). each.touched) (source_in sources root)) false
 
 -- the ends that it changed there
 abbrev pub log_at : List SourceValue → ℕ → List EndChange
-log_at sources root =
-    unwrap_or (option_map (λ (each : SourceValue). each.log) (source_in sources root)) []
+log_at sources root = unwrap_or (option_map log_of (source_in sources root)) []
 
--- the source of this root is followed: its tree is a tree, its nodes are held, and its root has a
--- number that is at most their values
-pub record IsFollowed (old new : Index) (root : ℕ) (source : SourceValue) : Type 0 where
+-- the source of this root is followed after the change: its tree is a tree, its root is held at the
+-- places where nodes came and at none where they went, and where a node may be due sooner, the root
+-- has a number that is at most their values
+pub record IsFollowed (change : Change) (old new : Index) (root : ℕ) (source : SourceValue)
+    : Type 0 where
   pub tree : IsTree source.tree
-  pub listed : (id : NodeId) → Contains source.changed id →
-      Holds new.holders id root ↔ Stands source.tree id
-  pub unlisted : (id : NodeId) → (Contains source.changed id → ⊥) →
+  pub listed : (id : NodeId) → Contains (moved_of source) id →
+      Holds new.holders id root ↔ IsTrue (is_raise change)
+  pub unlisted : (id : NodeId) → (Contains (moved_of source) id → ⊥) →
       Holds new.holders id root ↔ Holds old.holders id root
-  pub due : IsDueFor new.dues root source.tree
+  pub due : is_sooner change source ≡ true → IsDueFor new.dues root source.tree
+  pub same : is_sooner change source ≡ false → due_of new.dues root ≡ due_of old.dues root
 
 -- the holders and the number of a root are as they were
 pub record IsLeft (old new : Index) (root : ℕ) : Type 0 where
   pub held : (id : NodeId) → Holds new.holders id root ↔ Holds old.holders id root
   pub due : due_of new.dues root ≡ due_of old.dues root
 
--- the sources of these roots are followed, and those without nodes are gone; all else is as it was
-pub record AreSettled (old new : Index) (roots : List ℕ) : Type 0 where
+-- the sources of these roots are followed after the change, and those without nodes are gone; all
+-- else is as it was
+pub record AreSettled (change : Change) (old new : Index) (roots : List ℕ) : Type 0 where
   pub apart : AreApart new.sources
   pub kept : (root : ℕ) (source : SourceValue) → source_in old.sources root ≡ Some source →
       source.tree.nodes ≢ [] → source_in new.sources root ≡ Some source
@@ -82,7 +81,7 @@ pub record AreSettled (old new : Index) (roots : List ℕ) : Type 0 where
   pub same : (root : ℕ) → (Contains roots root → ⊥) →
       source_in new.sources root ≡ source_in old.sources root
   pub followed : (root : ℕ) (source : SourceValue) → Contains roots root →
-      source_in old.sources root ≡ Some source → IsFollowed old new root source
+      source_in old.sources root ≡ Some source → IsFollowed change old new root source
   pub absent : (root : ℕ) → source_in old.sources root ≡ None → IsLeft old new root
   pub left : (root : ℕ) → (Contains roots root → ⊥) → IsLeft old new root
 
@@ -94,8 +93,8 @@ pub record AreFound (sources : List SourceValue) (roots : List ℕ) (found : Fin
 
 -- what is found at the source of a root comes behind
 pub record FindsMore (old new : Findings) (source : SourceValue) (root : ℕ) : Type 0 where
-  pub touched : new.touched.items ≡ old.touched.items ++ cond (is_touched source) (root ∷ []) []
-  pub log : new.log.items ≡ old.log.items ++ source.log
+  pub touched : new.touched.items ≡ old.touched.items ++ cond source.touched (root ∷ []) []
+  pub log : new.log.items ≡ old.log.items ++ log_of source
 
 -- the forest that a state is, over an automaton
 abbrev pub forest_of : DfaValue → Bool → State → ForestValue
@@ -115,7 +114,7 @@ pub record Advances (change : Change) (old new : ForestValue) : Type 0 where
 pub record IsIntact (dfa : DfaValue) (finals : List ℕ) (broken : Bool) (state : State)
     : Type 0 where
   pub finals_are : AreFinals dfa finals
-  pub kept : broken ≡ false → IsKept dfa finals state.store state.calls state.index
+  pub kept : broken ≡ false → IsKept dfa state.store state.calls state.index
 
 -- what is found at the root, where it has a source, comes behind
 pub record FindsAt (sources : List SourceValue) (old new : Findings) (root : ℕ) : Type 0 where

@@ -53,9 +53,9 @@ pub(crate) fn advance<R: Threads + Sync, G: Gate>(
     requires few { workers ≤ 64 }
     requires finals { AreFinals dfa.now finals.now }
     requires calls { state.old.calls < 2 ^ 60 }
-    requires kept { IsKept dfa.now finals.now state.old.store state.old.calls state.old.index }
+    requires kept { IsKept dfa.now state.old.store state.old.calls state.old.index }
     ensures kept { OnOk result
-        (IsKept dfa.now finals.now state.new.store state.new.calls state.new.index) }
+        (IsKept dfa.now state.new.store state.new.calls state.new.index) }
     ensures advances { (before after : Bool) → OnOk result (Advances change
         (forest_of dfa.now before state.old) (forest_of dfa.now after state.new)) }
 {

@@ -5,7 +5,7 @@ ghost use Rattle.edge_store.specs.Edges.{Edges};
 ghost use Rattle.dfa_table.specs.DfaValue.{IsDfa, step_of};
 ghost use Rattle.delta_tree.specs.Nodes.{node_id};
 ghost use Rattle.delta_forest.specs.Keeping.{IsKept};
-ghost use Rattle.delta_forest.specs.Candidates.{Adds, AddsSource, AreCandidates, AreInOrder, AreRaised, AreTaken, IsHeldBy, IsHungAt, IsHungBy, IsRemovedAt, StartsBy};
+ghost use Rattle.delta_forest.specs.Candidates.{Adds, AddsSource, AreCandidates, AreInOrder, AreRaised, AreTaken, IsHeldBy, IsHeldBySome, IsHungAt, IsHungBy, IsRemovedAt, StartsBy};
 
 use crate::index::Index;
 use delta_tree::NodeId;
@@ -68,7 +68,8 @@ fn add_held_at(
     Ok(())
 }
 
-/// Adds the roots that are held where the edge leaves, with a state with a step by it.
+/// Adds the roots that are held where the edge leaves, with a state with a step by it. No node
+/// stands with the state 0.
 fn add_held(
     holders: &Holders,
     dfa: &Dfa,
@@ -76,9 +77,9 @@ fn add_held(
     roots: &mut Vec<u32>,
 ) -> Result<(), NoMemory>
     ensures { OnOk result (Adds roots.old.items roots.new.items
-        (λ root. (state : ℕ) × IsHeldBy holders.now (step_of dfa.now) edge state root)) }
+        (IsHeldBySome holders.now (step_of dfa.now) edge)) }
 {
-    for state in 0..dfa.states() {
+    for state in 1..dfa.states() {
         add_held_at(holders, dfa, edge, state, roots)?;
     }
     Ok(())
@@ -168,7 +169,7 @@ fn add_raised(
     Ok(())
 }
 
-/// Adds those that its removal may touch.
+/// Adds those that its removal may touch. No node stands with the state 0.
 fn add_removed(
     sources: &SourceTable,
     holders: &Holders,
@@ -181,7 +182,7 @@ fn add_removed(
     ensures roots { OnOk result (AreInOrder
         (IsRemovedAt sources.now holders.now (length dfa.now.rows) edge) roots.new.items) }
 {
-    for state in 0..dfa.states() {
+    for state in 1..dfa.states() {
         let place = NodeId {
             vertex: edge.to,
             state,
@@ -217,9 +218,8 @@ pub(crate) fn find_candidates(
     change: Change,
     roots: &mut Vec<u32>,
 ) -> Result<(), NoMemory>
-    ensures { (finals : List ℕ) (store : Edges) (calls : ℕ) →
-        IsKept dfa.now finals store calls index.old → OnOk result
-        (AreCandidates change (step_of dfa.now) finals index.old index.new roots.new.items) }
+    ensures { (store : Edges) (calls : ℕ) → IsKept dfa.now store calls index.old →
+        OnOk result (AreCandidates change (step_of dfa.now) index.old index.new roots.new.items) }
 {
     roots.clear();
     match change {

@@ -30,7 +30,7 @@ use std::thread::Threads;
 pub struct Forest {
     alloc: Global,
     dfa: Dfa,
-    /// The final states of the automaton.
+    /// The final states of the automaton but the state 0, with which no node stands.
     finals: Vec<u32>,
     state: State,
     /// Whether a change was begun and not taken to its end.
@@ -62,12 +62,12 @@ fn add_final(dfa: &Dfa, state: u32, finals: &mut Vec<u32>) -> Result<(), Memory>
     Ok(())
 }
 
-/// The final states of an automaton.
+/// The final states of an automaton with which a node can stand: no node stands with the state 0.
 fn finals_of(alloc: Global, dfa: &Dfa) -> Result<Vec<u32>, Memory>
     ensures { IfOk result (λ finals. AreFinals dfa.now finals.items) }
 {
     let mut finals = Vec::new(alloc);
-    for state in 0..dfa.states() {
+    for state in 1..dfa.states() {
         add_final(dfa, state, &mut finals)?;
     }
     Ok(finals)
@@ -202,7 +202,8 @@ impl Forest {
     }
 
     /// The vertices that the root reaches with a final state, in rising order, each with the
-    /// greatest value that is kept for it and a final state. The only error is [`Memory`].
+    /// greatest value that is kept for it and a final state. This goes through all nodes of the
+    /// root's tree. The only error is [`Memory`].
     pub fn reached(&self, x: u32) -> Result<Vec<Reached>, Memory>
         requires { self.now.broken ≡ false }
         ensures { IfOk result (λ reached. AreReachedFrom self.now x reached.items) }
@@ -210,7 +211,7 @@ impl Forest {
         let Some(source) = self.state.index.sources.get(x) else {
             return Ok(Vec::new(self.alloc));
         };
-        match source.reached() {
+        match source.reached(&self.finals) {
             Ok(reached) => Ok(reached),
             Err(NoMemory) => Err(Memory),
         }

@@ -4,7 +4,7 @@ use Rattle.std.specs.Cmp.{nat_eq_equiv}
 use Rattle.std.specs.Prelude.{OnOk, OnErr}
 use Rattle.std.specs.List.{list_any}
 use Rattle.std.specs.Map.{lookup}
-use Rattle.std.specs.Option.{unwrap_or}
+use Rattle.std.specs.Option.{UnwrapsOrElse, unwrap_or}
 use Rattle.std.proofs.lemmas.Map.Views.{Contains-from_any, list_any-from_Contains, exact_unsigned_eq}
 use Rattle.delta_tree.specs.declared.node.NodeId.{NodeId}
 use Rattle.delta_tree.specs.Nodes.{same_node}
@@ -217,3 +217,10 @@ drops_then old kept new id root drops bare sets place each =
       (λ there. (drops place each).0 (subst (λ l. Contains l each) same there)),
       (λ both. subst (λ l. Contains l each) (sym same) ((drops place each).1 both)),
     )
+
+-- what was found, or no roots
+pub found_or_bare : (found : Option (List ℕ)) (bare : List ℕ → Type 0) (roots : List ℕ) →
+    UnwrapsOrElse found bare roots → ((each : List ℕ) → bare each → each ≡ []) →
+    roots ≡ unwrap_or found []
+found_or_bare None bare roots is told = told roots is
+found_or_bare (Some x) bare roots is told = is

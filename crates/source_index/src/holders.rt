@@ -85,7 +85,12 @@ impl Holders {
         ensures added { OnOk result (AddsHolder self.old self.new id root) }
         ensures unchanged { OnErr result (HoldsSame self.old self.new) }
     {
-        let roots = self.places.entry(id)?.or_insert(Roots::new(self.alloc));
+        let alloc = self.alloc;
+        let roots = self.places.entry(id)?.or_insert_with(
+            ||
+                ensures { result ≡ [] }
+            { Roots::new(alloc) },
+        );
         roots.add(root)
     }
 

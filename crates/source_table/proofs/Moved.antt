@@ -1,7 +1,6 @@
 -- Sources from which one was taken, into whose place the last one came.
-use Rattle.std.proofs.Common.{◌≡◌, ◌≢◌, ◌<◌, ◌+◌, ◌-◌, ◌⊎◌, inl, inr, ℕ, Bool, true, false, cond, List, [], ◌∷◌, length, get_or, option_map, Option, None, Some, Result, Ok, Err, slice_get, nat_eq, refl, sym, ap, ◌∙◌, true≢false, arith}
+use Rattle.std.proofs.Common.{◌≡◌, ◌≢◌, ◌<◌, ◌+◌, ◌-◌, ◌⊎◌, inl, inr, ℕ, Bool, true, false, cond, List, [], ◌∷◌, length, get_or, option_map, Option, None, Some, slice_get, nat_eq, refl, sym, ap, ◌∙◌, true≢false, arith}
 use Rattle.std.specs.Cmp.{nat_eq_equiv}
-use Rattle.std.specs.Prelude.{OnOk, OnErr}
 use Rattle.std.proofs.lemmas.Map.Views.{exact_unsigned_eq}
 use Rattle.std.proofs.lemmas.Option.{slice_get-get_or, slice_get_within, slice_get-map}
 use Rattle.std.proofs.lemmas.List.{length-map}
@@ -92,7 +91,7 @@ to_new old new gone moved here j x at other =
     by (inr last) (inr (inr more)) = absurd (omega (arith, last, more, here))
 
 -- the source of the root is gone, and all others are found as before
-pub gives_none : (old new : List SourceValue) (before after : List (ℕ × ℕ)) (gone root : ℕ) →
+pub gives_none : (old new : List SourceValue) (before after : List ℕ) (gone root : ℕ) →
     ArePlaced (roots_of old) before → ArePlaced (roots_of new) after → Moves old new gone →
     place_of before root ≡ Some gone → GivesSource old new root None
 gives_none old new before after gone root placed afterwards moved is each =
@@ -139,7 +138,7 @@ gives_none old new before after gone root placed afterwards moved is each =
 -- ---- the places afterwards
 
 -- the last one was taken
-pub placed_without : (old new : List SourceValue) (before after : List (ℕ × ℕ)) (gone root : ℕ) →
+pub placed_without : (old new : List SourceValue) (before after : List ℕ) (gone root : ℕ) →
     ArePlaced (roots_of old) before → Moves old new gone → place_of before root ≡ Some gone →
     gone + 1 ≡ length old →
     ((each : ℕ) → place_of after each ≡ cond (nat_eq root each) None (place_of before each)) →
@@ -193,7 +192,7 @@ placed_without old new before after gone root placed moved is last update each p
             update each ∙ ap (λ b. cond b None (place_of before each)) apart ∙ was
 
 -- the last one came into the place of another
-pub placed_moved : (old new : List SourceValue) (before after : List (ℕ × ℕ))
+pub placed_moved : (old new : List SourceValue) (before after : List ℕ)
     (gone root moving : ℕ) →
     ArePlaced (roots_of old) before → Moves old new gone → place_of before root ≡ Some gone →
     gone + 1 < length old → slice_get (roots_of new) gone ≡ Some moving →
@@ -278,7 +277,7 @@ placed_moved old new before after gone root moving placed moved is lower came up
         by (inr (inr more)) = kept (λ same. omega (arith, more, same))
 
 -- a root without a place has no source
-pub gives_absent : (sources : List SourceValue) (places : List (ℕ × ℕ)) (root : ℕ) →
+pub gives_absent : (sources : List SourceValue) (places : List ℕ) (root : ℕ) →
     ArePlaced (roots_of sources) places → place_of places root ≡ None →
     GivesSource sources sources root None
 gives_absent sources places root placed none each = by (nat_eq root each) refl
@@ -292,7 +291,7 @@ gives_absent sources places root placed none each = by (nat_eq root each) refl
     by false apart = sym (ap (λ b. cond b None (source_in sources each)) apart)
 
 -- the last root keeps its place while another is taken out
-pub still_last : (old new : List SourceValue) (before between : List (ℕ × ℕ))
+pub still_last : (old new : List SourceValue) (before between : List ℕ)
     (gone root moving : ℕ) →
     ArePlaced (roots_of old) before → Moves old new gone → place_of before root ≡ Some gone →
     gone + 1 < length old → slice_get (roots_of new) gone ≡ Some moving →
@@ -322,9 +321,3 @@ still_last old new before between gone root moving placed moved is lower came up
     ))
     by false apart =
         update moving ∙ ap (λ b. cond b None (place_of before moving)) apart ∙ last
-
--- what a call ensures that can't fail
-pub told : {X E : Type 0} {P : Type 0} (result : Result X E) (found : Option ℕ) (place : ℕ) →
-    found ≡ Some place → OnErr result (found ≡ None) → OnOk result P → P
-told (Ok x) found place is absent so = so
-told (Err e) found place is absent so = absurd (none_or_some place (sym absent ∙ is))

@@ -16,14 +16,14 @@ abbrev pub root_of : SourceValue → ℕ
 root_of source = source.tree.root
 
 -- two places of one root are the same
-pub one_place : (roots : List ℕ) (places : List (ℕ × ℕ)) → ArePlaced roots places →
+pub one_place : (roots : List ℕ) (places : List ℕ) → ArePlaced roots places →
     (root one other : ℕ) → slice_get roots one ≡ Some root → slice_get roots other ≡ Some root →
     one ≡ other
 one_place roots places placed root one other here there =
     some_is_one one other (sym ((placed root one).1 here) ∙ (placed root other).1 there)
 
 -- the source of a root is the one at the root's place
-pub source_at : (sources : List SourceValue) (places : List (ℕ × ℕ)) →
+pub source_at : (sources : List SourceValue) (places : List ℕ) →
     ArePlaced (roots_of sources) places → (place root : ℕ) (source : SourceValue) →
     slice_get sources place ≡ Some source → root_of source ≡ root →
     source_in sources root ≡ Some source
@@ -48,7 +48,7 @@ stands_at sources root source found =
     (place, at, exact_unsigned_eq (root_of source) root passes)
 
 -- this place is that of the root
-pub placed_at : (sources : List SourceValue) (places : List (ℕ × ℕ)) →
+pub placed_at : (sources : List SourceValue) (places : List ℕ) →
     ArePlaced (roots_of sources) places → (place root : ℕ) (source : SourceValue) →
     slice_get sources place ≡ Some source → root_of source ≡ root →
     place_of places root ≡ Some place
@@ -56,14 +56,14 @@ placed_at sources places placed place root source at has =
     (placed root place).1 (mapped root_of sources place source at ∙ ap Some has)
 
 -- the source at the place of a root
-pub at_place : (sources : List SourceValue) (places : List (ℕ × ℕ)) →
+pub at_place : (sources : List SourceValue) (places : List ℕ) →
     ArePlaced (roots_of sources) places → (place root : ℕ) → place_of places root ≡ Some place →
     (source : SourceValue) × (slice_get sources place ≡ Some source) × (root_of source ≡ root)
 at_place sources places placed place root is =
     mapped_from root_of sources place root ((placed root place).0 is)
 
 -- a place is one of the list's
-pub within : (sources : List SourceValue) (places : List (ℕ × ℕ)) →
+pub within : (sources : List SourceValue) (places : List ℕ) →
     ArePlaced (roots_of sources) places → (place root : ℕ) → place_of places root ≡ Some place →
     place < length sources
 within sources places placed place root is =
@@ -71,7 +71,7 @@ within sources places placed place root is =
     slice_get_within sources place source at
 
 -- what is read at the place of a root is its source
-pub read_is : (sources : List SourceValue) (places : List (ℕ × ℕ)) →
+pub read_is : (sources : List SourceValue) (places : List ℕ) →
     ArePlaced (roots_of sources) places → (place root : ℕ) (read : SourceValue) →
     place_of places root ≡ Some place → read ≡ get_or sources place read →
     Some read ≡ source_in sources root
@@ -82,14 +82,14 @@ read_is sources places placed place root read is value =
     ∙ at ∙ sym (source_at sources places placed place root source at has)
 
 -- two roots of one place are the same
-pub root_at : (sources : List SourceValue) (places : List (ℕ × ℕ)) →
+pub root_at : (sources : List SourceValue) (places : List ℕ) →
     ArePlaced (roots_of sources) places → (place one other : ℕ) →
     place_of places one ≡ Some place → place_of places other ≡ Some place → one ≡ other
 root_at sources places placed place one other here there =
     some_is_one one other (sym ((placed one place).0 here) ∙ (placed other place).0 there)
 
 -- where a root has no place there is no source
-pub no_source : (sources : List SourceValue) (places : List (ℕ × ℕ)) →
+pub no_source : (sources : List SourceValue) (places : List ℕ) →
     ArePlaced (roots_of sources) places → (root : ℕ) → place_of places root ≡ None →
     source_in sources root ≡ None
 no_source sources places placed root none = none_from (source_in sources root) (λ source found.
@@ -97,7 +97,7 @@ no_source sources places placed root none = none_from (source_in sources root) (
     none_or_some place (sym none ∙ placed_at sources places placed place root source at has))
 
 -- where there is no source the root has no place
-pub no_place : (sources : List SourceValue) (places : List (ℕ × ℕ)) →
+pub no_place : (sources : List SourceValue) (places : List ℕ) →
     ArePlaced (roots_of sources) places → (root : ℕ) → source_in sources root ≡ None →
     place_of places root ≡ None
 no_place sources places placed root none = none_from (place_of places root) (λ place is.
@@ -105,7 +105,7 @@ no_place sources places placed root none = none_from (place_of places root) (λ 
     none_or_some source (sym none ∙ source_at sources places placed place root source at has))
 
 -- each root is that of one source
-pub are_apart : (roots : List ℕ) (places : List (ℕ × ℕ)) → ArePlaced roots places →
+pub are_apart : (roots : List ℕ) (places : List ℕ) → ArePlaced roots places →
     IsDistinct nat_eq roots
 are_apart roots places placed = IsDistinct-from_apart nat_eq roots (λ i j d less below.
     by i j d less below (nat_eq (get_or roots i d) (get_or roots j d)) refl)
@@ -130,7 +130,7 @@ none_placed root place = ((λ is. absurd (none_or_some place is)), (λ is. absur
 
 -- ---- one source more
 
-pub placed_more : (sources : List SourceValue) (places more : List (ℕ × ℕ)) (source : SourceValue) →
+pub placed_more : (sources : List SourceValue) (places more : List ℕ) (source : SourceValue) →
     ArePlaced (roots_of sources) places → source_in sources (root_of source) ≡ None →
     ((each : ℕ) → place_of more each
     ≡ cond (nat_eq (root_of source) each) (Some (length sources)) (place_of places each)) →

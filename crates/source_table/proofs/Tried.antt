@@ -164,20 +164,20 @@ module _ (change : Change) (values : EdgeId → Option ℕ) (step : ℕ → ℕ 
   -- ---- all sources
 
   -- a chosen source can take the change
-  pub can_take : (sources : List SourceValue) (places : List (ℕ × ℕ)) (roots : List ℕ)
+  pub can_take : (sources : List SourceValue) (places : List ℕ) (roots : List ℕ)
       (place : ℕ) (d : SourceValue) → ArePlaced (roots_of sources) places →
-      AreReady change values step finals roots sources →
+      AreReady change values step roots sources →
       Contains (filter_map (place_of places) roots) place →
-      IsReady change values step finals (get_or sources place d)
+      IsReady change values step (get_or sources place d)
   can_take sources places roots place d placed ready there =
       let (root, among, is) = chosen_from (place_of places) roots place there in
       let (source, at, has) = at_place sources places placed place root is in
-      subst (IsReady change values step finals)
+      subst (IsReady change values step)
       (sym (get_or_from_slice_get sources place source d at))
       (ready root source among (source_at sources places placed place root source at has))
 
   -- the chosen sources took the change
-  pub have_taken : (old new : List SourceValue) (places : List (ℕ × ℕ)) (roots : List ℕ) →
+  pub have_taken : (old new : List SourceValue) (places : List ℕ) (roots : List ℕ) →
       ArePlaced (roots_of old) places → roots_of new ≡ roots_of old →
       ((place : ℕ) (d : SourceValue) → place < length old →
       TriesIf (Contains (filter_map (place_of places) roots) place) change values step finals
@@ -224,7 +224,7 @@ module _ (change : Change) (values : EdgeId → Option ℕ) (step : ℕ → ℕ 
           ∙ sym was
 
 -- the chosen places are those of sources
-pub all_within : (sources : List SourceValue) (places : List (ℕ × ℕ)) (roots : List ℕ) →
+pub all_within : (sources : List SourceValue) (places : List ℕ) (roots : List ℕ) →
     ArePlaced (roots_of sources) places →
     All (λ place. place < length sources) (filter_map (place_of places) roots)
 all_within sources places roots placed k d below =
@@ -262,7 +262,7 @@ from_first chosen change values step finals old new tries place d below =
 -- the chosen sources took the change
 pub all_taken : (chosen : List ℕ) (change : Change) (values : EdgeId → Option ℕ)
     (step : ℕ → ℕ → Option ℕ) (finals : List ℕ) (old new : List SourceValue)
-    (places : List (ℕ × ℕ)) (roots : List ℕ) → ArePlaced (roots_of old) places →
+    (places : List ℕ) (roots : List ℕ) → ArePlaced (roots_of old) places →
     chosen ≡ filter_map (place_of places) roots → length new ≡ length old →
     Tries chosen 0 change values step finals old new → AreSound chosen new →
     HaveTaken change values step finals roots old new

@@ -14,11 +14,11 @@ pub record TriesIf (chosen : Type 0) (change : Change) (values : EdgeId → Opti
   pub other : (chosen → ⊥) → after ≡ before
 
 -- the part begins at this place: its chosen sources can take the change
-abbrev pub CanTry : List ℕ → ℕ → Change → (EdgeId → Option ℕ) → (ℕ → ℕ → Option ℕ) → List ℕ →
+abbrev pub CanTry : List ℕ → ℕ → Change → (EdgeId → Option ℕ) → (ℕ → ℕ → Option ℕ) →
     List SourceValue → Type 0
-CanTry chosen start change values step finals part = (offset : ℕ) (d : SourceValue) →
+CanTry chosen start change values step part = (offset : ℕ) (d : SourceValue) →
     offset < length part → Contains chosen (start + offset) →
-    IsReady change values step finals (slice_index_or part offset d)
+    IsReady change values step (slice_index_or part offset d)
 
 -- the part begins at this place: its chosen sources tried to take the change, and all others are
 -- as they were
@@ -29,11 +29,11 @@ Tries chosen start change values step finals old new = (offset : ℕ) (d : Sourc
     (slice_index_or old offset d) (slice_index_or new offset d)
 
 -- the part begins at `start`: its source at this place can take the change, where it is in the part
-abbrev pub CanTryOne : ℕ → ℕ → Change → (EdgeId → Option ℕ) → (ℕ → ℕ → Option ℕ) → List ℕ →
+abbrev pub CanTryOne : ℕ → ℕ → Change → (EdgeId → Option ℕ) → (ℕ → ℕ → Option ℕ) →
     List SourceValue → Type 0
-CanTryOne place start change values step finals part = (offset : ℕ) (d : SourceValue) →
+CanTryOne place start change values step part = (offset : ℕ) (d : SourceValue) →
     offset < length part → place ≡ start + offset →
-    IsReady change values step finals (slice_index_or part offset d)
+    IsReady change values step (slice_index_or part offset d)
 
 -- the part begins at `start`: its source at this place tried to take the change, and all others are
 -- as they were

@@ -25,10 +25,10 @@ GivesSource old new root source =
 
 -- the sources of these roots can take the change
 abbrev pub AreReady : Change → (EdgeId → Option ℕ) → (ℕ → ℕ → Option ℕ) → List ℕ →
-    List ℕ → List SourceValue → Type 0
-AreReady change values step finals roots sources =
+    List SourceValue → Type 0
+AreReady change values step roots sources =
     (root : ℕ) (source : SourceValue) → Contains roots root →
-    source_in sources root ≡ Some source → IsReady change values step finals source
+    source_in sources root ≡ Some source → IsReady change values step source
 
 -- the sources of these roots took the change, and all others are as they were
 pub record HaveTaken (change : Change) (values : EdgeId → Option ℕ) (step : ℕ → ℕ → Option ℕ)

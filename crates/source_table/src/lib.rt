@@ -7,6 +7,7 @@
 #![tactic(auto)]
 
 mod part;
+mod places;
 mod table;
 
 pub use table::SourceTable;

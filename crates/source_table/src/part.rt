@@ -7,9 +7,9 @@ ghost use Rattle.dfa_table.specs.DfaValue.{step_of};
 ghost use Rattle.source_table.specs.Parts.{AreSound, CanTry, CanTryOne, Tries, TriesOne};
 ghost use Rattle.source_table.specs.Places.{place_of};
 
+use crate::places::Places;
 use dfa_table::Dfa;
 use edge_store::{EdgeStore, NoMemory};
-use indexmap::IndexMap;
 use rpq_io::{Gate, Who};
 use source_tree::{Change, SourceTree};
 use std::alloc::Global;
@@ -19,17 +19,17 @@ use tree_insert::Search;
 
 /// Makes the list that of the places of these roots, of those that have one.
 pub(crate) fn choose(
-    places: &IndexMap<u32, usize>,
+    places: &Places,
     roots: &[u32],
     chosen: &mut Vec<usize>,
 ) -> Result<(), NoMemory>
     ensures { OnOk result
-        (chosen.new.items ≡ filter_map (place_of places.now.entries) roots.now) }
+        (chosen.new.items ≡ filter_map (place_of places.now.marks.items) roots.now) }
 {
     chosen.clear();
     for root in roots {
-        if let Some(place) = places.get(root) {
-            chosen.push(*place)?;
+        if let Some(place) = places.get(*root) {
+            chosen.push(place)?;
         }
     }
     Ok(())
@@ -57,8 +57,7 @@ fn change_one(
     finals: &[u32],
     change: Change,
 )
-    requires { CanTryOne place start change (value_of store.now) (step_of dfa.now) finals.now
-        part.old }
+    requires { CanTryOne place start change (value_of store.now) (step_of dfa.now) part.old }
     ensures len { length part.new ≡ length part.old }
     ensures tries { TriesOne place start change (value_of store.now) (step_of dfa.now) finals.now
         part.old part.new }
@@ -87,7 +86,7 @@ fn change_part(
 )
     requires once { IsDistinct nat_eq chosen.now }
     requires ready { CanTry chosen.now start change (value_of store.now) (step_of dfa.now)
-        finals.now part.old }
+        part.old }
     ensures { Tries chosen.now start change (value_of store.now) (step_of dfa.now) finals.now
         part.old part.new }
 {
@@ -124,7 +123,7 @@ fn change_chunks<R: Threads + Sync, G: Gate>(
     requires some { 0 < size }
     requires covers { length sources.old.items ≤ 64 * size }
     requires once { IsDistinct nat_eq chosen.now }
-    requires ready { CanTry chosen.now 0 change (value_of store.now) (step_of dfa.now) finals.now
+    requires ready { CanTry chosen.now 0 change (value_of store.now) (step_of dfa.now)
         sources.old.items }
     ensures len { length sources.new.items ≡ length sources.old.items }
     ensures tries { Tries chosen.now 0 change (value_of store.now) (step_of dfa.now) finals.now
@@ -136,8 +135,7 @@ fn change_chunks<R: Threads + Sync, G: Gate>(
         size,
         &|start: usize, part: &mut [SourceTree]|
             requires { (0 < size) × (start < 64 * size) × IsDistinct nat_eq chosen.now
-                × CanTry chosen.now start change (value_of store.now) (step_of dfa.now)
-                finals.now part.now }
+                × CanTry chosen.now start change (value_of store.now) (step_of dfa.now) part.now }
             ensures { Tries chosen.entry.now start change (value_of store.entry.now)
                 (step_of dfa.entry.now) finals.entry.now part.entry.now part.exit.now }
         {
@@ -159,7 +157,7 @@ fn change_whole(
     change: Change,
 )
     requires once { IsDistinct nat_eq chosen.now }
-    requires ready { CanTry chosen.now 0 change (value_of store.now) (step_of dfa.now) finals.now
+    requires ready { CanTry chosen.now 0 change (value_of store.now) (step_of dfa.now)
         sources.old.items }
     ensures len { length sources.new.items ≡ length sources.old.items }
     ensures tries { Tries chosen.now 0 change (value_of store.now) (step_of dfa.now) finals.now
@@ -186,7 +184,7 @@ pub(crate) fn change_all<R: Threads + Sync, G: Gate>(
     requires some { 0 < size }
     requires covers { length sources.old.items ≤ 64 * size }
     requires once { IsDistinct nat_eq chosen.now }
-    requires ready { CanTry chosen.now 0 change (value_of store.now) (step_of dfa.now) finals.now
+    requires ready { CanTry chosen.now 0 change (value_of store.now) (step_of dfa.now)
         sources.old.items }
     ensures len { length sources.new.items ≡ length sources.old.items }
     ensures tries { Tries chosen.now 0 change (value_of store.now) (step_of dfa.now) finals.now

@@ -9,9 +9,9 @@ ghost use Rattle.source_tree.specs.Ends.{SourceValue};
 ghost use Rattle.source_table.specs.Sources.{AreApart, AreReady, GivesSource, HaveTaken, roots_of, source_in};
 
 use crate::part::{change_all, check, choose, chunk_size};
+use crate::places::Places;
 use dfa_table::Dfa;
 use edge_store::{EdgeStore, NoMemory};
-use indexmap::IndexMap;
 use rpq_io::Gate;
 use source_tree::{Change, SourceTree};
 use std::alloc::Global;
@@ -27,7 +27,7 @@ pub struct SourceTable {
     alloc: Global,
     sources: Vec<SourceTree>,
     /// The place of each source, by its root.
-    places: IndexMap<u32, usize>,
+    places: Places,
     /// The places of the sources that take a change, in the memory of the changes before.
     chosen: Vec<usize>,
     /// The room of the searches of one worker.
@@ -44,7 +44,7 @@ impl Model for SourceTable {
 
     ghost view = { λ table. table.sources.items };
 
-    ghost invariant = { λ table. ArePlaced (roots_of table.sources.items) table.places.entries };
+    ghost invariant = { λ table. ArePlaced (roots_of table.sources.items) table.places.marks.items };
 }
 
 impl SourceTable {
@@ -55,7 +55,7 @@ impl SourceTable {
         SourceTable {
             alloc,
             sources: Vec::new(alloc),
-            places: IndexMap::new(alloc),
+            places: Places::new(alloc),
             chosen: Vec::new(alloc),
             search: Search::new(alloc),
         }
@@ -66,8 +66,8 @@ impl SourceTable {
         ensures source { option_map (λ source. source.now) result ≡ source_in self.now root }
         ensures apart { AreApart self.now }
     {
-        match self.places.get(&root) {
-            Some(place) => Some(&self.sources[*place]),
+        match self.places.get(root) {
+            Some(place) => Some(&self.sources[place]),
             None => None,
         }
     }
@@ -80,7 +80,7 @@ impl SourceTable {
         ensures unchanged { OnErr result (self.new ≡ self.old) }
     {
         self.sources.reserve(1)?;
-        self.places.insert(source.root(), self.sources.len())?;
+        self.places.add(source.root(), self.sources.len())?;
         self.sources.push_reserved(source);
         Ok(())
     }
@@ -90,11 +90,11 @@ impl SourceTable {
         ensures gone { GivesSource self.old self.new root None }
         ensures apart { AreApart self.new }
     {
-        if let Some(place) = self.places.swap_remove(&root) {
-            self.sources.swap_remove(place);
-            if place < self.sources.len() {
-                // The root has a place, so this needs no memory.
-                let _ = self.places.insert(self.sources[place].root(), place);
+        if let Some(place) = self.places.take(root) {
+            let index = place as usize;
+            self.sources.swap_remove(index);
+            if index < self.sources.len() {
+                self.places.move_to(self.sources[index].root(), place);
             }
         }
     }
@@ -127,8 +127,7 @@ impl SourceTable {
         requires some { 1 ≤ workers }
         requires few { workers ≤ 64 }
         requires sorted { IsStrictlySortedBy nat_cmp roots.now }
-        requires ready { AreReady change (value_of store.now) (step_of dfa.now) finals.now roots.now
-            self.old }
+        requires ready { AreReady change (value_of store.now) (step_of dfa.now) roots.now self.old }
         ensures taken { OnOk result (HaveTaken change (value_of store.now) (step_of dfa.now)
             finals.now roots.now self.old self.new) }
         ensures roots { roots_of self.new ≡ roots_of self.old }

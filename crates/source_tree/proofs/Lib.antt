@@ -1,3 +1,5 @@
-mod Updating
-mod Listing
-mod Changing
+pub mod Telling
+pub mod Shifts
+pub mod Moves
+pub mod Listing
+pub mod Changing

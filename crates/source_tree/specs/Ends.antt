@@ -1,8 +1,6 @@
 -- The ends of the vertices that a tree reaches: the greatest values of their nodes with a final
 -- state.
 use Rattle.std.specs.Prelude.{◌≡◌, ◌≢◌, ◌↔◌, ℕ, Bool, max, List, [], ◌∷◌, map, Contains, AllPairs, Option, None, Some}
-use Rattle.std.specs.Map.{lookup}
-use Rattle.std.specs.Prelude.{◌==◌}
 use Rattle.std.specs.Ordering.{nat_cmp}
 use Rattle.std.specs.List.Sorted.{IsStrictlySortedBy}
 use Rattle.delta_tree.specs.declared.node.NodeId.{NodeId}
@@ -10,13 +8,13 @@ use Rattle.delta_tree.specs.Nodes.{TreeValue, node_id, value_of}
 use Rattle.source_tree.specs.declared.change.EndChange.{EndChange}
 use Rattle.source_tree.specs.declared.change.Reached.{Reached}
 
--- a tree with the end of each vertex that has one; the nodes and the ends that the last change
--- changed; and whether memory ran out in it
+-- a tree, and what the last change did to it: the places where nodes came or went, the ends that
+-- changed, whether it touched the tree, and whether memory ran out in it
 pub record SourceValue : Type 0 where
   pub tree : TreeValue
-  pub ends : List (ℕ × ℕ)
-  pub changed : List NodeId
+  pub moved : List NodeId
   pub log : List EndChange
+  pub touched : Bool
   pub broken : Bool
 
 -- the greater of two numbers that may be there
@@ -34,14 +32,6 @@ greatest (first ∷ rest) = later first (greatest rest)
 abbrev pub end_in : List ℕ → TreeValue → ℕ → Option ℕ
 end_in finals tree vertex =
     greatest (map (λ state. value_of tree (node_id vertex state)) finals)
-
--- the end that a source keeps for a vertex
-abbrev pub end_at : SourceValue → ℕ → Option ℕ
-end_at source vertex = lookup (λ each. vertex == each) source.ends
-
--- the ends that a source keeps are those of its tree
-abbrev pub HasEnds : List ℕ → SourceValue → Type 0
-HasEnds finals source = (vertex : ℕ) → end_at source vertex ≡ end_in finals source.tree vertex
 
 -- the change of the end of a vertex, as seen from a root
 abbrev pub end_change : ℕ → ℕ → Option ℕ → Option ℕ → EndChange
@@ -61,9 +51,10 @@ pub record AreEndChanges (root : ℕ) (before after : ℕ → Option ℕ) (log :
       × (before each.vertex ≢ after each.vertex))
   pub once : AllPairs (λ (first second : EndChange). first.vertex ≢ second.vertex) log
 
--- the list has exactly the vertices with an end, in rising order, each with it
-pub record AreReached (source : SourceValue) (reached : List Reached) : Type 0 where
+-- the list has exactly the vertices with an end, where these are the final states, in rising order,
+-- each with its end
+pub record AreReached (finals : List ℕ) (tree : TreeValue) (reached : List Reached) : Type 0 where
   pub exact : (vertex value : ℕ) →
       Contains reached (record { vertex = vertex; value = value })
-      ↔ (end_at source vertex ≡ Some value)
+      ↔ (end_in finals tree vertex ≡ Some value)
   pub sorted : IsStrictlySortedBy nat_cmp (map (λ (each : Reached). each.vertex) reached)

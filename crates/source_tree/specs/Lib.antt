@@ -1,3 +1,4 @@
 pub mod Ends
+pub mod Listing
 pub mod Taking
-pub mod Updating
+pub mod Telling

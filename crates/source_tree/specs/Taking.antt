@@ -1,14 +1,14 @@
 -- What a change of the store does to a tree.
-use Rattle.std.specs.Prelude.{◌≡◌, ℕ, ◌^◌, ◌<◌, false, List, All, Option}
+use Rattle.std.specs.Prelude.{◌≡◌, ◌≢◌, ◌↔◌, ℕ, ◌^◌, ◌<◌, Bool, false, true, List, All, Contains, Option, is_some}
 use Rattle.edge_store.specs.declared.edge.EdgeId.{EdgeId}
 use Rattle.edge_store.specs.Edges.{above}
 use Rattle.delta_tree.specs.declared.node.NodeId.{NodeId}
-use Rattle.delta_tree.specs.Nodes.{TreeValue}
+use Rattle.delta_tree.specs.Nodes.{TreeValue, node_of, value_of}
 use Rattle.delta_tree.specs.Paths.{IsBelow}
-use Rattle.delta_tree.specs.Changes.{ChangesAtMost, IsDueAt}
+use Rattle.delta_tree.specs.Changes.{IsDueAt}
 use Rattle.tree_insert.specs.Trees.{IsLater, IsOptimal, IsRisen, Keeps, WasOptimal}
 use Rattle.tree_delete.specs.Removal.{KeepsApart, WasOptimalWith}
-use Rattle.source_tree.specs.Ends.{SourceValue, AreEndChanges, HasEnds, end_in}
+use Rattle.source_tree.specs.Ends.{SourceValue, AreEndChanges, end_in}
 use Rattle.source_tree.specs.declared.change.Change.{Change}
 use Rattle.source_tree.specs.declared.change.Change.TheVariants.{Raise, Remove, Expire}
 
@@ -28,11 +28,26 @@ IsTouched (Raise edge value) old new id = IsRisen old new id
 IsTouched (Remove edge) old new id = IsBelow old edge id
 IsTouched (Expire now) old new id = IsDueAt old now id
 
--- these nodes were touched, and all others are as they were
-pub record TouchesAtMost (change : Change) (old new : TreeValue) (ids : List NodeId)
-    : Type 0 where
-  pub touched : All (IsTouched change old new) ids
-  pub others : ChangesAtMost old new ids
+-- where a change touched the tree, some node was touched; where it didn't, all are as they were
+pub record TellsTouched (change : Change) (old new : TreeValue) (touched : Bool) : Type 0 where
+  pub some : touched ≡ true → (id : NodeId) × IsTouched change old new id
+  pub none : touched ≡ false → (id : NodeId) → node_of new id ≡ node_of old id
+
+-- whether a node stands there
+abbrev pub stands : TreeValue → NodeId → Bool
+stands tree id = is_some (value_of tree id)
+
+-- whether the change is one by which nodes come, and none goes; by the others nodes go, and none
+-- comes
+abbrev pub is_raise : Change → Bool
+is_raise (Raise edge value) = true
+is_raise (Remove edge) = false
+is_raise (Expire now) = false
+
+-- the list has exactly the places where a node came or went, which is what such a change does
+pub record AreMoved (change : Change) (old new : TreeValue) (ids : List NodeId) : Type 0 where
+  pub exact : (id : NodeId) → Contains ids id ↔ (stands old id ≢ stands new id)
+  pub way : All (λ id. stands new id ≡ is_raise change) ids
 
 -- what stays as it was, with its parent, its parent edge and its stamp: a node that stood before
 -- with the value that it has now; after a removal a node on whose path the edge didn't stand
@@ -42,21 +57,21 @@ KeepsNodes (Remove edge) old new = KeepsApart old new edge
 KeepsNodes (Expire now) old new = Keeps old new
 
 -- a source can take the change: fewer than 2^126 puts were made on its tree, which was optimal
--- before it, and its ends are those of its tree
+-- before it
 pub record IsReady (change : Change) (values : EdgeId → Option ℕ) (step : ℕ → ℕ → Option ℕ)
-    (finals : List ℕ) (source : SourceValue) : Type 0 where
+    (source : SourceValue) : Type 0 where
   pub puts : source.tree.puts < 2 ^ 126
   pub before : WasOptimalBefore change values step source.tree
-  pub ends : HasEnds finals source
 
 -- a source took the change: its tree is optimal for the values and keeps what the change doesn't
--- touch; its ends are those of its tree; it lists the touched places and exactly the changed ends
+-- touch; it tells whether the change touched it, the places where nodes came or went, and exactly
+-- the changed ends, where these are the final states
 pub record HasTaken (change : Change) (values : EdgeId → Option ℕ) (step : ℕ → ℕ → Option ℕ)
     (finals : List ℕ) (old new : SourceValue) : Type 0 where
   pub optimal : IsOptimal values step new.tree
   pub keeps : KeepsNodes change old.tree new.tree
   pub later : IsLater old.tree new.tree
-  pub ends : HasEnds finals new
-  pub touches : TouchesAtMost change old.tree new.tree new.changed
+  pub touched : TellsTouched change old.tree new.tree new.touched
+  pub moved : AreMoved change old.tree new.tree new.moved
   pub log : AreEndChanges old.tree.root (end_in finals old.tree) (end_in finals new.tree) new.log
   pub unbroken : new.broken ≡ false

@@ -2,20 +2,25 @@
 //!
 //! The end of a vertex is the greatest value of its nodes with a final state: up to when the pair
 //! of source and vertex is an answer, if nothing more comes. A [`SourceTree`] takes each change of
-//! the store of edges ([`SourceTree::take`]) and says which nodes and which ends it changed. The
-//! contract for the layers above: a tree that was optimal before the change is so again, what the
-//! change doesn't touch keeps its place and its stamp, and the list of changed ends is exact.
+//! the store of edges ([`SourceTree::take`]) and says where nodes came or went and which ends it
+//! changed. The contract for the layers above: a tree that was optimal before the change is so
+//! again, what the change doesn't touch keeps its place and its stamp, and both lists are exact.
 //!
-//! A change costs what it costs the tree, and for each place that it touches and whose state is
-//! final a look-up for each final state. The lists of the last change are kept with their memory
-//! where this is for a few places, so that a small change takes none for them.
+//! A change costs what it costs the tree, and a pass over the places that it touched, whose values
+//! before and after are known. Where one state is final, the changed ends follow from these with
+//! no look-up. Where there are more, the places are put in the order of their vertices, and each
+//! vertex takes a look-up for each final state at which its value stayed. No ends are kept. The
+//! lists of the last change are kept with their memory where this is for a few places, so that a
+//! small change takes none for them.
 #![tactic(auto)]
 
 mod change;
 mod ends;
+mod reached;
 mod room;
 mod source;
 mod steps;
+mod told;
 
 pub use change::{Change, EndChange, Reached};
 pub use source::SourceTree;

@@ -2,21 +2,17 @@
 
 ghost use Rattle.std.specs.Prelude.{◌≡◌, []};
 
-use edge_store::NoMemory;
-
 /// The number of places up to which a list keeps its memory. Most changes are small, and there are
 /// many sources.
-const FEW: usize = 4;
+const FEW: usize = 8;
 
-/// Empties the list and makes room for so many places, and for few more at most.
-pub(crate) fn empty_for<T: Drop>(list: &mut Vec<T>, places: usize) -> Result<(), NoMemory>
+/// Empties the list, which so many elements at most will come into. Memory for far more than these
+/// is given back, but for a few places, so that small changes take and give none.
+pub(crate) fn empty_for<T: Drop>(list: &mut Vec<T>, most: usize)
     ensures { list.new.items ≡ [] }
 {
     list.clear();
-    if list.capacity() < places || list.capacity() > places.max(FEW) {
-        // Nothing stands in it, so taking memory anew costs less than letting it grow.
-        list.shrink_to_fit();
+    if list.capacity() > FEW && list.capacity() / 4 > most {
+        list.shrink_to(most.max(FEW));
     }
-    list.reserve_exact(places)?;
-    Ok(())
 }

@@ -1,39 +1,36 @@
 //! The tree of a source.
 
-ghost use Rattle.std.specs.Prelude.{◌≡◌, ◌↔◌, ℕ, List, [], IfOk, IfNone, IfSome, IsTrue, OnOk, OnErr, true, false};
+ghost use Rattle.std.specs.Prelude.{◌≡◌, ◌↔◌, [], IfOk, IfNone, IfSome, IsTrue, OnOk, OnErr, true, false};
 ghost use Rattle.edge_store.specs.Edges.{value_of as value_in};
 ghost use Rattle.dfa_table.specs.DfaValue.{step_of};
 ghost use Rattle.delta_tree.specs.Nodes.{node_id, value_of, IsTree};
 ghost use Rattle.delta_tree.specs.Paths.{HangsBy};
 ghost use Rattle.delta_tree.specs.Changes.{IsFloor};
 ghost use Rattle.tree_insert.specs.Trees.{IsLater};
-ghost use Rattle.source_tree.specs.Ends.{AreReached, HasEnds};
+ghost use Rattle.source_tree.specs.Ends.{AreReached};
 ghost use Rattle.source_tree.specs.Taking.{HasTaken, IsReady};
 
 use crate::change::{Change, EndChange, Reached};
-use crate::ends::{list_ends, update_ends};
+use crate::reached::{list_ends, put_in_order};
 use crate::steps::change_tree;
+use crate::told::{Told, nothing_told};
 use delta_tree::{NodeId, Tree};
 use dfa_table::Dfa;
 use edge_store::{EdgeId, EdgeStore, NoMemory};
-use small_map::SmallMap;
 use std::alloc::Global;
 use std::marker::Model;
 use tree_insert::Search;
 
-/// The tree of a source, with the end of each vertex that it reaches.
+/// The tree of a source, and what the last change did to it.
 ///
 /// Contracts see it as `SourceValue` of `specs/`.
 #[derive(Drop)]
 pub struct SourceTree {
     alloc: Global,
     tree: Tree,
-    /// The end of each vertex that has one.
-    ends: SmallMap<u32, u64>,
-    /// The places that the last change touched.
-    changed: Vec<NodeId>,
-    /// The ends that the last change changed.
-    log: Vec<EndChange>,
+    /// What the last change did to the tree.
+    told: Told,
+    /// Whether memory ran out in the last change.
     broken: bool,
 }
 
@@ -44,9 +41,9 @@ impl Model for SourceTree {
 
     ghost view = { λ source. record {
       tree = source.tree;
-      ends = source.ends;
-      changed = source.changed.items;
-      log = source.log.items;
+      moved = source.told.moved.items;
+      log = source.told.log.items;
+      touched = source.told.touched;
       broken = source.broken;
     } };
 }
@@ -57,15 +54,12 @@ impl SourceTree {
         ensures root { IfOk result (λ source. source.tree.root ≡ root) }
         ensures bare { IfOk result (λ source. source.tree.nodes ≡ []) }
         ensures puts { IfOk result (λ source. source.tree.puts ≡ 0) }
-        ensures ends { IfOk result (λ source. (finals : List ℕ) → HasEnds finals source) }
         ensures unbroken { IfOk result (λ source. source.broken ≡ false) }
     {
         Ok(SourceTree {
             alloc,
             tree: Tree::new(alloc, root)?,
-            ends: SmallMap::new(alloc),
-            changed: Vec::new(alloc),
-            log: Vec::new(alloc),
+            told: nothing_told(alloc),
             broken: false,
         })
     }
@@ -108,28 +102,35 @@ impl SourceTree {
         self.tree.least()
     }
 
-    /// The vertices that have an end, in rising order, each with it. The only error is
-    /// [`NoMemory`].
-    pub fn reached(&self) -> Result<Vec<Reached>, NoMemory>
-        ensures { IfOk result (λ reached. AreReached self.now reached.items) }
+    /// The vertices that have an end, where these are the final states, in rising order, each with
+    /// it. The only error is [`NoMemory`]. It goes through all nodes.
+    pub fn reached(&self, finals: &[u32]) -> Result<Vec<Reached>, NoMemory>
+        ensures { IfOk result (λ reached. AreReached finals.now self.now.tree reached.items) }
     {
-        let mut reached = list_ends(self.alloc, &self.ends)?;
-        reached.sort_unstable_by_key(|each| each.vertex);
+        let mut reached = list_ends(self.alloc, &self.tree, finals)?;
+        put_in_order(&mut reached);
         Ok(reached)
     }
 
-    /// The places whose nodes the last change touched.
-    pub fn changed(&self) -> &[NodeId]
-        ensures { result.now ≡ self.now.changed }
+    /// The places where nodes came or went with the last change.
+    pub fn moved(&self) -> &[NodeId]
+        ensures { result.now ≡ self.now.moved }
     {
-        &self.changed
+        &self.told.moved
     }
 
     /// The ends that the last change changed.
     pub fn log(&self) -> &[EndChange]
         ensures { result.now ≡ self.now.log }
     {
-        &self.log
+        &self.told.log
+    }
+
+    /// Whether the last change touched the tree.
+    pub fn is_touched(&self) -> bool
+        ensures { result ≡ self.now.touched }
+    {
+        self.told.touched
     }
 
     /// Whether memory ran out in the last change.
@@ -149,8 +150,7 @@ impl SourceTree {
         finals: &[u32],
         change: Change,
     ) -> Result<(), NoMemory>
-        requires ready { IsReady change (value_in store.now) (step_of dfa.now) finals.now
-            self.old }
+        requires ready { IsReady change (value_in store.now) (step_of dfa.now) self.old }
         ensures taken { OnOk result (HasTaken change (value_in store.now) (step_of dfa.now)
             finals.now self.old self.new) }
         ensures later { IsLater self.old.tree self.new.tree }
@@ -163,15 +163,9 @@ impl SourceTree {
             &mut self.tree,
             store,
             dfa,
-            change,
-            &mut self.changed,
-        )?;
-        update_ends(
-            &self.tree,
             finals,
-            &mut self.ends,
-            &mut self.log,
-            &self.changed,
+            change,
+            &mut self.told,
         )?;
         self.broken = false;
         Ok(())

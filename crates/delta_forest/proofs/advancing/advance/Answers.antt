@@ -7,12 +7,12 @@ use Rattle.dfa_table.specs.DfaValue.{step_of}
 use Rattle.source_tree.specs.declared.change.EndChange.{EndChange}
 use Rattle.source_table.specs.Sources.{AreReady, HaveTaken}
 use Rattle.delta_forest.specs.Changes.{AreEndChangesOf, AreTouched}
-use Rattle.delta_forest.specs.Settling.{AreFound, AreSettled, StandAfter, forest_of}
+use Rattle.delta_forest.specs.Settling.{AreFound, AreSettled, forest_of}
 use Rattle.delta_forest.specs.declared.index.Index.{Index}
 use Rattle.delta_forest.specs.declared.index.State.{State}
 use Rattle.delta_forest.proofs.ChangedEnds.{are_end_changes}
 use Rattle.delta_forest.proofs.Following.{Follows}
-use Rattle.delta_forest.proofs.Grown.{ready, stand_after}
+use Rattle.delta_forest.proofs.Grown.{ready}
 use Rattle.delta_forest.proofs.KeptTrees.{keeps_trees}
 use Rattle.delta_forest.proofs.Settled.{kept_after}
 use Rattle.delta_forest.proofs.Touched.{are_touched}
@@ -22,7 +22,7 @@ pub change_each-requires-clause-sorted : goal.change_each-requires-clause-sorted
 change_each-requires-clause-sorted g c κs within =
     let state = c.args.state.now in
     let finals = c.args.finals.now in
-    let are = c.in_ok-find_candidates.ensures finals state.store state.calls c.requires.kept in
+    let are = c.in_ok-find_candidates.ensures state.store state.calls c.requires.kept in
     subst (λ (roots : List ℕ). IsStrictlySortedBy nat_cmp roots) (sym c.deref.ensures.value)
     are.sorted
 
@@ -32,9 +32,9 @@ change_each-requires-clause-ready g c κs within =
     let finals = c.args.finals.now in
     let dfa = c.args.dfa.now in
     let grown = c.find_candidates.new.index in
-    let are = c.in_ok-find_candidates.ensures finals state.store state.calls c.requires.kept in
+    let are = c.in_ok-find_candidates.ensures state.store state.calls c.requires.kept in
     subst (λ (roots : List ℕ).
-    AreReady c.args.change (value_of c.take.new.store) (step_of dfa) finals roots grown.sources)
+    AreReady c.args.change (value_of c.take.new.store) (step_of dfa) roots grown.sources)
     (sym c.deref.ensures.value)
     (ready c.requires.kept are c.take.new.store c.in_ok-take.ensures c.requires.calls)
 
@@ -42,7 +42,7 @@ pub settle_all-requires-clause-apart : goal.settle_all-requires-clause-apart
 settle_all-requires-clause-apart g c =
     let state = c.args.state.now in
     let finals = c.args.finals.now in
-    let are = c.in_ok-find_candidates.ensures finals state.store state.calls c.requires.kept in
+    let are = c.in_ok-find_candidates.ensures state.store state.calls c.requires.kept in
     subst (λ (roots : List ℕ). IsDistinct (λ (first second : ℕ). first == second) roots)
     (sym c.change_each.ensures.roots) are.apart
 
@@ -50,23 +50,9 @@ pub settle_all-requires-clause-sorted : goal.settle_all-requires-clause-sorted
 settle_all-requires-clause-sorted g c =
     let state = c.args.state.now in
     let finals = c.args.finals.now in
-    let are = c.in_ok-find_candidates.ensures finals state.store state.calls c.requires.kept in
+    let are = c.in_ok-find_candidates.ensures state.store state.calls c.requires.kept in
     subst (λ (roots : List ℕ). IsStrictlySortedBy nat_cmp roots) (sym c.deref-2.ensures.value)
     are.sorted
-
-pub settle_all-requires-clause-stand : goal.settle_all-requires-clause-stand
-settle_all-requires-clause-stand g c =
-    let state = c.args.state.now in
-    let finals = c.args.finals.now in
-    let step = step_of c.args.dfa.now in
-    let values = value_of c.take.new.store in
-    let before = c.find_candidates.new.index.sources in
-    let after = c.change_each.new.self in
-    let roots = c.find_candidates.new.roots.items in
-    subst (λ (each : List ℕ). StandAfter c.args.change after each) (sym c.deref-2.ensures.value)
-    (stand_after c.args.change values step finals roots before after
-    (subst (λ (each : List ℕ). HaveTaken c.args.change values step finals each before after)
-    c.deref.ensures.value c.in_ok-change_each.ensures.taken) c.change_each.ensures.roots)
 
 pub returns-clause-kept : goal.returns-clause-kept
 returns-clause-kept g c =
@@ -82,12 +68,13 @@ returns-clause-kept g c =
     state.index grown roots table c.settle_all.new.index = record {
       takes = c.in_ok-take.ensures;
       kept = c.requires.kept;
-      are = c.in_ok-find_candidates.ensures finals state.store state.calls c.requires.kept;
+      are = c.in_ok-find_candidates.ensures state.store state.calls c.requires.kept;
       taken = subst (λ (each : List ℕ). HaveTaken c.args.change (value_of c.take.new.store)
           (step_of dfa) finals each grown.sources table) c.deref.ensures.value
           c.in_ok-change_each.ensures.taken;
       same = c.change_each.ensures.roots;
-      settles = subst (λ (each : List ℕ). AreSettled changed c.settle_all.new.index each)
+      settles = subst (λ (each : List ℕ).
+          AreSettled c.args.change changed c.settle_all.new.index each)
           c.deref-2.ensures.value c.in_ok-settle_all.ensures.settled;
       raises = c.raise_elsewhere_keeps_optimal.ensures;
       removes = c.removal_elsewhere_keeps_optimal.ensures;
@@ -108,12 +95,13 @@ returns-clause-advances g c = λ before after.
     state.index grown roots table c.settle_all.new.index = record {
       takes = c.in_ok-take.ensures;
       kept = c.requires.kept;
-      are = c.in_ok-find_candidates.ensures finals state.store state.calls c.requires.kept;
+      are = c.in_ok-find_candidates.ensures state.store state.calls c.requires.kept;
       taken = subst (λ (each : List ℕ). HaveTaken c.args.change (value_of c.take.new.store)
           (step_of dfa) finals each grown.sources table) c.deref.ensures.value
           c.in_ok-change_each.ensures.taken;
       same = c.change_each.ensures.roots;
-      settles = subst (λ (each : List ℕ). AreSettled changed c.settle_all.new.index each)
+      settles = subst (λ (each : List ℕ).
+          AreSettled c.args.change changed c.settle_all.new.index each)
           c.deref-2.ensures.value c.in_ok-settle_all.ensures.settled;
       raises = c.raise_elsewhere_keeps_optimal.ensures;
       removes = c.removal_elsewhere_keeps_optimal.ensures;

@@ -13,5 +13,4 @@ returns c =
       root_is = c.in_ok-source.ensures.root;
       bare = c.in_ok-source.ensures.bare;
       puts = c.in_ok-source.ensures.puts;
-      ends = c.in_ok-source.ensures.ends;
     })

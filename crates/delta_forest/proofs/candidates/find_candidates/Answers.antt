@@ -9,7 +9,7 @@ use Rattle.delta_forest.proofs.Gathering.{expire_candidates, raise_candidates, r
 use Rattle.delta_forest.proofs.candidates.find_candidates.Goals as goal
 
 pub returns-in-Raise : goal.returns-in-Raise
-returns-in-Raise c = λ finals store calls kept.
+returns-in-Raise c = λ store calls kept.
     let index = c.args.index.now in
     let roots = c.add_raised.new.roots.items in
     let new : Index = record {
@@ -18,27 +18,27 @@ returns-in-Raise c = λ finals store calls kept.
       dues = index.dues;
     } in
     subst (λ (change : Change). OnOk c.add_raised.result
-    (AreCandidates change (step_of c.args.dfa.now) finals index new roots))
+    (AreCandidates change (step_of c.args.dfa.now) index new roots))
     (sym c.in-Raise.is)
     (on_ok_weaker c.add_raised.result
-    (raise_candidates c.args.dfa.now finals store calls index kept c.in-Raise.edge
+    (raise_candidates c.args.dfa.now store calls index kept c.in-Raise.edge
     c.in-Raise.value c.add_raised.new.sources roots)
     c.add_raised.ensures)
 
 pub returns-in-Remove : goal.returns-in-Remove
-returns-in-Remove c = λ finals store calls kept.
+returns-in-Remove c = λ store calls kept.
     let index = c.args.index.now in
     let roots = c.add_removed.new.roots.items in
     subst (λ (change : Change). OnOk c.add_removed.result
-    (AreCandidates change (step_of c.args.dfa.now) finals index index roots))
+    (AreCandidates change (step_of c.args.dfa.now) index index roots))
     (sym c.in-Remove.is)
     (on_ok_weaker c.add_removed.result
-    (remove_candidates c.args.dfa.now finals store calls index kept c.in-Remove.edge roots
+    (remove_candidates c.args.dfa.now store calls index kept c.in-Remove.edge roots
     c.add_removed.ensures.valid)
     c.add_removed.ensures.roots)
 
 pub returns-in-Expire : goal.returns-in-Expire
-returns-in-Expire c = λ finals store calls kept.
+returns-in-Expire c = λ store calls kept.
     let index = c.args.index.now in
     let roots = c.add_expired.new.roots.items in
     let new : Index = record {
@@ -47,9 +47,9 @@ returns-in-Expire c = λ finals store calls kept.
       dues = c.add_expired.new.dues;
     } in
     subst (λ (change : Change). OnOk c.add_expired.result
-    (AreCandidates change (step_of c.args.dfa.now) finals index new roots))
+    (AreCandidates change (step_of c.args.dfa.now) index new roots))
     (sym c.in-Expire.is)
     (on_ok_weaker c.add_expired.result
-    (expire_candidates c.args.dfa.now finals store calls index kept c.in-Expire.now
+    (expire_candidates c.args.dfa.now store calls index kept c.in-Expire.now
     c.add_expired.new.dues roots)
     c.add_expired.ensures)

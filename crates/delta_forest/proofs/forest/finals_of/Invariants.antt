@@ -5,5 +5,6 @@ use Rattle.delta_forest.proofs.forest.finals_of.Given as goal
 
 -- the final states so far
 abbrev pub invariant-loop-state : goal.invariant-loop-state
-invariant-loop-state l = (state : ℕ) →
-    Contains l.finals.items state ↔ ((state < l.state) × IsTrue (is_final l.dfa state))
+invariant-loop-state l = (0 < l.state) × ((state : ℕ) →
+    Contains l.finals.items state
+    ↔ ((state < l.state) × ((0 < state) × IsTrue (is_final l.dfa state))))

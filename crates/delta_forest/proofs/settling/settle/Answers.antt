@@ -4,14 +4,8 @@ use Rattle.source_table.specs.Sources.{GivesSource, source_in}
 use Rattle.delta_forest.specs.Settling.{AreSettled, FindsMore}
 use Rattle.delta_forest.specs.declared.index.Index.{Index}
 use Rattle.delta_forest.proofs.Sources.{found_root}
-use Rattle.delta_forest.proofs.Holding.{member_one}
 use Rattle.delta_forest.proofs.Chains.{finds_at_source, settled_gone, settled_kept}
 use Rattle.delta_forest.proofs.settling.settle.Goals as goal
-
-pub follow-requires : goal.follow-requires
-follow-requires c =
-    c.requires.stand c.args.root c.in-Some.source.now (member_one c.args.root c.args.root refl)
-    (sym c.in-Some.ensures.source)
 
 pub returns-then-branch-clause-settled : goal.returns-then-branch-clause-settled
 returns-then-branch-clause-settled c =
@@ -24,10 +18,11 @@ returns-then-branch-clause-settled c =
       holders = c.follow.new.holders;
       dues = c.follow.new.dues;
     } in
-    subst (λ (at : ℕ). AreSettled old new (at ∷ [])) root_is
-    (settled_gone old new source.tree.root source
+    subst (λ (at : ℕ). AreSettled c.args.change old new (at ∷ [])) root_is
+    (settled_gone c.args.change old new source.tree.root source
     (ap (λ (at : ℕ). source_in old.sources at) root_is ∙ found) c.follow.ensures.tree
-    c.in_ok-follow.ensures.held c.in_ok-follow.ensures.due c.follow.ensures.others
+    c.in_ok-follow.ensures.held c.in_ok-follow.ensures.due c.follow.ensures.same
+    c.follow.ensures.others
     c.remove.ensures.apart
     (subst (λ (at : ℕ). GivesSource old.sources new.sources at None) (sym root_is)
     c.remove.ensures.gone)
@@ -54,10 +49,11 @@ returns-else-branch-clause-settled c =
       holders = c.follow.new.holders;
       dues = c.follow.new.dues;
     } in
-    subst (λ (at : ℕ). AreSettled old new (at ∷ [])) root_is
-    (settled_kept old new source.tree.root source
+    subst (λ (at : ℕ). AreSettled c.args.change old new (at ∷ [])) root_is
+    (settled_kept c.args.change old new source.tree.root source
     (ap (λ (at : ℕ). source_in old.sources at) root_is ∙ found) c.follow.ensures.tree
-    c.in_ok-follow.ensures.held c.in_ok-follow.ensures.due c.follow.ensures.others
+    c.in_ok-follow.ensures.held c.in_ok-follow.ensures.due c.follow.ensures.same
+    c.follow.ensures.others
     c.get.ensures.apart refl
     (λ bare. both_ways c.in_ok-follow.field-0 c.if-branch.false
     (c.in_ok-follow.ensures.bare.1 bare)))

@@ -1,27 +1,8 @@
-use Rattle.std.proofs.Common.{◌≡◌, ◌+◌, ◌<◌, ℕ, length, take, get_or, sym, subst, ◌∙◌, Contains, arith}
+use Rattle.std.proofs.Common.{◌≡◌, ◌+◌, ◌<◌, ℕ, length, take, get_or, arith}
 use Rattle.std.proofs.lemmas.List.{get_or_default}
-use Rattle.std.proofs.lemmas.List.Elements.{Contains-get_or}
 use Rattle.rpq_base.proofs.Members.{next_one}
-use Rattle.source_table.specs.Sources.{source_in}
-use Rattle.delta_forest.proofs.Holding.{one_member}
 use Rattle.delta_forest.proofs.Chains.{found_more, next_apart, settled_more}
 use Rattle.delta_forest.proofs.settling.settle_all.Goals as goal
-
-pub settle-requires-clause-stand : goal.settle-requires-clause-stand
-settle-requires-clause-stand c =
-    let roots = c.args.roots.now in
-    let place = c.loop-root.root-index in
-    let root : ℕ = get_or roots place 0 in
-    let within : place < length roots = omega (arith, c.loop-root-test.true) in
-    let is : root ≡ get_or roots place root = get_or_default roots place 0 root within in
-    let apart = next_apart roots place root c.requires.sorted within is in
-    λ each source listed found.
-    let here = one_member root each listed in
-    c.requires.stand each source
-    (subst (Contains roots) here (Contains-get_or roots place 0 within))
-    (sym (subst (λ (at : ℕ). source_in c.loop-root.index.sources at
-    ≡ source_in c.args.index.now.sources at) here (c.loop-root.invariant.settled.same root apart))
-    ∙ found)
 
 pub loop-root-preserved : goal.loop-root-preserved
 loop-root-preserved c =
@@ -32,7 +13,7 @@ loop-root-preserved c =
     let is : root ≡ get_or roots place root = get_or_default roots place 0 root within in
     let apart = next_apart roots place root c.requires.sorted within is in
     record {
-      settled = settled_more c.args.index.now c.loop-root.index c.settle.new.index
+      settled = settled_more c.args.change c.args.index.now c.loop-root.index c.settle.new.index
           (take place roots) (take (place + 1) roots) root c.loop-root.invariant.settled
           c.in_ok-settle.ensures.settled apart (next_one roots place root within is);
       found = found_more c.args.index.now.sources c.loop-root.index.sources roots place root

@@ -5,6 +5,6 @@ use Rattle.delta_forest.proofs.settling.settle_all.Given as goal
 -- the roots so far are settled
 abbrev pub invariant-loop-root : goal.invariant-loop-root
 invariant-loop-root l = record {
-  settled : AreSettled l.fn.index l.index (take l.root-index l.roots);
+  settled : AreSettled l.change l.fn.index l.index (take l.root-index l.roots);
   found : AreFound l.fn.index.sources (take l.root-index l.roots) l.found;
 }

@@ -15,8 +15,7 @@ change_one-requires c offset d below is =
     let more : k < length chosen = omega (arith, c.loop-place-test.true) in
     let within : offset < length c.args.part.now =
     omega (arith, below, c.loop-place.invariant.0) in
-    subst (IsReady c.args.change (value_of c.args.store.now) (step_of c.args.dfa.now)
-    c.args.finals.now)
+    subst (IsReady c.args.change (value_of c.args.store.now) (step_of c.args.dfa.now))
     (sym (untouched c.args.change (value_of c.args.store.now) (step_of c.args.dfa.now)
     c.args.finals.now chosen k 0 (c.args.start + offset) (get_or c.args.part.now offset d)
     (get_or c.loop-place.part offset d) more c.requires.once is

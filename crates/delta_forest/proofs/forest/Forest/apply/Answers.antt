@@ -1,9 +1,14 @@
-use Rattle.std.proofs.Common.{◌≡◌, ◌+◌, false, subst}
+use Rattle.std.proofs.Common.{◌≡◌, ◌+◌, false, sym, subst}
 use Rattle.delta_forest.specs.Forest.{ForestValue}
 use Rattle.delta_forest.specs.Changes.{AreEndChangesOf, AreTouched, TakesChange}
+use Rattle.delta_forest.specs.Keeping.{AreFinals}
 use Rattle.delta_forest.specs.Settling.{forest_of}
 use Rattle.delta_forest.proofs.Indexed.{indexed}
 use Rattle.delta_forest.proofs.forest.Forest.apply.Goals as goal
+
+pub advance-requires-clause-finals : goal.advance-requires-clause-finals
+advance-requires-clause-finals g c κs within =
+    subst (AreFinals c.self.inside.dfa) (sym c.deref.ensures.value) c.self.invariant.finals_are
 
 pub returns-in-Ok-clause-store : goal.returns-in-Ok-clause-store
 returns-in-Ok-clause-store g c =
@@ -14,7 +19,7 @@ returns-in-Ok-clause-store g c =
 pub returns-in-Ok-clause-indexed : goal.returns-in-Ok-clause-indexed
 returns-in-Ok-clause-indexed g c =
     let state = c.advance.new.state in
-    indexed c.self.inside.dfa c.deref.result.now state.store state.calls state.calls state.index
+    indexed c.self.inside.dfa state.store state.calls state.calls state.index
     false state.found.touched.items state.found.log.items c.in-Ok.ensures.kept
 
 pub returns-in-Ok-clause-touched : goal.returns-in-Ok-clause-touched

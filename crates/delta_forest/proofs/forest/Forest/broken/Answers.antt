@@ -8,6 +8,6 @@ returns-clause-indexed c = λ unbroken.
     let inside = c.self.inside in
     let state = inside.state in
     subst IsIndexed c.self.view_is
-    (indexed inside.dfa inside.finals.items state.store state.calls state.calls state.index
+    (indexed inside.dfa state.store state.calls state.calls state.index
     inside.broken state.found.touched.items state.found.log.items
     (c.self.invariant.kept unbroken))

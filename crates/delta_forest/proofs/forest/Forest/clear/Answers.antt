@@ -7,6 +7,6 @@ invariant_of-self c =
     let new = c.clear_state.ensures in
     record {
       finals_are = c.self.invariant.finals_are;
-      kept = λ unbroken. kept_new c.self.inside.dfa c.self.inside.finals.items state.store
+      kept = λ unbroken. kept_new c.self.inside.dfa state.store
           state.calls state.index new.store new.sources new.holders;
     }

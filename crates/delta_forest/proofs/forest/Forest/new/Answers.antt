@@ -7,6 +7,6 @@ invariant_of-result c =
     let new = c.in-Ok.ensures in
     record {
       finals_are = c.in_ok-finals.ensures;
-      kept = λ unbroken. kept_new c.args.dfa c.in_ok-finals.finals.items state.store state.calls
+      kept = λ unbroken. kept_new c.args.dfa state.store state.calls
           state.index new.store new.sources new.holders;
     }

@@ -1,5 +1,6 @@
-use Rattle.std.proofs.Common.{◌≡◌, List, false, [], sym, subst}
+use Rattle.std.proofs.Common.{◌≡◌, ℕ, List, false, [], sym, subst}
 use Rattle.source_tree.specs.declared.change.Reached.{Reached}
+use Rattle.source_tree.specs.Ends.{AreReached}
 use Rattle.delta_forest.specs.Forest.{ForestValue}
 use Rattle.delta_forest.specs.Changes.{AreReachedFrom}
 use Rattle.delta_forest.proofs.Indexed.{reached_none, reached_some}
@@ -25,4 +26,6 @@ returns-in-Ok c =
     c.in-Some.source.now c.in-Ok.reached.items c.self.invariant.finals_are
     (c.self.invariant.kept
     (subst (λ (forest : ForestValue). forest.broken ≡ false) (sym c.self.view_is) c.requires))
-    (sym c.in-Some.ensures.source) c.in-Ok.ensures)
+    (sym c.in-Some.ensures.source)
+    (subst (λ (finals : List ℕ). AreReached finals c.in-Some.source.now.tree
+    c.in-Ok.reached.items) c.deref.ensures.value c.in-Ok.ensures))

@@ -9,13 +9,13 @@ pub invariant_of-self-2 : goal.invariant_of-self-2
 invariant_of-self-2 c =
     let old = c.self.inside.sources.items in
     let source = c.args.source in
-    let places = c.self.inside.places.entries in
-    subst (λ (items : List SourceValue). ArePlaced (roots_of items) c.insert.new.self.entries)
+    let places = c.self.inside.places.marks.items in
+    subst (λ (items : List SourceValue). ArePlaced (roots_of items) c.add.new.self.marks.items)
     (sym (c.push_reserved.ensures.items
     ∙ ap (λ (items : List SourceValue). items ++ source ∷ []) c.reserve.ensures.items))
-    (placed_more old places c.insert.new.self.entries source c.self.invariant
+    (placed_more old places c.add.new.self.marks.items source c.self.invariant
     (ap (λ (all : List SourceValue). source_in all source.tree.root) c.self.view_is ∙ c.requires.new)
-    (λ each. c.in_ok-insert.ensures.updates.0 each
+    (λ each. c.in_ok-add.ensures.given each
     ∙ ap₂ (λ root place. cond (nat_eq root each) (Some place) (place_of places each))
     c.root.ensures.root
     (omega (arith, c.len.ensures, c.reserve.ensures.len, c.self.inside.sources.ok.0))))

@@ -14,18 +14,18 @@ use Rattle.source_table.proofs.table.SourceTable.change_each.Goals as goal
 pub change_all-requires-clause-once : goal.change_all-requires-clause-once
 change_all-requires-clause-once g c κs within =
     subst (IsDistinct nat_eq) (sym (c.deref.ensures.value ∙ c.in_ok-choose.ensures))
-    (chosen_once (place_of c.self.inside.places.entries)
+    (chosen_once (place_of c.self.inside.places.marks.items)
     (λ one other place here there. root_at c.self.inside.sources.items
-    c.self.inside.places.entries c.self.invariant place one other here there)
+    c.self.inside.places.marks.items c.self.invariant place one other here there)
     c.args.roots.now c.requires.sorted)
 
 pub change_all-requires-clause-ready : goal.change_all-requires-clause-ready
 change_all-requires-clause-ready g c κs within offset d below there =
     can_take c.args.change (value_of c.args.store.now) (step_of c.args.dfa.now)
-    c.args.finals.now c.self.inside.sources.items c.self.inside.places.entries
+    c.args.finals.now c.self.inside.sources.items c.self.inside.places.marks.items
     c.args.roots.now offset d c.self.invariant
     (subst (AreReady c.args.change (value_of c.args.store.now) (step_of c.args.dfa.now)
-    c.args.finals.now c.args.roots.now) (sym c.self.view_is) c.requires.ready)
+    c.args.roots.now) (sym c.self.view_is) c.requires.ready)
     (subst (λ (list : List ℕ). Contains list offset)
     (c.deref.ensures.value ∙ c.in_ok-choose.ensures)
     (let same : 0 + offset ≡ offset = omega arith in
@@ -36,14 +36,14 @@ check-requires g c =
     subst (λ (list : List ℕ). All (λ place. place < length c.deref-2.result.now) list)
     (sym (c.deref-3.ensures.value ∙ c.in_ok-choose.ensures))
     (subst (λ count. All (λ place. place < count)
-    (filter_map (place_of c.self.inside.places.entries) c.args.roots.now))
+    (filter_map (place_of c.self.inside.places.marks.items) c.args.roots.now))
     (sym (ap length c.deref-2.ensures.value ∙ c.change_all.ensures.len))
-    (all_within c.self.inside.sources.items c.self.inside.places.entries c.args.roots.now
+    (all_within c.self.inside.sources.items c.self.inside.places.marks.items c.args.roots.now
     c.self.invariant))
 
 pub invariant_of-self-2 : goal.invariant_of-self-2
 invariant_of-self-2 g c =
-    subst (λ (roots : List ℕ). ArePlaced roots c.self.inside.places.entries)
+    subst (λ (roots : List ℕ). ArePlaced roots c.self.inside.places.marks.items)
     (sym (same_roots c.deref.result.now c.args.change (value_of c.args.store.now)
     (step_of c.args.dfa.now) c.args.finals.now c.self.inside.sources.items
     c.change_all.new.sources.items c.change_all.ensures.len c.change_all.ensures.tries))
@@ -59,7 +59,7 @@ returns-clause-taken g c =
     subst (λ (old : List SourceValue). HaveTaken c.args.change values step c.args.finals.now
     c.args.roots.now old new) c.self.view_is
     (all_taken chosen c.args.change values step c.args.finals.now c.self.inside.sources.items
-    new c.self.inside.places.entries c.args.roots.now c.self.invariant
+    new c.self.inside.places.marks.items c.args.roots.now c.self.invariant
     (c.deref.ensures.value ∙ c.in_ok-choose.ensures) c.change_all.ensures.len
     c.change_all.ensures.tries
     (subst (λ (list : List ℕ). AreSound list new)

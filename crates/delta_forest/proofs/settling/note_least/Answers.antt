@@ -1,5 +1,5 @@
 use Rattle.delta_forest.proofs.Holding.{due_noted}
-use Rattle.delta_forest.proofs.settling.note.Goals as goal
+use Rattle.delta_forest.proofs.settling.note_least.Goals as goal
 
 pub returns-in_ok-note-in-Some-clause-due : goal.returns-in_ok-note-in-Some-clause-due
 returns-in_ok-note-in-Some-clause-due c =

@@ -1,0 +1,65 @@
+use Rattle.std.proofs.Common.{List, drop, take, sym, ap, subst}
+use Rattle.std.proofs.lemmas.List.{take-append-drop}
+use Rattle.std.proofs.lemmas.List.Elements.{All-take, All-drop}
+use Rattle.std.proofs.lemmas.List.Sorted.{IsNonDecreasingBy-drop}
+use Rattle.delta_tree.specs.declared.node.Shift.{Shift}
+use Rattle.delta_tree.specs.Changes.{IsShift}
+use Rattle.source_tree.specs.Ends.{end_change}
+use Rattle.source_tree.specs.Telling.{IsRun, Logs}
+use Rattle.source_tree.specs.declared.change.EndChange.{EndChange}
+use Rattle.source_tree.proofs.Shifts.{TellsRuns, WaitsAny, first_is, has_first, is_listed, is_run, none_behind, none_first, runs_end, runs_more, runs_start}
+use Rattle.source_tree.proofs.ends.log_by_runs.Goals as goal
+
+pub loop-first-init : goal.loop-first-init
+loop-first-init c old are order empty =
+    let root = c.args.tree.now.root in
+    let finals = c.args.finals.now in
+    let tree = c.args.tree.now in
+    let shifts = c.args.shifts.now in
+    subst (λ (log : List EndChange). TellsRuns root finals old tree shifts log)
+    (sym empty) (runs_start root finals old tree shifts are order)
+
+pub loop-first-preserved : goal.loop-first-preserved
+loop-first-preserved c old are order empty =
+    let root = c.args.tree.now.root in
+    let finals = c.args.finals.now in
+    let tree = c.args.tree.now in
+    let left = c.loop-first.rest.now in
+    let first = c.in-Some.first.now in
+    let vertex = first.id.vertex in
+    let len = c.run_len.result in
+    let log = c.loop-first.log.items in
+    let next = c.log_end.new.log.items in
+    let tells = c.loop-first.invariant old are order empty in
+    let seam = take-append-drop len left in
+    let whole = subst (λ (shifts : List Shift). TellsRuns root finals old tree shifts log)
+    (sym seam) tells in
+    let none = none_behind left vertex len first tells.order
+    (ap (λ (each : Shift). each.id.vertex) (first_is left first c.in-Some.ensures.value))
+    c.run_len.ensures.end in
+    let waits = subst (λ (shifts : List Shift). WaitsAny shifts vertex) (sym seam)
+    (first.id.state, is_listed left first (has_first left first c.in-Some.ensures.value)) in
+    let those = c.run_len.ensures.run in
+    let run = is_run root finals old tree vertex (take len left) (drop len left) log those none
+    waits whole (All-take (IsShift old tree) len left tells.values) in
+    let ends = c.ends_of-ends.ensures old
+    (subst (IsRun old tree vertex) (sym c.split_at.ensures.front) run) in
+    let logs = subst (λ (change : EndChange). Logs log next change)
+    (λ i. end_change (c.root.ensures.root i) vertex ((ends i).0) ((ends i).1))
+    c.in_ok-log_end.ensures in
+    subst (λ (shifts : List Shift). TellsRuns root finals old tree shifts next)
+    (sym c.split_at.ensures.back)
+    (runs_more root finals old tree vertex (take len left) (drop len left) log those none
+    waits whole next logs (All-drop (IsShift old tree) len left tells.values)
+    (IsNonDecreasingBy-drop (λ (each : Shift). each.id.vertex) len left tells.order))
+
+pub returns : goal.returns
+returns c old are order empty =
+    let root = c.args.tree.now.root in
+    let finals = c.args.finals.now in
+    let tree = c.args.tree.now in
+    let log = c.loop-first.log.items in
+    runs_end root finals old tree log
+    (subst (λ (left : List Shift). TellsRuns root finals old tree left log)
+    (none_first c.loop-first.rest.now c.in_default.ensures.value)
+    (c.loop-first.invariant old are order empty))

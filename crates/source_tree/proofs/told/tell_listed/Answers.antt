@@ -1,0 +1,32 @@
+use Rattle.std.proofs.Common.{rules, Vec, Global, sym, ap, subst, ◌∙◌}
+use Rattle.std.proofs.lemmas.List.Sorted.{IsNonDecreasingBy-from_sort_by_key}
+use Rattle.std.proofs.lemmas.Result.{on_ok_weaker}
+use Rattle.delta_tree.specs.declared.node.Shift.{Shift}
+use Rattle.source_tree.specs.Telling.{IsByVertex, Touches}
+use Rattle.source_tree.proofs.Changing.{touches_moved}
+use Rattle.source_tree.proofs.told.tell_listed.Goals.{then-finals-ne1, else-finals-ne1}
+use Rattle.source_tree.proofs.told.tell_listed.Goals as goal
+
+pub returns : goal.returns
+returns c =
+    let tree = c.args.tree.now in
+    on_ok_weaker c.tell.result
+    (λ tells change old touches. elim c.if-finals-ne1.branch [
+      | then-finals-ne1 w ↦
+          let sorted = w.sort_unstable_by_key.new.self.items in
+          let now = c.deref.ensures.value
+          ∙ ap (λ (all : Vec Shift Global). all.items) w.shifts-is in
+          tells change old
+          (subst (Touches change old tree) (sym now)
+          (touches_moved change old tree c.args.shifts.now.items sorted
+          w.sort_unstable_by_key.ensures.permutation touches))
+          (λ other. subst IsByVertex (sym now)
+          (IsNonDecreasingBy-from_sort_by_key (λ (each : Shift). each.id.vertex) sorted
+          w.sort_unstable_by_key.ensures.sorted (λ a r q k. search rules)))
+      | else-finals-ne1 w ↦
+          let now = c.deref.ensures.value
+          ∙ ap (λ (all : Vec Shift Global). all.items) w.shifts-is in
+          tells change old (subst (Touches change old tree) (sym now) touches)
+          (λ other. absurd (other w.if-finals-ne1.false))
+    ])
+    c.tell.ensures

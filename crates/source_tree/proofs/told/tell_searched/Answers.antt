@@ -1,0 +1,27 @@
+use Rattle.std.proofs.Common.{sym, ap, subst, ◌∙◌}
+use Rattle.std.proofs.lemmas.Result.{on_ok_weaker}
+use Rattle.tree_insert.specs.Waiting.{SearchValue}
+use Rattle.source_tree.specs.Telling.{IsByVertex, Touches}
+use Rattle.source_tree.proofs.Changing.{by_vertex, touches_moved}
+use Rattle.source_tree.proofs.told.tell_searched.Goals.{then-finals-ne1, else-finals-ne1}
+use Rattle.source_tree.proofs.told.tell_searched.Goals as goal
+
+pub returns : goal.returns
+returns c =
+    let tree = c.args.tree.now in
+    on_ok_weaker c.tell.result
+    (λ tells change old touches. elim c.if-finals-ne1.branch [
+      | then-finals-ne1 w ↦
+          let sorted = w.sort_shifts.new.self.shifts in
+          let now = c.shifts.ensures ∙ ap (λ (search : SearchValue). search.shifts) w.search-is in
+          tells change old
+          (subst (Touches change old tree) (sym now)
+          (touches_moved change old tree c.args.search.now.shifts sorted
+          w.sort_shifts.ensures.same touches))
+          (λ other. subst IsByVertex (sym now) (by_vertex sorted w.sort_shifts.ensures.sorted))
+      | else-finals-ne1 w ↦
+          let now = c.shifts.ensures ∙ ap (λ (search : SearchValue). search.shifts) w.search-is in
+          tells change old (subst (Touches change old tree) (sym now) touches)
+          (λ other. absurd (other w.if-finals-ne1.false))
+    ])
+    c.tell.ensures

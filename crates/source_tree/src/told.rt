@@ -1,0 +1,104 @@
+//! What a change did to a tree, as a source tells it.
+
+ghost use Rattle.std.specs.Prelude.{◌≡◌, [], OnOk};
+ghost use Rattle.delta_tree.specs.Nodes.{TreeValue};
+ghost use Rattle.source_tree.specs.Telling.{IsInOrder, Tells, Touches, moved_ids, moves};
+ghost use Rattle.source_tree.specs.declared.change.Change.{Change};
+
+use crate::change::EndChange;
+use crate::ends::log_ends;
+use crate::room::empty_for;
+use delta_tree::{NodeId, Shift, Tree};
+use edge_store::NoMemory;
+use std::alloc::Global;
+use tree_insert::Search;
+
+/// What the last change did to the tree.
+#[derive(Drop)]
+pub(crate) struct Told {
+    /// The places where nodes came or went.
+    pub moved: Vec<NodeId>,
+    /// The ends that changed.
+    pub log: Vec<EndChange>,
+    /// Whether the tree was touched.
+    pub touched: bool,
+}
+
+/// Nothing. It takes no memory.
+pub(crate) fn nothing_told(alloc: Global) -> Told {
+    Told {
+        moved: Vec::new(alloc),
+        log: Vec::new(alloc),
+        touched: false,
+    }
+}
+
+/// Whether a node comes or goes, by the values before and after.
+fn is_moved(before: Option<u64>, after: Option<u64>) -> bool
+    ensures { result ≡ moves before after }
+{
+    before.is_some() != after.is_some()
+}
+
+/// Lists the places where a node came or went, in an empty list.
+fn list_moved(shifts: &[Shift], moved: &mut Vec<NodeId>) -> Result<(), NoMemory>
+    ensures { OnOk result (moved.old.items ≡ [] → moved.new.items ≡ moved_ids shifts.now) }
+{
+    for shift in shifts {
+        if is_moved(shift.before, shift.after) {
+            moved.push(shift.id)?;
+        }
+    }
+    Ok(())
+}
+
+/// Tells what the change did that these shifts are of.
+fn tell(tree: &Tree, finals: &[u32], shifts: &[Shift], told: &mut Told) -> Result<(), NoMemory>
+    ensures { OnOk result ((change : Change) (old : TreeValue) →
+        Touches change old tree.now shifts.now → IsInOrder finals.now shifts.now →
+        Tells change finals.now old tree.now
+        told.new.moved.items told.new.log.items told.new.touched) }
+{
+    told.touched = !shifts.is_empty();
+    empty_for(&mut told.moved, shifts.len());
+    list_moved(shifts, &mut told.moved)?;
+    empty_for(&mut told.log, shifts.len());
+    log_ends(tree, finals, shifts, &mut told.log)
+}
+
+/// Tells what the change did that the search made.
+pub(crate) fn tell_searched(
+    tree: &Tree,
+    finals: &[u32],
+    search: &mut Search,
+    told: &mut Told,
+) -> Result<(), NoMemory>
+    ensures { OnOk result ((change : Change) (old : TreeValue) →
+        Touches change old tree.now search.old.shifts →
+        Tells change finals.now old tree.now
+        told.new.moved.items told.new.log.items told.new.touched) }
+{
+    // Where one state is final, no order is needed.
+    if finals.len() != 1 {
+        search.sort_shifts();
+    }
+    tell(tree, finals, search.shifts(), told)
+}
+
+/// Tells what the change did that these shifts are of, in whatever order.
+pub(crate) fn tell_listed(
+    tree: &Tree,
+    finals: &[u32],
+    shifts: &mut Vec<Shift>,
+    told: &mut Told,
+) -> Result<(), NoMemory>
+    ensures { OnOk result ((change : Change) (old : TreeValue) →
+        Touches change old tree.now shifts.old.items →
+        Tells change finals.now old tree.now
+        told.new.moved.items told.new.log.items told.new.touched) }
+{
+    if finals.len() != 1 {
+        shifts.sort_unstable_by_key(|each| each.id.vertex);
+    }
+    tell(tree, finals, shifts, told)
+}
