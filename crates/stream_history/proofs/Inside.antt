@@ -6,5 +6,9 @@ use Rattle.stream_history.specs.Kept.{journal_of}
 -- the value of these fields
 abbrev pub value : Inside → JournalValue
 value fields =
-    journal_of (record { queries = fields.queries.value.items; streams = fields.streams; cap = fields.cap }) fields.calls.items fields.entries.items
+    journal_of (record {
+      queries = fields.queries.value.items;
+      streams = fields.streams;
+      cap = fields.cap;
+    }) fields.calls.items fields.entries.items
     fields.view.value

@@ -9,4 +9,4 @@ mod Steps
 mod Own
 mod Turns
 mod Answered
-mod FourPasses
+mod AllPasses

@@ -1,5 +1,6 @@
 -- What the answers of the calls say of the lines.
-use Rattle.std.proofs.Common.{◌≡◌, ◌==◌, ℕ, ◌≤◌, Bool, List, [], ◌∷◌, Option, Some, None, length, refl, sym, ap, subst, ◌∙◌, inl, ⊎_elim, arith, Result, Err}
+use Rattle.std.proofs.Common.{◌≡◌, ◌==◌, ℕ, ◌≤◌, Bool, List, [], ◌∷◌, Option, Some, None, length}
+use Rattle.std.proofs.Common.{refl, sym, ap, subst, ◌∙◌, inl, ⊎_elim, arith, Result, Err}
 use Rattle.std.specs.Prelude.{◌↔◌, IsTrue}
 use Rattle.std.proofs.lemmas.Bool.{eqb-true}
 use Rattle.rpq_base.proofs.Members.{cons_members, none_in}
@@ -15,17 +16,20 @@ use Rattle.stream_history.specs.declared.fault.AppendFault.TheVariants.{Closed, 
 use Rattle.stream_history.proofs.Keeping.{goes_on}
 
 -- the reasons of two refusals are the same where these are
-same_reason : (why other : Why) → ◌≡◌ {A = Result ℕ AppendFault} (Err (Closed why)) (Err (Closed other)) → why ≡ other
+same_reason : (why other : Why) →
+    ◌≡◌ {A = Result ℕ AppendFault} (Err (Closed why)) (Err (Closed other)) → why ≡ other
 same_reason why other same = cc
 
-same_cap : (cap other : ℕ) → ◌≡◌ {A = Result ℕ AppendFault} (Err (Full cap)) (Err (Full other)) → cap ≡ other
+same_cap : (cap other : ℕ) → ◌≡◌ {A = Result ℕ AppendFault} (Err (Full cap)) (Err (Full other)) →
+    cap ≡ other
 same_cap cap other same = cc
 
 same_some : (why other : Why) → Some why ≡ Some other → why ≡ other
 same_some why other same = cc
 
 -- closed, for the reason that is kept
-pub closed_for : (lines : List Line) (reason : Option Why) (kept : Why) → IsReason lines reason → reason ≡ Some kept → (why : Why) →
+pub closed_for : (lines : List Line) (reason : Option Why) (kept : Why) → IsReason lines reason →
+    reason ≡ Some kept → (why : Why) →
     ◌≡◌ {A = Result ℕ AppendFault} (Err (Closed kept)) (Err (Closed why)) ↔ IsShutFor lines why
 closed_for lines reason kept are is why = (
   (λ same. (are why).0 (is ∙ ap Some (same_reason kept why same))),
@@ -33,19 +37,25 @@ closed_for lines reason kept are is why = (
 )
 
 -- and so not full
-pub closed_not_full : (journal : JournalValue) (reason : Option Why) (kept : Why) → IsReason journal.lines reason → reason ≡ Some kept → (cap : ℕ) →
+pub closed_not_full : (journal : JournalValue) (reason : Option Why) (kept : Why) →
+    IsReason journal.lines reason → reason ≡ Some kept → (cap : ℕ) →
     ◌≡◌ {A = Result ℕ AppendFault} (Err (Closed kept)) (Err (Full cap)) ↔ IsFullAt journal cap
-closed_not_full journal reason kept are is cap = ((λ same. cc), (λ full. absurd (full.goes_on (kept, (are kept).0 is))))
+closed_not_full journal reason kept are is cap =
+    ((λ same. cc), (λ full. absurd (full.goes_on (kept, (are kept).0 is))))
 
 -- whatever else is answered where there is no reason
-pub not_closed : (result : Result ℕ AppendFault) (lines : List Line) (reason : Option Why) → IsReason lines reason → reason ≡ None → (why : Why) →
+pub not_closed : (result : Result ℕ AppendFault) (lines : List Line) (reason : Option Why) →
+    IsReason lines reason → reason ≡ None → (why : Why) →
     (result ≡ Err (Closed why) → ⊥) → (result ≡ Err (Closed why)) ↔ IsShutFor lines why
-not_closed result lines reason are none why other = ((λ same. absurd (other same)), (λ shut. absurd (goes_on lines reason are none (why, shut))))
+not_closed result lines reason are none why other =
+    ((λ same. absurd (other same)), (λ shut. absurd (goes_on lines reason are none (why, shut))))
 
 -- full, with as many entries as it takes
-pub full_at : (journal : JournalValue) (reason : Option Why) → IsReason journal.lines reason → reason ≡ None →
+pub full_at : (journal : JournalValue) (reason : Option Why) → IsReason journal.lines reason →
+    reason ≡ None →
     length (entries journal.lines) ≡ journal.terms.cap → (cap : ℕ) →
-    ◌≡◌ {A = Result ℕ AppendFault} (Err (Full journal.terms.cap)) (Err (Full cap)) ↔ IsFullAt journal cap
+    ◌≡◌ {A = Result ℕ AppendFault} (Err (Full journal.terms.cap)) (Err (Full cap))
+    ↔ IsFullAt journal cap
 full_at journal reason are none full cap = (
   (λ same. record {
     cap_is = sym (same_cap journal.terms.cap cap same);
@@ -56,10 +66,12 @@ full_at journal reason are none full cap = (
 )
 
 -- the streams have ended where none is open
-pub all_ended : (streams : ℕ) (lines : List Line) (open_streams : List ℕ) (answer : Bool) → AreOpen streams lines open_streams →
+pub all_ended : (streams : ℕ) (lines : List Line) (open_streams : List ℕ) (answer : Bool) →
+    AreOpen streams lines open_streams →
     answer ≡ (length open_streams == 0) → IsTrue answer ↔ AllEnded streams lines
 all_ended streams lines [] answer are is = (
-  (λ said stream within. ⊎_elim (λ ended. ended) (λ has. absurd (none_in stream has)) (are.others stream within)),
+  (λ said stream within. ⊎_elim (λ ended. ended) (λ has. absurd (none_in stream has))
+      (are.others stream within)),
   (λ all. is),
 )
 all_ended streams lines (first ∷ rest) answer are is =
@@ -69,12 +81,17 @@ all_ended streams lines (first ∷ rest) answer are is =
     )
 
 -- a journal whose lists were moved is kept
-pub moved : (journal : JournalValue) (calls new_calls : List Call) (told new_told : List Entry) (open_streams : List ℕ) (reason : Option Why) (room new_room : ℕ) →
-    IsKept journal calls told open_streams reason room → new_calls ≡ calls → new_told ≡ told → room ≤ new_room →
-    IsKept (journal_of journal.terms new_calls new_told journal.view) new_calls new_told open_streams reason new_room
-moved journal calls new_calls told new_told open_streams reason room new_room kept calls_are told_are fits =
+pub moved : (journal : JournalValue) (calls new_calls : List Call) (told new_told : List Entry)
+    (open_streams : List ℕ) (reason : Option Why) (room new_room : ℕ) →
+    IsKept journal calls told open_streams reason room → new_calls ≡ calls → new_told ≡ told →
+    room ≤ new_room →
+    IsKept (journal_of journal.terms new_calls new_told journal.view) new_calls new_told
+    open_streams reason new_room
+moved journal calls new_calls told new_told open_streams reason room new_room kept calls_are
+    told_are fits =
     let here : journal_of journal.terms calls told journal.view ≡ journal =
-    ap (λ (lines : List Line). record { terms = journal.terms; lines = lines; view = journal.view }) (sym kept.lines) in
+    ap (λ (lines : List Line). record { terms = journal.terms; lines = lines; view = journal.view })
+    (sym kept.lines) in
     let more : IsKept journal calls told open_streams reason new_room = record {
       sound = kept.sound;
       lines = kept.lines;
@@ -83,7 +100,11 @@ moved journal calls new_calls told new_told open_streams reason room new_room ke
       shut = kept.shut;
       room = omega (arith, kept.room, fits);
     } in
-    let stays : IsKept (journal_of journal.terms calls told journal.view) calls told open_streams reason new_room =
-    subst (λ (each : JournalValue). IsKept each calls told open_streams reason new_room) (sym here) more in
-    subst (λ (all : List Call). IsKept (journal_of journal.terms all new_told journal.view) all new_told open_streams reason new_room) (sym calls_are)
-    (subst (λ (all : List Entry). IsKept (journal_of journal.terms calls all journal.view) calls all open_streams reason new_room) (sym told_are) stays)
+    let stays : IsKept (journal_of journal.terms calls told journal.view) calls told open_streams
+    reason new_room =
+    subst (λ (each : JournalValue). IsKept each calls told open_streams reason new_room)
+    (sym here) more in
+    subst (λ (all : List Call). IsKept (journal_of journal.terms all new_told journal.view) all
+    new_told open_streams reason new_room) (sym calls_are)
+    (subst (λ (all : List Entry). IsKept (journal_of journal.terms calls all journal.view) calls all
+    open_streams reason new_room) (sym told_are) stays)

@@ -26,13 +26,11 @@ pub record IsPassOf (history : HistoryValue) (pass : PassValue Line Terms) : Typ
   pub rest : IsAtRest history.turns pass
   pub terms : pass.fixed ≡ Some history.terms
 
--- the pass is that of this stream, which hasn't ended, by its own lines
-pub record IsOpenPass (history : HistoryValue) (pass : PassValue Line Terms)
-    (stream : ℕ) : Type 0 where
+-- the pass is that of a stream, which has the pass's number and hasn't ended, by its own lines
+pub record IsOpenPass (history : HistoryValue) (pass : PassValue Line Terms) : Type 0 where
   pub is : IsPassOf history pass
-  pub number : pass.number ≡ stream
-  pub is_stream : IsStream history.terms.streams stream
-  pub goes_on : HasEnded pass.mine stream → ⊥
+  pub is_stream : IsStream history.terms.streams pass.number
+  pub goes_on : HasEnded pass.mine pass.number → ⊥
 
 -- the pass is the engine's
 pub record IsEnginePass (history : HistoryValue) (pass : PassValue Line Terms) : Type 0 where

@@ -44,21 +44,14 @@ pub struct Looked {
 
 impl History {
     /// Appends a tuple of the pass's stream, and answers the position of its entry, counted from 1.
-    /// The stream's number is that of the pass, which has no bytes and so can't tell it.
     ///
     /// The errors are, in this order, [`AppendFault::Closed`] where the history is shut,
     /// [`AppendFault::Full`] where it has as many entries as it takes, and [`AppendFault::Memory`].
     /// It costs a turn.
-    pub fn append<R: Wait>(
-        &self,
-        rt: &R,
-        pass: &mut Pass,
-        stream: u32,
-        tuple: Tuple,
-    ) -> Result<u64, AppendFault>
-        requires { IsOpenPass self.now pass.old stream }
+    pub fn append<R: Wait>(&self, rt: &R, pass: &mut Pass, tuple: Tuple) -> Result<u64, AppendFault>
+        requires { IsOpenPass self.now pass.old }
         ensures line { OnOk result
-            (HasAdded self.now pass.old (append_line stream tuple) pass.new) }
+            (HasAdded self.now pass.old (append_line pass.old.number tuple) pass.new) }
         ensures position { IfOk result (λ position. position ≡ length (entries pass.new.seen)) }
         ensures refused { OnErr result (HasSeen self.now pass.old pass.new) }
         ensures closed { (why : Reason) →
@@ -66,6 +59,7 @@ impl History {
         ensures full { OnErr result ((cap : ℕ) →
             (result ≡ Err (NotAppended.Full cap)) ↔ AreFull self.now.terms pass.new.seen cap) }
     {
+        let stream = pass.number();
         let mut journal = self.turns.take(rt, pass);
         let answer = journal.append(stream, tuple);
         self.turns.give(pass, journal);
@@ -73,10 +67,11 @@ impl History {
     }
 
     /// Ends the pass's stream. It costs a turn, and takes no memory.
-    pub fn end_stream<R: Wait>(&self, rt: &R, pass: &mut Pass, stream: u32)
-        requires { IsOpenPass self.now pass.old stream }
-        ensures { HasAdded self.now pass.old (end_line stream) pass.new }
+    pub fn end_stream<R: Wait>(&self, rt: &R, pass: &mut Pass)
+        requires { IsOpenPass self.now pass.old }
+        ensures { HasAdded self.now pass.old (end_line pass.old.number) pass.new }
     {
+        let stream = pass.number();
         let mut journal = self.turns.take(rt, pass);
         journal.end_stream(stream);
         self.turns.give(pass, journal);

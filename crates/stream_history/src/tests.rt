@@ -1,14 +1,16 @@
-//! A test of the refusals and the look-ups.
+//! A test of a journal: its refusals and its look-ups.
 
-ghost use Rattle.std.specs.Prelude.{◌≡◌, [], IfOk};
-ghost use Rattle.stream_history.specs.Journal.{IsSound};
+ghost use Rattle.std.specs.Prelude.{◌≡◌, ◌≢◌, ℕ, [], IfOk};
+ghost use Rattle.history_model.specs.Lines.{entries, IsShut};
+ghost use Rattle.answer_view.specs.View.{IsViewOf};
+ghost use Rattle.stream_history.specs.Journal.{IsSound, IsOpen};
 
 use crate::{AppendFault, Journal, PublishFault};
 use answer_rows::Rows;
-use answer_view::View;
+use answer_view::{View, plain_view};
 use history_model::Why;
 use path_syntax::read_expr;
-use rpq_base::{Act, Name, Tuple};
+use rpq_base::{Act, Memory, Name, Tuple};
 use rpq_model::{Mode, QueryDef, Window};
 use std::alloc::Global;
 use std::sync::Arc;
@@ -46,23 +48,78 @@ fn small_history(alloc: Global) -> Result<Journal, Fail>
     Ok(Journal::new(alloc, Arc::new(alloc, queries)?, 2, 1, first)?)
 }
 
+/// Appends a tuple that lets time pass.
+fn write(journal: &mut Journal, stream: u32, time: u32) -> Result<u64, AppendFault>
+    requires { IsOpen journal.old stream }
+    ensures open { (other : ℕ) → IsOpen journal.old other → IsOpen journal.new other }
+    ensures goes_on { (IsShut journal.old.lines → ⊥) → IsShut journal.new.lines → ⊥ }
+{
+    journal.append(stream, tick(time))
+}
+
+/// Ends a stream.
+fn end(journal: &mut Journal, stream: u32)
+    requires { IsOpen journal.old stream }
+    ensures open { (other : ℕ) → other ≢ stream → IsOpen journal.old other →
+        IsOpen journal.new other }
+    ensures goes_on { (IsShut journal.old.lines → ⊥) → IsShut journal.new.lines → ⊥ }
+{
+    journal.end_stream(stream);
+}
+
+/// The view over the entries, from scratch.
+fn view_of(alloc: Global, journal: &Journal) -> Result<Arc<View>, Memory>
+    ensures { IfOk result (λ view.
+        IsViewOf journal.now.terms.queries (entries journal.now.lines) view.value) }
+{
+    // Its contract says that the journal keeps its limits.
+    let _length = journal.length();
+    plain_view(alloc, journal.queries(), journal.entries())
+}
+
+/// Publishes the view over the entries.
+fn publish(alloc: Global, journal: &mut Journal) -> Result<(), PublishFault>
+    requires { IsShut journal.old.lines → ⊥ }
+    ensures open { (stream : ℕ) → IsOpen journal.old stream → IsOpen journal.new stream }
+    ensures goes_on { IsShut journal.new.lines → ⊥ }
+{
+    let view = view_of(alloc, journal)?;
+    journal.publish(view)
+}
+
+/// Shuts the history since a write failed.
+fn shut(journal: &mut Journal)
+    requires { IsShut journal.old.lines → ⊥ }
+    ensures { (stream : ℕ) → IsOpen journal.old stream → IsOpen journal.new stream }
+{
+    journal.shut(Why::Write);
+}
+
+/// Whether the history tells that it has one entry, which was published.
+fn tells_one_entry(journal: &Journal) -> bool {
+    let one = journal.length() == 1 && journal.published() == 1;
+    one && journal.entries().len() == 1 && journal.view().position() == 1
+}
+
 /// Whether a history refuses what it should, and tells of its streams what it should.
 fn refuses_and_tells(alloc: Global) -> Result<bool, Fail> {
     let mut journal = small_history(alloc)?;
-    let position = journal.append(1, tick(5))?;
-    let full = journal.append(2, tick(6)) == Err(AppendFault::Full(1));
-    let view = Arc::try_clone(journal.view())?;
-    let behind = journal.publish(view) == Err(PublishFault::Behind(0));
-    journal.end_stream(2);
-    journal.shut(Why::Write);
-    let closed = journal.append(1, tick(7)) == Err(AppendFault::Closed(Why::Write));
-    let ended_early = journal.all_ended();
-    journal.end_stream(1);
-    Ok(position == 1 && full && behind && closed && !ended_early && journal.all_ended())
+    let first = write(&mut journal, 1, 5) == Ok(1);
+    let full = write(&mut journal, 2, 6) == Err(AppendFault::Full(1));
+    let published = publish(alloc, &mut journal) == Ok(());
+    let behind = publish(alloc, &mut journal) == Err(PublishFault::Behind(1));
+    end(&mut journal, 2);
+    let goes_on = !journal.all_ended() && journal.shut_reason().is_none();
+    shut(&mut journal);
+    let closed = write(&mut journal, 1, 7) == Err(AppendFault::Closed(Why::Write));
+    end(&mut journal, 1);
+    let ended = journal.all_ended() && journal.shut_reason() == Some(Why::Write);
+    let refuses = full && behind && closed;
+    Ok(first && published && refuses && goes_on && ended && tells_one_entry(&journal))
 }
 
 #[test]
-fn a_history_refuses_and_tells(rt: HostRuntime) -> Result<(), Fail> {
+fn a_journal_refuses_and_tells(rt: HostRuntime) -> Result<(), Fail> {
     assert!(rt; refuses_and_tells(rt.alloc())?);
     Ok(())
 }

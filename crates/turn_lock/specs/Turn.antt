@@ -1,7 +1,8 @@
 -- The rule of the table under the turns.
 -- Word 0 is how many tickets were drawn. Word 1 is how many turns have ended, which is the ticket
 -- that is served. The one slot has the value.
-use Rattle.std.specs.Prelude.{◌≡◌, ℕ, ◌+◌, ◌%◌, ◌^◌, ◌<◌, ◌≤◌, List, [], ◌∷◌, length, Option, Some, None}
+use Rattle.std.specs.Prelude.{◌≡◌, ℕ, ◌+◌, ◌%◌, ◌^◌, ◌<◌, ◌≤◌, List, [], ◌∷◌, length, Option, Some}
+use Rattle.std.specs.Prelude.{None}
 use Rattle.std.specs.List.{All, Contains}
 use mathlib.Core.Option.{some}
 use lib.ListN.{get_elem?}

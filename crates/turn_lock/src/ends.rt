@@ -22,7 +22,7 @@ impl<V: Kept> Turns<V> {
     /// runs out the value comes back.
     ///
     /// All the memory that the turns ever need is asked for here: two words, room for the value,
-    /// and the list of the passes, which have no bytes.
+    /// and the list of the passes, four bytes for each.
     pub fn new(
         alloc: Global,
         value: V,
@@ -65,12 +65,13 @@ impl<V: Kept> Turns<V> {
         ensures { (fixed : _) → seat.me.0.known.fixed ≡ Some fixed
             → dealt.new.items ≡ newcomers self.now.id fixed self.now.passes }
     {
-        for _ in 1..self.passes {
+        let last = self.passes - 1;
+        for number in 0..last {
             let next = self.table.shared.split_seat::<Cut>(&mut seat);
-            dealt.push_reserved(Pass { seat });
+            dealt.push_reserved(Pass { seat, number });
             seat = next;
         }
-        dealt.push_reserved(Pass { seat });
+        dealt.push_reserved(Pass { seat, number: last });
     }
 
     /// Ends the turns, and answers the value. All that the passes knew is so of it, and it has no
@@ -104,8 +105,8 @@ impl<V: Kept> Turns<V> {
         let Some(first) = passes.next() else {
             unreachable!()
         };
-        let Pass { mut seat } = first;
-        for Pass { seat: other } in passes {
+        let Pass { mut seat, .. } = first;
+        for Pass { seat: other, .. } in passes {
             self.table.shared.join_seat::<Glue>(&mut seat, other);
         }
         seat

@@ -1,11 +1,13 @@
 //! What one thread takes its turns with.
+ghost use Rattle.std.specs.Prelude.{◌≡◌};
+
 use crate::kept::Kept;
 use crate::view::View;
 use atomic_table::Seat;
 use std::marker::Model;
 
-/// A pass of some [`Turns`](crate::Turns), by which a thread takes its turns. It has no bytes, and
-/// may go to another thread.
+/// A pass of some [`Turns`](crate::Turns), by which a thread takes its turns. It is four bytes, its
+/// number, and may go to another thread.
 ///
 /// Contracts see it as the record of its number, the lines that it had seen at the end of its last
 /// turn, its own lines among them, the value's fixed part, and the lines that its turn found where
@@ -13,6 +15,7 @@ use std::marker::Model;
 #[derive(Drop)]
 pub struct Pass<V: Kept> {
     pub(crate) seat: Seat<Option<V>, View<V::Line, V::Fixed>>,
+    pub(crate) number: u32,
 }
 
 impl<V: Kept> Model for Pass<V> {
@@ -25,5 +28,15 @@ impl<V: Kept> Model for Pass<V> {
     ghost view = { λ p. pass_of p.seat.table_id p.seat.me.0 };
 
     ghost invariant = { λ p.
-        IsBetweenSteps p.seat.me.0.stage p.seat.me.1 × (p.seat.me.0.heard ≡ []) };
+        IsBetweenSteps p.seat.me.0.stage p.seat.me.1 × (p.seat.me.0.heard ≡ [])
+        × (p.seat.me.0.known.number ≡ p.number) };
+}
+
+impl<V: Kept> Pass<V> {
+    /// Its number, counted from 0 in the order in which the passes were made.
+    pub fn number(&self) -> u32
+        ensures { result ≡ self.now.number }
+    {
+        self.number
+    }
 }

@@ -1,6 +1,7 @@
 //! The rule of the table, and what each step on it tells.
 ghost use Rattle.turn_lock.specs.Turn.{IsKept, fresh, spent};
-ghost use Rattle.turn_lock.specs.Steps.{Draws, LooksAt, GivesBack, first_part, next_seat, with_other};
+ghost use Rattle.turn_lock.specs.Steps.{Draws, LooksAt, GivesBack};
+ghost use Rattle.turn_lock.specs.Steps.{first_part, next_seat, with_other};
 ghost use Rattle.std.specs.Prelude.{Some};
 
 use crate::kept::Kept;

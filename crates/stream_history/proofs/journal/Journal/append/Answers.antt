@@ -1,4 +1,5 @@
-use Rattle.std.proofs.Common.{◌≡◌, ◌∷◌, [], ◌++◌, ℕ, ◌+◌, ◌<◌, ◌≤◌, List, Ok, Err, length, sym, ap, subst, ◌∙◌, arith, vec_capacity, Result}
+use Rattle.std.proofs.Common.{◌≡◌, ◌∷◌, [], ◌++◌, ℕ, ◌+◌, ◌<◌, ◌≤◌, List, Ok, Err, length, sym, ap}
+use Rattle.std.proofs.Common.{subst, ◌∙◌, arith, vec_capacity, Result}
 use Rattle.std.specs.Prelude.{◌↔◌}
 use Rattle.history_model.specs.declared.line.Why.{Why}
 use Rattle.history_model.specs.declared.line.CallAct.TheVariants.{Append}
@@ -22,54 +23,92 @@ TellsFull answer journal = (cap : ℕ) → (answer ≡ Err (Full cap)) ↔ IsFul
 
 pub returns-in-Some-clause-closed : goal.returns-in-Some-clause-closed
 returns-in-Some-clause-closed c = subst (TellsClosed (Err (Closed c.in-Some.why))) c.self.view_is
-    (closed_for (value c.self.inside).lines c.self.inside.shut c.in-Some.why c.self.invariant.shut c.in-Some.is)
+    (closed_for (value c.self.inside).lines c.self.inside.shut c.in-Some.why c.self.invariant.shut
+    c.in-Some.is)
 
 pub returns-in-Some-clause-full : goal.returns-in-Some-clause-full
 returns-in-Some-clause-full c = subst (TellsFull (Err (Closed c.in-Some.why))) c.self.view_is
-    (closed_not_full (value c.self.inside) c.self.inside.shut c.in-Some.why c.self.invariant.shut c.in-Some.is)
+    (closed_not_full (value c.self.inside) c.self.inside.shut c.in-Some.why c.self.invariant.shut
+    c.in-Some.is)
 
 pub returns-then-len-self-clause-closed : goal.returns-then-len-self-clause-closed
-returns-then-len-self-clause-closed c = subst (TellsClosed (Err (Full c.self.inside.cap))) c.self.view_is
-    (λ why. not_closed (Err (Full c.self.inside.cap)) (value c.self.inside).lines c.self.inside.shut c.self.invariant.shut c.in_default.is why (λ same. cc))
+returns-then-len-self-clause-closed c = subst (TellsClosed (Err (Full c.self.inside.cap)))
+    c.self.view_is
+    (λ why. not_closed (Err (Full c.self.inside.cap)) (value c.self.inside).lines c.self.inside.shut
+    c.self.invariant.shut c.in_default.is why (λ same. cc))
 
 pub returns-then-len-self-clause-full : goal.returns-then-len-self-clause-full
 returns-then-len-self-clause-full c =
     let inside = c.self.inside in
     let full : length (entries (value inside).lines) ≡ inside.cap =
-    omega (arith, ap length c.self.invariant.appended, c.if-len-self.true, c.len.ensures, inside.entries.ok.0) in
-    subst (TellsFull (Err (Full inside.cap))) c.self.view_is (full_at (value inside) inside.shut c.self.invariant.shut c.in_default.is full)
+    omega (
+      arith,
+      ap length c.self.invariant.appended,
+      c.if-len-self.true,
+      c.len.ensures,
+      inside.entries.ok.0,
+    ) in
+    subst (TellsFull (Err (Full inside.cap))) c.self.view_is
+    (full_at (value inside) inside.shut c.self.invariant.shut c.in_default.is full)
 
 pub returns-in_err-reserve-clause-closed : goal.returns-in_err-reserve-clause-closed
 returns-in_err-reserve-clause-closed c = subst (TellsClosed c.from_residual.result) c.self.view_is
-    (λ why. not_closed c.from_residual.result (value c.self.inside).lines c.self.inside.shut c.self.invariant.shut c.in_default.is why
+    (λ why. not_closed c.from_residual.result (value c.self.inside).lines c.self.inside.shut
+    c.self.invariant.shut c.in_default.is why
     (λ same. grind (arith, same, c.from_residual.ensures, c.in_err-reserve.is)))
 
 pub invariant_of-self-in_err-push : goal.invariant_of-self-in_err-push
 invariant_of-self-in_err-push c =
-    moved (value c.self.inside) c.self.inside.calls.items c.reserve.new.self.items c.self.inside.entries.items c.push.new.self.items
-    c.self.inside.running.items c.self.inside.shut (vec_capacity c.self.inside.calls) (vec_capacity c.reserve.new.self) c.self.invariant
+    moved (value c.self.inside) c.self.inside.calls.items c.reserve.new.self.items
+    c.self.inside.entries.items c.push.new.self.items
+    c.self.inside.running.items c.self.inside.shut (vec_capacity c.self.inside.calls)
+    (vec_capacity c.reserve.new.self) c.self.invariant
     c.in_ok-reserve.ensures.items c.in_err-push.ensures.items c.in_ok-reserve.ensures.capacity
 
 pub returns-in_err-push-clause-closed : goal.returns-in_err-push-clause-closed
-returns-in_err-push-clause-closed c = subst (TellsClosed c.from_residual-in_err-push.result) c.self.view_is
-    (λ why. not_closed c.from_residual-in_err-push.result (value c.self.inside).lines c.self.inside.shut c.self.invariant.shut c.in_default.is why
+returns-in_err-push-clause-closed c = subst (TellsClosed c.from_residual-in_err-push.result)
+    c.self.view_is
+    (λ why. not_closed c.from_residual-in_err-push.result (value c.self.inside).lines
+    c.self.inside.shut c.self.invariant.shut c.in_default.is why
     (λ same. grind (arith, same, c.from_residual-in_err-push.ensures, c.in_err-push.is)))
 
 -- what an append adds
-added : (c : goal.After-len-3) → Adds (value c.self.inside) (with_line (value c.self.inside) (append_line c.args.stream c.args.tuple))
-    c.push_reserved.new.self.items c.push.new.self.items c.self.inside.running.items c.self.inside.shut (vec_capacity c.push_reserved.new.self)
+added : (c : goal.After-len-3) →
+    Adds (value c.self.inside)
+    (with_line (value c.self.inside) (append_line c.args.stream c.args.tuple))
+    c.push_reserved.new.self.items c.push.new.self.items c.self.inside.running.items
+    c.self.inside.shut (vec_capacity c.push_reserved.new.self)
 added c =
     let inside = c.self.inside in
-    let calls : c.push_reserved.new.self.items ≡ inside.calls.items ++ record { by = c.args.stream; act = Append } ∷ [] =
-    c.push_reserved.ensures.items ∙ ap (λ (all : List Call). all ++ record { by = c.args.stream; act = Append } ∷ []) c.in_ok-reserve.ensures.items in
-    let fits : length inside.calls.items + (length inside.running.items + 2) ≤ vec_capacity c.push_reserved.new.self =
-    omega (arith, c.in_ok-reserve.ensures.ok, c.len-2.ensures, inside.running.ok.0, c.in_ok-reserve.ensures.len, inside.calls.ok.0, c.push_reserved.ensures.capacity) in
-    let going : IsOpen (value inside) c.args.stream = subst (λ (journal : JournalValue). IsOpen journal c.args.stream) (sym c.self.view_is) c.requires in
+    let calls : c.push_reserved.new.self.items ≡ inside.calls.items ++ record {
+      by = c.args.stream;
+      act = Append;
+    } ∷ [] =
+    c.push_reserved.ensures.items
+    ∙ ap (λ (all : List Call). all ++ record { by = c.args.stream; act = Append } ∷ [])
+    c.in_ok-reserve.ensures.items in
+    let fits : length inside.calls.items + (length inside.running.items + 2) ≤ vec_capacity
+    c.push_reserved.new.self =
+    omega (
+      arith,
+      c.in_ok-reserve.ensures.ok,
+      c.len-2.ensures,
+      inside.running.ok.0,
+      c.in_ok-reserve.ensures.len,
+      inside.calls.ok.0,
+      c.push_reserved.ensures.capacity,
+    ) in
+    let going : IsOpen (value inside) c.args.stream =
+    subst (λ (journal : JournalValue). IsOpen journal c.args.stream) (sym c.self.view_is)
+    c.requires in
     let below : length inside.entries.items ≤ inside.cap =
     omega (arith, c.self.invariant.sound.legal.capped, ap length c.self.invariant.appended) in
-    let short : length inside.entries.items < inside.cap = grind (arith, below, c.if-len-self.false, c.len.ensures, inside.entries.ok.0) in
-    append_adds c.legal_by_lines.ensures c.lines_are_joined.ensures (value inside) inside.calls.items c.push_reserved.new.self.items inside.entries.items
-    c.push.new.self.items inside.running.items inside.shut (vec_capacity inside.calls) (vec_capacity c.push_reserved.new.self) c.args.stream c.args.tuple
+    let short : length inside.entries.items < inside.cap =
+    grind (arith, below, c.if-len-self.false, c.len.ensures, inside.entries.ok.0) in
+    append_adds c.legal_by_lines.ensures c.lines_are_joined.ensures
+    (value inside) inside.calls.items c.push_reserved.new.self.items inside.entries.items
+    c.push.new.self.items inside.running.items inside.shut (vec_capacity inside.calls)
+    (vec_capacity c.push_reserved.new.self) c.args.stream c.args.tuple
     c.self.invariant going c.in_default.is short calls c.in_ok-push.ensures.items fits
 
 pub invariant_of-self-2 : goal.invariant_of-self-2
@@ -78,7 +117,8 @@ invariant_of-self-2 c = let adds = added c in adds.kept
 pub returns-clause-line : goal.returns-clause-line
 returns-clause-line c =
     let adds = added c in
-    adds.is ∙ ap (λ (journal : JournalValue). with_line journal (append_line c.args.stream c.args.tuple)) c.self.view_is
+    adds.is ∙ ap (λ (journal : JournalValue). with_line journal
+    (append_line c.args.stream c.args.tuple)) c.self.view_is
 
 pub returns-clause-position : goal.returns-clause-position
 returns-clause-position c =
@@ -87,7 +127,8 @@ returns-clause-position c =
 
 pub returns-clause-closed : goal.returns-clause-closed
 returns-clause-closed c = subst (TellsClosed (Ok c.len-3.result)) c.self.view_is
-    (λ why. not_closed (Ok c.len-3.result) (value c.self.inside).lines c.self.inside.shut c.self.invariant.shut c.in_default.is why (λ same. cc))
+    (λ why. not_closed (Ok c.len-3.result) (value c.self.inside).lines c.self.inside.shut
+    c.self.invariant.shut c.in_default.is why (λ same. cc))
 
 pub returns-clause-sound : goal.returns-clause-sound
 returns-clause-sound c = let adds = added c in adds.kept.sound

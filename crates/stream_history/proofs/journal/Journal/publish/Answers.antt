@@ -1,4 +1,5 @@
-use Rattle.std.proofs.Common.{◌≡◌, ◌∷◌, [], ◌++◌, ℕ, ◌+◌, ◌<◌, ◌≤◌, List, length, sym, ap, subst, ◌∙◌, arith, vec_capacity}
+use Rattle.std.proofs.Common.{◌≡◌, ◌∷◌, [], ◌++◌, ℕ, ◌+◌, ◌<◌, ◌≤◌, List, length, sym, ap, subst}
+use Rattle.std.proofs.Common.{◌∙◌, arith, vec_capacity}
 use Rattle.answer_view.specs.View.{ViewValue}
 use Rattle.history_model.specs.declared.line.CallAct.TheVariants.{Publish}
 use Rattle.history_model.specs.declared.line.Call.{Call}
@@ -9,34 +10,62 @@ use Rattle.stream_history.proofs.Keeping.{Adds, publish_adds}
 use Rattle.stream_history.proofs.journal.Journal.publish.Goals as goal
 
 -- what a publish adds
-added : (c : goal.After-drop-self-inside) → Adds (value c.self.inside) (with_view (value c.self.inside) c.args.view.value) c.push_reserved.new.self.items
-    c.self.inside.entries.items c.self.inside.running.items c.self.inside.shut (vec_capacity c.push_reserved.new.self)
+added : (c : goal.After-drop-self-inside) →
+    Adds (value c.self.inside) (with_view (value c.self.inside) c.args.view.value)
+    c.push_reserved.new.self.items
+    c.self.inside.entries.items c.self.inside.running.items c.self.inside.shut
+    (vec_capacity c.push_reserved.new.self)
 added c =
     let inside = c.self.inside in
     let view = c.args.view.value in
-    let number : c.position-number.result ≡ view.position = c.position-number.ensures ∙ ap (λ (each : ViewValue). each.position) c.deref-2.ensures in
-    let last : c.position-last.result ≡ inside.view.value.position = c.position-last.ensures ∙ ap (λ (each : ViewValue). each.position) c.deref.ensures in
-    let above : inside.view.value.position < view.position = omega (arith, c.if-number-last.false, number, last) in
-    let calls : c.push_reserved.new.self.items ≡ inside.calls.items ++ record { by = 0; act = Publish view.position } ∷ [] =
+    let number : c.position-number.result ≡ view.position = c.position-number.ensures
+    ∙ ap (λ (each : ViewValue). each.position) c.deref-2.ensures in
+    let last : c.position-last.result ≡ inside.view.value.position = c.position-last.ensures
+    ∙ ap (λ (each : ViewValue). each.position) c.deref.ensures in
+    let above : inside.view.value.position < view.position =
+    omega (arith, c.if-number-last.false, number, last) in
+    let calls : c.push_reserved.new.self.items ≡ inside.calls.items ++ record {
+      by = 0;
+      act = Publish view.position;
+    } ∷ [] =
     c.push_reserved.ensures.items
-    ∙ (ap (λ (all : List Call). all ++ record { by = 0; act = Publish c.position-number.result } ∷ []) c.in_ok-reserve.ensures.items
+    ∙ (ap (λ (all : List Call). all ++ record { by = 0; act = Publish c.position-number.result }
+    ∷ []) c.in_ok-reserve.ensures.items
     ∙ ap (λ (each : ℕ). inside.calls.items ++ record { by = 0; act = Publish each } ∷ []) number) in
-    let fits : length inside.calls.items + (length inside.running.items + 2) ≤ vec_capacity c.push_reserved.new.self =
-    omega (arith, c.in_ok-reserve.ensures.ok, c.len.ensures, inside.running.ok.0, c.in_ok-reserve.ensures.len, inside.calls.ok.0, c.push_reserved.ensures.capacity) in
-    let going : IsShut (value inside).lines → ⊥ = subst (λ (journal : JournalValue). IsShut journal.lines → ⊥) (sym c.self.view_is) c.requires.goes_on in
+    let fits : length inside.calls.items + (length inside.running.items + 2) ≤ vec_capacity
+    c.push_reserved.new.self =
+    omega (
+      arith,
+      c.in_ok-reserve.ensures.ok,
+      c.len.ensures,
+      inside.running.ok.0,
+      c.in_ok-reserve.ensures.len,
+      inside.calls.ok.0,
+      c.push_reserved.ensures.capacity,
+    ) in
+    let going : IsShut (value inside).lines →
+    ⊥ = subst (λ (journal : JournalValue). IsShut journal.lines → ⊥) (sym c.self.view_is)
+    c.requires.goes_on in
     let below : view.position ≤ length (entries (value inside).lines) =
-    subst (λ (journal : JournalValue). view.position ≤ length (entries journal.lines)) (sym c.self.view_is) c.requires.there in
+    subst (λ (journal : JournalValue). view.position ≤ length (entries journal.lines))
+    (sym c.self.view_is) c.requires.there in
     let shows : ShowsFront (value inside).terms.queries (entries (value inside).lines) view =
-    subst (λ (journal : JournalValue). ShowsFront journal.terms.queries (entries journal.lines) view) (sym c.self.view_is) c.requires.shows in
-    publish_adds c.legal_by_lines.ensures c.lines_are_joined.ensures (value inside) inside.calls.items c.push_reserved.new.self.items inside.entries.items
-    inside.running.items inside.shut (vec_capacity inside.calls) (vec_capacity c.push_reserved.new.self) view c.self.invariant going above below shows calls fits
+    subst (λ (journal : JournalValue). ShowsFront journal.terms.queries (entries journal.lines)
+    view) (sym c.self.view_is) c.requires.shows in
+    publish_adds c.legal_by_lines.ensures c.lines_are_joined.ensures
+    (value inside) inside.calls.items c.push_reserved.new.self.items inside.entries.items
+    inside.running.items inside.shut (vec_capacity inside.calls)
+    (vec_capacity c.push_reserved.new.self) view c.self.invariant going above below shows calls
+    fits
 
 pub invariant_of-self-2 : goal.invariant_of-self-2
 invariant_of-self-2 c = let adds = added c in adds.kept
 
 pub returns-clause-line : goal.returns-clause-line
 returns-clause-line c =
-    let adds = added c in adds.is ∙ ap (λ (journal : JournalValue). with_view journal c.args.view.value) c.self.view_is
+    let adds = added c in
+    adds.is ∙ ap (λ (journal : JournalValue). with_view journal c.args.view.value)
+    c.self.view_is
 
 pub returns-clause-sound : goal.returns-clause-sound
 returns-clause-sound c = let adds = added c in adds.kept.sound

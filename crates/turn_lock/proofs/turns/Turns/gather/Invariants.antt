@@ -7,5 +7,7 @@ use Rattle.turn_lock.proofs.turns.Turns.gather.Given as goal
 
 abbrev pub invariant-loop-other : goal.invariant-loop-other
 invariant-loop-other g l =
-    (l.seat.table_id ≡ l.self.id) × (l.seat.me.0.stage ≡ Idle) × All (IsAtRest l.self) l.other-iterator.rest.items
-    × (map known_of l.fn.passes.items ≡ l.seat.me.0.known ∷ (l.seat.me.0.heard ++ map known_of l.other-iterator.rest.items))
+    (l.seat.table_id ≡ l.self.id) × (l.seat.me.0.stage ≡ Idle)
+    × All (IsAtRest l.self) l.other-iterator.rest.items
+    × (map known_of l.fn.passes.items ≡ l.seat.me.0.known ∷
+    (l.seat.me.0.heard ++ map known_of l.other-iterator.rest.items))

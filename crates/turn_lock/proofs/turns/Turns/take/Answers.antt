@@ -11,5 +11,7 @@ fetch_add-ticket-requires g c =
 
 pub exchange-requires : goal.exchange-requires
 exchange-requires g c =
-    let out = c.wait.ensures.slot.1 in
-    (search rules, (Some out.0, ap (λ m. m.1) out.1 ∙ sym (ap (λ m. (0, Some out.0) ∷ rest m.1) out.1)))
+    let out = c.wait.ensures.slot.1 in (
+      search rules,
+      (Some out.0, ap (λ m. m.1) out.1 ∙ sym (ap (λ m. (0, Some out.0) ∷ rest m.1) out.1)),
+    )
