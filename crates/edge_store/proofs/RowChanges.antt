@@ -1,12 +1,12 @@
 -- What changes of the rows of one side write.
-use Rattle.std.proofs.Common.{◌≡◌, ◌<◌, ◌+◌, ℕ, zero, suc, Bool, true, false, ◌&&◌, ◌==◌, cond, List, [], ◌∷◌, ◌++◌, length, slice_index_or, slice_set, refl, sym, ap, subst, ◌∙◌, Option, None, Some, arith}
+use Rattle.std.proofs.Common.{◌≡◌, ◌<◌, ◌+◌, ℕ, zero, suc, Bool, true, false, ◌&&◌, ◌==◌, cond, List, [], ◌∷◌, ◌++◌, length, slice_index_or, slice_set, refl, sym, ap, subst, ◌∙◌, Option, None, Some, ◌⊎◌, inl, inr, arith}
 use Rattle.std.proofs.lemmas.Bool.{eqb-true, eqb-false}
 use Rattle.std.proofs.lemmas.List.{get_or-set_same, get_or-set_other, get_or_append_left, get_or_push, get_or_read}
 use Rattle.std.specs.Map.{lookup}
 use Rattle.edge_store.specs.Row.{RowValue}
 use Rattle.edge_store.specs.declared.edge.HalfEdge.{HalfEdge}
 use Rattle.edge_store.specs.Edges.{row, value_at, same_half}
-use Rattle.edge_store.specs.Rows.{rows_of, no_row, place_in, place_of, row_at, side, IsSide, HasSameRows, Writes}
+use Rattle.edge_store.specs.Rows.{rows_of, no_row, place_in, place_of, row_at, side, IsSide, IsBareAt, GivesRow, HasSameRows, Writes}
 
 -- ---- the row of a vertex
 
@@ -222,3 +222,71 @@ rows_more slots rows vertex new is none within empty =
         ap (entries_at (rows ++ new ∷ []))
         (slot_apart slots vertex each (length rows) (eqb-false vertex each apart))
         ∙ kept (place_of slots each) (λ place at. is.within each place at)
+
+-- ---- a row that another vertex takes over
+
+-- the vertex that has the row at this place had it before, or took it over
+had_or_took : (old new : List ℕ) (from to vertex place : ℕ) → GivesRow old new from to →
+    place_of new vertex ≡ Some place →
+    ((to ≡ vertex) × (place_of old from ≡ Some place))
+    ⊎ ((from ≡ vertex → ⊥) × (place_of old vertex ≡ Some place))
+had_or_took old new from to vertex place gives is =
+    by (to == vertex) (from == vertex) refl refl (gives vertex)
+  where
+    by : (b c : Bool) → (to == vertex) ≡ b → (from == vertex) ≡ c →
+        place_of new vertex ≡ cond b (place_of old from) (cond c None (place_of old vertex)) →
+        ((to ≡ vertex) × (place_of old from ≡ Some place))
+        ⊎ ((from ≡ vertex → ⊥) × (place_of old vertex ≡ Some place))
+    by true c here other now = inl (eqb-true to vertex here, sym now ∙ is)
+    by false true apart gone now = absurd cc
+    by false false apart stays now = inr (eqb-false from vertex stays, sym now ∙ is)
+
+-- each row is still one vertex's
+pub given_side : (old new : List ℕ) (count from to : ℕ) → GivesRow old new from to →
+    IsSide old count → IsSide new count
+given_side old new count from to gives is = record { within = within; once = once }
+  where
+    within : (vertex place : ℕ) → place_of new vertex ≡ Some place → place < count
+    within vertex place there = by (had_or_took old new from to vertex place gives there)
+      where
+        by : ((to ≡ vertex) × (place_of old from ≡ Some place))
+            ⊎ ((from ≡ vertex → ⊥) × (place_of old vertex ≡ Some place)) → place < count
+        by (inl took) = is.within from place took.1
+        by (inr had) = is.within vertex place had.1
+
+    once : (first second place : ℕ) → place_of new first ≡ Some place →
+        place_of new second ≡ Some place → first ≡ second
+    once first second place one other =
+        by (had_or_took old new from to first place gives one)
+        (had_or_took old new from to second place gives other)
+      where
+        by : ((to ≡ first) × (place_of old from ≡ Some place))
+            ⊎ ((from ≡ first → ⊥) × (place_of old first ≡ Some place)) →
+            ((to ≡ second) × (place_of old from ≡ Some place))
+            ⊎ ((from ≡ second → ⊥) × (place_of old second ≡ Some place)) → first ≡ second
+        by (inl took) (inl too) = sym took.0 ∙ too.0
+        by (inl took) (inr had) = absurd (had.0 (is.once from second place took.1 had.1))
+        by (inr had) (inl took) = absurd (had.0 (is.once from first place took.1 had.1))
+        by (inr had) (inr too) = is.once first second place had.1 too.1
+
+-- and where the row has no edges, each vertex has the edges that it had
+pub given_rows : (old new : List ℕ) (rows : List RowValue) (from to place : ℕ) →
+    GivesRow old new from to → IsBareAt old rows place from → place_of old to ≡ None →
+    HasSameRows (rows_of (side old rows)) (rows_of (side new rows))
+given_rows old new rows from to place gives bare none =
+    same_rows old new rows rows
+    (λ each. by each (to == each) (from == each) refl refl (gives each))
+  where
+    by : (each : ℕ) (b c : Bool) → (to == each) ≡ b → (from == each) ≡ c →
+        place_of new each ≡ cond b (place_of old from) (cond c None (place_of old each)) →
+        entries_at rows (place_of new each) ≡ entries_at rows (place_of old each)
+    by each true c here other now =
+        ap (entries_at rows) (now ∙ bare.there)
+        ∙ bare.bare
+        ∙ sym (ap (entries_at rows) (ap (place_of old) (sym (eqb-true to each here)) ∙ none))
+    by each false true apart gone now =
+        ap (entries_at rows) now
+        ∙ sym bare.bare
+        ∙ sym (ap (entries_at rows)
+        (ap (place_of old) (sym (eqb-true from each gone)) ∙ bare.there))
+    by each false false apart stays now = ap (entries_at rows) now

@@ -51,6 +51,17 @@ pub record IsSide (slots : List ℕ) (count : ℕ) : Type 0 where
   pub once : (first second place : ℕ) → place_of slots first ≡ Some place →
       place_of slots second ≡ Some place → first ≡ second
 
+-- the row at this place is that of the vertex and has no edges
+pub record IsBareAt (slots : List ℕ) (rows : List RowValue) (place vertex : ℕ) : Type 0 where
+  pub there : place_of slots vertex ≡ Some place
+  pub bare : (row_at rows (Some place)).entries ≡ []
+
+-- the second vertex has the row of the first one, which has none any more; all others have theirs
+abbrev pub GivesRow : List ℕ → List ℕ → ℕ → ℕ → Type 0
+GivesRow old new from to = (each : ℕ) →
+    place_of new each
+    ≡ cond (to == each) (place_of old from) (cond (from == each) None (place_of old each))
+
 -- the row of the vertex has room for one more edge
 abbrev pub HasRoom : List RowValue → ℕ → Type 0
 HasRoom rows vertex = 0 < (slice_index_or rows vertex no_row).room

@@ -17,6 +17,7 @@ mod dues;
 mod edge;
 mod edge_map;
 mod no_memory;
+mod owners;
 mod row;
 mod rows;
 mod steps;

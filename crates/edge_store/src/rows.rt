@@ -1,29 +1,34 @@
 //! One side of a store: for each vertex its edges, by their labels and far ends.
 
-ghost use Rattle.std.specs.Prelude.{◌≡◌, ℕ, ◌<◌, [], length, IfOk, OnOk, None, Some, slice_get};
+ghost use Rattle.std.specs.Prelude.{◌≡◌, ℕ, ◌<◌, [], length, IfOk, IfSome, OnOk, None, Some};
+ghost use Rattle.std.specs.Prelude.{slice_get};
 ghost use Rattle.std.specs.List.{IsDistinct};
 ghost use Rattle.std.specs.Map.{keys_of};
 ghost use Rattle.edge_store.specs.Edges.{row, value_at, same_half};
 ghost use Rattle.edge_store.specs.Rows.{rows_of, side, place_of};
-ghost use Rattle.edge_store.specs.Rows.{IsSide, HasRoom, HasSameRows, TakesAt, Writes};
+ghost use Rattle.edge_store.specs.Rows.{IsSide, IsBareAt, GivesRow, HasRoom, HasSameRows};
+ghost use Rattle.edge_store.specs.Rows.{TakesAt, Writes};
 
 use crate::edge::HalfEdge;
 use crate::no_memory::NoMemory;
+use crate::owners::Owners;
 use crate::row::Row;
 use std::alloc::Global;
 use std::marker::Model;
 
-/// The rows of one side. Most vertices have no edge in most stores, so a vertex takes four bytes
-/// until its first edge comes. From then on it keeps its row.
+/// The rows of one side. Most vertices have no edge in most stores, so a vertex without a row takes
+/// four bytes. A vertex gets a row with its first edge. Once its edges are gone, another vertex
+/// that needs a row may take it over, so there are not many more rows than vertices with edges.
 ///
 /// Contracts see it as one row for each vertex, which is without entries and room where there is
 /// none.
 #[derive(Drop)]
 pub(crate) struct Rows {
-    /// For each vertex the number of its row from 1, or 0 where it hasn't had an edge.
+    /// For each vertex the number of its row from 1, or 0 where it has none.
     slots: Vec<u32>,
     /// The rows in the order in which they came.
     rows: Vec<Row>,
+    owners: Owners,
 }
 
 impl Model for Rows {
@@ -38,6 +43,10 @@ impl Model for Rows {
 
     ghost invariant = { λ both. IsSide both.slots.items (length both.rows.items) };
 }
+
+/// The number of places at which a row without edges is looked for before a row more is made. In
+/// the long run about one row in so many is without edges.
+const TRIES: usize = 4;
 
 /// The place of the row of the vertex, where it has one.
 fn locate(slots: &[u32], vertex: u32) -> Option<usize>
@@ -62,16 +71,44 @@ fn reach(slots: &mut Vec<u32>, vertex: u32) -> Result<(), NoMemory>
     Ok(())
 }
 
-/// A row for a vertex that has none, and its place. A row more than there are numbers is refused
-/// as want of memory.
+/// The vertex that has the row at this place, where that row has no edges.
+fn bare_owner(slots: &[u32], rows: &[Row], owners: &Owners, at: usize) -> Option<u32>
+    requires { IsSide slots.now (length rows.now) }
+    ensures { IfSome result (IsBareAt slots.now rows.now at) }
+{
+    let owner = owners.get(at)?;
+    if locate(slots, owner) == Some(at) && rows[at].len() == 0 {
+        return Some(owner);
+    }
+    None
+}
+
+/// A row without edges among the next few places: the vertex that has it, and its place.
+fn find_bare(slots: &[u32], rows: &[Row], owners: &mut Owners) -> Option<(u32, usize)>
+    requires { IsSide slots.now (length rows.now) }
+    ensures { IfSome result (λ found. IsBareAt slots.now rows.now found.1 found.0) }
+{
+    for _ in 0..TRIES {
+        let at = owners.next_place();
+        if let Some(owner) = bare_owner(slots, rows, owners, at) {
+            return Some((owner, at));
+        }
+    }
+    None
+}
+
+/// A new row for a vertex that has none, and its place. A row more than there are numbers is
+/// refused as want of memory.
 fn add(
     alloc: Global,
     slots: &mut Vec<u32>,
     rows: &mut Vec<Row>,
+    owners: &mut Owners,
     vertex: u32,
 ) -> Result<usize, NoMemory>
     requires side { IsSide slots.old.items (length rows.old.items) }
     requires none { place_of slots.old.items vertex ≡ None }
+    requires reached { vertex < length slots.old.items }
     ensures side { IsSide slots.new.items (length rows.new.items) }
     ensures same { HasSameRows
         (rows_of (side slots.old.items rows.old.items))
@@ -82,10 +119,49 @@ fn add(
     if at >= u32::MAX as usize {
         return Err(NoMemory);
     }
-    reach(slots, vertex)?;
+    owners.add(at, vertex)?;
     rows.push(Row::new(alloc))?;
     slots[vertex as usize] = (at + 1) as u32;
     Ok(at)
+}
+
+/// Gives the row of one vertex to another.
+fn give(slots: &mut Vec<u32>, from: u32, to: u32)
+    requires from { from < length slots.old.items }
+    requires to { to < length slots.old.items }
+    ensures { GivesRow slots.old.items slots.new.items from to }
+{
+    let number = slots[from as usize];
+    slots[from as usize] = 0;
+    slots[to as usize] = number;
+}
+
+/// A row for a vertex that has none, and its place: one without edges that another vertex has, or
+/// a new one.
+fn place_new(
+    alloc: Global,
+    slots: &mut Vec<u32>,
+    rows: &mut Vec<Row>,
+    owners: &mut Owners,
+    vertex: u32,
+) -> Result<usize, NoMemory>
+    requires side { IsSide slots.old.items (length rows.old.items) }
+    requires none { place_of slots.old.items vertex ≡ None }
+    ensures side { IsSide slots.new.items (length rows.new.items) }
+    ensures same { HasSameRows
+        (rows_of (side slots.old.items rows.old.items))
+        (rows_of (side slots.new.items rows.new.items)) }
+    ensures ok { IfOk result (λ at. place_of slots.new.items vertex ≡ Some at) }
+{
+    reach(slots, vertex)?;
+    match find_bare(slots, rows, owners) {
+        Some((owner, at)) => {
+            give(slots, owner, vertex);
+            owners.set(at, vertex);
+            Ok(at)
+        }
+        None => add(alloc, slots, rows, owners, vertex),
+    }
 }
 
 /// The place of the row of the vertex, which is made where there is none.
@@ -93,6 +169,7 @@ fn place_or_new(
     alloc: Global,
     slots: &mut Vec<u32>,
     rows: &mut Vec<Row>,
+    owners: &mut Owners,
     vertex: u32,
 ) -> Result<usize, NoMemory>
     requires side { IsSide slots.old.items (length rows.old.items) }
@@ -104,7 +181,7 @@ fn place_or_new(
 {
     match locate(slots, vertex) {
         Some(at) => Ok(at),
-        None => add(alloc, slots, rows, vertex),
+        None => place_new(alloc, slots, rows, owners, vertex),
     }
 }
 
@@ -116,6 +193,7 @@ impl Rows {
         Rows {
             slots: Vec::new(alloc),
             rows: Vec::new(alloc),
+            owners: Owners::new(alloc),
         }
     }
 
@@ -156,7 +234,13 @@ impl Rows {
         ensures same { HasSameRows (rows_of self.old) (rows_of self.new) }
         ensures ok { OnOk result (HasRoom self.new vertex) }
     {
-        let at = place_or_new(alloc, &mut self.slots, &mut self.rows, vertex)?;
+        let at = place_or_new(
+            alloc,
+            &mut self.slots,
+            &mut self.rows,
+            &mut self.owners,
+            vertex,
+        )?;
         self.rows[at].reserve(alloc)?;
         Ok(())
     }
@@ -189,5 +273,6 @@ impl Rows {
     {
         self.slots.clear();
         self.rows.clear();
+        self.owners.clear();
     }
 }
