@@ -8,6 +8,7 @@ ghost use Rattle.source_tree.specs.Ends.{AreEndChanges, end_change, end_in, late
 ghost use Rattle.source_tree.specs.Telling.{IsByVertex, IsInOrder, IsRun, Logs};
 
 use crate::change::EndChange;
+use crate::room::add;
 use delta_tree::{NodeId, Shift, Tree};
 use edge_store::NoMemory;
 
@@ -93,13 +94,13 @@ fn log_end(
     if is_same(before, after) {
         return Ok(());
     }
-    log.push(EndChange {
+    let change = EndChange {
         root,
         vertex,
         before,
         after,
-    })?;
-    Ok(())
+    };
+    add(log, change)
 }
 
 /// Logs the changed ends where this state alone is final: each shift with it is one of a vertex.

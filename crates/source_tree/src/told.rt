@@ -7,7 +7,7 @@ ghost use Rattle.source_tree.specs.declared.change.Change.{Change};
 
 use crate::change::EndChange;
 use crate::ends::log_ends;
-use crate::room::empty_for;
+use crate::room::{add, empty_for};
 use delta_tree::{NodeId, Shift, Tree};
 use edge_store::NoMemory;
 use std::alloc::Global;
@@ -46,7 +46,7 @@ fn list_moved(shifts: &[Shift], moved: &mut Vec<NodeId>) -> Result<(), NoMemory>
 {
     for shift in shifts {
         if is_moved(shift.before, shift.after) {
-            moved.push(shift.id)?;
+            add(moved, shift.id)?;
         }
     }
     Ok(())
