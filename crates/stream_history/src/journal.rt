@@ -3,7 +3,8 @@
 ghost use Rattle.std.specs.Prelude.{◌≡◌, ℕ, ◌≤◌, ◌↔◌, Some, Err, length, drop, IsTrue, IfOk};
 ghost use Rattle.std.specs.Prelude.{OnOk, OnErr};
 ghost use Rattle.history_model.specs.declared.line.Why.{Why as Reason};
-ghost use Rattle.history_model.specs.Lines.{append_line, end_line, shut_line, entries, published};
+ghost use Rattle.history_model.specs.Lines.{append_line, end_line, shut_line};
+ghost use Rattle.history_model.specs.Lines.{calls, entries, published};
 ghost use Rattle.history_model.specs.Lines.{AllEnded, IsShutFor, IsShut};
 ghost use Rattle.stream_history.specs.Journal.{AreTerms, empty_view, ShowsFront, IsSound, IsOpen};
 ghost use Rattle.stream_history.specs.Journal.{IsFullAt, IsBehind, first_journal, with_line};
@@ -228,6 +229,14 @@ impl Journal {
         ensures { result ≡ self.now.terms.cap }
     {
         self.cap
+    }
+
+    /// What was called, in order.
+    pub fn calls(&self) -> &[Call]
+        ensures { result.now ≡ calls self.now.lines }
+    {
+        lines_are_joined();
+        &self.calls
     }
 
     /// The number of entries.

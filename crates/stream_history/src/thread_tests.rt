@@ -11,7 +11,7 @@ use crate::tests::{one_query, tick};
 use crate::{AppendFault, History, Journal, Pass, PublishFault};
 use answer_rows::Rows;
 use answer_view::{View, plain_view};
-use history_model::Why;
+use history_model::{Call, CallAct, Why};
 use rpq_model::QueryDef;
 use std::alloc::Global;
 use std::sync::{Arc, Wait};
@@ -185,10 +185,35 @@ fn is_of_one_entry(found: Option<Found>) -> bool {
         })
 }
 
-/// Whether the journal has one entry, published, and all is ended and shut.
+/// Whether the calls are those of a history of one entry, in the order in which they were made.
+fn are_calls_of_one_entry(calls: &[Call]) -> bool {
+    let expected = [
+        Call {
+            by: 1,
+            act: CallAct::Append,
+        },
+        Call {
+            by: 0,
+            act: CallAct::Publish(1),
+        },
+        Call {
+            by: 0,
+            act: CallAct::Shut(Why::Write),
+        },
+        Call {
+            by: 1,
+            act: CallAct::EndStream,
+        },
+    ];
+    calls == expected.as_slice()
+}
+
+/// Whether the journal has one entry, published, all is ended and shut, and it tells the calls in
+/// their order.
 fn has_one_entry(journal: &Journal) -> bool {
     let one = journal.length() == 1 && journal.published() == 1;
-    one && journal.all_ended() && journal.shut_reason() == Some(Why::Write)
+    let over = journal.all_ended() && journal.shut_reason() == Some(Why::Write);
+    one & over & are_calls_of_one_entry(journal.calls())
 }
 
 /// Whether a history that takes one entry tells and refuses what it should.
