@@ -11,86 +11,91 @@ use Rattle.path_engine.specs.Engine.{EngineValue, StandsFor, definitions}
 use Rattle.path_engine.specs.Keeping.{KeepsPlaces}
 use Rattle.path_engine.proofs.Each.{HaveHistories, answered_long, written_back}
 use Rattle.path_engine.proofs.Feeding.{fed_events, fed_keeps, fed_numbers, fed_stands, histories}
+use Rattle.path_engine.proofs.engine.Engine.feed.Given.{Over}
 use Rattle.path_engine.proofs.engine.Engine.feed.Goals as goal
+
+-- the queries have their indexes before they answer
+have : (g : Over) (c : goal.After-answer_each-arg-2-1 g) →
+    HaveHistories c.ends_for.new.names c.deref-2.result.now c.deref_mut.result.now
+have g c =
+    let inside = c.self.inside in
+    let old : EngineValue = record {
+      queries = inside.queries.items;
+      position = inside.position;
+      spent = inside.spent;
+      names = inside.names;
+      indexes = inside.indexes.items;
+    } in
+    let names = c.ends_for.new.names in
+    let found = c.self.invariant.stands c.if-self.false in
+    subst (λ (queries : List CompiledValue). HaveHistories names queries c.deref_mut.result.now)
+    (sym {A = List CompiledValue} c.deref-2.ensures.value)
+    (subst (HaveHistories names old.queries) (sym {A = List Index} c.deref_mut.ensures.value)
+    (histories c.stores_follow.ensures old found.0 names found.1 c.self.invariant.short
+    c.in_ok-ends.ensures.kept))
 
 pub answer_each-requires-clause-as_many : goal.answer_each-requires-clause-as_many
 answer_each-requires-clause-as_many g c = λ lifetimes within.
-    let inside = c.self.inside in
-    let old : EngineValue = record {
-      queries = inside.queries.items;
-      position = inside.position;
-      spent = inside.spent;
-      names = inside.names;
-      indexes = inside.indexes.items;
-    } in
-    let names = c.ends_for.new.names in
-    let found = c.self.invariant.stands c.if-self.false in
-    let have = histories c.stores_follow.ensures old found.0 names found.1 c.self.invariant.short
-    c.in_ok-ends.ensures.kept in
-    let at : HaveHistories names c.deref-2.result.now c.deref_mut.result.now =
-    subst (λ (queries : List CompiledValue). HaveHistories names queries c.deref_mut.result.now)
-    (sym {A = List CompiledValue} c.deref-2.ensures.value)
-    (subst (HaveHistories names old.queries) (sym {A = List Index} c.deref_mut.ensures.value) have)
-    in
-    sym (AllZip-long (λ (query : CompiledValue) (index : Index). HasHistory query names index)
-    c.deref-2.result.now c.deref_mut.result.now at)
+    sym (AllZip-long
+    (λ (query : CompiledValue) (index : Index). HasHistory query c.ends_for.new.names index)
+    c.deref-2.result.now c.deref_mut.result.now (have g c))
 
 pub answer_each-requires-clause-indexes : goal.answer_each-requires-clause-indexes
-answer_each-requires-clause-indexes g c = λ lifetimes within.
-    let inside = c.self.inside in
-    let old : EngineValue = record {
-      queries = inside.queries.items;
-      position = inside.position;
-      spent = inside.spent;
-      names = inside.names;
-      indexes = inside.indexes.items;
-    } in
-    let names = c.ends_for.new.names in
-    let found = c.self.invariant.stands c.if-self.false in
-    let have = histories c.stores_follow.ensures old found.0 names found.1 c.self.invariant.short
-    c.in_ok-ends.ensures.kept in
-    let at : HaveHistories names c.deref-2.result.now c.deref_mut.result.now =
-    subst (λ (queries : List CompiledValue). HaveHistories names queries c.deref_mut.result.now)
-    (sym {A = List CompiledValue} c.deref-2.ensures.value)
-    (subst (HaveHistories names old.queries) (sym {A = List Index} c.deref_mut.ensures.value) have)
-    in
-    at
+answer_each-requires-clause-indexes g c = λ lifetimes within. have g c
 
-pub invariant_of-self-2 : goal.invariant_of-self-2
-invariant_of-self-2 g c =
+-- the engine before the call
+abbrev before : (g : Over) → goal.After-self-4-1 g → EngineValue
+before g c = record {
+  queries = c.self.inside.queries.items;
+  position = c.self.inside.position;
+  spent = c.self.inside.spent;
+  names = c.self.inside.names;
+  indexes = c.self.inside.indexes.items;
+}
+
+-- the indexes after it, written back into their list
+abbrev indexes : (g : Over) → goal.After-self-4-1 g → List Index
+indexes g c =
+    let news = c.answer_each.new.indexes in
+    let all = c.self.inside.indexes in
+    take all.len (news ++ drop (length news) all.items)
+
+-- and the engine
+abbrev after : (g : Over) → goal.After-self-4-1 g → EngineValue
+after g c = record {
+  queries = c.self.inside.queries.items;
+  position = c.self.inside.position + 1;
+  spent = false;
+  names = c.ends_for.new.names;
+  indexes = indexes g c;
+}
+
+-- the queries have answered the entry
+answered : (g : Over) (c : goal.After-self-4-1 g) →
+    HaveAnswered c.ends_for.new.names c.args.entry.now 0 c.self.inside.queries.items
+    c.self.inside.indexes.items (indexes g c) c.in_ok-events.events.items
+answered g c =
     let inside = c.self.inside in
-    let old : EngineValue = record {
-      queries = inside.queries.items;
-      position = inside.position;
-      spent = inside.spent;
-      names = inside.names;
-      indexes = inside.indexes.items;
-    } in
     let names = c.ends_for.new.names in
-    let found = c.self.invariant.stands c.if-self.false in
     let entry = c.args.entry.now in
     let events = c.in_ok-events.events.items in
     let news = c.answer_each.new.indexes in
-    let all = take inside.indexes.len (news ++ drop (length news) inside.indexes.items) in
-    let first = subst (λ (queries : List CompiledValue).
-    HaveAnswered names entry 0 queries c.deref_mut.result.now news events) c.deref-2.ensures.value
+    let queries = inside.queries.items in
+    let olds = inside.indexes.items in
+    let first = subst (λ (each : List CompiledValue).
+    HaveAnswered names entry 0 each c.deref_mut.result.now news events) c.deref-2.ensures.value
     c.in_ok-events.ensures in
-    let answered : HaveAnswered names entry 0 old.queries old.indexes news events =
-    subst (λ (olds : List Index). HaveAnswered names entry 0 old.queries olds news events)
+    let given : HaveAnswered names entry 0 queries olds news events =
+    subst (λ (each : List Index). HaveAnswered names entry 0 queries each news events)
     c.deref_mut.ensures.value first in
-    let back : all ≡ news = written_back news inside.indexes.items inside.indexes.len
-    (answered_long names entry 0 old.queries old.indexes news events answered)
-    inside.indexes.ok.0 in
-    let given : HaveAnswered names entry 0 old.queries old.indexes all events =
-    subst (λ (each : List Index). HaveAnswered names entry 0 old.queries old.indexes each events)
-    (sym {A = List Index} back) answered in
-    let new : EngineValue = record {
-      queries = inside.queries.items;
-      position = inside.position + 1;
-      spent = false;
-      names = names;
-      indexes = all;
-    } in
+    let back : indexes g c ≡ news = written_back news olds inside.indexes.len
+    (answered_long names entry 0 queries olds news events given) inside.indexes.ok.0 in
+    subst (λ (each : List Index). HaveAnswered names entry 0 queries olds each events)
+    (sym {A = List Index} back) given
+
+pub invariant_of-self-2 : goal.invariant_of-self-2
+invariant_of-self-2 g c =
+    let found = c.self.invariant.stands c.if-self.false in
     record {
       some = c.self.invariant.some;
       few = c.self.invariant.few;
@@ -101,170 +106,43 @@ invariant_of-self-2 g c =
         c.requires.short,
       );
       stands = λ unspent. (
-        found.0 ++ entry ∷ [],
-        fed_stands c.stores_follow.ensures old new entry events refl refl refl
-            c.in_ok-ends.ensures.kept c.in_ok-ends.ensures.grown given found.0
-            found.1,
+        found.0 ++ c.args.entry.now ∷ [],
+        fed_stands c.stores_follow.ensures (before g c) (after g c) c.args.entry.now
+            c.in_ok-events.events.items refl refl refl c.in_ok-ends.ensures.kept
+            c.in_ok-ends.ensures.grown (answered g c) found.0 found.1,
       );
     }
 
 pub returns-clause-stands : goal.returns-clause-stands
 returns-clause-stands g c = λ history stands.
-    let inside = c.self.inside in
-    let old : EngineValue = record {
-      queries = inside.queries.items;
-      position = inside.position;
-      spent = inside.spent;
-      names = inside.names;
-      indexes = inside.indexes.items;
-    } in
-    let names = c.ends_for.new.names in
-    let found = c.self.invariant.stands c.if-self.false in
-    let entry = c.args.entry.now in
-    let events = c.in_ok-events.events.items in
-    let news = c.answer_each.new.indexes in
-    let all = take inside.indexes.len (news ++ drop (length news) inside.indexes.items) in
-    let first = subst (λ (queries : List CompiledValue).
-    HaveAnswered names entry 0 queries c.deref_mut.result.now news events) c.deref-2.ensures.value
-    c.in_ok-events.ensures in
-    let answered : HaveAnswered names entry 0 old.queries old.indexes news events =
-    subst (λ (olds : List Index). HaveAnswered names entry 0 old.queries olds news events)
-    c.deref_mut.ensures.value first in
-    let back : all ≡ news = written_back news inside.indexes.items inside.indexes.len
-    (answered_long names entry 0 old.queries old.indexes news events answered)
-    inside.indexes.ok.0 in
-    let given : HaveAnswered names entry 0 old.queries old.indexes all events =
-    subst (λ (each : List Index). HaveAnswered names entry 0 old.queries old.indexes each events)
-    (sym {A = List Index} back) answered in
-    let new : EngineValue = record {
-      queries = inside.queries.items;
-      position = inside.position + 1;
-      spent = false;
-      names = names;
-      indexes = all;
-    } in
-    fed_stands c.stores_follow.ensures old new entry events refl refl refl
-    c.in_ok-ends.ensures.kept c.in_ok-ends.ensures.grown given history
-    (subst (λ (engine : EngineValue). StandsFor engine history) (sym c.self.view_is)
-    stands)
+    fed_stands c.stores_follow.ensures (before g c) (after g c) c.args.entry.now
+    c.in_ok-events.events.items refl refl refl c.in_ok-ends.ensures.kept
+    c.in_ok-ends.ensures.grown (answered g c) history
+    (subst (λ (engine : EngineValue). StandsFor engine history) (sym c.self.view_is) stands)
 
 pub returns-clause-events : goal.returns-clause-events
 returns-clause-events g c = λ history stands.
-    let inside = c.self.inside in
-    let old : EngineValue = record {
-      queries = inside.queries.items;
-      position = inside.position;
-      spent = inside.spent;
-      names = inside.names;
-      indexes = inside.indexes.items;
-    } in
-    let names = c.ends_for.new.names in
-    let found = c.self.invariant.stands c.if-self.false in
     let entry = c.args.entry.now in
     let events = c.in_ok-events.events.items in
-    let news = c.answer_each.new.indexes in
-    let all = take inside.indexes.len (news ++ drop (length news) inside.indexes.items) in
-    let first = subst (λ (queries : List CompiledValue).
-    HaveAnswered names entry 0 queries c.deref_mut.result.now news events) c.deref-2.ensures.value
-    c.in_ok-events.ensures in
-    let answered : HaveAnswered names entry 0 old.queries old.indexes news events =
-    subst (λ (olds : List Index). HaveAnswered names entry 0 old.queries olds news events)
-    c.deref_mut.ensures.value first in
-    let back : all ≡ news = written_back news inside.indexes.items inside.indexes.len
-    (answered_long names entry 0 old.queries old.indexes news events answered)
-    inside.indexes.ok.0 in
-    let given : HaveAnswered names entry 0 old.queries old.indexes all events =
-    subst (λ (each : List Index). HaveAnswered names entry 0 old.queries old.indexes each events)
-    (sym {A = List Index} back) answered in
-    let new : EngineValue = record {
-      queries = inside.queries.items;
-      position = inside.position + 1;
-      spent = false;
-      names = names;
-      indexes = all;
-    } in
     subst (λ (engine : EngineValue). AreEntryEvents (definitions engine) history entry events)
     c.self.view_is
-    (fed_events c.stores_follow.ensures old new entry events refl refl refl
-    c.in_ok-ends.ensures.kept c.in_ok-ends.ensures.grown given history
-    (subst (λ (engine : EngineValue). StandsFor engine history) (sym c.self.view_is)
-    stands))
+    (fed_events c.stores_follow.ensures (before g c) (after g c) entry events refl refl refl
+    c.in_ok-ends.ensures.kept c.in_ok-ends.ensures.grown (answered g c) history
+    (subst (λ (engine : EngineValue). StandsFor engine history) (sym c.self.view_is) stands))
 
 pub returns-clause-keeps : goal.returns-clause-keeps
 returns-clause-keeps g c =
-    let inside = c.self.inside in
-    let old : EngineValue = record {
-      queries = inside.queries.items;
-      position = inside.position;
-      spent = inside.spent;
-      names = inside.names;
-      indexes = inside.indexes.items;
-    } in
-    let names = c.ends_for.new.names in
-    let found = c.self.invariant.stands c.if-self.false in
     let entry = c.args.entry.now in
-    let events = c.in_ok-events.events.items in
-    let news = c.answer_each.new.indexes in
-    let all = take inside.indexes.len (news ++ drop (length news) inside.indexes.items) in
-    let first = subst (λ (queries : List CompiledValue).
-    HaveAnswered names entry 0 queries c.deref_mut.result.now news events) c.deref-2.ensures.value
-    c.in_ok-events.ensures in
-    let answered : HaveAnswered names entry 0 old.queries old.indexes news events =
-    subst (λ (olds : List Index). HaveAnswered names entry 0 old.queries olds news events)
-    c.deref_mut.ensures.value first in
-    let back : all ≡ news = written_back news inside.indexes.items inside.indexes.len
-    (answered_long names entry 0 old.queries old.indexes news events answered)
-    inside.indexes.ok.0 in
-    let given : HaveAnswered names entry 0 old.queries old.indexes all events =
-    subst (λ (each : List Index). HaveAnswered names entry 0 old.queries old.indexes each events)
-    (sym {A = List Index} back) answered in
-    let new : EngineValue = record {
-      queries = inside.queries.items;
-      position = inside.position + 1;
-      spent = false;
-      names = names;
-      indexes = all;
-    } in
-    subst (λ (engine : EngineValue). KeepsPlaces entry.tuple.act engine new) c.self.view_is
-    (fed_keeps c.stores_follow.ensures old new entry events refl refl refl
-    c.in_ok-ends.ensures.kept c.in_ok-ends.ensures.grown given)
+    subst (λ (engine : EngineValue). KeepsPlaces entry.tuple.act engine (after g c))
+    c.self.view_is
+    (fed_keeps c.stores_follow.ensures (before g c) (after g c) entry
+    c.in_ok-events.events.items refl refl refl c.in_ok-ends.ensures.kept
+    c.in_ok-ends.ensures.grown (answered g c))
 
 pub returns-clause-numbers : goal.returns-clause-numbers
 returns-clause-numbers g c =
-    let inside = c.self.inside in
-    let old : EngineValue = record {
-      queries = inside.queries.items;
-      position = inside.position;
-      spent = inside.spent;
-      names = inside.names;
-      indexes = inside.indexes.items;
-    } in
-    let names = c.ends_for.new.names in
-    let found = c.self.invariant.stands c.if-self.false in
-    let entry = c.args.entry.now in
     let events = c.in_ok-events.events.items in
-    let news = c.answer_each.new.indexes in
-    let all = take inside.indexes.len (news ++ drop (length news) inside.indexes.items) in
-    let first = subst (λ (queries : List CompiledValue).
-    HaveAnswered names entry 0 queries c.deref_mut.result.now news events) c.deref-2.ensures.value
-    c.in_ok-events.ensures in
-    let answered : HaveAnswered names entry 0 old.queries old.indexes news events =
-    subst (λ (olds : List Index). HaveAnswered names entry 0 old.queries olds news events)
-    c.deref_mut.ensures.value first in
-    let back : all ≡ news = written_back news inside.indexes.items inside.indexes.len
-    (answered_long names entry 0 old.queries old.indexes news events answered)
-    inside.indexes.ok.0 in
-    let given : HaveAnswered names entry 0 old.queries old.indexes all events =
-    subst (λ (each : List Index). HaveAnswered names entry 0 old.queries old.indexes each events)
-    (sym {A = List Index} back) answered in
-    let new : EngineValue = record {
-      queries = inside.queries.items;
-      position = inside.position + 1;
-      spent = false;
-      names = names;
-      indexes = all;
-    } in
     subst (λ (engine : EngineValue).
     All (λ (event : Event). event.query < length engine.queries) events) c.self.view_is
-    (fed_numbers c.stores_follow.ensures old new entry events refl refl refl
-    c.in_ok-ends.ensures.kept c.in_ok-ends.ensures.grown given)
+    (fed_numbers c.stores_follow.ensures (before g c) (after g c) c.args.entry.now events refl
+    refl refl c.in_ok-ends.ensures.kept c.in_ok-ends.ensures.grown (answered g c))
