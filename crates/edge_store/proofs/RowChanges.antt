@@ -1,7 +1,7 @@
 -- What changes of the rows of one side write.
-use Rattle.std.proofs.Common.{◌≡◌, ◌<◌, ◌+◌, ℕ, zero, suc, Bool, true, false, ◌&&◌, ◌==◌, cond, List, [], ◌∷◌, ◌++◌, length, slice_index_or, slice_set, refl, sym, ap, subst, ◌∙◌, Option, None, Some, ◌⊎◌, inl, inr, arith}
-use Rattle.std.proofs.lemmas.Bool.{eqb-true, eqb-false}
-use Rattle.std.proofs.lemmas.List.{get_or-set_same, get_or-set_other, get_or_append_left, get_or_push, get_or_read}
+use Rattle.std.proofs.Common.{◌≡◌, ◌<◌, ◌+◌, ◌-◌, ℕ, zero, suc, Bool, true, false, nat_lt, ◌&&◌, ◌==◌, cond, List, [], ◌∷◌, ◌++◌, length, take, slice_index_or, slice_set, refl, sym, ap, subst, ◌∙◌, Option, None, Some, ◌⊎◌, inl, inr, arith}
+use Rattle.std.proofs.lemmas.Bool.{eqb-true, eqb-false, ltb-true, ltb-false}
+use Rattle.std.proofs.lemmas.List.{get_or-set_same, get_or-set_other, get_or_append_left, get_or_push, get_or_read, get_or-take}
 use Rattle.std.specs.Map.{lookup}
 use Rattle.edge_store.specs.Row.{RowValue}
 use Rattle.edge_store.specs.declared.edge.HalfEdge.{HalfEdge}
@@ -290,3 +290,102 @@ given_rows old new rows from to place gives bare none =
         ∙ sym (ap (entries_at rows)
         (ap (place_of old) (sym (eqb-true from each gone)) ∙ bare.there))
     by each false false apart stays now = ap (entries_at rows) now
+
+-- ---- the last row, which has no edges, goes
+
+-- the place of the vertex whose slot was emptied
+slot_gone : (slots : List ℕ) (vertex : ℕ) → vertex < length slots →
+    place_of (slice_set slots vertex 0) vertex ≡ None
+slot_gone slots vertex within = ap place_in (get_or-set_same slots vertex 0 0 within)
+
+-- and of the others
+slot_kept : (slots : List ℕ) (vertex each : ℕ) → (vertex ≡ each → ⊥) →
+    place_of (slice_set slots vertex 0) each ≡ place_of slots each
+slot_kept slots vertex each apart =
+    ap place_in (get_or-set_other slots vertex each 0 0 (λ same. apart (sym same)))
+
+-- a vertex that still has a row had that row before, and isn't the one that lost its own
+kept_slot : (slots : List ℕ) (vertex each place : ℕ) → vertex < length slots →
+    place_of (slice_set slots vertex 0) each ≡ Some place →
+    (vertex ≡ each → ⊥) × (place_of slots each ≡ Some place)
+kept_slot slots vertex each place within is = by (vertex == each) refl
+  where
+    by : (b : Bool) → (vertex == each) ≡ b →
+        (vertex ≡ each → ⊥) × (place_of slots each ≡ Some place)
+    by true here =
+        let none : place_of (slice_set slots vertex 0) each ≡ None =
+        ap (place_of (slice_set slots vertex 0)) (sym (eqb-true vertex each here))
+        ∙ slot_gone slots vertex within in
+        absurd cc
+    by false apart =
+        let other = eqb-false vertex each apart in
+        (other, sym (slot_kept slots vertex each other) ∙ is)
+
+-- a vertex with a row has a slot
+pub has_slot : (slots : List ℕ) (vertex place : ℕ) → place_of slots vertex ≡ Some place →
+    vertex < length slots
+has_slot [] vertex place at = absurd cc
+has_slot (number ∷ slots) zero place at = omega arith
+has_slot (number ∷ slots) (suc vertex) place at =
+    omega (arith, has_slot slots vertex place at)
+
+-- each row that is left is still one vertex's
+pub dropped_side : (slots : List ℕ) (count vertex : ℕ) → vertex < length slots →
+    IsSide slots count → place_of slots vertex ≡ Some (count - 1) →
+    IsSide (slice_set slots vertex 0) (count - 1)
+dropped_side slots count vertex within is last = record {
+  within = λ each place at.
+      let kept = kept_slot slots vertex each place within at in
+      below each place kept.0 kept.1;
+  once = λ first second place one other.
+      is.once first second place (kept_slot slots vertex first place within one).1
+      (kept_slot slots vertex second place within other).1;
+}
+  where
+    below : (each place : ℕ) → (vertex ≡ each → ⊥) → place_of slots each ≡ Some place →
+        place < count - 1
+    below each place apart at = by (nat_lt place (count - 1)) refl
+      where
+        by : (b : Bool) → nat_lt place (count - 1) ≡ b → place < count - 1
+        by true under = ltb-true place (count - 1) under
+        by false over =
+            let same : place ≡ count - 1 =
+            omega (arith, is.within each place at, ltb-false place (count - 1) over) in
+            absurd (apart (is.once vertex each (count - 1) last (at ∙ ap Some same)))
+
+-- and each vertex has the edges that it had
+pub dropped_rows : (slots : List ℕ) (rows : List RowValue) (vertex : ℕ) → vertex < length slots →
+    IsSide slots (length rows) → IsBareAt slots rows (length rows - 1) vertex →
+    HasSameRows (rows_of (side slots rows))
+    (rows_of (side (slice_set slots vertex 0) (take (length rows - 1) rows)))
+dropped_rows slots rows vertex within is bare =
+    same_rows slots (slice_set slots vertex 0) rows (take (length rows - 1) rows)
+    (λ each. by each (place_of (slice_set slots vertex 0) each) refl (vertex == each) refl)
+  where
+    by : (each : ℕ) (found : Option ℕ) → place_of (slice_set slots vertex 0) each ≡ found →
+        (b : Bool) → (vertex == each) ≡ b →
+        entries_at (take (length rows - 1) rows) (place_of (slice_set slots vertex 0) each)
+        ≡ entries_at rows (place_of slots each)
+    by each found at true here =
+        let same = eqb-true vertex each here in
+        ap (λ n. entries_at (take (length rows - 1) rows) (place_of (slice_set slots vertex 0) n))
+        (sym same)
+        ∙ ap (entries_at (take (length rows - 1) rows)) (slot_gone slots vertex within)
+        ∙ sym bare.bare
+        ∙ sym (ap (entries_at rows) (ap (place_of slots) (sym same) ∙ bare.there))
+    by each None at false apart =
+        ap (entries_at (take (length rows - 1) rows)) at
+        ∙ ap (entries_at rows) (sym at ∙ slot_kept slots vertex each (eqb-false vertex each apart))
+    by each (Some place) at false apart =
+        let kept = slot_kept slots vertex each (eqb-false vertex each apart) in
+        let low = (dropped_side slots (length rows) vertex within is bare.there).within each place at in
+        ap (entries_at (take (length rows - 1) rows)) at
+        ∙ ap (λ (row : RowValue). row.entries) (get_or-take (length rows - 1) rows place no_row low)
+        ∙ ap (entries_at rows) (sym at ∙ kept)
+
+-- rows that hold what they held write the same
+pub writes_same : (old mid new : List (List (HalfEdge × ℕ))) (vertex : ℕ) (half : HalfEdge)
+    (value : Option ℕ) → Writes old mid vertex half value → HasSameRows mid new →
+    Writes old new vertex half value
+writes_same old mid new vertex half value writes same each other =
+    ap (lookup (same_half other)) (same each) ∙ writes each other

@@ -16,6 +16,7 @@ mod clock;
 mod dues;
 mod edge;
 mod edge_map;
+mod memory;
 mod no_memory;
 mod owners;
 mod row;
@@ -27,6 +28,7 @@ mod tests;
 
 pub use clock::WindowClock;
 pub use edge::{EdgeId, HalfEdge, In, Out, Raised};
+pub use memory::give_back;
 pub use no_memory::NoMemory;
 pub use steps::Steps;
 pub use store::EdgeStore;

@@ -1,5 +1,6 @@
 //! The vertices to which rows were given.
 
+use crate::memory::give_back;
 use crate::no_memory::NoMemory;
 use std::alloc::Global;
 
@@ -46,6 +47,12 @@ impl Owners {
         if let Some(owner) = self.vertices.get_mut(at) {
             *owner = vertex;
         }
+    }
+
+    /// Only so many rows are left.
+    pub(crate) fn keep(&mut self, count: usize) {
+        self.vertices.truncate(count);
+        give_back(&mut self.vertices);
     }
 
     /// There are no rows any more.

@@ -1,7 +1,7 @@
 //! One side of a store: for each vertex its edges, by their labels and far ends.
 
-ghost use Rattle.std.specs.Prelude.{◌≡◌, ℕ, ◌<◌, [], length, IfOk, IfSome, OnOk, None, Some};
-ghost use Rattle.std.specs.Prelude.{slice_get};
+ghost use Rattle.std.specs.Prelude.{◌≡◌, ℕ, ◌-◌, ◌<◌, [], length, IfOk, IfSome, OnOk, None, Some};
+ghost use Rattle.std.specs.Prelude.{slice_get, vec_len};
 ghost use Rattle.std.specs.List.{IsDistinct};
 ghost use Rattle.std.specs.Map.{keys_of};
 ghost use Rattle.edge_store.specs.Edges.{row, value_at, same_half};
@@ -10,6 +10,7 @@ ghost use Rattle.edge_store.specs.Rows.{IsSide, IsBareAt, GivesRow, HasRoom, Has
 ghost use Rattle.edge_store.specs.Rows.{TakesAt, Writes};
 
 use crate::edge::HalfEdge;
+use crate::memory::give_back;
 use crate::no_memory::NoMemory;
 use crate::owners::Owners;
 use crate::row::Row;
@@ -18,7 +19,8 @@ use std::marker::Model;
 
 /// The rows of one side. Most vertices have no edge in most stores, so a vertex without a row takes
 /// four bytes. A vertex gets a row with its first edge. Once its edges are gone, another vertex
-/// that needs a row may take it over, so there are not many more rows than vertices with edges.
+/// that needs a row may take it over, so there are not many more rows than vertices with edges, and
+/// the rows at the end whose edges are gone go away.
 ///
 /// Contracts see it as one row for each vertex, which is without entries and room where there is
 /// none.
@@ -123,6 +125,42 @@ fn add(
     rows.push(Row::new(alloc))?;
     slots[vertex as usize] = (at + 1) as u32;
     Ok(at)
+}
+
+/// The vertex that has the last row, where that row has no edges.
+fn last_bare(slots: &[u32], rows: &[Row], owners: &Owners) -> Option<u32>
+    requires { IsSide slots.now (length rows.now) }
+    ensures { IfSome result (IsBareAt slots.now rows.now (length rows.now - 1)) }
+{
+    bare_owner(slots, rows, owners, rows.len().checked_sub(1)?)
+}
+
+/// Takes the last row, which has no edges, away from the vertex that has it.
+fn drop_last(slots: &mut Vec<u32>, rows: &mut Vec<Row>, vertex: u32)
+    requires side { IsSide slots.old.items (length rows.old.items) }
+    requires bare { IsBareAt slots.old.items rows.old.items (length rows.old.items - 1) vertex }
+    ensures side { IsSide slots.new.items (length rows.new.items) }
+    ensures same { HasSameRows
+        (rows_of (side slots.old.items rows.old.items))
+        (rows_of (side slots.new.items rows.new.items)) }
+    ensures fewer { vec_len rows.new < vec_len rows.old }
+{
+    slots[vertex as usize] = 0;
+    rows.pop();
+}
+
+/// Takes the rows away that have no edges and stand behind all that have some. Each was made once,
+/// so over a run this costs no more than the making of rows.
+fn trim(slots: &mut Vec<u32>, rows: &mut Vec<Row>, owners: &Owners)
+    requires { IsSide slots.old.items (length rows.old.items) }
+    ensures side { IsSide slots.new.items (length rows.new.items) }
+    ensures same { HasSameRows
+        (rows_of (side slots.old.items rows.old.items))
+        (rows_of (side slots.new.items rows.new.items)) }
+{
+    while let Some(owner) = last_bare(slots, rows, owners) {
+        drop_last(slots, rows, owner);
+    }
 }
 
 /// Gives the row of one vertex to another.
@@ -256,8 +294,19 @@ impl Rows {
         }
     }
 
-    /// Takes an edge of the vertex out. The last edge of the row comes into its place.
+    /// Takes an edge of the vertex out. The last edge of the row comes into its place, and memory
+    /// of rows that most vertices need no more is given back.
     pub(crate) fn take(&mut self, vertex: u32, half: HalfEdge) -> Option<u64>
+        ensures value { result ≡ value_at (rows_of self.old) vertex half }
+        ensures rest { Writes (rows_of self.old) (rows_of self.new) vertex half None }
+    {
+        let value = self.take_out(vertex, half);
+        self.give_back();
+        value
+    }
+
+    /// Takes an edge of the vertex out, and keeps all rows.
+    fn take_out(&mut self, vertex: u32, half: HalfEdge) -> Option<u64>
         ensures value { result ≡ value_at (rows_of self.old) vertex half }
         ensures rest { Writes (rows_of self.old) (rows_of self.new) vertex half None }
     {
@@ -265,6 +314,15 @@ impl Rows {
             Some(at) => self.rows[at].take(half),
             None => None,
         }
+    }
+
+    /// Gives the memory back of rows at the end that have no edges.
+    fn give_back(&mut self)
+        ensures { HasSameRows (rows_of self.old) (rows_of self.new) }
+    {
+        trim(&mut self.slots, &mut self.rows, &self.owners);
+        give_back(&mut self.rows);
+        self.owners.keep(self.rows.len());
     }
 
     /// Takes all rows away, and keeps the memory of their list.

@@ -6,7 +6,7 @@ ghost use Rattle.edge_store.specs.Edges.{value_of, raised, above, outs_of, ins_o
 ghost use Rattle.edge_store.specs.Edges.{out_half, in_half};
 ghost use Rattle.edge_store.specs.Rows.{rows_of, sides, Agree, HasSameRows, TakesAt};
 
-use crate::dues::{Due, next_due, note};
+use crate::dues::{Due, give_back, next_due, note};
 use crate::edge::{EdgeId, In, Out, Raised};
 use crate::no_memory::NoMemory;
 use crate::rows::Rows;
@@ -136,6 +136,7 @@ impl EdgeStore {
         while let Some(edge) = next_due(&mut self.dues, now) {
             drop_due(&mut self.outs, &mut self.ins, edge, now);
         }
+        give_back(&mut self.dues);
     }
 
     /// The number of edges that leave the vertex. A walk over them goes from place 0 to below it.

@@ -11,7 +11,7 @@ ghost use Rattle.source_table.specs.Sources.{AreApart, AreReady, GivesSource, Ha
 use crate::part::{change_all, check, choose, chunk_size};
 use crate::places::Places;
 use dfa_table::Dfa;
-use edge_store::{EdgeStore, NoMemory};
+use edge_store::{EdgeStore, NoMemory, give_back};
 use rpq_io::Gate;
 use source_tree::{Change, SourceTree};
 use std::alloc::Global;
@@ -85,8 +85,18 @@ impl SourceTable {
         Ok(())
     }
 
-    /// Takes the source with this root out, where there is one.
+    /// Takes the source with this root out, where there is one. Memory of which three quarters
+    /// aren't used any more is given back.
     pub fn remove(&mut self, root: u32)
+        ensures gone { GivesSource self.old self.new root None }
+        ensures apart { AreApart self.new }
+    {
+        self.take_out(root);
+        give_back(&mut self.sources);
+    }
+
+    /// Takes the source with this root out, and keeps all memory.
+    fn take_out(&mut self, root: u32)
         ensures gone { GivesSource self.old self.new root None }
         ensures apart { AreApart self.new }
     {

@@ -6,7 +6,7 @@ use Rattle.source_table.specs.Sources.{GivesSource, roots_of}
 use Rattle.source_table.proofs.Moved.{moves, gives_absent, gives_none, placed_moved, placed_without, still_last}
 use Rattle.source_table.proofs.Lists.{mapped}
 use Rattle.source_table.proofs.Placed.{are_apart, root_of, within}
-use Rattle.source_table.proofs.table.SourceTable.remove.Goals as goal
+use Rattle.source_table.proofs.table.SourceTable.take_out.Goals as goal
 
 pub swap_remove-requires : goal.swap_remove-requires
 swap_remove-requires c =
