@@ -3,6 +3,7 @@
 ghost use Rattle.std.specs.Prelude.{◌≡◌, [], false, IsTrue, IfOk, OnOk, OnErr, IfSome, IfNone, None, Some};
 ghost use Rattle.source_index.specs.Dues.{AllLater, GivesDue, IsDueBy, due_of, lowered};
 
+use crate::memory::give_back;
 use crate::queue::{Due, forget_former, next_root, push};
 use edge_store::NoMemory;
 use indexmap::IndexMap;
@@ -83,8 +84,29 @@ impl Dues {
     }
 
     /// Takes the number of a root away that is at most `now`, and answers the root; none where no
-    /// root has such a number, which costs one comparison.
+    /// root has such a number, which costs one comparison. Memory is given back where most of it
+    /// isn't used any more.
     pub fn take(&mut self, now: u64) -> Option<u32>
+        ensures due { IfSome result (IsDueBy self.old now) }
+        ensures taken { IfSome result (λ root. GivesDue self.old self.new root None) }
+        ensures later { IfNone result (AllLater self.old now) }
+        ensures same { IfNone result (self.new ≡ self.old) }
+    {
+        let root = self.take_out(now)?;
+        self.give_back();
+        Some(root)
+    }
+
+    /// Gives the memory back that the numbers need no more.
+    fn give_back(&mut self)
+        ensures { self.new ≡ self.old }
+    {
+        forget_former(&self.numbers, &mut self.queue);
+        give_back(&mut self.numbers);
+    }
+
+    /// Takes the number of a root away that is at most `now`, and keeps all memory.
+    fn take_out(&mut self, now: u64) -> Option<u32>
         ensures due { IfSome result (IsDueBy self.old now) }
         ensures taken { IfSome result (λ root. GivesDue self.old self.new root None) }
         ensures later { IfNone result (AllLater self.old now) }

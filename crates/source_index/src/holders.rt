@@ -4,15 +4,13 @@ ghost use Rattle.std.specs.Prelude.{◌≡◌, ℕ, List, [], nat_eq, slice_get,
 ghost use Rattle.std.specs.List.{IsDistinct};
 ghost use Rattle.source_index.specs.Holders.{AddsHolder, DropsHolder, HoldsSame, roots_at};
 
+use crate::memory::give_back;
 use crate::roots::Roots;
 use delta_tree::NodeId;
 use edge_store::NoMemory;
 use indexmap::IndexMap;
 use std::alloc::Global;
 use std::marker::Model;
-
-/// Room for no more places than this is kept.
-const LEAST_ROOM: usize = 64;
 
 /// For each vertex with a state the set of the roots whose trees have a node there.
 #[derive(Drop)]
@@ -44,17 +42,6 @@ fn take_out(places: &mut IndexMap<NodeId, Roots>, id: NodeId, root: u32) -> Opti
         return Some(index);
     }
     None
-}
-
-/// Gives memory back where three quarters of it aren't used any more. So it costs no more than the
-/// drops since the last time.
-fn give_back(places: &mut IndexMap<NodeId, Roots>)
-    ensures { places.new.entries ≡ places.old.entries }
-{
-    let (used, room) = (places.len(), places.capacity());
-    if room > LEAST_ROOM && used <= room / 4 {
-        places.shrink_to(room / 2);
-    }
 }
 
 impl Holders {

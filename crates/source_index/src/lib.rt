@@ -9,6 +9,7 @@
 
 mod dues;
 mod holders;
+mod memory;
 mod queue;
 mod roots;
 #[cfg(test)]

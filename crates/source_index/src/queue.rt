@@ -53,16 +53,16 @@ fn queue_of(numbers: &IndexMap<u32, u64>) -> Result<BinaryHeap<Due>, AllocError>
         .collect(*numbers.allocator())
 }
 
-/// Forgets the numbers that roots had before, where the queue has several times as many entries as
-/// there are present numbers. So it costs no more than the notes since the last time. Where memory
-/// is short, the queue stays as it is.
+/// Forgets the numbers that roots had before, and gives memory back, where the queue has room for
+/// several times as many entries as there are present numbers. So it costs no more than the changes
+/// since the last time. Where memory is short, the queue stays as it is.
 pub(crate) fn forget_former(numbers: &IndexMap<u32, u64>, queue: &mut BinaryHeap<Due>)
     requires order { IsQueue (heap_items queue.old) }
     requires noted { AreNoted numbers.now.entries (heap_items queue.old) }
     ensures order { IsQueue (heap_items queue.new) }
     ensures noted { AreNoted numbers.now.entries (heap_items queue.new) }
 {
-    if queue.len() / 4 <= numbers.len().saturating_add(16) {
+    if queue.capacity() / 4 <= numbers.len().saturating_add(16) {
         return;
     }
     if let Ok(present) = queue_of(numbers) {

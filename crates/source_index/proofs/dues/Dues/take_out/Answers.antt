@@ -1,6 +1,6 @@
 use Rattle.std.specs.BinaryHeap.{heap_items}
 use Rattle.source_index.proofs.Noted.{noted_without}
-use Rattle.source_index.proofs.dues.Dues.take.Goals as goal
+use Rattle.source_index.proofs.dues.Dues.take_out.Goals as goal
 
 pub invariant_of-self-2 : goal.invariant_of-self-2
 invariant_of-self-2 c = record {
