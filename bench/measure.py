@@ -4,12 +4,16 @@
     measure.py PROGRAM [--kinds uniform,so] [--queries all,q1] [--tuples 10000,30000] [--runs 3]
     measure.py PROGRAM --sqlite
     measure.py PROGRAM --workers
+    measure.py PROGRAM --memory [--kinds so,social]
 
 The first form prints for each stream the seconds, those of processor time, the tuples a second and
 the microseconds a tuple by processor time, and the peak of memory: the median of three runs, or of
 as many as --runs says. The second one answers a stream of 2,000 tuples over 200 vertices by rpq and
 by recursive SQL in sqlite, evaluated again after each tuple, and compares the pairs at the end and
-the times. The third one asks whether 20,000 tuples give the same bytes with 1, 2 and 8 workers.
+the times. The third one asks whether 20,000 tuples give the same bytes with 1, 2 and 8 workers. The
+last one tells by valgrind's massif how much memory is in use at most over 20,000 tuples with all
+eleven queries, and how much when the window has moved past them and 1,000 others came, one in a
+window.
 
 The peak of memory is what /usr/bin/time says, where it is there. Without it a peak below 25 MB is
 that of the interpreter that starts the program.
@@ -23,6 +27,7 @@ import sqlite3
 import subprocess
 import sys
 import tempfile
+import threading
 import time
 
 import workloads
@@ -157,6 +162,51 @@ def same_by_workers(program):
         print(f"{kind}: {'the same bytes' if len(digests) == 1 else 'DIFFERENT'}")
 
 
+def with_a_tail(kind):
+    """A stream of 20,000 tuples and then of 1,000 between 50 other vertices, each in a window of its own."""
+    _, window, _, _ = workloads.KINDS[kind]
+    with open(files(kind, 20000, "all")[1]) as stream:
+        lines = stream.read().splitlines()
+    clock = max(int(line.split()[0]) for line in lines)
+    labels = sorted({line.split()[2] for line in lines})
+    for number in range(1000):
+        clock += 2 * window
+        lines.append(f"{clock} later{number % 50} {labels[number % len(labels)]} later{number * 7 % 50}")
+    return lines
+
+
+def feed(pipe, lines):
+    pipe.write("\n".join([*lines, ""]).encode())
+    pipe.flush()
+
+
+def memory_in_use(program, kind):
+    """The bytes in use at most, and at the end of the stream, while the program still runs."""
+    lines = with_a_tail(kind)
+    note = os.path.join(tempfile.gettempdir(), f"rpq-massif-{os.getpid()}")
+    massif = ["valgrind", "-q", "--tool=massif", "--max-snapshots=1000", f"--massif-out-file={note}"]
+    words = [*massif, program, files(kind, 20000, "all")[0], "/dev/stdin"]
+    process = subprocess.Popen(words, stdin=subprocess.PIPE, stdout=subprocess.PIPE)
+    feeder = threading.Thread(target=feed, args=(process.stdin, lines))
+    feeder.start()
+    for line in process.stdout:
+        if line.startswith(f"@{len(lines)} ".encode()):
+            break
+    feeder.join()
+    process.terminate()
+    process.communicate()
+    with open(note) as told:
+        used = [int(line.split("=")[1]) for line in told if line.startswith("mem_heap_B=")]
+    os.unlink(note)
+    return max(used), used[-1]
+
+
+def memory_given_back(program, kinds):
+    for kind in kinds:
+        most, left = memory_in_use(program, kind)
+        print(f"{kind}: {most / 1e6:.1f} MB at most, {left / 1e6:.1f} MB left", flush=True)
+
+
 def main():
     words = argparse.ArgumentParser(
         description=__doc__, formatter_class=argparse.RawDescriptionHelpFormatter
@@ -168,12 +218,15 @@ def main():
     words.add_argument("--runs", type=int, default=3)
     words.add_argument("--sqlite", action="store_true")
     words.add_argument("--workers", action="store_true")
+    words.add_argument("--memory", action="store_true")
     given = words.parse_args()
     program = os.path.abspath(given.program)
     if given.sqlite:
         against_sqlite(program)
     elif given.workers:
         same_by_workers(program)
+    elif given.memory:
+        memory_given_back(program, given.kinds.split(","))
     else:
         sizes = [int(size) for size in given.tuples.split(",")]
         table(program, given.kinds.split(","), given.queries.split(","), sizes, given.runs)

@@ -3,6 +3,7 @@
 #   bench/run.sh              times on streams of bench/workloads.py, as a table
 #   bench/run.sh --sqlite     against recursive SQL in sqlite, evaluated after each tuple
 #   bench/run.sh --workers    whether any number of workers gives the same bytes
+#   bench/run.sh --memory     the memory in use at most, and when the window has moved on (valgrind)
 #   bench/run.sh NAME         the benchmark NAME.rattle of one crate: edge_store, tree_insert
 # The words of measure.py can follow, as --kinds uniform,so --tuples 10000.
 #

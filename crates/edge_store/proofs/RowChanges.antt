@@ -1,12 +1,12 @@
 -- What changes of the rows of one side write.
 use Rattle.std.proofs.Common.{◌≡◌, ◌<◌, ◌+◌, ◌-◌, ℕ, zero, suc, Bool, true, false, nat_lt, ◌&&◌, ◌==◌, cond, List, [], ◌∷◌, ◌++◌, length, take, slice_index_or, slice_set, refl, sym, ap, subst, ◌∙◌, Option, None, Some, ◌⊎◌, inl, inr, arith}
 use Rattle.std.proofs.lemmas.Bool.{eqb-true, eqb-false, ltb-true, ltb-false}
-use Rattle.std.proofs.lemmas.List.{get_or-set_same, get_or-set_other, get_or_append_left, get_or_push, get_or_read, get_or-take}
+use Rattle.std.proofs.lemmas.List.{get_or-set_same, get_or-set_other, get_or_append_left, get_or_push, get_or_read, get_or-take, length-take-le}
 use Rattle.std.specs.Map.{lookup}
 use Rattle.edge_store.specs.Row.{RowValue}
 use Rattle.edge_store.specs.declared.edge.HalfEdge.{HalfEdge}
 use Rattle.edge_store.specs.Edges.{row, value_at, same_half}
-use Rattle.edge_store.specs.Rows.{rows_of, no_row, place_in, place_of, row_at, side, IsSide, IsBareAt, GivesRow, HasSameRows, Writes}
+use Rattle.edge_store.specs.Rows.{rows_of, no_row, place_in, place_of, row_at, side, IsSide, IsBareAt, GivesRow, HasSameRows, KeepsRows, Writes}
 
 -- ---- the row of a vertex
 
@@ -322,7 +322,7 @@ kept_slot slots vertex each place within is = by (vertex == each) refl
         (other, sym (slot_kept slots vertex each other) ∙ is)
 
 -- a vertex with a row has a slot
-pub has_slot : (slots : List ℕ) (vertex place : ℕ) → place_of slots vertex ≡ Some place →
+has_slot : (slots : List ℕ) (vertex place : ℕ) → place_of slots vertex ≡ Some place →
     vertex < length slots
 has_slot [] vertex place at = absurd cc
 has_slot (number ∷ slots) zero place at = omega arith
@@ -330,7 +330,7 @@ has_slot (number ∷ slots) (suc vertex) place at =
     omega (arith, has_slot slots vertex place at)
 
 -- each row that is left is still one vertex's
-pub dropped_side : (slots : List ℕ) (count vertex : ℕ) → vertex < length slots →
+dropped_side : (slots : List ℕ) (count vertex : ℕ) → vertex < length slots →
     IsSide slots count → place_of slots vertex ≡ Some (count - 1) →
     IsSide (slice_set slots vertex 0) (count - 1)
 dropped_side slots count vertex within is last = record {
@@ -354,10 +354,9 @@ dropped_side slots count vertex within is last = record {
             absurd (apart (is.once vertex each (count - 1) last (at ∙ ap Some same)))
 
 -- and each vertex has the edges that it had
-pub dropped_rows : (slots : List ℕ) (rows : List RowValue) (vertex : ℕ) → vertex < length slots →
+dropped_rows : (slots : List ℕ) (rows : List RowValue) (vertex : ℕ) → vertex < length slots →
     IsSide slots (length rows) → IsBareAt slots rows (length rows - 1) vertex →
-    HasSameRows (rows_of (side slots rows))
-    (rows_of (side (slice_set slots vertex 0) (take (length rows - 1) rows)))
+    KeepsRows slots rows (slice_set slots vertex 0) (take (length rows - 1) rows)
 dropped_rows slots rows vertex within is bare =
     same_rows slots (slice_set slots vertex 0) rows (take (length rows - 1) rows)
     (λ each. by each (place_of (slice_set slots vertex 0) each) refl (vertex == each) refl)
@@ -382,6 +381,26 @@ dropped_rows slots rows vertex within is bare =
         ap (entries_at (take (length rows - 1) rows)) at
         ∙ ap (λ (row : RowValue). row.entries) (get_or-take (length rows - 1) rows place no_row low)
         ∙ ap (entries_at rows) (sym at ∙ kept)
+
+-- both, of the rows that are left
+pub dropped : (slots : List ℕ) (rows left : List RowValue) (vertex count : ℕ) →
+    count ≡ length rows → left ≡ take (count - 1) rows → IsSide slots (length rows) →
+    IsBareAt slots rows (length rows - 1) vertex →
+    IsSide (slice_set slots vertex 0) (length left)
+    × KeepsRows slots rows (slice_set slots vertex 0) left
+dropped slots rows left vertex count whole rest is bare = (
+  subst (IsSide (slice_set slots vertex 0))
+      (sym (ap length those ∙ length-take-le (length rows - 1) rows (omega arith)))
+      (dropped_side slots (length rows) vertex within is bare.there),
+  subst (λ (after : List RowValue). KeepsRows slots rows (slice_set slots vertex 0) after)
+      (sym those) (dropped_rows slots rows vertex within is bare),
+)
+  where
+    within : vertex < length slots
+    within = has_slot slots vertex (length rows - 1) bare.there
+
+    those : left ≡ take (length rows - 1) rows
+    those = rest ∙ ap (λ n. take (n - 1) rows) whole
 
 -- rows that hold what they held write the same
 pub writes_same : (old mid new : List (List (HalfEdge × ℕ))) (vertex : ℕ) (half : HalfEdge)

@@ -45,6 +45,11 @@ row_at rows (Some place) = slice_index_or rows place no_row
 abbrev pub side : List ℕ → List RowValue → List RowValue
 side slots rows = map (λ number. row_at rows (place_in number)) slots
 
+-- the vertices hold by the new slots and rows what they held by the old ones
+abbrev pub KeepsRows : List ℕ → List RowValue → List ℕ → List RowValue → Type 0
+KeepsRows old_slots old_rows new_slots new_rows =
+    HasSameRows (rows_of (side old_slots old_rows)) (rows_of (side new_slots new_rows))
+
 -- each slot is for one of so many rows, and each row for one vertex
 pub record IsSide (slots : List ℕ) (count : ℕ) : Type 0 where
   pub within : (vertex place : ℕ) → place_of slots vertex ≡ Some place → place < count

@@ -6,7 +6,7 @@ ghost use Rattle.edge_store.specs.declared.edge.EdgeId.{EdgeId};
 ghost use Rattle.edge_store.specs.Dues.{due, IsQueue};
 
 use crate::edge::EdgeId;
-use crate::memory::LEAST_ROOM;
+use crate::memory::room_to_keep;
 use crate::no_memory::NoMemory;
 use std::cmp::Reverse;
 use std::collections::BinaryHeap;
@@ -53,13 +53,11 @@ pub(crate) fn next_due(dues: &mut BinaryHeap<Due>, now: u64) -> Option<EdgeId>
     Some(dues.pop()?.edge)
 }
 
-/// Gives the memory of the queue back where three quarters of it aren't used any more. So it costs
-/// no more than the edges that left it since the last time.
+/// Gives the memory back that the queue needs no more.
 pub(crate) fn give_back(dues: &mut BinaryHeap<Due>)
     ensures { heap_items dues.new ≡ heap_items dues.old }
 {
-    let (used, room) = (dues.len(), dues.capacity());
-    if room > LEAST_ROOM && used <= room / 4 {
-        dues.shrink_to(room / 2);
+    if let Some(room) = room_to_keep(dues.len(), dues.capacity()) {
+        dues.shrink_to(room);
     }
 }

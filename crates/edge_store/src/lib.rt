@@ -9,7 +9,8 @@
 //!
 //! A raise and a removal cost a look-up at each of the two vertices: through a short list, and by
 //! hash at a vertex of many edges. `expire` costs one comparison where no edge goes, and else a
-//! step in a heap for each edge that goes and for each raise that a later one outdid.
+//! step in a heap for each edge that goes and for each raise that a later one outdid. Memory that
+//! most edges have left is given back, by [`give_back`], which the layers above use too.
 #![tactic(auto)]
 
 mod clock;
@@ -28,7 +29,7 @@ mod tests;
 
 pub use clock::WindowClock;
 pub use edge::{EdgeId, HalfEdge, In, Out, Raised};
-pub use memory::give_back;
+pub use memory::{give_back, room_to_keep};
 pub use no_memory::NoMemory;
 pub use steps::Steps;
 pub use store::EdgeStore;

@@ -5,8 +5,8 @@ ghost use Rattle.std.specs.Prelude.{slice_get, vec_len};
 ghost use Rattle.std.specs.List.{IsDistinct};
 ghost use Rattle.std.specs.Map.{keys_of};
 ghost use Rattle.edge_store.specs.Edges.{row, value_at, same_half};
-ghost use Rattle.edge_store.specs.Rows.{rows_of, side, place_of};
-ghost use Rattle.edge_store.specs.Rows.{IsSide, IsBareAt, GivesRow, HasRoom, HasSameRows};
+ghost use Rattle.edge_store.specs.Rows.{rows_of, place_of};
+ghost use Rattle.edge_store.specs.Rows.{IsSide, IsBareAt, GivesRow, HasRoom, HasSameRows, KeepsRows};
 ghost use Rattle.edge_store.specs.Rows.{TakesAt, Writes};
 
 use crate::edge::HalfEdge;
@@ -112,9 +112,7 @@ fn add(
     requires none { place_of slots.old.items vertex ≡ None }
     requires reached { vertex < length slots.old.items }
     ensures side { IsSide slots.new.items (length rows.new.items) }
-    ensures same { HasSameRows
-        (rows_of (side slots.old.items rows.old.items))
-        (rows_of (side slots.new.items rows.new.items)) }
+    ensures same { KeepsRows slots.old.items rows.old.items slots.new.items rows.new.items }
     ensures ok { IfOk result (λ at. place_of slots.new.items vertex ≡ Some at) }
 {
     let at = rows.len();
@@ -140,9 +138,7 @@ fn drop_last(slots: &mut Vec<u32>, rows: &mut Vec<Row>, vertex: u32)
     requires side { IsSide slots.old.items (length rows.old.items) }
     requires bare { IsBareAt slots.old.items rows.old.items (length rows.old.items - 1) vertex }
     ensures side { IsSide slots.new.items (length rows.new.items) }
-    ensures same { HasSameRows
-        (rows_of (side slots.old.items rows.old.items))
-        (rows_of (side slots.new.items rows.new.items)) }
+    ensures same { KeepsRows slots.old.items rows.old.items slots.new.items rows.new.items }
     ensures fewer { vec_len rows.new < vec_len rows.old }
 {
     slots[vertex as usize] = 0;
@@ -154,9 +150,7 @@ fn drop_last(slots: &mut Vec<u32>, rows: &mut Vec<Row>, vertex: u32)
 fn trim(slots: &mut Vec<u32>, rows: &mut Vec<Row>, owners: &Owners)
     requires { IsSide slots.old.items (length rows.old.items) }
     ensures side { IsSide slots.new.items (length rows.new.items) }
-    ensures same { HasSameRows
-        (rows_of (side slots.old.items rows.old.items))
-        (rows_of (side slots.new.items rows.new.items)) }
+    ensures same { KeepsRows slots.old.items rows.old.items slots.new.items rows.new.items }
 {
     while let Some(owner) = last_bare(slots, rows, owners) {
         drop_last(slots, rows, owner);
@@ -186,9 +180,7 @@ fn place_new(
     requires side { IsSide slots.old.items (length rows.old.items) }
     requires none { place_of slots.old.items vertex ≡ None }
     ensures side { IsSide slots.new.items (length rows.new.items) }
-    ensures same { HasSameRows
-        (rows_of (side slots.old.items rows.old.items))
-        (rows_of (side slots.new.items rows.new.items)) }
+    ensures same { KeepsRows slots.old.items rows.old.items slots.new.items rows.new.items }
     ensures ok { IfOk result (λ at. place_of slots.new.items vertex ≡ Some at) }
 {
     reach(slots, vertex)?;
@@ -212,9 +204,7 @@ fn place_or_new(
 ) -> Result<usize, NoMemory>
     requires side { IsSide slots.old.items (length rows.old.items) }
     ensures side { IsSide slots.new.items (length rows.new.items) }
-    ensures same { HasSameRows
-        (rows_of (side slots.old.items rows.old.items))
-        (rows_of (side slots.new.items rows.new.items)) }
+    ensures same { KeepsRows slots.old.items rows.old.items slots.new.items rows.new.items }
     ensures ok { IfOk result (λ at. place_of slots.new.items vertex ≡ Some at) }
 {
     match locate(slots, vertex) {
