@@ -163,7 +163,7 @@ def same_by_workers(program):
 
 
 def with_a_tail(kind):
-    """A stream of 20,000 tuples and then of 1,000 between 50 other vertices, each in a window of its own."""
+    """A stream of 20,000 tuples, then of 1,000 between 50 other vertices, each in its own window."""
     _, window, _, _ = workloads.KINDS[kind]
     with open(files(kind, 20000, "all")[1]) as stream:
         lines = stream.read().splitlines()
@@ -171,7 +171,8 @@ def with_a_tail(kind):
     labels = sorted({line.split()[2] for line in lines})
     for number in range(1000):
         clock += 2 * window
-        lines.append(f"{clock} later{number % 50} {labels[number % len(labels)]} later{number * 7 % 50}")
+        label = labels[number % len(labels)]
+        lines.append(f"{clock} later{number % 50} {label} later{number * 7 % 50}")
     return lines
 
 
@@ -184,8 +185,8 @@ def memory_in_use(program, kind):
     """The bytes in use at most, and at the end of the stream, while the program still runs."""
     lines = with_a_tail(kind)
     note = os.path.join(tempfile.gettempdir(), f"rpq-massif-{os.getpid()}")
-    massif = ["valgrind", "-q", "--tool=massif", "--max-snapshots=1000", f"--massif-out-file={note}"]
-    words = [*massif, program, files(kind, 20000, "all")[0], "/dev/stdin"]
+    massif = ["valgrind", "-q", "--tool=massif", "--max-snapshots=1000"]
+    words = [*massif, f"--massif-out-file={note}", program, files(kind, 20000, "all")[0], "/dev/stdin"]
     process = subprocess.Popen(words, stdin=subprocess.PIPE, stdout=subprocess.PIPE)
     feeder = threading.Thread(target=feed, args=(process.stdin, lines))
     feeder.start()
