@@ -117,7 +117,7 @@ module _ {X : Type 0} (view : X → Expression) (bytes : List ℕ) where
   answered (Err (LongName at)) gives = λ other. subst (IsOutcome bytes) gives (outcome bytes)
   answered (Err Memory) gives = λ other. absurd (other refl)
 
-  -- a fault that is no want of memory is the bytes' own
+  -- a fault that is no out of memory is the bytes' own
   sure : (given : Result X BadExpr) → Gives view given (reading bytes) → (fault : BadExpr) → fault ≢ Memory → given ≡ Err fault → IsFault one_way fault bytes
   sure (Ok x) gives fault other is = absurd cc
   sure (Err Memory) gives fault other is = let same : Memory ≡ fault = cc in absurd (other (sym same))

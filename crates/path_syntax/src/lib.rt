@@ -17,6 +17,7 @@ mod empty_word;
 mod expr;
 mod grammar_laws;
 mod label_text;
+mod language;
 mod laws;
 mod matcher;
 mod read;
@@ -30,6 +31,7 @@ pub use grammar_laws::{
     fault_examples, grammar_examples, one_expression, one_outcome, short_names_are_short,
 };
 pub use label_text::write_word;
+pub use language::Language;
 pub use laws::{
     each_has_a_word, nullable_has_empty_word, repetitions_by_cases, written_examples,
     written_has_signs, written_is_read_again, written_is_readable, written_is_spelled,

@@ -14,9 +14,9 @@ use std::alloc::Global;
 /// Whether the word is in the language of the expression.
 ///
 /// It keeps a mark at each label of the expression that the word so far may end with, and moves the
-/// marks on at each label of the word. A label of the word costs at most the expression's size times
-/// the square of its depth, and the marks take memory for a `bool` a label of the expression. It
-/// recurses once a level of the expression, however long the word is: see [`Expr`] for the depths
+/// marks on at each label of the word. A label of the word costs at most the expression's size
+/// times the square of its depth, and the marks take memory for a `bool` a label of the expression.
+/// It recurses once a level of the expression, however long the word is: see [`Expr`] for the depths
 /// that are safe.
 ///
 /// Source: Fischer, Huch and Wilke, A Play on Regular Expressions, ICFP 2010.

@@ -1,7 +1,9 @@
+pub mod Derived
 pub mod Equality
 pub mod Members
 mod Naming
 pub mod Orders
 pub mod Outcomes
+pub mod OwnEnds
 pub mod Places
 pub mod Sorted

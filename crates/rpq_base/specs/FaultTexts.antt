@@ -3,7 +3,7 @@ use Rattle.std.specs.Prelude.{ℕ, List, ◌++◌, codes, decimal}
 use Rattle.rpq_base.specs.declared.name.NameFault.{NameFault}
 use Rattle.rpq_base.specs.declared.name.NameFault.TheVariants.{Length, Byte, Memory}
 
--- want of memory as it is told
+-- out of memory as it is told
 abbrev pub memory_text : List ℕ
 memory_text = codes "out of memory"
 

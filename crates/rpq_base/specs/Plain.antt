@@ -12,7 +12,7 @@ IsPlainLabel label = label.back ≡ false
 
 -- an act with such a label, or a tick
 abbrev pub IsPlainAct : Act → Type 0
-IsPlainAct (Insert edge) = IsPlainLabel edge.label
+IsPlainAct (Insert edge until) = IsPlainLabel edge.label
 IsPlainAct (Delete edge) = IsPlainLabel edge.label
 IsPlainAct Tick = Unit {0}
 

@@ -23,15 +23,17 @@ pub struct Edge {
     pub to: Name,
 }
 
-/// What a tuple does: it inserts an edge, deletes one, or lets time pass.
+/// What a tuple does: it inserts an edge, deletes one, or lets time pass. An insert may have an end
+/// of its own, `until`: the edge is seen at clocks below it alone.
 #[derive(Debug, PartialEq, Eq, Drop)]
 pub enum Act {
-    Insert(Edge),
+    Insert { edge: Edge, until: Option<u64> },
     Delete(Edge),
     Tick,
 }
 
-/// A streaming graph tuple: an act and its time, which is at most [`MAX_TIME`].
+/// A streaming graph tuple: an act and its time. The time, and the own end of an insert that has
+/// one, are at most [`MAX_TIME`].
 ///
 /// Source: the streaming graph tuples of Pacaci, Bonifati and Özsu, SIGMOD 2020.
 #[derive(Debug, PartialEq, Eq, Drop)]
@@ -41,15 +43,13 @@ pub struct Tuple {
 }
 
 impl Model for Tuple {
-    ghost use Rattle.std.specs.Prelude.{◌≤◌};
-    ghost use Rattle.rpq_base.specs.TupleValue.{TupleValue};
-    ghost use Rattle.rpq_base.specs.declared.data.TheConstants.{MAX_TIME};
+    ghost use Rattle.rpq_base.specs.TupleValue.{TupleValue, IsInRange};
 
     ghost Value = { TupleValue };
 
     ghost view = { λ tuple. record { time = tuple.time; act = tuple.act } };
 
-    ghost invariant = { λ tuple. tuple.time ≤ MAX_TIME };
+    ghost invariant = { λ tuple. IsInRange tuple.time tuple.act };
 
     ghost inverse = { λ tuple. record { time = tuple.time; act = tuple.act } };
 }
@@ -99,7 +99,10 @@ impl Copied for Edge {
 impl Copied for Act {
     fn copy(&self) -> Result<Act, Memory> {
         match self {
-            Act::Insert(edge) => Ok(Act::Insert(edge.copy()?)),
+            Act::Insert { edge, until } => Ok(Act::Insert {
+                edge: edge.copy()?,
+                until: *until,
+            }),
             Act::Delete(edge) => Ok(Act::Delete(edge.copy()?)),
             Act::Tick => Ok(Act::Tick),
         }

@@ -16,7 +16,7 @@ mod name;
 mod word;
 
 pub use data::{Act, Edge, Entry, Event, Label, MAX_TIME, Pair, Tuple};
-pub use laws::{greatest_time, orders_are_named, same_is_equal};
+pub use laws::{equality_is_exact, greatest_time, orders_are_named, same_is_equal};
 pub use memory::{Copied, Memory, copy_all};
 pub use name::{MAX_NAME, Name, NameFault};
 pub use word::Word;

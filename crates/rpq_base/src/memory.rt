@@ -1,4 +1,4 @@
-//! Want of memory, and copies that may meet it.
+//! Out of memory, and copies that may meet it.
 
 ghost use Rattle.std.specs.Prelude.{◌≡◌, IfOk, Some};
 ghost use Rattle.rpq_base.specs.FaultTexts.{memory_text};
