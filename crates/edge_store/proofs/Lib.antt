@@ -1,7 +1,6 @@
 mod Halves
 mod Noted
 mod Outcomes
-mod Queue
 mod RowChanges
 mod RowEntries
 mod RowPlaces

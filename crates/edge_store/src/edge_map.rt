@@ -7,8 +7,8 @@ ghost use Rattle.edge_store.specs.declared.edge.HalfEdge.{HalfEdge};
 ghost use Rattle.edge_store.specs.Edges.{same_half};
 
 use crate::edge::HalfEdge;
-use crate::no_memory::NoMemory;
 use indexmap::IndexMap;
+use rpq_base::Memory;
 use std::alloc::Global;
 use std::marker::Model;
 
@@ -84,7 +84,7 @@ impl EdgeMap {
     }
 
     /// Room for one more edge.
-    pub(crate) fn reserve(&mut self, alloc: Global) -> Result<(), NoMemory>
+    pub(crate) fn reserve(&mut self, alloc: Global) -> Result<(), Memory>
         ensures same { self.new.entries ≡ self.old.entries }
         ensures ok { OnOk result (0 < self.new.room) }
     {

@@ -1,7 +1,7 @@
 //! The vertices to which rows were given.
 
-use crate::memory::give_back;
-use crate::no_memory::NoMemory;
+use due_queue::give_back;
+use rpq_base::Memory;
 use std::alloc::Global;
 
 /// For each row the vertex to which it was given, and the place that was looked at last for a row
@@ -36,7 +36,7 @@ impl Owners {
     }
 
     /// The row at this place, behind all others, is given to the vertex.
-    pub(crate) fn add(&mut self, at: usize, vertex: u32) -> Result<(), NoMemory> {
+    pub(crate) fn add(&mut self, at: usize, vertex: u32) -> Result<(), Memory> {
         self.vertices.truncate(at);
         self.vertices.push(vertex)?;
         Ok(())

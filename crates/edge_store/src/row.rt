@@ -9,7 +9,7 @@ ghost use Rattle.edge_store.specs.Row.{Takes};
 
 use crate::edge::HalfEdge;
 use crate::edge_map::EdgeMap;
-use crate::no_memory::NoMemory;
+use rpq_base::Memory;
 use std::alloc::Global;
 use std::marker::Model;
 
@@ -61,7 +61,7 @@ fn place(few: &[(HalfEdge, u64)], half: HalfEdge) -> Option<usize>
 
 /// Room for one more edge in a list: two places at first, and then twice as many as before, since
 /// most lists stay very short.
-fn make_room(few: &mut Vec<(HalfEdge, u64)>) -> Result<(), NoMemory>
+fn make_room(few: &mut Vec<(HalfEdge, u64)>) -> Result<(), Memory>
     ensures same { few.new.items ≡ few.old.items }
     ensures ok { OnOk result (vec_len few.new < vec_capacity few.new) }
 {
@@ -113,7 +113,7 @@ impl Row {
     }
 
     /// Room for one more edge.
-    pub(crate) fn reserve(&mut self, alloc: Global) -> Result<(), NoMemory>
+    pub(crate) fn reserve(&mut self, alloc: Global) -> Result<(), Memory>
         ensures same { self.new.entries ≡ self.old.entries }
         ensures ok { OnOk result (0 < self.new.room) }
     {

@@ -10,10 +10,10 @@ ghost use Rattle.edge_store.specs.Rows.{IsSide, IsBareAt, GivesRow, HasRoom, Has
 ghost use Rattle.edge_store.specs.Rows.{TakesAt, Writes};
 
 use crate::edge::HalfEdge;
-use crate::memory::give_back;
-use crate::no_memory::NoMemory;
 use crate::owners::Owners;
 use crate::row::Row;
+use due_queue::give_back;
+use rpq_base::Memory;
 use std::alloc::Global;
 use std::marker::Model;
 
@@ -62,7 +62,7 @@ fn locate(slots: &[u32], vertex: u32) -> Option<usize>
 }
 
 /// A slot for the vertex.
-fn reach(slots: &mut Vec<u32>, vertex: u32) -> Result<(), NoMemory>
+fn reach(slots: &mut Vec<u32>, vertex: u32) -> Result<(), Memory>
     ensures same { (each : ℕ) → place_of slots.new.items each ≡ place_of slots.old.items each }
     ensures ok { OnOk result (vertex < length slots.new.items) }
 {
@@ -100,14 +100,14 @@ fn find_bare(slots: &[u32], rows: &[Row], owners: &mut Owners) -> Option<(u32, u
 }
 
 /// A new row for a vertex that has none, and its place. A row more than there are numbers is
-/// refused as want of memory.
+/// refused as out of memory.
 fn add(
     alloc: Global,
     slots: &mut Vec<u32>,
     rows: &mut Vec<Row>,
     owners: &mut Owners,
     vertex: u32,
-) -> Result<usize, NoMemory>
+) -> Result<usize, Memory>
     requires side { IsSide slots.old.items (length rows.old.items) }
     requires none { place_of slots.old.items vertex ≡ None }
     requires reached { vertex < length slots.old.items }
@@ -117,7 +117,7 @@ fn add(
 {
     let at = rows.len();
     if at >= u32::MAX as usize {
-        return Err(NoMemory);
+        return Err(Memory);
     }
     owners.add(at, vertex)?;
     rows.push(Row::new(alloc))?;
@@ -176,7 +176,7 @@ fn place_new(
     rows: &mut Vec<Row>,
     owners: &mut Owners,
     vertex: u32,
-) -> Result<usize, NoMemory>
+) -> Result<usize, Memory>
     requires side { IsSide slots.old.items (length rows.old.items) }
     requires none { place_of slots.old.items vertex ≡ None }
     ensures side { IsSide slots.new.items (length rows.new.items) }
@@ -201,7 +201,7 @@ fn place_or_new(
     rows: &mut Vec<Row>,
     owners: &mut Owners,
     vertex: u32,
-) -> Result<usize, NoMemory>
+) -> Result<usize, Memory>
     requires side { IsSide slots.old.items (length rows.old.items) }
     ensures side { IsSide slots.new.items (length rows.new.items) }
     ensures same { KeepsRows slots.old.items rows.old.items slots.new.items rows.new.items }
@@ -258,7 +258,7 @@ impl Rows {
     }
 
     /// Room for one more edge of the vertex.
-    pub(crate) fn make_room(&mut self, alloc: Global, vertex: u32) -> Result<(), NoMemory>
+    pub(crate) fn make_room(&mut self, alloc: Global, vertex: u32) -> Result<(), Memory>
         ensures same { HasSameRows (rows_of self.old) (rows_of self.new) }
         ensures ok { OnOk result (HasRoom self.new vertex) }
     {

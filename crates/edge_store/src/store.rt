@@ -6,13 +6,12 @@ ghost use Rattle.edge_store.specs.Edges.{value_of, raised, above, outs_of, ins_o
 ghost use Rattle.edge_store.specs.Edges.{out_half, in_half};
 ghost use Rattle.edge_store.specs.Rows.{rows_of, sides, Agree, HasSameRows, TakesAt};
 
-use crate::dues::{Due, give_back, next_due, note};
 use crate::edge::{EdgeId, In, Out, Raised};
-use crate::no_memory::NoMemory;
 use crate::rows::Rows;
 use crate::steps::Steps;
+use due_queue::DueQueue;
+use rpq_base::Memory;
 use std::alloc::Global;
-use std::collections::BinaryHeap;
 use std::marker::Model;
 use std::sync::ledger::Ledger;
 
@@ -28,11 +27,10 @@ pub struct EdgeStore {
     /// For each vertex the edges that end at it.
     ins: Rows,
     /// Each edge with its value, and beside them values that an edge had before.
-    dues: BinaryHeap<Due>,
+    dues: DueQueue<EdgeId>,
 }
 
 impl Model for EdgeStore {
-    ghost use Rattle.std.specs.BinaryHeap.{heap_items};
     ghost use Rattle.edge_store.specs.Edges.{Edges};
 
     ghost Value = { Edges };
@@ -46,19 +44,19 @@ impl Model for EdgeStore {
     } };
 
     ghost invariant = { λ store.
-        IsStore (rows_of store.outs) (rows_of store.ins) (heap_items store.dues) };
+        IsStore (rows_of store.outs) (rows_of store.ins) store.dues.items };
 }
 
 impl EdgeStore {
     /// A store without edges. It takes memory with the first edge.
-    pub fn new(alloc: Global) -> Result<EdgeStore, NoMemory>
+    pub fn new(alloc: Global) -> Result<EdgeStore, Memory>
         ensures { IfOk result IsEmpty }
     {
         Ok(EdgeStore {
             alloc,
             outs: Rows::new(alloc),
             ins: Rows::new(alloc),
-            dues: BinaryHeap::new(alloc),
+            dues: DueQueue::new(alloc),
         })
     }
 
@@ -70,9 +68,9 @@ impl EdgeStore {
     }
 
     /// Raises the value of the edge to this one, where it isn't greater already; an edge that the
-    /// store hasn't got comes in. The only error is [`NoMemory`], after which all values are as
+    /// store hasn't got comes in. The only error is [`Memory`], after which all values are as
     /// before.
-    pub fn raise(&mut self, edge: EdgeId, value: u64) -> Result<Raised, NoMemory>
+    pub fn raise(&mut self, edge: EdgeId, value: u64) -> Result<Raised, Memory>
         ensures before { IfOk result (λ change. change.before ≡ value_of self.old edge) }
         ensures after { IfOk result (λ change.
             change.after ≡ raised (value_of self.old edge) value) }
@@ -106,13 +104,13 @@ impl EdgeStore {
     }
 
     /// Gives the edge this value, where it had that one before.
-    fn put(&mut self, edge: EdgeId, before: Option<u64>, value: u64) -> Result<(), NoMemory>
+    fn put(&mut self, edge: EdgeId, before: Option<u64>, value: u64) -> Result<(), Memory>
         requires { before ≡ value_of self.old edge }
         ensures updates { OnOk result (Updates self.old self.new edge (Some value)) }
         ensures unchanged { OnErr result (HasSameValues self.old self.new) }
     {
-        note(&mut self.dues, edge, value)?;
         make_room(self.alloc, &mut self.outs, &mut self.ins, edge, before)?;
+        self.dues.note(edge, value)?;
         self.outs.put(edge.from, edge.out_half(), value);
         self.ins.put(edge.to, edge.in_half(), value);
         Ok(())
@@ -133,10 +131,10 @@ impl EdgeStore {
     pub fn expire(&mut self, now: u64)
         ensures { Expires self.old self.new now }
     {
-        while let Some(edge) = next_due(&mut self.dues, now) {
-            drop_due(&mut self.outs, &mut self.ins, edge, now);
+        while let Some(next) = self.dues.next_due(now) {
+            drop_due(&mut self.outs, &mut self.ins, next.item, now);
         }
-        give_back(&mut self.dues);
+        self.dues.give_back();
     }
 
     /// The number of edges that leave the vertex. A walk over them goes from place 0 to below it.
@@ -193,7 +191,7 @@ fn make_room(
     ins: &mut Rows,
     edge: EdgeId,
     before: Option<u64>,
-) -> Result<(), NoMemory>
+) -> Result<(), Memory>
     requires agree { Agree (rows_of outs.old) (rows_of ins.old) }
     requires before { before ≡ value_of (sides (rows_of outs.old) (rows_of ins.old)) edge }
     ensures same_outs { HasSameRows (rows_of outs.old) (rows_of outs.new) }

@@ -1,5 +1,5 @@
 -- The places of the keys among the entries.
-use Rattle.std.proofs.Common.{◌≡◌, ◌≢◌, ◌<◌, ◌+◌, ◌-◌, ◌⊎◌, inl, inr, ℕ, zero, suc, Bool, true, false, cond, nat_lt, is_some, List, [], ◌∷◌, ◌++◌, length, get_or, take, option_map, Option, None, Some, slice_get, slice_set, position, Result, Ok, Err, OnOk, OnErr, refl, sym, ap, subst, ◌∙◌, true≢false, arith}
+use Rattle.std.proofs.Common.{◌≡◌, ◌≢◌, ◌<◌, ◌+◌, ◌-◌, ◌⊎◌, inl, inr, ℕ, zero, suc, Bool, true, false, cond, nat_lt, List, [], ◌∷◌, ◌++◌, length, get_or, take, option_map, Option, None, Some, slice_get, slice_set, position, Result, Ok, Err, OnOk, OnErr, refl, sym, ap, subst, ◌∙◌, true≢false, arith}
 use Rattle.std.specs.Cmp.{IsEquivalence}
 use Rattle.std.specs.List.{IsDistinct, swap_remove, position_or_len}
 use Rattle.std.specs.Map.{keys_of, lookup}
@@ -11,7 +11,7 @@ use Rattle.std.proofs.lemmas.List.{get_or-set_same, get_or-set_other, length-tak
 use Rattle.std.proofs.lemmas.Map.Keys.{apart_from_distinct}
 use Rattle.std.proofs.lemmas.Option.{slice_get_within, get_or_from_slice_get, slice_get-map, slice_get-get_or}
 use Rattle.small_map.specs.Places.{ArePlaced, IsPlace}
-use Rattle.small_map.proofs.Entries.{none_or_some, some_is_one, none_from, by_test, set_elsewhere, value_at, stands_at, same_found}
+use Rattle.small_map.proofs.Entries.{none_or_some, some_is_one, none_from, by_test, set_elsewhere, stands_at, same_found}
 
 -- of no keys, each is once
 pub nothing_once : {K : Type 0} (eq : K → K → Bool) → IsDistinct eq []
@@ -228,14 +228,6 @@ pub told : {X E : Type 0} {P : Type 0} (result : Result X E) (found : Option ℕ
     found ≡ Some place → OnErr result (found ≡ None) → OnOk result P → P
 told (Ok x) found place is absent so = so
 told (Err e) found place is absent so = absurd (none_or_some place (sym absent ∙ is))
-
--- whether a place is found tells whether the key has a value
-pub has_place : {K V : Type 0} {eq : K → K → Bool} → IsEquivalence eq → (entries : List (K × V))
-    (key : K) (found : Option ℕ) → IsDistinct eq (keys_of entries) →
-    IsPlace eq entries key found → is_some found ≡ is_some (lookup (eq key) entries)
-has_place laws entries key None once none = sym (ap is_some none)
-has_place laws entries key (Some place) once (entry, at, same) =
-    sym (ap is_some (value_at laws entries key place entry once at same))
 
 -- ---- the first of the entries
 

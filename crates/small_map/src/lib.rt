@@ -6,15 +6,13 @@
 //! next one the place of each key is kept by its hash as well, until 16 are left.
 //!
 //! The contract for the layers above: a map is the list of its entries, in which each key stands
-//! once; each call answers and changes exactly what a look-up of each key finds. A caller that
-//! keeps other lists beside the map finds a place once, and changes the entry there.
+//! once. A caller finds the place of a key once, and reads or changes the entry there; so it can
+//! keep other lists in step with the map.
 #![tactic(auto)]
 
 mod map;
 mod places;
 mod room;
-#[cfg(test)]
-mod tests;
 
 pub use map::SmallMap;
 pub use room::{give_back, make_room};

@@ -1,8 +1,7 @@
 //! A map of few entries or many.
 
-ghost use Rattle.std.specs.Prelude.{◌≡◌, ◌==◌, ◌<◌, ◌++◌, ◌∷◌, [], length, cond, is_some, IfOk, OnOk, OnErr, None, Some};
+ghost use Rattle.std.specs.Prelude.{◌≡◌, ◌<◌, ◌++◌, ◌∷◌, [], length, OnOk, OnErr, None, Some};
 ghost use Rattle.std.specs.Prelude.{slice_get, slice_set};
-ghost use Rattle.std.specs.Option.{option_copied};
 ghost use Rattle.std.specs.List.{IsDistinct, swap_remove};
 ghost use Rattle.std.specs.Map.{keys_of, lookup};
 ghost use Rattle.small_map.specs.Places.{IsPlace};
@@ -58,45 +57,12 @@ impl<K: Eq + Hash + Copy, V: Copy> SmallMap<K, V> {
         self.entries.len()
     }
 
-    /// Whether there are no entries.
-    pub fn is_empty(&self) -> bool
-        ensures { result ≡ (length self.now == 0) }
-    {
-        self.entries.is_empty()
-    }
-
-    /// The entries, in the order in which they stand.
-    pub fn as_slice(&self) -> &[(K, V)]
-        ensures entries { result.now ≡ self.now }
-        ensures once { IsDistinct K.eq (keys_of self.now) }
-    {
-        self.entries.as_slice()
-    }
-
     /// The entry at this place.
     pub fn at(&self, index: usize) -> (K, V)
         requires { index < length self.now }
         ensures { slice_get self.now index ≡ Some result }
     {
         self.entries[index]
-    }
-
-    /// The value of a key.
-    pub fn get(&self, key: &K) -> Option<&V>
-        ensures value { option_copied result ≡ lookup (K.eq key.now) self.now }
-        ensures once { IsDistinct K.eq (keys_of self.now) }
-    {
-        match self.place_of(key) {
-            Some(place) => Some(&self.entries[place].1),
-            None => None,
-        }
-    }
-
-    /// Whether the key has a value.
-    pub fn contains_key(&self, key: &K) -> bool
-        ensures { result ≡ is_some (lookup (K.eq key.now) self.now) }
-    {
-        self.place_of(key).is_some()
     }
 
     /// The place of the key's entry, or none where the key has no value.
@@ -119,7 +85,7 @@ impl<K: Eq + Hash + Copy, V: Copy> SmallMap<K, V> {
         self.entries[place].1 = value;
     }
 
-    /// Gives a key that has none a value, behind the others. The only error is want of memory,
+    /// Gives a key that has none a value, behind the others. The only error is out of memory,
     /// after which the map is as before.
     pub fn push(&mut self, key: K, value: V) -> Result<(), AllocError>
         requires { lookup (K.eq key) self.old ≡ None }
@@ -141,45 +107,5 @@ impl<K: Eq + Hash + Copy, V: Copy> SmallMap<K, V> {
         forget(&mut self.places, &self.entries, place);
         self.entries.swap_remove(place);
         give_back(&mut self.entries);
-    }
-
-    /// Gives a key a value, and answers whether it had one. The only error is want of memory, after
-    /// which the map is as before.
-    pub fn put(&mut self, key: K, value: V) -> Result<bool, AllocError>
-        ensures put { OnOk result ((each : K) → lookup (K.eq each) self.new
-            ≡ cond (K.eq key each) (Some value) (lookup (K.eq each) self.old)) }
-        ensures had { IfOk result (λ had. had ≡ is_some (lookup (K.eq key) self.old)) }
-        ensures once { IsDistinct K.eq (keys_of self.new) }
-        ensures unchanged { OnErr result (self.new ≡ self.old) }
-    {
-        if let Some(place) = self.place_of(&key) {
-            self.set_at(place, value);
-            return Ok(true);
-        }
-        self.push(key, value)?;
-        Ok(false)
-    }
-
-    /// Takes the entry of a key out, where it has one, and answers whether it had. The last entry
-    /// comes into its place.
-    pub fn remove(&mut self, key: &K) -> bool
-        ensures gone { (each : K) → lookup (K.eq each) self.new
-            ≡ cond (K.eq key.now each) None (lookup (K.eq each) self.old) }
-        ensures had { result ≡ is_some (lookup (K.eq key.now) self.old) }
-        ensures once { IsDistinct K.eq (keys_of self.new) }
-    {
-        let Some(place) = self.place_of(key) else {
-            return false;
-        };
-        self.remove_at(place);
-        true
-    }
-
-    /// Takes all entries out, and gives their memory back.
-    pub fn clear(&mut self)
-        ensures { self.new ≡ [] }
-    {
-        self.entries = Vec::new(self.alloc);
-        self.places = None;
     }
 }

@@ -1,31 +1,13 @@
 -- Roots that are noted with their numbers.
-use Rattle.std.proofs.Common.{◌≡◌, ℕ, zero, suc, ◌⊎◌, inl, inr, Bool, true, false, cond, List, [], ◌∷◌, Option, None, Some, Contains, IsPermutation, nat_eq, map, length, ◌<◌, refl, sym, ap, subst, ◌∙◌, true≢false, arith}
+use Rattle.std.proofs.Common.{◌≡◌, ℕ, inl, inr, Bool, true, false, cond, List, [], ◌∷◌, Option, None, Some, Contains, IsPermutation, filter, nat_eq, refl, sym, ap, subst, ◌∙◌, true≢false}
 use Rattle.std.specs.Cmp.{nat_eq_equiv}
 use Rattle.std.specs.Option.{option_eq}
-use Rattle.std.proofs.lemmas.List.Elements.{Contains-append_cases, Contains-append_right}
-use Rattle.std.proofs.lemmas.List.Sorted.{Contains-permutation}
-use Rattle.std.proofs.lemmas.List.{get_or-map, length-map}
-use Rattle.std.proofs.lemmas.Option.{get_or_from_slice_get, slice_get_within}
-use Rattle.std.proofs.lemmas.Map.Entries.{place_from_lookup}
 use Rattle.std.proofs.lemmas.Map.Views.{exact_unsigned_eq}
-use Rattle.source_index.specs.declared.queue.Due.{Due}
+use Rattle.due_queue.specs.declared.due.Due.{Due}
+use Rattle.due_queue.specs.Queue.{due, Notes}
+use Rattle.due_queue.proofs.Items.{kept_noted, kept_passes, left_over, now_noted, still_noted}
 use Rattle.source_index.specs.Dues.{DuesValue, GivesDue, due_of}
-use Rattle.source_index.specs.Queue.{due, AreNoted, AreNotedBut}
-
--- the one element of a list
-the_one : (x y : Due) → Contains (x ∷ []) y → x ≡ y
-the_one x y (zero, within, is) = is
-the_one x y (suc k, within, is) = absurd (omega (arith, within))
-
--- what is left after the first was taken
-left_over : (old new : List Due) (next each : Due) → IsPermutation old (next ∷ new) →
-    Contains old each → Contains new each ⊎ (next ≡ each)
-left_over old new next each moved there =
-    elim (Contains-append_cases (next ∷ []) new each
-    (Contains-permutation old (next ∷ new) each moved there)) [
-      | inl here ↦ inr (the_one next each here)
-      | inr other ↦ inl other
-    ]
+use Rattle.source_index.specs.Queue.{AreNoted, AreNotedBut, ArePresent}
 
 -- no two options differ
 pub none_or_some : {X : Type 0} (x : X) → None ≡ Some x → ⊥
@@ -35,28 +17,28 @@ pub some_is_one : {X : Type 0} (x y : X) → Some x ≡ Some y → x ≡ y
 some_is_one x y is = cc
 
 -- a number that is none of its root's present ones was taken
-pub noted_left : (numbers : DuesValue) (old new : List Due) (next : Due) →
+pub noted_left : (numbers : DuesValue) (old new : List (Due ℕ)) (next : Due ℕ) →
     AreNoted numbers old → IsPermutation old (next ∷ new) →
-    (due_of numbers next.root ≡ Some next.number.0 → ⊥) → AreNoted numbers new
+    (due_of numbers next.item ≡ Some next.number → ⊥) → AreNoted numbers new
 noted_left numbers old new next noted moved stale root number is =
     elim (left_over old new next (due root number) moved (noted root number is)) [
       | inl there ↦ there
       | inr here ↦ absurd (stale
-          (subst (λ (each : Due). due_of numbers each.root ≡ Some each.number.0) (sym here) is))
+          (subst (λ (each : Due ℕ). due_of numbers each.item ≡ Some each.number) (sym here) is))
     ]
 
 -- the number of this root was taken
-pub noted_but : (numbers : DuesValue) (old new : List Due) (next : Due) →
+pub noted_but : (numbers : DuesValue) (old new : List (Due ℕ)) (next : Due ℕ) →
     AreNoted numbers old → IsPermutation old (next ∷ new) →
-    AreNotedBut next.root numbers new
+    AreNotedBut next.item numbers new
 noted_but numbers old new next noted moved root number other is =
     elim (left_over old new next (due root number) moved (noted root number is)) [
       | inl there ↦ there
-      | inr here ↦ absurd (other (sym (ap (λ (each : Due). each.root) here)))
+      | inr here ↦ absurd (other (sym (ap (λ (each : Due ℕ). each.item) here)))
     ]
 
 -- a root whose number is taken away needs not be noted
-pub noted_without : (old new : DuesValue) (queue : List Due) (root : ℕ) →
+pub noted_without : (old new : DuesValue) (queue : List (Due ℕ)) (root : ℕ) →
     AreNotedBut root old queue → GivesDue old new root None → AreNoted new queue
 noted_without old new queue root noted gives each number is = by (nat_eq root each) refl
   where
@@ -68,9 +50,9 @@ noted_without old new queue root noted gives each number is = by (nat_eq root ea
         (sym (ap (λ b. cond b None (due_of old each)) apart) ∙ sym (gives each) ∙ is)
 
 -- a root that gets a number and is noted with it
-pub noted_with : (old new : DuesValue) (queue more : List Due) (root number : ℕ) →
+pub noted_with : (old new : DuesValue) (queue more : List (Due ℕ)) (root number : ℕ) →
     AreNoted old queue → GivesDue old new root (Some number) →
-    IsPermutation (due root number ∷ queue) more → AreNoted new more
+    Notes queue more (due root number) → AreNoted new more
 noted_with old new queue more root number noted gives moved each other is =
     by (nat_eq root each) refl
   where
@@ -81,12 +63,10 @@ noted_with old new queue more root number noted gives moved each other is =
         (sym (ap (λ b. cond b (Some number) (due_of old each)) same) ∙ sym (gives each) ∙ is) in
         subst (λ place. Contains more (due place other)) at
         (subst (λ count. Contains more (due root count)) value
-        (Contains-permutation (due root number ∷ queue) more (due root number) moved
-        (0, omega arith, refl)))
+        (now_noted queue more (due root number) moved))
     by false apart =
-        Contains-permutation (due root number ∷ queue) more (due each other) moved
-        (Contains-append_right (due root number ∷ []) queue (due each other) (noted each other
-        (sym (ap (λ b. cond b (Some number) (due_of old each)) apart) ∙ sym (gives each) ∙ is)))
+        still_noted queue more (due root number) (due each other) moved (noted each other
+        (sym (ap (λ b. cond b (Some number) (due_of old each)) apart) ∙ sym (gives each) ∙ is))
 
 -- a root with this number passes the test
 pub present : (found : Option ℕ) (number : ℕ) → found ≡ Some number →
@@ -94,23 +74,29 @@ pub present : (found : Option ℕ) (number : ℕ) → found ≡ Some number →
 present found number is =
     ap (λ each. option_eq nat_eq each (Some number)) is ∙ nat_eq_equiv.refl number
 
--- a queue of all present numbers
-pub all_noted : (numbers : DuesValue) (queue : List Due) →
-    IsPermutation (map (λ each. due each.0 each.1) numbers) queue → AreNoted numbers queue
-all_noted numbers queue moved root number is =
-    let at = place_from_lookup (nat_eq root) numbers number is in
-    let same : root ≡ at.1 = exact_unsigned_eq root at.1 at.3 in
-    let within : at.0 < length numbers = slice_get_within numbers at.0 (at.1, number) at.2 in
-    Contains-permutation (map (λ each. due each.0 each.1) numbers) queue (due root number) moved
-    (subst (λ key. Contains (map (λ each. due each.0 each.1) numbers) (due key number)) (sym same) (
-      at.0,
-      subst (λ count. at.0 < count) (sym (length-map numbers (λ (each : ℕ × ℕ). due each.0 each.1))) within,
-      get_or-map (λ (each : ℕ × ℕ). due each.0 each.1) numbers at.0 (at.1, number)
-          (due at.1 number) within
-          ∙ ap (λ (each : ℕ × ℕ). due each.0 each.1)
-          (get_or_from_slice_get numbers at.0 (at.1, number) (at.1, number) at.2),
-    ))
+-- whether a root has the number with which it is noted
+abbrev pub is_present : DuesValue → Due ℕ → Bool
+is_present numbers each = option_eq nat_eq (due_of numbers each.item) (Some each.number)
+
+-- what is noted with its present number is enough
+pub noted_retained : (numbers : DuesValue) (old kept new : List (Due ℕ)) → AreNoted numbers old →
+    kept ≡ filter (is_present numbers) old → IsPermutation kept new → AreNoted numbers new
+noted_retained numbers old kept new noted is moved root number here =
+    kept_noted (is_present numbers) old kept new (due root number) is moved (noted root number here)
+    (present (due_of numbers root) number here)
+
+-- and no others are left
+pub present_retained : (numbers : DuesValue) (old kept new : List (Due ℕ)) →
+    kept ≡ filter (is_present numbers) old → IsPermutation kept new → ArePresent numbers new
+present_retained numbers old kept new is moved each there =
+    of_test (due_of numbers each.item) each.number
+    (kept_passes (is_present numbers) old kept new each is moved there)
+  where
+    of_test : (found : Option ℕ) (number : ℕ) → option_eq nat_eq found (Some number) ≡ true →
+        found ≡ Some number
+    of_test None number passed = absurd cc
+    of_test (Some other) number passed = ap (λ n. Some n) (exact_unsigned_eq other number passed)
 
 -- no number is noted where there is none
-pub none_noted : (queue : List Due) → AreNoted [] queue
+pub none_noted : (queue : List (Due ℕ)) → AreNoted [] queue
 none_noted queue root number is = absurd (none_or_some number is)

@@ -1,15 +1,15 @@
 //! Roots with numbers.
 
-ghost use Rattle.std.specs.Prelude.{◌≡◌, [], false, IsTrue, IfOk, OnOk, OnErr, IfSome, IfNone, None, Some};
+ghost use Rattle.std.specs.Prelude.{◌≡◌, ◌<◌, [], false, length, IsTrue, IfOk, OnOk, OnErr, OnSome, IfSome, IfNone, None, Some};
 ghost use Rattle.source_index.specs.Dues.{AllLater, GivesDue, IsDueBy, due_of, lowered};
 
 use crate::memory::give_back;
-use crate::queue::{Due, forget_former, next_root, push};
-use edge_store::NoMemory;
+use crate::queue::{forget_former, next_root};
+use due_queue::DueQueue;
 use indexmap::IndexMap;
 use indexmap::map::Entry;
+use rpq_base::Memory;
 use std::alloc::Global;
-use std::collections::BinaryHeap;
 use std::marker::Model;
 
 /// A number for each of some roots. The roots are taken in the order of their numbers.
@@ -17,23 +17,22 @@ use std::marker::Model;
 pub struct Dues {
     numbers: IndexMap<u32, u64>,
     /// Each root with its number, and with numbers that it had.
-    queue: BinaryHeap<Due>,
+    queue: DueQueue<u32>,
 }
 
 impl Model for Dues {
-    ghost use Rattle.std.specs.BinaryHeap.{heap_items};
     ghost use Rattle.source_index.specs.Dues.{DuesValue};
-    ghost use Rattle.source_index.specs.Queue.{IsKept};
+    ghost use Rattle.source_index.specs.Queue.{AreNoted};
 
     ghost Value = { DuesValue };
 
     ghost view = { λ dues. dues.numbers.entries };
 
-    ghost invariant = { λ dues. IsKept dues.numbers.entries (heap_items dues.queue) };
+    ghost invariant = { λ dues. AreNoted dues.numbers.entries dues.queue.items };
 }
 
 /// Gives the root this number, where it has no lower one. Answers whether its number changed.
-fn lower(numbers: &mut IndexMap<u32, u64>, root: u32, number: u64) -> Result<bool, NoMemory>
+fn lower(numbers: &mut IndexMap<u32, u64>, root: u32, number: u64) -> Result<bool, Memory>
     ensures lowered { OnOk result (GivesDue numbers.old.entries numbers.new.entries root
         (Some (lowered (due_of numbers.old.entries root) number))) }
     ensures changed { IfOk result (λ changed. IsTrue changed →
@@ -64,20 +63,20 @@ impl Dues {
     {
         Dues {
             numbers: IndexMap::new(alloc),
-            queue: BinaryHeap::new(alloc),
+            queue: DueQueue::new(alloc),
         }
     }
 
-    /// Gives the root this number, where it has no lower one. The only error is [`NoMemory`], after
+    /// Gives the root this number, where it has no lower one. The only error is [`Memory`], after
     /// which all is as before.
-    pub fn note(&mut self, root: u32, number: u64) -> Result<(), NoMemory>
+    pub fn note(&mut self, root: u32, number: u64) -> Result<(), Memory>
         ensures noted { OnOk result
             (GivesDue self.old self.new root (Some (lowered (due_of self.old root) number))) }
         ensures unchanged { OnErr result (self.new ≡ self.old) }
     {
-        self.queue.reserve(1)?;
+        self.queue.reserve()?;
         if lower(&mut self.numbers, root, number)? {
-            push(&mut self.queue, root, number);
+            self.queue.note_reserved(root, number);
             forget_former(&self.numbers, &mut self.queue);
         }
         Ok(())
@@ -89,6 +88,7 @@ impl Dues {
     pub fn take(&mut self, now: u64) -> Option<u32>
         ensures due { IfSome result (IsDueBy self.old now) }
         ensures taken { IfSome result (λ root. GivesDue self.old self.new root None) }
+        ensures fewer { OnSome result (length self.new < length self.old) }
         ensures later { IfNone result (AllLater self.old now) }
         ensures same { IfNone result (self.new ≡ self.old) }
     {
@@ -109,6 +109,7 @@ impl Dues {
     fn take_out(&mut self, now: u64) -> Option<u32>
         ensures due { IfSome result (IsDueBy self.old now) }
         ensures taken { IfSome result (λ root. GivesDue self.old self.new root None) }
+        ensures fewer { OnSome result (length self.new < length self.old) }
         ensures later { IfNone result (AllLater self.old now) }
         ensures same { IfNone result (self.new ≡ self.old) }
     {

@@ -7,8 +7,8 @@ ghost use Rattle.source_index.specs.Holders.{AddsHolder, DropsHolder, HoldsSame,
 use crate::memory::give_back;
 use crate::roots::Roots;
 use delta_tree::NodeId;
-use edge_store::NoMemory;
 use indexmap::IndexMap;
+use rpq_base::Memory;
 use std::alloc::Global;
 use std::marker::Model;
 
@@ -66,9 +66,9 @@ impl Holders {
         }
     }
 
-    /// Holds the root at the place. The only error is [`NoMemory`], after which the same roots are
+    /// Holds the root at the place. The only error is [`Memory`], after which the same roots are
     /// held as before.
-    pub fn add(&mut self, id: NodeId, root: u32) -> Result<(), NoMemory>
+    pub fn add(&mut self, id: NodeId, root: u32) -> Result<(), Memory>
         ensures added { OnOk result (AddsHolder self.old self.new id root) }
         ensures unchanged { OnErr result (HoldsSame self.old self.new) }
     {

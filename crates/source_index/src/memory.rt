@@ -2,7 +2,7 @@
 
 ghost use Rattle.std.specs.Prelude.{◌≡◌};
 
-use edge_store::room_to_keep;
+use due_queue::room_to_keep;
 use indexmap::IndexMap;
 use std::hash::Hash;
 

@@ -5,8 +5,8 @@ ghost use Rattle.std.specs.List.{IsDistinct};
 ghost use Rattle.indexmap.specs.IndexSet.{IsFromIterResult};
 ghost use Rattle.source_index.specs.Roots.{AddsRoot, DropsRoot};
 
-use edge_store::NoMemory;
 use indexmap::IndexSet;
+use rpq_base::Memory;
 use smallvec::SmallVec;
 use std::alloc::{AllocError, Global};
 use std::marker::Model;
@@ -52,7 +52,7 @@ fn place(few: &[u32], root: u32) -> Option<usize>
 }
 
 /// Adds the root to few.
-fn add_to_few(few: &mut SmallVec<u32, 4>, root: u32) -> Result<(), NoMemory>
+fn add_to_few(few: &mut SmallVec<u32, 4>, root: u32) -> Result<(), Memory>
     requires { IsDistinct nat_eq few.old.items }
     ensures once { IsDistinct nat_eq few.new.items }
     ensures added { OnOk result (AddsRoot few.old.items few.new.items root) }
@@ -86,7 +86,7 @@ fn set_of(alloc: Global, few: &[u32]) -> Result<IndexSet<u32>, AllocError>
 }
 
 /// Few roots and another one, as many.
-fn many_with(few: &SmallVec<u32, 4>, root: u32) -> Result<Roots, NoMemory>
+fn many_with(few: &SmallVec<u32, 4>, root: u32) -> Result<Roots, Memory>
     ensures { IfOk result (λ roots. AddsRoot few.now.items roots root) }
 {
     let alloc = *few.allocator();
@@ -135,8 +135,8 @@ impl Roots {
         self.as_slice().is_empty()
     }
 
-    /// Adds the root. The only error is [`NoMemory`], after which the same roots are there.
-    pub(crate) fn add(&mut self, root: u32) -> Result<(), NoMemory>
+    /// Adds the root. The only error is [`Memory`], after which the same roots are there.
+    pub(crate) fn add(&mut self, root: u32) -> Result<(), Memory>
         ensures added { OnOk result (AddsRoot self.old self.new root) }
         ensures unchanged { OnErr result (self.new ≡ self.old) }
     {

@@ -1,5 +1,4 @@
 use Rattle.std.proofs.Common.{Some, subst}
-use Rattle.std.specs.BinaryHeap.{heap_items}
 use Rattle.edge_store.specs.Edges.{out_half, in_half}
 use Rattle.edge_store.specs.Rows.{rows_of, sides, Writes}
 use Rattle.edge_store.proofs.Noted.{noted_put}
@@ -24,9 +23,8 @@ invariant_of-self-2 c =
     c.in_half.ensures c.put-2.ensures) in
     record {
       agree = agree_after outs outs' ins ins' edge value c.self.invariant.agree out_writes in_writes;
-      noted = noted_put (sides outs ins) (sides outs' ins') (heap_items c.self.inside.dues)
-          (heap_items c.note.new.dues) edge c.args.value c.self.invariant.noted
-          c.in_ok-note.ensures.kept c.in_ok-note.ensures.noted
+      noted = noted_put (sides outs ins) (sides outs' ins') c.self.inside.dues.items
+          c.note.new.self.items edge c.args.value c.self.invariant.noted
+          c.in_ok-note.ensures.noted
           (updates_after outs outs' ins ins' edge value out_writes);
-      order = c.in_ok-note.ensures.order;
     }
