@@ -25,7 +25,7 @@ use Rattle.delta_tree.specs.Losses.{loss, losses}
 use Rattle.delta_tree.specs.Dues.{id_cmp}
 use Rattle.delta_tree.specs.Ranks.{rank, ranks_of, rank_cmp}
 use Rattle.delta_tree.proofs.Ids.{same_node_is, same_node_laws, same_edge_itself, some_is_one, nothing_once}
-use Rattle.delta_tree.proofs.Queue.{the_one}
+use Rattle.due_queue.proofs.Items.{the_one}
 use Rattle.delta_tree.proofs.Trees.{same_found, below_parent, root_has_no_node}
 use Rattle.delta_tree.proofs.Ways.{parent_place, node_has_path}
 

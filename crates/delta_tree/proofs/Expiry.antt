@@ -1,5 +1,5 @@
 -- An expiry under way.
-use Rattle.std.proofs.Common.{◌≡◌, ◌<◌, ◌≤◌, ℕ, Bool, true, false, ◌&&◌, ◌⊎◌, inl, inr, cond, nat_lt, List, [], ◌∷◌, ◌++◌, Option, None, Some, refl, sym, ap, subst, ◌∙◌, Contains, IsPermutation, All, get_or, option_map, true≢false, arith}
+use Rattle.std.proofs.Common.{◌≡◌, ◌≤◌, ℕ, Bool, true, false, ◌&&◌, ◌⊎◌, inl, inr, cond, nat_lt, List, [], ◌∷◌, ◌++◌, Option, None, Some, refl, sym, ap, subst, ◌∙◌, Contains, IsPermutation, All, get_or, option_map, true≢false, arith}
 use Rattle.std.specs.List.{IsDistinct, list_any}
 use Rattle.std.specs.Bool.{OnTrue}
 use Rattle.std.specs.Option.{MatchOption}
@@ -9,23 +9,23 @@ use Rattle.std.proofs.lemmas.Option.{slice_get-get_or, get_or_from_slice_get}
 use Rattle.std.proofs.lemmas.List.Elements.{All-nil, All-push, Contains-append_left, Contains-push, Contains-push_cases}
 use Rattle.std.proofs.lemmas.Map.Keys.{IsDistinct-push}
 use Rattle.std.proofs.lemmas.Map.Views.{Contains-from_any}
-use Rattle.delta_tree.specs.declared.dues.Due.{Due}
+use Rattle.due_queue.specs.declared.due.Due.{Due}
+use Rattle.due_queue.specs.Queue.{due, AllAbove, TakesNext}
+use Rattle.due_queue.proofs.Items.{left_over}
 use Rattle.delta_tree.specs.declared.node.NodeId.{NodeId}
 use Rattle.delta_tree.specs.declared.node.Shift.{Shift}
 use Rattle.delta_tree.specs.Nodes.{Node, TreeValue, same_node, node_in, node_of, IsTree}
 use Rattle.delta_tree.specs.Changes.{living, AreDue, AreShifts, Expires, IsSameBeside, IsShift, shift_ids}
-use Rattle.delta_tree.specs.Dues.{due, IsDueIn, IsDueWith, IsKept, IsNoted, IsQueue, KeepsDues}
+use Rattle.delta_tree.specs.Dues.{IsDueIn, IsDueWith, IsKept, IsNoted, KeepsDues}
 use Rattle.delta_tree.specs.Losses.{IsLoss, loss, with_loss}
 use Rattle.delta_tree.proofs.Ids.{same_node_is, same_node_laws, changed_there, none_or_some, nothing_once}
 use Rattle.delta_tree.proofs.Trees.{expire_keeps, same_found, living_some, living_stays, living_gone}
-use Rattle.delta_tree.proofs.Queue.{keeps_others}
 use Rattle.delta_tree.proofs.Below.{contains_map}
 
 -- the nodes above the clock are as they were, and each node that is left is noted
-pub record IsExpiring (now : ℕ) (old new : List (NodeId × Node)) (dues : List Due) : Type 0 where
+pub record IsExpiring (now : ℕ) (old new : List (NodeId × Node)) (dues : List (Due NodeId)) : Type 0 where
   pub alive : (id : NodeId) → living now (node_in new id) ≡ living now (node_in old id)
   pub noted : IsNoted new dues
-  pub order : IsQueue dues
 
 -- what lives at a clock does so at it again
 living_twice : (now : ℕ) (found : Option Node) → living now (living now found) ≡ living now found
@@ -52,17 +52,17 @@ module _ (now : ℕ) (old new : List (NodeId × Node)) (id : NodeId)
       by false other = refl
 
   -- and all that are left are noted
-  pub noted_after : (dues rest last : List Due) (value : ℕ) → IsNoted old dues →
-      IsPermutation dues (due id value ∷ rest) → KeepsDues rest last →
+  pub noted_after : (dues rest last : List (Due NodeId)) (next : Due NodeId) → next.item ≡ id →
+      IsNoted old dues → IsPermutation dues (next ∷ rest) → KeepsDues rest last →
       ((node : Node) → node_in new id ≡ Some node → Contains last (due id node.value)) →
       IsNoted new last
-  noted_after dues rest last value noted moved keeps here each node is = by (same_node id each) refl
+  noted_after dues rest last next item noted moved keeps here each node is = by (same_node id each) refl
     where
       apart : same_node id each ≡ false → id ≡ each → ⊥
       apart other at = true≢false (sym (same_node_laws.refl id) ∙ ap (same_node id) at ∙ other)
 
-      same_due : (place : NodeId) (other : ℕ) → due id value ≡ due place other → id ≡ place
-      same_due place other is = ap (λ (d : Due). d.id) is
+      same_due : (place : NodeId) (other : ℕ) → next ≡ due place other → id ≡ place
+      same_due place other is = sym item ∙ ap (λ (d : Due NodeId). d.item) is
 
       by : (b : Bool) → same_node id each ≡ b →
           (bound : ℕ) × (bound ≤ node.value) × Contains last (due each bound)
@@ -79,27 +79,26 @@ module _ (now : ℕ) (old new : List (NodeId × Node)) (id : NodeId)
           ∙ sym (update each) ∙ is) in (
             bound,
             enough,
-            elim (keeps_others dues rest (due id value) (due each bound) moved there) [
+            elim (left_over dues rest next (due each bound) moved there) [
               | inl kept ↦ keeps (due each bound) kept
               | inr taken ↦ absurd (apart other (same_due each bound taken))
             ],
           )
 
-  pub expiring_after : (first : List (NodeId × Node)) (dues rest last : List Due) (value : ℕ) →
-      IsExpiring now first old dues → IsPermutation dues (due id value ∷ rest) →
-      KeepsDues rest last →
+  pub expiring_after : (first : List (NodeId × Node)) (dues rest last : List (Due NodeId))
+      (next : Due NodeId) → next.item ≡ id → IsExpiring now first old dues →
+      TakesNext now dues rest next → KeepsDues rest last →
       ((node : Node) → node_in new id ≡ Some node → Contains last (due id node.value)) →
-      IsQueue last → IsExpiring now first new last
-  expiring_after first dues rest last value expiring moved keeps here order = record {
+      IsExpiring now first new last
+  expiring_after first dues rest last next item expiring takes keeps here = record {
     alive = λ each. alive_after each ∙ expiring.alive each;
-    noted = noted_after dues rest last value expiring.noted moved keeps here;
-    order = order;
+    noted = noted_after dues rest last next item expiring.noted takes.taken keeps here;
   }
 
 -- where none is due any more, all that are left are above the clock
-pub all_alive : (now : ℕ) (old new : List (NodeId × Node)) (dues : List Due) →
+pub all_alive : (now : ℕ) (old new : List (NodeId × Node)) (dues : List (Due NodeId)) →
     IsExpiring now old new dues →
-    ((id : NodeId) (value : ℕ) → Contains dues (due id value) → now < value) →
+    AllAbove now dues →
     (id : NodeId) → node_in new id ≡ living now (node_in old id)
 all_alive now old new dues expiring later id = by (node_in new id) refl ∙ expiring.alive id
   where
@@ -107,19 +106,18 @@ all_alive now old new dues expiring later id = by (node_in new id) refl ∙ expi
     by None is = refl
     by (Some node) is =
         let (value, enough, there) = expiring.noted id node is in
-        let above = later id value there in
+        let above = later (due id value) there in
         sym (living_stays now (Some node) node refl (omega (arith, enough, above)))
 
 -- and they are a tree
-pub kept_after : (now : ℕ) (old new : TreeValue) (dues last : List Due) → IsTree old →
+pub kept_after : (now : ℕ) (old new : TreeValue) (dues last : List (Due NodeId)) → IsTree old →
     IsExpiring now old.nodes new.nodes dues →
-    ((id : NodeId) (value : ℕ) → Contains dues (due id value) → now < value) →
-    IsSameBeside old new → last ≡ dues → IsQueue last → IsKept new last
-kept_after now old new dues last kept expiring later beside same order = record {
+    AllAbove now dues →
+    IsSameBeside old new → last ≡ dues → IsKept new last
+kept_after now old new dues last kept expiring later beside same = record {
   is_tree = expire_keeps old new now kept
       (all_alive now old.nodes new.nodes dues expiring later) beside;
   noted = subst (IsNoted new.nodes) (sym same) expiring.noted;
-  order = order;
 }
 
 -- ---- the nodes that were taken out

@@ -8,7 +8,7 @@ use Rattle.delta_tree.specs.Nodes.{Node, TreeValue, node_of, root_id, IsBefore, 
 use Rattle.delta_tree.specs.Paths.{LeadsUp, IsBelow}
 use Rattle.delta_tree.specs.Laws.{EachNodeHasAPath, PathsAreOne, PathsAreWalks, IsWalk, BelowGoesByParents, ParentsComeFirst, RootHasNoNode, PutsAreOfOneNode, ExpiryGoesByValue}
 use Rattle.delta_tree.proofs.Ids.{changed_there, changed_else}
-use Rattle.delta_tree.proofs.Queue.{the_one}
+use Rattle.due_queue.proofs.Items.{the_one}
 use Rattle.delta_tree.proofs.Trees.{same_found, root_has_no_node, below_parent, living_some, living_stays}
 use Rattle.delta_tree.proofs.Ways.{node_has_path, path_is_one, parent_place}
 

@@ -1,19 +1,17 @@
 //! The nodes that hang below an edge.
 
-ghost use Rattle.std.specs.Prelude.{◌≡◌, cond, None, Contains, IsTrue, ◌↔◌};
-ghost use Rattle.std.specs.BinaryHeap.{heap_items};
+ghost use Rattle.std.specs.Prelude.{◌≡◌, ◌+◌, ◌*◌, ◌≤◌, ◌⊎◌, ◌↔◌, cond, length, None, Contains, IsTrue};
 ghost use Rattle.std.specs.List.{list_any};
 ghost use Rattle.delta_tree.specs.declared.node.NodeId.{NodeId};
 ghost use Rattle.delta_tree.specs.Nodes.{same_node, node_in};
-ghost use Rattle.delta_tree.specs.Dues.{IsQueue, IsNoted};
+ghost use Rattle.delta_tree.specs.Dues.{AreStanding, IsNoted};
 ghost use Rattle.delta_tree.specs.Paths.{Hangs};
 
-use crate::dues::Due;
 use crate::node::NodeId;
 use crate::node_map::NodeMap;
+use due_queue::DueQueue;
 use edge_store::EdgeId;
 use indexmap::IndexSet;
-use std::collections::BinaryHeap;
 
 /// Whether the node hangs by this edge, or below one of the set.
 pub(crate) fn hangs(nodes: &NodeMap, id: NodeId, edge: EdgeId, set: &IndexSet<NodeId>) -> bool
@@ -35,12 +33,25 @@ pub(crate) fn take_out(nodes: &mut NodeMap, ids: &[NodeId])
     }
 }
 
-/// Keeps the dues of these nodes alone.
-pub(crate) fn retain_dues(dues: &mut BinaryHeap<Due>, nodes: &NodeMap)
-    requires order { IsQueue (heap_items dues.old) }
-    requires noted { IsNoted nodes.now (heap_items dues.old) }
-    ensures order { IsQueue (heap_items dues.new) }
-    ensures noted { IsNoted nodes.now (heap_items dues.new) }
+/// Forgets the dues of nodes that were cut, where most of the dues may be such, and gives memory
+/// back. So it costs no more than the nodes that came since the last time.
+pub(crate) fn forget_cut(dues: &mut DueQueue<NodeId>, nodes: &NodeMap)
+    requires { IsNoted nodes.now dues.old.items }
+    ensures noted { IsNoted nodes.now dues.new.items }
+    ensures few { AreStanding nodes.now dues.new.items
+        ⊎ (length dues.new.items ≤ 4 * length nodes.now + 67) }
 {
-    dues.retain(|due| nodes.contains(due.id));
+    if dues.has_outgrown(nodes.len()) {
+        retain_standing(dues, nodes);
+    }
+    dues.give_back();
+}
+
+/// Keeps the dues of these nodes alone.
+fn retain_standing(dues: &mut DueQueue<NodeId>, nodes: &NodeMap)
+    requires { IsNoted nodes.now dues.old.items }
+    ensures noted { IsNoted nodes.now dues.new.items }
+    ensures standing { AreStanding nodes.now dues.new.items }
+{
+    dues.retain(|due| nodes.contains(due.item));
 }

@@ -14,16 +14,14 @@
 //!
 //! A look-up and a put go through the places of the nodes while these are few, and else cost a
 //! hash; the places lie together with the values alone, and [`Tree::raise`] judges and takes a step
-//! by one look-up. An
-//! expiry costs one comparison where no node goes, and else a step in a heap for each node that
-//! goes and for each one that was raised since it was last looked at; by [`Tree::least`] a caller
-//! knows before when none goes, and [`Tree::cut_due`] answers those that went. A cut goes over all
-//! nodes, and sorts them where a node hangs by its edge. A tree that loses most of its nodes gives
-//! their memory back.
+//! by one look-up. An expiry costs one comparison where no node goes, and else a step in a heap for
+//! each node that goes and for each one that was raised or cut since it was last looked at; by
+//! [`Tree::least`] a caller knows before when none goes, and [`Tree::cut_due`] answers those that
+//! went. A cut goes over all nodes, and sorts them where a node hangs by its edge. A tree that
+//! loses most of its nodes gives their memory back.
 #![tactic(auto)]
 
 mod cut;
-mod dues;
 mod laws;
 mod node;
 mod node_map;

@@ -15,7 +15,8 @@ ghost use Rattle.delta_tree.specs.Paths.{hangs_by};
 ghost use Rattle.delta_tree.specs.Spots.{IsSpot, rest_of};
 
 use crate::node::{Node, NodeId};
-use edge_store::{EdgeId, NoMemory};
+use edge_store::EdgeId;
+use rpq_base::Memory;
 use small_map::{SmallMap, give_back, make_room};
 use std::alloc::Global;
 use std::marker::Model;
@@ -171,9 +172,9 @@ impl NodeMap {
         self.rests[place] = rest_of(node);
     }
 
-    /// Puts a node where none stands. The only error is [`NoMemory`], after which nothing has
+    /// Puts a node where none stands. The only error is [`Memory`], after which nothing has
     /// changed.
-    pub(crate) fn push(&mut self, id: NodeId, node: Node) -> Result<(), NoMemory>
+    pub(crate) fn push(&mut self, id: NodeId, node: Node) -> Result<(), Memory>
         requires { node_in self.old id ≡ None }
         ensures put { OnOk result ((each : NodeId) → node_in self.new each
             ≡ cond (same_node id each) (Some node) (node_in self.old each)) }

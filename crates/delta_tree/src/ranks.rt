@@ -9,7 +9,7 @@ ghost use Rattle.delta_tree.specs.Ranks.{rank, ranks_of, rank_cmp};
 
 use crate::node::{Node, NodeId};
 use crate::node_map::NodeMap;
-use edge_store::NoMemory;
+use rpq_base::Memory;
 use std::alloc::Global;
 use std::cmp::Reverse;
 
@@ -34,7 +34,7 @@ fn rank_of(id: NodeId, node: Node) -> Rank
 }
 
 /// What each node is ordered by.
-fn ranks_of(alloc: Global, nodes: &NodeMap) -> Result<Vec<Rank>, NoMemory>
+fn ranks_of(alloc: Global, nodes: &NodeMap) -> Result<Vec<Rank>, Memory>
     ensures all { IfOk result (λ ranks. ranks.items ≡ ranks_of nodes.now) }
     ensures once { IsDistinct same_node (keys_of nodes.now) }
 {
@@ -47,7 +47,7 @@ fn ranks_of(alloc: Global, nodes: &NodeMap) -> Result<Vec<Rank>, NoMemory>
 }
 
 /// The nodes in their order.
-pub(crate) fn in_order(alloc: Global, nodes: &NodeMap) -> Result<Vec<Rank>, NoMemory>
+pub(crate) fn in_order(alloc: Global, nodes: &NodeMap) -> Result<Vec<Rank>, Memory>
     ensures sorted { IfOk result (λ ranks. IsSorted rank_cmp ranks.items) }
     ensures all { IfOk result (λ ranks. IsPermutation (ranks_of nodes.now) ranks.items) }
     ensures once { IsDistinct same_node (keys_of nodes.now) }

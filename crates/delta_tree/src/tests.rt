@@ -4,8 +4,9 @@ ghost use Rattle.std.specs.Prelude.{◌≡◌, ◌+◌, ◌<◌, OnOk, Some};
 ghost use Rattle.delta_tree.specs.Nodes.{Joins, node_id, value_of};
 ghost use Rattle.delta_tree.specs.Changes.{Raises};
 
-use crate::{NodeId, Shift, Tree, Try};
-use edge_store::{EdgeId, NoMemory};
+use crate::{NodeId, Tree, Try};
+use edge_store::EdgeId;
+use rpq_base::Memory;
 use std::alloc::Global;
 use std::test::Fail;
 
@@ -38,7 +39,7 @@ fn step(from: NodeId, to: NodeId) -> Try
 }
 
 /// Hangs the vertex 2 below the root, the vertex 1, and the vertex 3 below it, with this value.
-fn put_both(tree: &mut Tree, value: u64) -> Result<(), NoMemory>
+fn put_both(tree: &mut Tree, value: u64) -> Result<(), Memory>
     requires root { tree.old.root ≡ 1 }
     requires first { Raises tree.old (node_id 2 1) value }
     requires second { Raises tree.old (node_id 3 1) value }
@@ -58,7 +59,7 @@ fn put_both(tree: &mut Tree, value: u64) -> Result<(), NoMemory>
 }
 
 /// Whether a chain of two nodes grows, leads to its end, is raised, is cut there, and expires.
-fn grows_and_goes(alloc: Global) -> Result<bool, NoMemory> {
+fn grows_and_goes(alloc: Global) -> Result<bool, Memory> {
     let mut tree = Tree::new(alloc, 1)?;
     put_both(&mut tree, 15)?;
     let grown = tree.value_of(2, 1) == Some(15) && tree.value_of(3, 1) == Some(15);
@@ -75,53 +76,8 @@ fn grows_and_goes(alloc: Global) -> Result<bool, NoMemory> {
     Ok(grown && led && alone && stays && tree.len() == 0)
 }
 
-/// Whether a chain of two nodes tells by which edges they hang, and which of them go.
-fn tells_what_goes(alloc: Global) -> Result<bool, NoMemory> {
-    let mut tree = Tree::new(alloc, 1)?;
-    let bare = tree.least().is_none();
-    put_both(&mut tree, 15)?;
-    let hangs = tree.hangs_by(3, 1, edge(2, 3)) && !tree.hangs_by(3, 1, edge(1, 3));
-    let least = tree.least() == Some(15);
-    let mut shifts = Vec::new(alloc);
-    tree.cut_due(14, &mut shifts)?;
-    let early = shifts.is_empty();
-    tree.cut_due(15, &mut shifts)?;
-    let all = early && shifts.len() == 2 && tree.len() == 0;
-    Ok(bare && hangs && least && all)
-}
-
-/// Whether a chain of two nodes is raised by steps, is cut by an edge, and tells by how much.
-fn tells_what_changes(alloc: Global) -> Result<bool, NoMemory> {
-    let mut tree = Tree::new(alloc, 1)?;
-    let root = NodeId {
-        vertex: 1,
-        state: 0,
-    };
-    let hung = tree.raise(step(root, node(2)), 15)?;
-    let same = tree.raise(step(root, node(2)), 15)?;
-    let raised = tree.raise(step(root, node(2)), 20)?;
-    let whole = hung == shift(2, None, Some(15))
-        && same.is_none()
-        && raised == shift(2, Some(15), Some(20));
-    let bare = tree.cut_edge(edge(2, 1))?;
-    let cut = tree.cut_edge(edge(1, 2))?;
-    let told = cut.len() == 1 && cut.get(0).copied() == shift(2, Some(20), None);
-    Ok(whole && bare.is_empty() && told && tree.len() == 0)
-}
-
-/// What is told of a node with the state 1.
-fn shift(vertex: u32, before: Option<u64>, after: Option<u64>) -> Option<Shift> {
-    Some(Shift {
-        id: node(vertex),
-        before,
-        after,
-    })
-}
-
 #[test]
 fn a_chain_grows_and_goes(rt: HostRuntime) -> Result<(), Fail> {
     assert!(rt; grows_and_goes(rt.alloc())?);
-    assert!(rt; tells_what_goes(rt.alloc())?);
-    assert!(rt; tells_what_changes(rt.alloc())?);
     Ok(())
 }

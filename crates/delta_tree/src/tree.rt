@@ -1,13 +1,14 @@
 //! A tree of nodes below a root.
 
-ghost use Rattle.std.specs.Prelude.{◌≡◌, ◌+◌, ◌<◌, ◌^◌, ◌↔◌, [], length, slice_get, Contains, option_map};
+ghost use Rattle.std.specs.Prelude.{◌≡◌, ◌+◌, ◌<◌, ◌↔◌, [], length, slice_get, Contains};
+ghost use Rattle.std.specs.Prelude.{option_map};
 ghost use Rattle.std.specs.Prelude.{IfOk, IfNone, IfSome, IsSome, IsTrue, OnErr, OnOk, None, Some};
 ghost use Rattle.std.specs.Option.{MatchOption};
-ghost use Rattle.delta_tree.specs.Nodes.{IsTree, GivesNodes, Joins};
+ghost use Rattle.delta_tree.specs.Nodes.{IsTree, GivesNodes};
 ghost use Rattle.delta_tree.specs.Nodes.{node_id, node_of, value_of, ids_of};
 ghost use Rattle.delta_tree.specs.Paths.{IsPathTo, LeadsUp, IsBelow, HangsBy};
 ghost use Rattle.delta_tree.specs.declared.node.NodeId.{NodeId};
-ghost use Rattle.delta_tree.specs.Changes.{Carries, Raises, Puts, put_node, Expires};
+ghost use Rattle.delta_tree.specs.Changes.{CanHang, Raises, Puts, put_node, Expires};
 ghost use Rattle.delta_tree.specs.Changes.{IsSameBeside, Cuts, AreBelow, AreDue, IsFloor};
 ghost use Rattle.delta_tree.specs.Changes.{AreShifts, HasAsMuch, Lifts, shift_ids};
 ghost use Rattle.delta_tree.specs.declared.node.Shift.{Shift as ShiftMade};
@@ -15,16 +16,16 @@ ghost use Rattle.delta_tree.specs.declared.node_map.Spot.{Spot as SpotMade};
 ghost use Rattle.delta_tree.specs.Losses.{losses};
 ghost use Rattle.delta_tree.specs.Spots.{IsSpot};
 
-use crate::cut::{hangs, retain_dues, take_out};
-use crate::dues::{Due, first_due, give_back, next_due};
+use crate::cut::{forget_cut, hangs, take_out};
 use crate::node::{Node, NodeId, Shift, Try};
 use crate::node_map::{NodeMap, Spot, value_at};
 use crate::nodes::{add_loss, drop_or_note, is_enough, losses, set_node};
 use crate::ranks::in_order;
-use edge_store::{EdgeId, NoMemory};
+use due_queue::DueQueue;
+use edge_store::EdgeId;
 use indexmap::IndexSet;
+use rpq_base::Memory;
 use std::alloc::Global;
-use std::collections::BinaryHeap;
 use std::marker::Model;
 
 /// A root vertex, and nodes that hang below it, each with a value.
@@ -35,11 +36,10 @@ pub struct Tree {
     puts: u128,
     nodes: NodeMap,
     /// Each node with a value that it has or had, for the order in which they leave.
-    dues: BinaryHeap<Due>,
+    dues: DueQueue<NodeId>,
 }
 
 impl Model for Tree {
-    ghost use Rattle.std.specs.BinaryHeap.{heap_items};
     ghost use Rattle.delta_tree.specs.Nodes.{TreeValue};
 
     ghost Value = { TreeValue };
@@ -56,12 +56,12 @@ impl Model for Tree {
       root = tree.root;
       nodes = tree.nodes;
       puts = tree.puts;
-    }) (heap_items tree.dues) };
+    }) tree.dues.items };
 }
 
 impl Tree {
     /// A root without nodes. It takes memory with the first node.
-    pub fn new(alloc: Global, root: u32) -> Result<Tree, NoMemory>
+    pub fn new(alloc: Global, root: u32) -> Result<Tree, Memory>
         ensures root { IfOk result (λ tree. tree.root ≡ root) }
         ensures empty { IfOk result (λ tree. tree.nodes ≡ []) }
         ensures puts { IfOk result (λ tree. tree.puts ≡ 0) }
@@ -71,7 +71,7 @@ impl Tree {
             root,
             puts: 0,
             nodes: NodeMap::new(alloc),
-            dues: BinaryHeap::new(alloc),
+            dues: DueQueue::new(alloc),
         })
     }
 
@@ -114,13 +114,10 @@ impl Tree {
     /// Hangs `step.to` below `step.from` by the edge, with this value; where it stands already, it
     /// leaves the place at which it hung. The value is at most that of `step.from` and above that
     /// of `step.to`. Its stamp is the number of puts made before, of which there are fewer than
-    /// 2^127. The only error is [`NoMemory`], after which nothing has changed.
-    pub fn put(&mut self, step: Try, value: u64) -> Result<(), NoMemory>
-        requires from { Carries self.old step.from value }
+    /// 2^127. The only error is [`Memory`], after which nothing has changed.
+    pub fn put(&mut self, step: Try, value: u64) -> Result<(), Memory>
+        requires hangs { CanHang self.old step value }
         requires raises { Raises self.old step.to value }
-        requires state { 0 < step.to.state }
-        requires joins { Joins step.from step.edge step.to }
-        requires puts { self.old.puts < 2 ^ 127 }
         ensures node { OnOk result (Puts self.old self.new step.to (put_node self.old step value)) }
         ensures counted { OnOk result (self.new.puts ≡ self.old.puts + 1) }
         ensures root { self.new.root ≡ self.old.root }
@@ -131,12 +128,9 @@ impl Tree {
 
     /// Hangs `step.to` below `step.from` by the edge, as [`Tree::put`] does, where this gives it a
     /// greater value than it has, and answers its values before and after; none where it has as
-    /// much already. The only error is [`NoMemory`], after which nothing has changed.
-    pub fn raise(&mut self, step: Try, value: u64) -> Result<Option<Shift>, NoMemory>
-        requires from { Carries self.old step.from value }
-        requires state { 0 < step.to.state }
-        requires joins { Joins step.from step.edge step.to }
-        requires puts { self.old.puts < 2 ^ 127 }
+    /// much already. The only error is [`Memory`], after which nothing has changed.
+    pub fn raise(&mut self, step: Try, value: u64) -> Result<Option<Shift>, Memory>
+        requires hangs { CanHang self.old step value }
         ensures lifts { (shift : ShiftMade) → result ≡ Ok (Some shift) →
             Lifts self.old self.new step value shift }
         ensures stays { result ≡ Ok None → HasAsMuch self.old self.new step.to value }
@@ -165,14 +159,11 @@ impl Tree {
     }
 
     /// [`Tree::put`], where the target of the step stands at this spot, or nowhere.
-    fn put_at(&mut self, spot: Option<Spot>, step: Try, value: u64) -> Result<(), NoMemory>
+    fn put_at(&mut self, spot: Option<Spot>, step: Try, value: u64) -> Result<(), Memory>
         requires spot { MatchOption spot (node_of self.old step.to ≡ None)
             (IsSpot self.old.nodes step.to) }
-        requires from { Carries self.old step.from value }
+        requires hangs { CanHang self.old step value }
         requires raises { Raises self.old step.to value }
-        requires state { 0 < step.to.state }
-        requires joins { Joins step.from step.edge step.to }
-        requires puts { self.old.puts < 2 ^ 127 }
         ensures node { OnOk result (Puts self.old self.new step.to (put_node self.old step value)) }
         ensures counted { OnOk result (self.new.puts ≡ self.old.puts + 1) }
         ensures root { self.new.root ≡ self.old.root }
@@ -196,15 +187,15 @@ impl Tree {
         ensures gone { Expires self.old self.new now }
         ensures beside { IsSameBeside self.old self.new }
     {
-        while let Some(id) = next_due(&mut self.dues, now) {
-            drop_or_note(&mut self.nodes, &mut self.dues, id, now);
+        while let Some(next) = self.dues.next_due(now) {
+            drop_or_note(&mut self.nodes, &mut self.dues, next.item, now);
         }
     }
 
     /// Takes exactly the nodes out whose value is at most `now`, as [`Tree::expire`] does, and
     /// makes the list that of their places, in the memory that it has. The only error is
-    /// [`NoMemory`], after which they are out too.
-    pub fn cut_due(&mut self, now: u64, shifts: &mut Vec<Shift>) -> Result<(), NoMemory>
+    /// [`Memory`], after which they are out too.
+    pub fn cut_due(&mut self, now: u64, shifts: &mut Vec<Shift>) -> Result<(), Memory>
         ensures due { OnOk result (AreDue self.old now (shift_ids shifts.new.items)) }
         ensures shifts { OnOk result (AreShifts self.old self.new shifts.new.items) }
         ensures gone { Expires self.old self.new now }
@@ -213,11 +204,11 @@ impl Tree {
         shifts.clear();
         // Where memory for the list is lacking, the nodes go all the same.
         let mut whole = true;
-        while let Some(id) = next_due(&mut self.dues, now) {
-            let lost = drop_or_note(&mut self.nodes, &mut self.dues, id, now);
-            whole &= add_loss(lost, shifts, id);
+        while let Some(next) = self.dues.next_due(now) {
+            let lost = drop_or_note(&mut self.nodes, &mut self.dues, next.item, now);
+            whole &= add_loss(lost, shifts, next.item);
         }
-        if whole { Ok(()) } else { Err(NoMemory) }
+        if whole { Ok(()) } else { Err(Memory) }
     }
 
     /// A number that no node's value is below, or none where there is no node, by one look at the
@@ -226,7 +217,7 @@ impl Tree {
         ensures none { IfNone result (self.now.nodes ≡ []) }
         ensures floor { IfSome result (IsFloor self.now) }
     {
-        first_due(&self.dues)
+        self.dues.first_due()
     }
 
     /// Whether the node of this vertex with this state hangs by the edge, by one look-up.
@@ -245,7 +236,7 @@ impl Tree {
 
     /// The edges of the path from the root to the node of this vertex with this state, or none
     /// where there is no such node. This costs a look-up for each edge.
-    pub fn path_to(&self, v: u32, s: u32) -> Result<Option<Vec<EdgeId>>, NoMemory>
+    pub fn path_to(&self, v: u32, s: u32) -> Result<Option<Vec<EdgeId>>, Memory>
         ensures none { IfOk result (λ found.
             (found ≡ None) ↔ (node_of self.now (node_id v s) ≡ None)) }
         ensures path { IfOk result (λ found. IfSome found (λ path.
@@ -264,7 +255,7 @@ impl Tree {
     }
 
     /// The parent edges from a node up to the root, that of the node first.
-    fn way_up(&self, id: NodeId) -> Result<Vec<EdgeId>, NoMemory>
+    fn way_up(&self, id: NodeId) -> Result<Vec<EdgeId>, Memory>
         requires { IsSome (node_of self.now id) }
         ensures { IfOk result (λ up. LeadsUp self.now id up.items) }
     {
@@ -278,9 +269,9 @@ impl Tree {
     }
 
     /// Takes exactly the nodes out on whose path from the root the edge stands, and answers them.
-    /// The only error is [`NoMemory`], after which nothing has changed. This costs a step for each
+    /// The only error is [`Memory`], after which nothing has changed. This costs a step for each
     /// node of the tree, and sorts them where a node hangs by this edge.
-    pub fn cut_below(&mut self, edge: EdgeId) -> Result<Vec<NodeId>, NoMemory>
+    pub fn cut_below(&mut self, edge: EdgeId) -> Result<Vec<NodeId>, Memory>
         ensures cut { IfOk result (λ cut. AreBelow self.old edge cut.items) }
         ensures gone { OnOk result (Cuts self.old self.new edge) }
         ensures beside { IsSameBeside self.old self.new }
@@ -293,8 +284,8 @@ impl Tree {
 
     /// Takes exactly the nodes out on whose path from the root the edge stands, as
     /// [`Tree::cut_below`] does, and answers their places with the values that they had. The only
-    /// error is [`NoMemory`], after which nothing has changed.
-    pub fn cut_edge(&mut self, edge: EdgeId) -> Result<Vec<Shift>, NoMemory>
+    /// error is [`Memory`], after which nothing has changed.
+    pub fn cut_edge(&mut self, edge: EdgeId) -> Result<Vec<Shift>, Memory>
         ensures cut { IfOk result (λ shifts. AreBelow self.old edge (shift_ids shifts.items)) }
         ensures shifts { IfOk result (λ shifts. AreShifts self.old self.new shifts.items) }
         ensures gone { OnOk result (Cuts self.old self.new edge) }
@@ -308,7 +299,7 @@ impl Tree {
     }
 
     /// That none of these nodes stands there any more.
-    fn losses(&self, ids: &[NodeId]) -> Result<Vec<Shift>, NoMemory>
+    fn losses(&self, ids: &[NodeId]) -> Result<Vec<Shift>, Memory>
         ensures { IfOk result (λ shifts. shifts.items ≡ losses self.now.nodes ids.now) }
     {
         losses(self.alloc, &self.nodes, ids)
@@ -324,12 +315,11 @@ impl Tree {
             return;
         }
         take_out(&mut self.nodes, ids);
-        retain_dues(&mut self.dues, &self.nodes);
-        give_back(&mut self.dues);
+        forget_cut(&mut self.dues, &self.nodes);
     }
 
     /// The nodes on whose path from the root the edge stands.
-    fn below(&self, edge: EdgeId) -> Result<Vec<NodeId>, NoMemory>
+    fn below(&self, edge: EdgeId) -> Result<Vec<NodeId>, Memory>
         ensures { IfOk result (λ ids. AreBelow self.now edge ids.items) }
     {
         if !self.nodes.has_edge(edge) {
@@ -340,7 +330,7 @@ impl Tree {
     }
 
     /// The same nodes as a set, found in an order in which each comes after its parent.
-    fn set_below(&self, edge: EdgeId) -> Result<IndexSet<NodeId>, NoMemory>
+    fn set_below(&self, edge: EdgeId) -> Result<IndexSet<NodeId>, Memory>
         ensures { IfOk result (λ ids. (id : NodeId) →
             Contains ids.keys id ↔ IsBelow self.now edge id) }
     {

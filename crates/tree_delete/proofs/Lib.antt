@@ -1,4 +1,3 @@
 mod BestEntries
 mod CutTrees
 mod Told
-mod TestTable

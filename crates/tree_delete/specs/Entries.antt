@@ -1,5 +1,6 @@
 -- The ways by which a node can come back into a tree.
-use Rattle.std.specs.Prelude.{◌≡◌, ℕ, ◌≤◌, List, [], ◌∷◌, length, sum_by, Contains, Option, None, Some, option_map}
+use Rattle.std.specs.Prelude.{◌≡◌, ℕ, ◌≤◌, List, [], ◌∷◌, length, sum_by, Contains, Option}
+use Rattle.std.specs.Prelude.{None, Some, option_map}
 use Rattle.edge_store.specs.declared.edge.EdgeId.{EdgeId}
 use Rattle.edge_store.specs.Edges.{Edges, ins_of}
 use Rattle.delta_tree.specs.declared.node.NodeId.{NodeId}

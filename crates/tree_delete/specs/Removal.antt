@@ -7,6 +7,7 @@ use Rattle.delta_tree.specs.declared.node.Node.{Node}
 use Rattle.delta_tree.specs.declared.node.Shift.{Shift}
 use Rattle.delta_tree.specs.Nodes.{TreeValue, node_of, value_of}
 use Rattle.delta_tree.specs.Paths.{IsBelow}
+use Rattle.delta_tree.specs.Changes.{AreBelow, AreShifts, shift_ids}
 use Rattle.tree_insert.specs.Trees.{IsOptimal, count_outs}
 use Rattle.tree_delete.specs.Entries.{count_ins}
 
@@ -46,3 +47,16 @@ pub record CountsCut (store : Edges) (old : TreeValue) (edge : EdgeId) (start st
   pub apart : AllPairs ◌≢◌ nodes
   pub below : All (IsBelow old edge) nodes
   pub few : steps ≤ start + count_ins store nodes + count_outs store nodes
+
+-- what a removal that ends keeps: nodes on whose path the edge didn't stand stay as they were, and
+-- only the edges at the others are counted
+pub record Repairs (store : Edges) (old new : TreeValue) (edge : EdgeId) (start total : ℕ)
+    : Type 0 where
+  pub keeps : KeepsApart old new edge
+  pub steps : CountsCut store old edge start total
+
+-- the shifts are the places of the nodes on whose path the edge stood, with the values before and
+-- after
+pub record ReportsCut (old new : TreeValue) (edge : EdgeId) (shifts : List Shift) : Type 0 where
+  pub below : AreBelow old edge (shift_ids shifts)
+  pub are_shifts : AreShifts old new shifts

@@ -7,19 +7,20 @@ ghost use Rattle.delta_tree.specs.declared.node.NodeId.{NodeId};
 ghost use Rattle.delta_tree.specs.Nodes.{IsTree, node_of};
 ghost use Rattle.delta_tree.specs.Changes.{AreBelow, AreShifts, Cuts, IsSameBeside, shift_ids};
 ghost use Rattle.tree_insert.specs.Trees.{HasOwnWays, IsLater, IsOptimal};
-ghost use Rattle.tree_delete.specs.Removal.{CountsCut, KeepsApart, WasOptimalWith, with_after};
+ghost use Rattle.tree_delete.specs.Removal.{Repairs, ReportsCut, WasOptimalWith, with_after};
 
 use crate::entries::best_entries;
 use delta_tree::{NodeId, Shift, Tree};
 use dfa_table::Dfa;
-use edge_store::{EdgeId, EdgeStore, NoMemory, Steps};
+use edge_store::{EdgeId, EdgeStore, Steps};
+use rpq_base::Memory;
 use std::alloc::Global;
 use std::sync::ledger::Ledger;
 use tree_insert::Search;
 
-/// Cuts the nodes on whose path the edge stands. Where memory is lacking all nodes go, so that none
+/// Cuts the nodes on whose path the edge stands. Where memory runs out all nodes go, so that none
 /// stays on a path by this edge.
-fn cut(tree: &mut Tree, edge: EdgeId) -> Result<Vec<Shift>, NoMemory>
+fn cut(tree: &mut Tree, edge: EdgeId) -> Result<Vec<Shift>, Memory>
     requires { IsTree tree.old }
     ensures below { IfOk result (λ shifts. AreBelow tree.old edge (shift_ids shifts.items)) }
     ensures shifts { IfOk result (λ shifts. AreShifts tree.old tree.new shifts.items) }
@@ -29,14 +30,14 @@ fn cut(tree: &mut Tree, edge: EdgeId) -> Result<Vec<Shift>, NoMemory>
 {
     match tree.cut_edge(edge) {
         Ok(shifts) => Ok(shifts),
-        Err(NoMemory) => {
+        Err(Memory) => {
             tree.expire(u64::MAX);
-            Err(NoMemory)
+            Err(Memory)
         }
     }
 }
 
-/// Tells which values the places have in the tree now.
+/// Gives each place the value that it has in the tree now.
 fn tell_values(tree: &Tree, shifts: &mut Vec<Shift>)
     ensures { shifts.new.items ≡ map (with_after tree.now) shifts.old.items }
 {
@@ -51,7 +52,7 @@ fn tell_values(tree: &Tree, shifts: &mut Vec<Shift>)
 /// stayed is sought among the edges that end at its vertex; from there a search puts back those
 /// that other paths reach. Answers the places of the nodes that were cut, with the values before
 /// and after, also of those that came back with the value that they had. The only error is
-/// [`NoMemory`], after which the paths of the tree are paths of the store, but nodes may be
+/// [`Memory`], after which the paths of the tree are paths of the store, but nodes may be
 /// missing.
 pub fn tree_remove_with<L: Ledger>(
     search: &mut Search,
@@ -61,16 +62,15 @@ pub fn tree_remove_with<L: Ledger>(
     dfa: &Dfa,
     edge: EdgeId,
     steps: &mut Steps<L>,
-) -> Result<Vec<Shift>, NoMemory>
+) -> Result<Vec<Shift>, Memory>
     requires puts { tree.old.puts < 2 ^ 126 }
     requires before { WasOptimalWith (value_of store.now) (step_of dfa.now) tree.old edge }
     ensures optimal { OnOk result (IsOptimal (value_of store.now) (step_of dfa.now) tree.new) }
     ensures paths { HasOwnWays (value_of store.now) (step_of dfa.now) tree.new }
-    ensures keeps { OnOk result (KeepsApart tree.old tree.new edge) }
     ensures later { IsLater tree.old tree.new }
-    ensures steps { OnOk result (CountsCut store.now tree.old edge steps.old steps.new) }
-    ensures cut { IfOk result (λ shifts. AreBelow tree.old edge (shift_ids shifts.items)) }
-    ensures shifts { IfOk result (λ shifts. AreShifts tree.old tree.new shifts.items) }
+    ensures repairs { OnOk result
+        (Repairs store.now tree.old tree.new edge steps.old steps.new) }
+    ensures cut { IfOk result (λ shifts. ReportsCut tree.old tree.new edge shifts.items) }
 {
     let root = NodeId {
         vertex: tree.root(),
@@ -83,7 +83,8 @@ pub fn tree_remove_with<L: Ledger>(
     Ok(shifts)
 }
 
-/// Makes a tree optimal that was so before the edge left the store; see [`tree_remove_with`].
+/// Makes a tree optimal that was so before the edge left the store, as [`tree_remove_with`] does,
+/// for a caller that keeps no room of a search and asks for no places.
 pub fn tree_remove<L: Ledger>(
     alloc: Global,
     tree: &mut Tree,
@@ -91,14 +92,14 @@ pub fn tree_remove<L: Ledger>(
     dfa: &Dfa,
     edge: EdgeId,
     steps: &mut Steps<L>,
-) -> Result<(), NoMemory>
+) -> Result<(), Memory>
     requires puts { tree.old.puts < 2 ^ 126 }
     requires before { WasOptimalWith (value_of store.now) (step_of dfa.now) tree.old edge }
     ensures optimal { OnOk result (IsOptimal (value_of store.now) (step_of dfa.now) tree.new) }
     ensures paths { HasOwnWays (value_of store.now) (step_of dfa.now) tree.new }
-    ensures keeps { OnOk result (KeepsApart tree.old tree.new edge) }
     ensures later { IsLater tree.old tree.new }
-    ensures steps { OnOk result (CountsCut store.now tree.old edge steps.old steps.new) }
+    ensures repairs { OnOk result
+        (Repairs store.now tree.old tree.new edge steps.old steps.new) }
 {
     let mut search = Search::new(alloc);
     tree_remove_with(&mut search, alloc, tree, store, dfa, edge, steps)?;

@@ -1,6 +1,7 @@
 //! The best entries of the nodes that were cut.
 
-ghost use Rattle.std.specs.Prelude.{◌≡◌, ℕ, ◌+◌, ◌<◌, ◌≤◌, ◌++◌, length, All, IfOk, IfSome, OnOk, Some};
+ghost use Rattle.std.specs.Prelude.{◌≡◌, ℕ, ◌+◌, ◌<◌, ◌≤◌, ◌++◌, length, All, IfOk, IfSome};
+ghost use Rattle.std.specs.Prelude.{OnOk, Some};
 ghost use Rattle.edge_store.specs.declared.edge.EdgeId.{EdgeId};
 ghost use Rattle.edge_store.specs.Edges.{ins_of, value_of};
 ghost use Rattle.dfa_table.specs.DfaValue.{step_of};
@@ -8,15 +9,17 @@ ghost use Rattle.delta_tree.specs.Nodes.{node_id, root_id};
 ghost use Rattle.delta_tree.specs.Changes.{Carries, shift_ids};
 ghost use Rattle.tree_insert.specs.Best.{IsAtLeast};
 ghost use Rattle.tree_insert.specs.Trees.{IsValid};
-ghost use Rattle.tree_delete.specs.Entries.{CanEnter, HasEntries, IsEntry, IsEntryBy, count_ins, steps_in, value_in};
+ghost use Rattle.tree_delete.specs.Entries.{CanEnter, HasEntries, IsEntry, IsEntryBy};
+ghost use Rattle.tree_delete.specs.Entries.{count_ins, steps_in, value_in};
 
 use crate::entry::{Entry, better};
 use delta_tree::{NodeId, Shift, Tree, Try};
 use dfa_table::Dfa;
-use edge_store::{EdgeId, EdgeStore, NoMemory, Steps};
+use edge_store::{EdgeId, EdgeStore, Steps};
+use rpq_base::Memory;
 use std::alloc::Global;
 use std::sync::ledger::Ledger;
-use tree_insert::carried;
+use tree_insert::greatest_from;
 
 /// The entry by an edge of this value from the state, where there is one.
 fn entry_from(
@@ -42,7 +45,7 @@ fn entry_from(
         vertex: edge.from,
         state: before,
     };
-    let most = carried(tree, root, from)?;
+    let most = greatest_from(tree, root, from)?;
     Some(Entry {
         step: Try { from, edge, to: id },
         value: most.min(value),
@@ -102,7 +105,7 @@ fn best_entry<L: Ledger>(
 }
 
 /// Adds the step of the entry, where there is one.
-fn add(tries: &mut Vec<Try>, entry: Option<Entry>) -> Result<(), NoMemory>
+fn add(tries: &mut Vec<Try>, entry: Option<Entry>) -> Result<(), Memory>
     ensures { OnOk result (tries.new.items ≡ tries.old.items ++ steps_in entry) }
 {
     if let Some(entry) = entry {
@@ -120,7 +123,7 @@ pub(crate) fn best_entries<L: Ledger>(
     root: NodeId,
     cut: &[Shift],
     steps: &mut Steps<L>,
-) -> Result<Vec<Try>, NoMemory>
+) -> Result<Vec<Try>, Memory>
     requires { root ≡ root_id tree.now }
     ensures valid { IfOk result (λ tries.
         All (IsValid (value_of store.now) (step_of dfa.now) tree.now) tries.items) }

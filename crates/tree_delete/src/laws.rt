@@ -1,6 +1,7 @@
 //! Laws of removals. The functions do nothing: their contracts are the laws.
 
-ghost use Rattle.tree_delete.specs.Laws.{NoCutNoStep, RemovalElsewhereKeepsOptimal, RemovalsAreRemovals};
+ghost use Rattle.tree_delete.specs.Laws.{NoCutNoStep, RemovalElsewhereKeepsOptimal};
+ghost use Rattle.tree_delete.specs.Laws.{RemovalsAreRemovals};
 
 /// What the removal of a store does is a removal of the edge.
 pub fn removals_are_removals()

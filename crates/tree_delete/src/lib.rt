@@ -5,7 +5,7 @@
 //! and their stamp. The nodes on whose path it stood are cut; for each of them the best way back
 //! from a node that stayed is sought among the edges that end at its vertex, and a search from
 //! these puts back what other paths reach. It costs a step for each edge that ends at or leaves a
-//! node that was cut, and none where the edge stood on no path. [`tree_remove_with`] tells the
+//! node that was cut, and none where the edge stood on no path. [`tree_remove_with`] reports the
 //! places of the nodes that were cut, with their values before and after, and no call is needed
 //! where no node hangs by the edge ([`removal_elsewhere_keeps_optimal`]).
 #![tactic(auto)]
@@ -14,8 +14,6 @@ mod calls;
 mod entries;
 mod entry;
 mod laws;
-#[cfg(test)]
-mod tests;
 
 pub use calls::{tree_remove, tree_remove_with};
 pub use laws::{no_cut_no_step, removal_elsewhere_keeps_optimal, removals_are_removals};

@@ -1,7 +1,6 @@
 pub mod Bests
 pub mod Members
 mod Tries
-mod TestTables
 pub mod Nodes
 mod UnderWay
 mod Outs

@@ -11,9 +11,21 @@ use Rattle.delta_tree.specs.Changes.{Carries}
 use Rattle.tree_insert.specs.declared.waiting.Waiting.{Waiting}
 use Rattle.tree_insert.specs.Best.{IsAtLeast}
 use Rattle.tree_insert.specs.Trees.{Gives, IsValid}
-use Rattle.tree_insert.specs.UnderWay.{IsBetween, IsBy, IsOfTry, IsOpen, IsServed}
+use Rattle.tree_insert.specs.UnderWay.{IsBetween, IsBy, IsOfTry, IsOpen, IsServed, IsStep}
 use Rattle.tree_insert.proofs.Bests.{at_least}
 use Rattle.tree_insert.proofs.UnderWay.{served_more}
+
+-- a step is that of a try with its edge and its states
+step_here : (dfa : DfaValue) (before : ℕ) (edge : EdgeId) (state : ℕ) (each : Waiting) →
+    step_of dfa before edge.label ≡ Some state → 0 < state → state < length dfa.rows →
+    each.before ≡ before → each.edge ≡ edge → each.state ≡ state → IsStep dfa each
+step_here dfa before edge state each leads some within same_before same_edge same_state = record {
+  leads = ap (λ (e : EdgeId). step_of dfa each.before e.label) same_edge ∙
+      (ap (λ (s : ℕ). step_of dfa s edge.label) same_before ∙
+      (leads ∙ ap (λ (s : ℕ). Some s) (sym same_state)));
+  some = omega (arith, same_state);
+  within = omega (arith, same_state);
+}
 
 pub by_of_between : (dfa : DfaValue) (tree : TreeValue) (before : ℕ) (edge : EdgeId)
     (value state : ℕ) (each : Waiting) → step_of dfa before edge.label ≡ Some state →
@@ -23,11 +35,8 @@ by_of_between dfa tree before edge value state each leads some within is = recor
   lower = is.lower;
   source = is.source;
   edge_is = is.edge_is;
-  leads = ap (λ (e : EdgeId). step_of dfa each.before e.label) is.edge_is ∙
-      (ap (λ (s : ℕ). step_of dfa s edge.label) is.before_is ∙
-      (leads ∙ ap (λ (s : ℕ). Some s) (sym is.state_is)));
-  some = omega (arith, is.state_is);
-  within = omega (arith, is.state_is);
+  is_step = step_here dfa before edge state each leads some within is.before_is is.edge_is
+      is.state_is;
 }
 
 pub try_of_between : (values : EdgeId → Option ℕ) (tree : TreeValue) (step : Try) (value : ℕ)
@@ -50,9 +59,7 @@ open_of_by values dfa tree edge value each there is = record {
   source = is.source;
   edge = subst (λ (e : EdgeId). IsAtLeast each.value (values e)) (sym is.edge_is)
       (at_least (values edge) each.value value there is.lower);
-  leads = is.leads;
-  some = is.some;
-  within = is.within;
+  is_step = is.is_step;
 }
 
 pub open_of_try : (values : EdgeId → Option ℕ) (dfa : DfaValue) (tree : TreeValue) (step : Try)
@@ -62,11 +69,8 @@ pub open_of_try : (values : EdgeId → Option ℕ) (dfa : DfaValue) (tree : Tree
 open_of_try values dfa tree step each valid some within is = record {
   source = is.source;
   edge = is.edge;
-  leads = ap (λ (e : EdgeId). step_of dfa each.before e.label) is.edge_is
-      ∙ (ap (λ (s : ℕ). step_of dfa s step.edge.label) is.before_is ∙
-      (valid.leads ∙ ap (λ (s : ℕ). Some s) (sym is.state_is)));
-  some = omega (arith, is.state_is);
-  within = omega (arith, is.state_is);
+  is_step = step_here dfa step.from.state step.edge step.to.state each valid.leads some within
+      is.before_is is.edge_is is.state_is;
 }
 
 -- ---- from all states

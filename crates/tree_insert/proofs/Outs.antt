@@ -87,8 +87,5 @@ module _ (store : Edges) (dfa : DfaValue) (id : NodeId) (value : ℕ)
             (at_least (value_of store edge) waiting.value out.value there
             (omega (arith, out_is.value_is)));
         source = λ i. record { vertex = (same i).from; state = out_is.before i };
-        leads = ap (λ (e : EdgeId). step_of dfa waiting.before e.label) same ∙
-            (ap (λ (s : ℕ). step_of dfa s out.label) out_is.before ∙ out_is.leads);
-        some = out_is.some;
-        within = out_is.within;
+        is_step = out_is.is_step;
       }

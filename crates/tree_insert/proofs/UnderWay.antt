@@ -141,9 +141,7 @@ open_more values dfa old new to node waits opens puts raises root each there =
     record {
       source = put_carries old new to node puts raises root (source_of each) each.value was.source;
       edge = was.edge;
-      leads = was.leads;
-      some = was.some;
-      within = was.within;
+      is_step = was.is_step;
     }
 
 -- ---- what the edges could give
@@ -300,9 +298,7 @@ leaves_open values dfa tree id node each there leaves = record {
   source = subst (λ (at : NodeId). Carries tree at each.value) (sym leaves.source)
       (inr (node, there, leaves.lower));
   edge = leaves.edge;
-  leads = leaves.leads;
-  some = leaves.some;
-  within = leaves.within;
+  is_step = leaves.is_step;
 }
 
 pub served_none : (values : EdgeId → Option ℕ) (step : ℕ → ℕ → Option ℕ) (tree : TreeValue)

@@ -1,5 +1,6 @@
 -- Trees of best paths, and what a search changes in them.
-use Rattle.std.specs.Prelude.{◌≡◌, ◌≢◌, ℕ, ◌+◌, ◌^◌, ◌<◌, ◌≤◌, ◌⊎◌, List, length, sum_by, All, AllPairs, Contains, Option, Some, IsSome}
+use Rattle.std.specs.Prelude.{◌≡◌, ◌≢◌, ℕ, ◌+◌, ◌^◌, ◌<◌, ◌≤◌, ◌⊎◌, List, length, sum_by, All}
+use Rattle.std.specs.Prelude.{AllPairs, Contains, Option, Some, IsSome}
 use Rattle.edge_store.specs.declared.edge.EdgeId.{EdgeId}
 use Rattle.edge_store.specs.Edges.{Edges, outs_of}
 use Rattle.delta_tree.specs.declared.node.NodeId.{NodeId}

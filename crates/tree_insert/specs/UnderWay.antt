@@ -1,5 +1,6 @@
 -- A tree and the tries that wait while a search is under way.
-use Rattle.std.specs.Prelude.{◌≡◌, ◌≢◌, ℕ, ◌≤◌, ◌<◌, ◌+◌, ◌⊎◌, min, List, length, Contains, All, AllPairs, Option, Some}
+use Rattle.std.specs.Prelude.{◌≡◌, ◌≢◌, ℕ, ◌≤◌, ◌<◌, ◌+◌, ◌^◌, ◌⊎◌, min, Option, Some}
+use Rattle.std.specs.Prelude.{List, [], length, Contains, All, AllPairs}
 use Rattle.edge_store.specs.declared.edge.EdgeId.{EdgeId}
 use Rattle.edge_store.specs.declared.edge.Out.{Out}
 use Rattle.edge_store.specs.Edges.{Edges}
@@ -12,7 +13,7 @@ use Rattle.delta_tree.specs.Changes.{Carries, Raises}
 use Rattle.tree_insert.specs.declared.waiting.Waiting.{Waiting}
 use Rattle.tree_insert.specs.Best.{IsAtLeast}
 use Rattle.tree_insert.specs.Trees.{IsRisen, count_outs}
-use Rattle.tree_insert.specs.Waiting.{source_of, target_of}
+use Rattle.tree_insert.specs.Waiting.{SearchValue, source_of, target_of}
 
 -- the parent edge of the node has at least the node's value, and the automaton's step with it leads
 -- from the state of the parent to that of the node
@@ -25,14 +26,19 @@ abbrev pub AreSupported : (EdgeId → Option ℕ) → (ℕ → ℕ → Option �
 AreSupported values step tree =
     (id : NodeId) (node : Node) → node_of tree id ≡ Some node → IsSupported values step id node
 
+-- the automaton's step by the edge leads from the one state of the try to the other, which is not
+-- that of the start
+pub record IsStep (dfa : DfaValue) (waiting : Waiting) : Type 0 where
+  pub leads : step_of dfa waiting.before waiting.edge.label ≡ Some waiting.state
+  pub some : 0 < waiting.state
+  pub within : waiting.state < length dfa.rows
+
 -- a waiting try can be taken, and leads to one of the automaton's states
 pub record IsOpen (values : EdgeId → Option ℕ) (dfa : DfaValue) (tree : TreeValue)
     (waiting : Waiting) : Type 0 where
   pub source : Carries tree (source_of waiting) waiting.value
   pub edge : IsAtLeast waiting.value (values waiting.edge)
-  pub leads : step_of dfa waiting.before waiting.edge.label ≡ Some waiting.state
-  pub some : 0 < waiting.state
-  pub within : waiting.state < length dfa.rows
+  pub is_step : IsStep dfa waiting
 
 abbrev pub AreOpen : (EdgeId → Option ℕ) → DfaValue → TreeValue → List Waiting → Type 0
 AreOpen values dfa tree waits = (each : Waiting) → Contains waits each → IsOpen values dfa tree each
@@ -66,9 +72,7 @@ pub record IsBy (dfa : DfaValue) (tree : TreeValue) (edge : EdgeId) (value : ℕ
   pub lower : waiting.value ≤ value
   pub source : Carries tree (source_of waiting) waiting.value
   pub edge_is : waiting.edge ≡ edge
-  pub leads : step_of dfa waiting.before waiting.edge.label ≡ Some waiting.state
-  pub some : 0 < waiting.state
-  pub within : waiting.state < length dfa.rows
+  pub is_step : IsStep dfa waiting
 
 -- a waiting try that is the given one
 pub record IsOfTry (values : EdgeId → Option ℕ) (tree : TreeValue) (step : Try)
@@ -85,9 +89,7 @@ pub record IsOut (dfa : DfaValue) (id : NodeId) (value : ℕ) (out : Out) (waiti
   pub value_is : waiting.value ≡ min value out.value
   pub edge : waiting.edge ≡ record { from = id.vertex; label = out.label; to = out.to }
   pub before : waiting.before ≡ id.state
-  pub leads : step_of dfa id.state out.label ≡ Some waiting.state
-  pub some : 0 < waiting.state
-  pub within : waiting.state < length dfa.rows
+  pub is_step : IsStep dfa waiting
 
 -- a try by an edge with a value that leaves a node of this value
 pub record Leaves (values : EdgeId → Option ℕ) (dfa : DfaValue) (id : NodeId) (value : ℕ)
@@ -95,9 +97,7 @@ pub record Leaves (values : EdgeId → Option ℕ) (dfa : DfaValue) (id : NodeId
   pub lower : waiting.value ≤ value
   pub edge : IsAtLeast waiting.value (values waiting.edge)
   pub source : source_of waiting ≡ id
-  pub leads : step_of dfa waiting.before waiting.edge.label ≡ Some waiting.state
-  pub some : 0 < waiting.state
-  pub within : waiting.state < length dfa.rows
+  pub is_step : IsStep dfa waiting
 
 -- what the edges from a node of this value could give, and not with the value that it had before,
 -- is there, or waits
@@ -130,6 +130,25 @@ pub record IsUnderWay (values : EdgeId → Option ℕ) (step : ℕ → ℕ → O
   pub tree_is : IsTree tree
   pub supported : AreSupported values step tree
   pub rises : Rises first tree
+
+-- such a tree, with tries that can be taken on it
+pub record IsReady (values : EdgeId → Option ℕ) (dfa : DfaValue) (first tree : TreeValue)
+    (waits : List Waiting) : Type 0 where
+  pub under : IsUnderWay values (step_of dfa) first tree
+  pub can : AreOpen values dfa tree waits
+
+-- a tree on which a search can begin; no place is reported yet
+pub record CanBegin (values : EdgeId → Option ℕ) (dfa : DfaValue) (tree : TreeValue)
+    (search : SearchValue) : Type 0 where
+  pub puts : tree.puts < 2 ^ 126
+  pub ready : IsReady values dfa tree tree search.waiting
+  pub none : search.shifts ≡ []
+
+-- the try can be taken, and the search has come to its value
+pub record IsTaken (values : EdgeId → Option ℕ) (dfa : DfaValue) (tree : TreeValue)
+    (search : SearchValue) (waiting : Waiting) : Type 0 where
+  pub can : IsOpen values dfa tree waiting
+  pub level : waiting.value ≡ search.level
 
 -- these places have at least this value
 abbrev pub AreFirm : TreeValue → ℕ → List NodeId → Type 0

@@ -1,23 +1,25 @@
 //! The calls: from a list of tries, and after the raise of an edge.
 
-ghost use Rattle.std.specs.Prelude.{◌≡◌, ◌+◌, ◌^◌, ◌<◌, All, OnOk};
+ghost use Rattle.std.specs.Prelude.{◌≡◌, ◌^◌, ◌<◌, All, OnOk};
 ghost use Rattle.edge_store.specs.Edges.{value_of};
 ghost use Rattle.dfa_table.specs.DfaValue.{step_of};
-ghost use Rattle.delta_tree.specs.Changes.{AreShifts, shift_ids};
-ghost use Rattle.tree_insert.specs.Trees.{CountsOuts, HasAll, HasBest, HasOwnWays, IsLater, IsOptimal, IsRisen, IsValid, Keeps, WasOptimal};
+ghost use Rattle.tree_insert.specs.Trees.{HasAll, HasBest, HasOwnWays, IsOptimal, IsValid};
+ghost use Rattle.tree_insert.specs.Trees.{WasOptimal};
+ghost use Rattle.tree_insert.specs.Calls.{Relaxes, ReportsRises};
 
 use crate::offers::{offer_edge, offer_tries};
 use crate::search::Search;
 use crate::settling::settle;
 use delta_tree::{Pending, Tree, Try};
 use dfa_table::Dfa;
-use edge_store::{EdgeId, EdgeStore, NoMemory, Steps};
+use edge_store::{EdgeId, EdgeStore, Steps};
+use rpq_base::Memory;
 use std::alloc::Global;
 use std::sync::ledger::Ledger;
 
 impl Search {
     /// Makes a tree optimal from a list that has, for each try that could raise its target, one
-    /// that gives this target as much. The only error is [`NoMemory`], after which the paths of the
+    /// that gives this target as much. The only error is [`Memory`], after which the paths of the
     /// tree are paths of the store, but not all are the best.
     pub fn relax<L: Ledger>(
         &mut self,
@@ -26,19 +28,15 @@ impl Search {
         dfa: &Dfa,
         tries: &[Try],
         steps: &mut Steps<L>,
-    ) -> Result<(), NoMemory>
+    ) -> Result<(), Memory>
         requires puts { tree.old.puts < 2 ^ 126 }
         requires paths { HasOwnWays (value_of store.now) (step_of dfa.now) tree.old }
         requires valid { All (IsValid (value_of store.now) (step_of dfa.now) tree.old) tries.now }
         requires best { HasBest (value_of store.now) (step_of dfa.now) tree.old tries.now }
         ensures optimal { OnOk result
             (IsOptimal (value_of store.now) (step_of dfa.now) tree.new) }
-        ensures paths { HasOwnWays (value_of store.now) (step_of dfa.now) tree.new }
-        ensures keeps { Keeps tree.old tree.new }
-        ensures later { IsLater tree.old tree.new }
-        ensures steps { CountsOuts store.now tree.old tree.new steps.old steps.new }
-        ensures risen { OnOk result (All (IsRisen tree.old tree.new) (shift_ids self.new.shifts)) }
-        ensures shifts { OnOk result (AreShifts tree.old tree.new self.new.shifts) }
+        ensures relaxes { Relaxes store.now dfa.now tree.old tree.new steps.old steps.new }
+        ensures rises { OnOk result (ReportsRises tree.old tree.new self.new.shifts) }
     {
         self.clear();
         offer_tries(self, tree, store, dfa, tries)?;
@@ -54,17 +52,13 @@ impl Search {
         dfa: &Dfa,
         edge: EdgeId,
         steps: &mut Steps<L>,
-    ) -> Result<(), NoMemory>
+    ) -> Result<(), Memory>
         requires puts { tree.old.puts < 2 ^ 126 }
         requires before { WasOptimal (value_of store.now) (step_of dfa.now) tree.old edge }
         ensures optimal { OnOk result
             (IsOptimal (value_of store.now) (step_of dfa.now) tree.new) }
-        ensures paths { HasOwnWays (value_of store.now) (step_of dfa.now) tree.new }
-        ensures keeps { Keeps tree.old tree.new }
-        ensures later { IsLater tree.old tree.new }
-        ensures steps { CountsOuts store.now tree.old tree.new steps.old steps.new }
-        ensures risen { OnOk result (All (IsRisen tree.old tree.new) (shift_ids self.new.shifts)) }
-        ensures shifts { OnOk result (AreShifts tree.old tree.new self.new.shifts) }
+        ensures relaxes { Relaxes store.now dfa.now tree.old tree.new steps.old steps.new }
+        ensures rises { OnOk result (ReportsRises tree.old tree.new self.new.shifts) }
     {
         self.clear();
         offer_edge(self, tree, store, dfa, edge)?;
@@ -72,9 +66,10 @@ impl Search {
     }
 }
 
-/// Makes a tree optimal from all tries that could raise their target.
+/// Makes a tree optimal from all tries that could raise their target, as [`Search::relax`] does,
+/// for a caller that keeps no room of a search.
 ///
-/// This is the search for widest paths, the greatest value first; see [`Search::relax`].
+/// This is the search for widest paths, the greatest value first.
 pub fn relax<L: Ledger>(
     alloc: Global,
     tree: &mut Tree,
@@ -82,22 +77,20 @@ pub fn relax<L: Ledger>(
     dfa: &Dfa,
     pending: Pending,
     steps: &mut Steps<L>,
-) -> Result<(), NoMemory>
+) -> Result<(), Memory>
     requires puts { tree.old.puts < 2 ^ 126 }
     requires paths { HasOwnWays (value_of store.now) (step_of dfa.now) tree.old }
     requires valid { All (IsValid (value_of store.now) (step_of dfa.now) tree.old)
         pending.tries.items }
     requires all { HasAll (value_of store.now) (step_of dfa.now) tree.old pending.tries.items }
     ensures optimal { OnOk result (IsOptimal (value_of store.now) (step_of dfa.now) tree.new) }
-    ensures paths { HasOwnWays (value_of store.now) (step_of dfa.now) tree.new }
-    ensures keeps { Keeps tree.old tree.new }
-    ensures later { IsLater tree.old tree.new }
-    ensures steps { CountsOuts store.now tree.old tree.new steps.old steps.new }
+    ensures relaxes { Relaxes store.now dfa.now tree.old tree.new steps.old steps.new }
 {
     Search::new(alloc).relax(tree, store, dfa, &pending.tries, steps)
 }
 
-/// Makes a tree optimal that was so before the edge was raised; see [`Search::raise`].
+/// Makes a tree optimal that was so before the edge was raised, as [`Search::raise`] does, for a
+/// caller that keeps no room of a search.
 pub fn tree_raise<L: Ledger>(
     alloc: Global,
     tree: &mut Tree,
@@ -105,14 +98,11 @@ pub fn tree_raise<L: Ledger>(
     dfa: &Dfa,
     edge: EdgeId,
     steps: &mut Steps<L>,
-) -> Result<(), NoMemory>
+) -> Result<(), Memory>
     requires puts { tree.old.puts < 2 ^ 126 }
     requires before { WasOptimal (value_of store.now) (step_of dfa.now) tree.old edge }
     ensures optimal { OnOk result (IsOptimal (value_of store.now) (step_of dfa.now) tree.new) }
-    ensures paths { HasOwnWays (value_of store.now) (step_of dfa.now) tree.new }
-    ensures keeps { Keeps tree.old tree.new }
-    ensures later { IsLater tree.old tree.new }
-    ensures steps { CountsOuts store.now tree.old tree.new steps.old steps.new }
+    ensures relaxes { Relaxes store.now dfa.now tree.old tree.new steps.old steps.new }
 {
     Search::new(alloc).raise(tree, store, dfa, edge, steps)
 }

@@ -1,6 +1,8 @@
 //! Laws of the best and of trees. The functions do nothing: their contracts are the laws.
 
-ghost use Rattle.tree_insert.specs.Laws.{BareIsOptimal, BestIsSettled, ExpiryKeepsOptimal, NoRiseNoStep, OneBest, PathsAreWays, RaiseElsewhereKeepsOptimal, RaisesAreRaises};
+ghost use Rattle.tree_insert.specs.Laws.{BareIsOptimal, BestIsSettled, ExpiryKeepsOptimal};
+ghost use Rattle.tree_insert.specs.Laws.{NoRiseNoStep, OneBest, PathsAreWays};
+ghost use Rattle.tree_insert.specs.Laws.{RaiseElsewhereKeepsOptimal, RaisesAreRaises};
 
 /// A vertex and a state have one best at most.
 pub fn one_best()

@@ -6,10 +6,10 @@
 //! its best as its value, and hangs on a path with that value as its least. The contract for the
 //! layers above: a tree that was optimal before an edge of its store was raised is so again after
 //! [`tree_raise`], and [`relax`] makes one optimal from all tries that could raise something; what
-//! isn't raised keeps its place and its stamp. A [`Search`] tells which places changed, with their
-//! values before and after. No search is needed where the raised edge leaves no place of the tree
-//! with a step of the automaton ([`raise_elsewhere_keeps_optimal`]), and [`Search::expire`] with
-//! the number of the store's `expire` keeps a tree optimal ([`expiry_keeps_optimal`]).
+//! isn't raised keeps its place and its stamp. A [`Search`] reports the places that changed, with
+//! their values before and after. No search is needed where the raised edge leaves no place of the
+//! tree with a step of the automaton ([`raise_elsewhere_keeps_optimal`]), and [`Search::expire`]
+//! with the number of the store's `expire` keeps a tree optimal ([`expiry_keeps_optimal`]).
 //!
 //! A search takes the try of the greatest value first, as Dijkstra's algorithm takes the nearest
 //! vertex, so that a node is raised once at most. It costs a step for each edge that leaves a node
@@ -23,8 +23,6 @@ mod laws;
 mod offers;
 mod search;
 mod settling;
-#[cfg(test)]
-mod tests;
 mod waiting;
 
 pub use calls::{relax, tree_raise};
@@ -32,5 +30,5 @@ pub use laws::{
     bare_is_optimal, best_is_settled, expiry_keeps_optimal, no_rise_no_step, one_best,
     paths_are_ways, raise_elsewhere_keeps_optimal, raises_are_raises,
 };
-pub use offers::carried;
+pub use offers::greatest_from;
 pub use search::Search;

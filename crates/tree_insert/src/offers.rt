@@ -1,6 +1,7 @@
 //! Tries that are let wait.
 
-ghost use Rattle.std.specs.Prelude.{◌≡◌, ℕ, ◌^◌, ◌-◌, ◌<◌, ◌≤◌, min, length, All, Contains, IfSome, OnOk, Some};
+ghost use Rattle.std.specs.Prelude.{◌≡◌, ℕ, ◌^◌, ◌-◌, ◌<◌, ◌≤◌, min, length, All, Contains};
+ghost use Rattle.std.specs.Prelude.{IfSome, OnOk, Some};
 ghost use Rattle.std.specs.Bool.{OnTrue, OnFalse};
 ghost use Rattle.edge_store.specs.Edges.{value_of};
 ghost use Rattle.dfa_table.specs.DfaValue.{step_of};
@@ -16,7 +17,8 @@ use crate::search::Search;
 use crate::waiting::{Rise, Waiting};
 use delta_tree::{NodeId, Tree, Try};
 use dfa_table::Dfa;
-use edge_store::{EdgeId, EdgeStore, NoMemory, Out};
+use edge_store::{EdgeId, EdgeStore, Out};
+use rpq_base::Memory;
 
 /// Whether there is no value, or a lower one.
 pub(crate) fn is_below(kept: Option<u64>, value: u64) -> bool
@@ -31,7 +33,7 @@ pub(crate) fn is_below(kept: Option<u64>, value: u64) -> bool
 
 /// The greatest value that a try from this place can give: any from the root, that of a node, and
 /// none where neither stands there.
-pub fn carried(tree: &Tree, root: NodeId, id: NodeId) -> Option<u64>
+pub fn greatest_from(tree: &Tree, root: NodeId, id: NodeId) -> Option<u64>
     requires { root ≡ root_id tree.now }
     ensures carries { IfSome result (λ value. Carries tree.now id value) }
     ensures most { (number : ℕ) → number < 2 ^ 64 → Carries tree.now id number →
@@ -44,7 +46,7 @@ pub fn carried(tree: &Tree, root: NodeId, id: NodeId) -> Option<u64>
 }
 
 /// Lets the try wait, unless its target has as high a value already.
-pub(crate) fn offer(search: &mut Search, tree: &Tree, waiting: Waiting) -> Result<(), NoMemory>
+pub(crate) fn offer(search: &mut Search, tree: &Tree, waiting: Waiting) -> Result<(), Memory>
     requires { waiting.value ≤ search.old.level }
     ensures gains { Gains search.old search.new (λ each. each ≡ waiting) }
     ensures served { OnOk result
@@ -67,7 +69,7 @@ fn offer_between(
     edge: EdgeId,
     value: u64,
     state: u32,
-) -> Result<(), NoMemory>
+) -> Result<(), Memory>
     requires root { root ≡ root_id tree.now }
     requires level { search.old.level ≡ 2 ^ 64 - 1 }
     ensures gains { Gains search.old search.new (IsBetween tree.now before edge value state) }
@@ -79,7 +81,7 @@ fn offer_between(
         vertex: edge.from,
         state: before,
     };
-    let Some(most) = carried(tree, root, from) else {
+    let Some(most) = greatest_from(tree, root, from) else {
         return Ok(());
     };
     let waiting = Waiting {
@@ -98,7 +100,7 @@ fn offer_try(
     store: &EdgeStore,
     root: NodeId,
     step: Try,
-) -> Result<(), NoMemory>
+) -> Result<(), Memory>
     requires root { root ≡ root_id tree.now }
     requires level { search.old.level ≡ 2 ^ 64 - 1 }
     ensures gains { Gains search.old search.new (IsOfTry (value_of store.now) tree.now step) }
@@ -121,7 +123,7 @@ pub(crate) fn offer_tries(
     store: &EdgeStore,
     dfa: &Dfa,
     tries: &[Try],
-) -> Result<(), NoMemory>
+) -> Result<(), Memory>
     requires level { search.old.level ≡ 2 ^ 64 - 1 }
     requires valid { All (IsValid (value_of store.now) (step_of dfa.now) tree.now) tries.now }
     ensures tree { IsTree tree.now }
@@ -152,7 +154,7 @@ fn offer_step(
     before: u32,
     edge: EdgeId,
     value: u64,
-) -> Result<(), NoMemory>
+) -> Result<(), Memory>
     requires root { root ≡ root_id tree.now }
     requires level { search.old.level ≡ 2 ^ 64 - 1 }
     requires state { before < length dfa.now.rows }
@@ -175,7 +177,7 @@ pub(crate) fn offer_edge(
     store: &EdgeStore,
     dfa: &Dfa,
     edge: EdgeId,
-) -> Result<(), NoMemory>
+) -> Result<(), Memory>
     requires { search.old.level ≡ 2 ^ 64 - 1 }
     ensures tree { IsTree tree.now }
     ensures gains { Gains search.old search.new (IsOpen (value_of store.now) dfa.now tree.now) }
@@ -206,7 +208,7 @@ pub(crate) fn offer_out(
     dfa: &Dfa,
     rise: Rise,
     out: Out,
-) -> Result<(), NoMemory>
+) -> Result<(), Memory>
     requires state { rise.id.state < length dfa.now.rows }
     requires level { rise.value ≤ search.old.level }
     ensures gains { Gains search.old search.new (IsOut dfa.now rise.id rise.value out) }

@@ -9,7 +9,7 @@ ghost use Rattle.delta_tree.specs.Dues.{id_cmp};
 
 use crate::waiting::Waiting;
 use delta_tree::{Shift, Tree};
-use edge_store::NoMemory;
+use rpq_base::Memory;
 use std::alloc::Global;
 use std::collections::BinaryHeap;
 use std::marker::Model;
@@ -72,8 +72,8 @@ impl Search {
     }
 
     /// Takes exactly the nodes out of a tree whose value is at most `now`. The only error is
-    /// [`NoMemory`], after which they are out too.
-    pub fn expire(&mut self, tree: &mut Tree, now: u64) -> Result<(), NoMemory>
+    /// [`Memory`], after which they are out too.
+    pub fn expire(&mut self, tree: &mut Tree, now: u64) -> Result<(), Memory>
         ensures due { OnOk result (AreDue tree.old now (shift_ids self.new.shifts)) }
         ensures shifts { OnOk result (AreShifts tree.old tree.new self.new.shifts) }
         ensures gone { Expires tree.old tree.new now }
@@ -82,7 +82,7 @@ impl Search {
         tree.cut_due(now, &mut self.shifts)
     }
 
-    /// No try waits, and no place is told.
+    /// No try waits, and no place is reported.
     pub(crate) fn clear(&mut self)
         ensures empty { self.new.waiting ≡ [] }
         ensures level { self.new.level ≡ 2 ^ 64 - 1 }
@@ -94,8 +94,8 @@ impl Search {
         self.shifts.clear();
     }
 
-    /// Tells one place more.
-    pub(crate) fn add_shift(&mut self, shift: Shift) -> Result<(), NoMemory>
+    /// Reports one place more.
+    pub(crate) fn add_shift(&mut self, shift: Shift) -> Result<(), Memory>
         ensures added { OnOk result (self.new ≡ with_shift self.old shift) }
         ensures unchanged { OnErr result (self.new ≡ self.old) }
     {
@@ -104,7 +104,7 @@ impl Search {
     }
 
     /// Lets a try wait whose value isn't above the level.
-    pub(crate) fn push(&mut self, waiting: Waiting) -> Result<(), NoMemory>
+    pub(crate) fn push(&mut self, waiting: Waiting) -> Result<(), Memory>
         requires { waiting.value ≤ self.old.level }
         ensures gains { Gains self.old self.new (λ each. each ≡ waiting) }
         ensures added { OnOk result (Contains self.new.waiting waiting) }

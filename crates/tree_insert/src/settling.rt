@@ -7,14 +7,16 @@ ghost use Rattle.delta_tree.specs.Nodes.{TreeValue};
 ghost use Rattle.delta_tree.specs.Changes.{AreShifts, shift_ids};
 ghost use Rattle.tree_insert.specs.Trees.{CountsOuts, IsRisen};
 ghost use Rattle.tree_insert.specs.Waiting.{Gains, target_of};
-ghost use Rattle.tree_insert.specs.UnderWay.{AreFirm, AreOpen, AreServed, IsCounted, IsOpen, IsServedFrom, IsUnderWay, Leaves, Rises};
+ghost use Rattle.tree_insert.specs.UnderWay.{AreFirm, AreServed, CanBegin, IsCounted, IsReady};
+ghost use Rattle.tree_insert.specs.UnderWay.{IsServedFrom, IsTaken, IsUnderWay, Leaves, Rises};
 
 use crate::offers::offer_out;
 use crate::search::Search;
 use crate::waiting::{Rise, Waiting};
 use delta_tree::Tree;
 use dfa_table::Dfa;
-use edge_store::{EdgeStore, NoMemory, Steps};
+use edge_store::{EdgeStore, Steps};
+use rpq_base::Memory;
 use std::sync::ledger::Ledger;
 
 /// Offers the tries by the edges that leave a node that rose, and counts a step for each edge.
@@ -25,7 +27,7 @@ fn offer_outs<L: Ledger>(
     dfa: &Dfa,
     rise: Rise,
     steps: &mut Steps<L>,
-) -> Result<(), NoMemory>
+) -> Result<(), Memory>
     requires state { rise.id.state < length dfa.now.rows }
     requires level { rise.value ≤ search.old.level }
     ensures gains { Gains search.old search.new
@@ -52,15 +54,14 @@ fn follow<L: Ledger>(
     dfa: &Dfa,
     taken: Waiting,
     steps: &mut Steps<L>,
-) -> Result<(), NoMemory>
-    requires open { IsOpen (value_of store.now) dfa.now tree.old taken }
-    requires level { taken.value ≡ search.old.level }
+) -> Result<(), Memory>
+    requires taken { IsTaken (value_of store.now) dfa.now tree.old search.old taken }
     requires puts { tree.old.puts < 2 ^ 127 }
     ensures level { search.new.level ≡ search.old.level }
     ensures puts { tree.new.puts ≤ tree.old.puts + 1 }
-    ensures tree { (first : TreeValue) →
-        IsUnderWay (value_of store.now) (step_of dfa.now) first tree.old →
-        IsUnderWay (value_of store.now) (step_of dfa.now) first tree.new }
+    ensures ready { (first : TreeValue) →
+        IsReady (value_of store.now) dfa.now first tree.old search.old.waiting →
+        IsReady (value_of store.now) dfa.now first tree.new search.new.waiting }
     ensures counted { (first : TreeValue) (start : ℕ) → Rises first tree.old →
         IsCounted store.now first tree.old (shift_ids search.old.shifts) search.old.level start
         steps.old →
@@ -69,8 +70,6 @@ fn follow<L: Ledger>(
     ensures shifts { OnOk result ((first : TreeValue) →
         AreFirm tree.old search.old.level (shift_ids search.old.shifts) →
         AreShifts first tree.old search.old.shifts → AreShifts first tree.new search.new.shifts) }
-    ensures waiting { AreOpen (value_of store.now) dfa.now tree.old search.old.waiting →
-        AreOpen (value_of store.now) dfa.now tree.new search.new.waiting }
     ensures served { OnOk result (
         AreServed (value_of store.now) (step_of dfa.now) tree.old (taken ∷ search.old.waiting) →
         AreServed (value_of store.now) (step_of dfa.now) tree.new search.new.waiting) }
@@ -96,11 +95,8 @@ pub(crate) fn settle<L: Ledger>(
     store: &EdgeStore,
     dfa: &Dfa,
     steps: &mut Steps<L>,
-) -> Result<(), NoMemory>
-    requires puts { tree.old.puts < 2 ^ 126 }
-    requires tree { IsUnderWay (value_of store.now) (step_of dfa.now) tree.old tree.old }
-    requires open { AreOpen (value_of store.now) dfa.now tree.old search.old.waiting }
-    requires begins { search.old.shifts ≡ [] }
+) -> Result<(), Memory>
+    requires begins { CanBegin (value_of store.now) dfa.now tree.old search.old }
     ensures tree { IsUnderWay (value_of store.now) (step_of dfa.now) tree.old tree.new }
     ensures puts { tree.new.puts < tree.old.puts + 2 ^ 64 }
     ensures counted { CountsOuts store.now tree.old tree.new steps.old steps.new }
@@ -117,5 +113,5 @@ pub(crate) fn settle<L: Ledger>(
         follow(search, tree, store, dfa, taken, steps)?;
     }
     // Memory for as many tries isn't there.
-    Err(NoMemory)
+    Err(Memory)
 }

@@ -1,31 +1,31 @@
 use Rattle.std.proofs.Common.{◌≡◌, None, cond, Contains, sym, ap, ◌∙◌, subst, refl, ◌≤◌, arith}
-use Rattle.std.specs.BinaryHeap.{heap_items}
+use Rattle.due_queue.specs.Queue.{due}
+use Rattle.due_queue.proofs.Items.{now_noted, still_noted}
 use Rattle.delta_tree.specs.declared.node.NodeId.{NodeId}
 use Rattle.delta_tree.specs.Nodes.{node_in, same_node}
 use Rattle.delta_tree.specs.Changes.{living}
-use Rattle.delta_tree.specs.Dues.{due}
 use Rattle.delta_tree.proofs.Ids.{none_or_some, value_is, value_has_node, changed_there}
 use Rattle.delta_tree.proofs.Trees.{living_gone}
-use Rattle.delta_tree.proofs.Queue.{pending_later, keeps_dues, adds_due}
+use Rattle.delta_tree.proofs.Queue.{pending_later}
 use Rattle.delta_tree.proofs.nodes.drop_or_note.Goals as goal
 
 pub returns-in-Some-clause-pending : goal.returns-in-Some-clause-pending
 returns-in-Some-clause-pending c =
-    pending_later c.args.now c.in-Some.spot.value (heap_items c.args.dues.now)
-    (heap_items c.note.new.dues) c.args.id c.if-spot-now.true c.note.ensures.noted
+    pending_later c.args.now c.args.dues.now.items c.note_reserved.new.self.items c.args.id
+    c.in-Some.spot.value c.if-spot-now.true c.note_reserved.ensures
 
 pub returns-in-Some-clause-kept : goal.returns-in-Some-clause-kept
-returns-in-Some-clause-kept c =
-    keeps_dues (heap_items c.args.dues.now) (heap_items c.note.new.dues)
-    (due c.args.id c.in-Some.spot.value) c.note.ensures.noted
+returns-in-Some-clause-kept c each there =
+    still_noted c.args.dues.now.items c.note_reserved.new.self.items
+    (due c.args.id c.in-Some.spot.value) each c.note_reserved.ensures there
 
 pub returns-in-Some-clause-noted : goal.returns-in-Some-clause-noted
 returns-in-Some-clause-noted c node is =
-    subst (λ value. Contains (heap_items c.note.new.dues) (due c.args.id value))
+    subst (λ value. Contains c.note_reserved.new.self.items (due c.args.id value))
     (sym (value_is (node_in c.args.nodes.now c.args.id) node c.in-Some.spot.value is
     (sym c.in-Some.ensures.value)))
-    (adds_due (heap_items c.args.dues.now) (heap_items c.note.new.dues)
-    (due c.args.id c.in-Some.spot.value) c.note.ensures.noted)
+    (now_noted c.args.dues.now.items c.note_reserved.new.self.items
+    (due c.args.id c.in-Some.spot.value) c.note_reserved.ensures)
 
 -- the node that was taken out is at most the clock
 gone : (c : goal.After-give_back) → living c.args.now

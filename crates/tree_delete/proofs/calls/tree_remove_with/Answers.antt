@@ -36,44 +36,45 @@ relax-requires-clause-best g c =
     (subst (λ (cut : List Shift). HasEntries values step c.cut.new.tree (shift_ids cut)
     c.in_ok-tries.tries.items) c.deref.ensures.value c.in_ok-tries.ensures.best))
 
-pub returns-clause-keeps : goal.returns-clause-keeps
-returns-clause-keeps g c =
-    cut_keeps c.requires.before.0 (value_of c.args.store.now) c.args.edge c.requires.before.2
-    (step_of c.args.dfa.now) c.args.tree.now
-    c.cut.new.tree c.root.ensures.tree c.requires.before.1
-    c.in_ok-shifts.ensures.cut c.cut.ensures.beside (shift_ids c.in_ok-shifts.shifts.items)
-    c.in_ok-shifts.ensures.below
-    c.relax.new.tree c.relax.ensures.later c.relax.ensures.keeps c.in_ok-relax.ensures.optimal
-
-pub returns-clause-steps : goal.returns-clause-steps
-returns-clause-steps g c =
-    cut_counts c.requires.before.0 (value_of c.args.store.now) c.args.edge c.requires.before.2
-    (step_of c.args.dfa.now) c.args.tree.now
-    c.cut.new.tree c.root.ensures.tree c.requires.before.1
-    c.in_ok-shifts.ensures.cut c.cut.ensures.beside (shift_ids c.in_ok-shifts.shifts.items)
-    c.in_ok-shifts.ensures.below
-    c.relax.new.tree c.relax.ensures.later c.relax.ensures.keeps c.in_ok-relax.ensures.optimal
-    c.args.store.now c.args.steps.now c.best_entries.new.steps c.relax.new.steps
-    (subst (λ (cut : List Shift). c.best_entries.new.steps ≤ c.args.steps.now + count_ins
-    c.args.store.now (shift_ids cut)) c.deref.ensures.value c.best_entries.ensures.counted)
-    c.relax.ensures.steps
+pub returns-clause-repairs : goal.returns-clause-repairs
+returns-clause-repairs g c = record {
+  keeps =
+      cut_keeps c.requires.before.0 (value_of c.args.store.now) c.args.edge c.requires.before.2
+      (step_of c.args.dfa.now) c.args.tree.now
+      c.cut.new.tree c.root.ensures.tree c.requires.before.1
+      c.in_ok-shifts.ensures.cut c.cut.ensures.beside (shift_ids c.in_ok-shifts.shifts.items)
+      c.in_ok-shifts.ensures.below
+      c.relax.new.tree c.relax.ensures.relaxes.later c.relax.ensures.relaxes.keeps c.in_ok-relax.ensures.optimal;
+  steps =
+      cut_counts c.requires.before.0 (value_of c.args.store.now) c.args.edge c.requires.before.2
+      (step_of c.args.dfa.now) c.args.tree.now
+      c.cut.new.tree c.root.ensures.tree c.requires.before.1
+      c.in_ok-shifts.ensures.cut c.cut.ensures.beside (shift_ids c.in_ok-shifts.shifts.items)
+      c.in_ok-shifts.ensures.below
+      c.relax.new.tree c.relax.ensures.relaxes.later c.relax.ensures.relaxes.keeps c.in_ok-relax.ensures.optimal
+      c.args.store.now c.args.steps.now c.best_entries.new.steps c.relax.new.steps
+      (subst (λ (cut : List Shift). c.best_entries.new.steps ≤ c.args.steps.now + count_ins
+      c.args.store.now (shift_ids cut)) c.deref.ensures.value c.best_entries.ensures.counted)
+      c.relax.ensures.relaxes.steps;
+}
 
 pub returns-clause-cut : goal.returns-clause-cut
 returns-clause-cut g c =
     let old = c.in_ok-shifts.shifts.items in
-    subst (λ (shifts : List Shift). AreBelow c.args.tree.now c.args.edge (shift_ids shifts))
-    (sym c.tell_values.ensures)
-    (subst (AreBelow c.args.tree.now c.args.edge) (sym (ids_told c.relax.new.tree old))
-    c.in_ok-shifts.ensures.below)
-
-pub returns-clause-shifts : goal.returns-clause-shifts
-returns-clause-shifts g c =
-    subst (AreShifts c.args.tree.now c.relax.new.tree) (sym c.tell_values.ensures)
-    (told_shifts c.args.tree.now c.cut.new.tree c.relax.new.tree c.in_ok-shifts.shifts.items
-    c.in_ok-shifts.ensures.shifts
-    (cut_changes c.requires.before.0 (value_of c.args.store.now) c.args.edge c.requires.before.2
-    (step_of c.args.dfa.now) c.args.tree.now
-    c.cut.new.tree c.root.ensures.tree c.requires.before.1
-    c.in_ok-shifts.ensures.cut c.cut.ensures.beside (shift_ids c.in_ok-shifts.shifts.items)
-    c.in_ok-shifts.ensures.below
-    c.relax.new.tree c.relax.ensures.later c.relax.ensures.keeps c.in_ok-relax.ensures.optimal))
+    record {
+      below =
+          subst (λ (shifts : List Shift). AreBelow c.args.tree.now c.args.edge (shift_ids shifts))
+          (sym c.tell_values.ensures)
+          (subst (AreBelow c.args.tree.now c.args.edge) (sym (ids_told c.relax.new.tree old))
+          c.in_ok-shifts.ensures.below);
+      are_shifts =
+          subst (AreShifts c.args.tree.now c.relax.new.tree) (sym c.tell_values.ensures)
+          (told_shifts c.args.tree.now c.cut.new.tree c.relax.new.tree old
+          c.in_ok-shifts.ensures.shifts
+          (cut_changes c.requires.before.0 (value_of c.args.store.now) c.args.edge c.requires.before.2
+          (step_of c.args.dfa.now) c.args.tree.now
+          c.cut.new.tree c.root.ensures.tree c.requires.before.1
+          c.in_ok-shifts.ensures.cut c.cut.ensures.beside (shift_ids c.in_ok-shifts.shifts.items)
+          c.in_ok-shifts.ensures.below
+          c.relax.new.tree c.relax.ensures.relaxes.later c.relax.ensures.relaxes.keeps c.in_ok-relax.ensures.optimal));
+    }

@@ -29,9 +29,11 @@ returns-clause-gains c =
       value_is = c.min.ensures;
       edge = refl;
       before = refl;
-      leads = sym c.in-Some.ensures.step;
-      some = c.in-Some.ensures.within.0;
-      within = c.in-Some.ensures.within.1;
+      is_step = record {
+        leads = sym c.in-Some.ensures.step;
+        some = c.in-Some.ensures.within.0;
+        within = c.in-Some.ensures.within.1;
+      };
     }))
 
 pub returns-clause-served : goal.returns-clause-served

@@ -10,7 +10,7 @@ use Rattle.delta_tree.specs.Nodes.{TreeValue}
 use Rattle.delta_tree.specs.Nodes as nodes
 use Rattle.delta_tree.specs.Changes.{AreShifts, HasAsMuch, Lifts, put_node, shift_ids}
 use Rattle.tree_insert.specs.Waiting.{Gains, SearchValue, target_of, try_of, with_shift}
-use Rattle.tree_insert.specs.UnderWay.{AreFirm, AreOpen, AreServed, IsCounted, IsOpen, IsServedFrom, IsUnderWay, Leaves}
+use Rattle.tree_insert.specs.UnderWay.{AreFirm, AreOpen, AreServed, IsCounted, IsOpen, IsReady, IsServedFrom, IsUnderWay, Leaves}
 use Rattle.tree_insert.proofs.Nodes.{put_here, value_reached}
 use Rattle.tree_insert.proofs.Shifts.{ids_push, shifts_more}
 use Rattle.delta_tree.proofs.Trees.{put_keeps}
@@ -53,11 +53,11 @@ under_more g c first under =
     record {
       tree_is = put_keeps old new (try_of c.args.taken) c.args.taken.value under.tree_is
           lifts.raises lifts.node c.raise.ensures.root lifts.counted
-          c.requires.open.source c.requires.open.some (record { leaves = refl; ends = refl })
+          c.requires.taken.can.source c.requires.taken.can.is_step.some (record { leaves = refl; ends = refl })
           (omega arith);
       supported = supported_more (value_of c.args.store.now) (step_of c.args.dfa.now) old new to
           (new_node g c) under.supported lifts.node
-          (record { edge = c.requires.open.edge; leads = c.requires.open.leads });
+          (record { edge = c.requires.taken.can.edge; leads = c.requires.taken.can.is_step.leads });
       rises = rises_more first old new to (new_node g c) under.rises lifts.node lifts.raises refl
           c.raise.ensures.root lifts.counted;
     }
@@ -93,10 +93,10 @@ same g c =
     (c.raise.ensures.stays (c.in_ok-shift.was ∙ ap (λ (told : Option Shift). Ok told)
     c.in_default.is))
 
-pub returns-in_default-clause-waiting : goal.returns-in_default-clause-waiting
-returns-in_default-clause-waiting g c opens =
-    subst (λ tree. AreOpen (value_of c.args.store.now) c.args.dfa.now tree
-    c.args.search.now.waiting) (sym (same g c).same) opens
+pub returns-in_default-clause-ready : goal.returns-in_default-clause-ready
+returns-in_default-clause-ready g c first ready =
+    subst (λ tree. IsReady (value_of c.args.store.now) c.args.dfa.now first tree
+    c.args.search.now.waiting) (sym (same g c).same) ready
 
 pub returns-in_default-clause-served : goal.returns-in_default-clause-served
 returns-in_default-clause-served g c served =
@@ -107,16 +107,12 @@ returns-in_default-clause-served g c served =
     c.args.taken c.args.search.now.waiting served
     (value_reached c.args.tree.now (target_of c.args.taken) has.0 c.args.taken.value has.1 has.2))
 
-pub returns-in_err-shift-clause-waiting : goal.returns-in_err-shift-clause-waiting
-returns-in_err-shift-clause-waiting g c opens =
-    subst (λ tree. AreOpen (value_of c.args.store.now) c.args.dfa.now tree
-    c.args.search.now.waiting) (sym c.in_err-shift.ensures.unchanged) opens
+pub returns-in_err-shift-clause-ready : goal.returns-in_err-shift-clause-ready
+returns-in_err-shift-clause-ready g c first ready =
+    subst (λ tree. IsReady (value_of c.args.store.now) c.args.dfa.now first tree
+    c.args.search.now.waiting) (sym c.in_err-shift.ensures.unchanged) ready
 
 -- ---- where the place isn't told
-
-pub returns-in_err-add_shift-clause-tree : goal.returns-in_err-add_shift-clause-tree
-returns-in_err-add_shift-clause-tree g c =
-    under_more g (goal.at.returns-in_err-add_shift-clause-tree g c).In-Some
 
 pub returns-in_err-add_shift-clause-counted : goal.returns-in_err-add_shift-clause-counted
 returns-in_err-add_shift-clause-counted g c first start rises counted =
@@ -128,17 +124,16 @@ returns-in_err-add_shift-clause-counted g c first start rises counted =
     (shift_ids c.args.search.now.shifts) (target_of c.args.taken) (new_node g at)
     (lifted g at).node start (lifted g at).raises c.args.search.now.level c.args.steps.now counted)
 
-pub returns-in_err-add_shift-clause-waiting : goal.returns-in_err-add_shift-clause-waiting
-returns-in_err-add_shift-clause-waiting g c opens =
-    let at = (goal.at.returns-in_err-add_shift-clause-waiting g c).In-Some in
-    subst (λ (search : SearchValue). AreOpen (value_of c.args.store.now) c.args.dfa.now
-    c.raise.new.self search.waiting) (sym c.in_err-add_shift.ensures.unchanged)
-    (opens_more g at opens)
+pub returns-in_err-add_shift-clause-ready : goal.returns-in_err-add_shift-clause-ready
+returns-in_err-add_shift-clause-ready g c first ready =
+    let at = (goal.at.returns-in_err-add_shift-clause-ready g c).In-Some in record {
+      under = under_more g at first ready.under;
+      can = subst (λ (search : SearchValue). AreOpen (value_of c.args.store.now) c.args.dfa.now
+          c.raise.new.self search.waiting) (sym c.in_err-add_shift.ensures.unchanged)
+          (opens_more g at ready.can);
+    }
 
 -- ---- where the target is raised
-
-pub returns-clause-tree : goal.returns-clause-tree
-returns-clause-tree g c = under_more g (goal.at.returns-clause-tree g c).In-Some
 
 pub returns-clause-counted : goal.returns-clause-counted
 returns-clause-counted g c first start rises counted =
@@ -146,7 +141,7 @@ returns-clause-counted g c first start rises counted =
     let to = target_of c.args.taken in
     let old = c.args.search.now.shifts in
     let gains = gained g c at (lifted g at).shift in
-    let level = c.requires.level in
+    let level = c.requires.taken.level in
     subst (λ (shifts : List Shift). IsCounted c.args.store.now first c.raise.new.self
     (shift_ids shifts) c.offer_outs.new.search.level start c.offer_outs.new.steps)
     (sym gains.shifts)
@@ -173,22 +168,27 @@ returns-clause-shifts g c =
     subst (AreShifts first c.raise.new.self) (sym (gained g c at (lifted g at).shift).shifts)
     (shifts_more first c.args.tree.now c.raise.new.self old (target_of c.args.taken)
     (new_node g at) (lifted g at).node (lifted g at).raises
-    (subst (λ level. AreFirm c.args.tree.now level (shift_ids old)) (sym c.requires.level) firm)
+    (subst (λ level. AreFirm c.args.tree.now level (shift_ids old)) (sym c.requires.taken.level) firm)
     shifts))
     c.offer_outs.ensures.served
 
-pub returns-clause-waiting : goal.returns-clause-waiting
-returns-clause-waiting g c opens =
-    let at = (goal.at.returns-clause-waiting g c).In-Some in
+pub returns-clause-ready : goal.returns-clause-ready
+returns-clause-ready g c first ready =
+    let at = (goal.at.returns-clause-ready g c).In-Some in
     let values = value_of c.args.store.now in
     let to = target_of c.args.taken in
     let old = with_shift c.args.search.now (told g at) in
-    open_gained values c.args.dfa.now c.raise.new.self old c.offer_outs.new.search
-    (opens_more g at opens)
-    (gains_kind old c.offer_outs.new.search (Leaves values c.args.dfa.now to c.args.taken.value)
-    (IsOpen values c.args.dfa.now c.raise.new.self) (gained g c at (lifted g at).shift)
-    (λ each leaves. leaves_open values c.args.dfa.now c.raise.new.self to (new_node g at) each
-    (put_here c.args.tree.now c.raise.new.self to (new_node g at) (lifted g at).node) leaves))
+    record {
+      under = under_more g at first ready.under;
+      can = open_gained values c.args.dfa.now c.raise.new.self old c.offer_outs.new.search
+          (opens_more g at ready.can)
+          (gains_kind old c.offer_outs.new.search
+          (Leaves values c.args.dfa.now to c.args.taken.value)
+          (IsOpen values c.args.dfa.now c.raise.new.self) (gained g c at (lifted g at).shift)
+          (λ each leaves. leaves_open values c.args.dfa.now c.raise.new.self to (new_node g at)
+          each (put_here c.args.tree.now c.raise.new.self to (new_node g at) (lifted g at).node)
+          leaves));
+    }
 
 pub returns-clause-served : goal.returns-clause-served
 returns-clause-served g c =

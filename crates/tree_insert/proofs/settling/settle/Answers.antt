@@ -4,7 +4,7 @@ use Rattle.dfa_table.specs.DfaValue.{step_of}
 use Rattle.delta_tree.specs.declared.node.Shift.{Shift}
 use Rattle.delta_tree.specs.Changes.{AreShifts, shift_ids}
 use Rattle.tree_insert.specs.Trees.{IsRisen}
-use Rattle.tree_insert.specs.UnderWay.{IsCounted}
+use Rattle.tree_insert.specs.UnderWay.{IsCounted, IsReady}
 use Rattle.tree_insert.proofs.UnderWay.{counted_none, counts_outs, counted_taken, open_taken, served_taken, served_none}
 use Rattle.tree_insert.proofs.Shifts.{shifts_none}
 use Rattle.tree_insert.proofs.settling.settle.Given.{Over}
@@ -13,14 +13,13 @@ use Rattle.tree_insert.proofs.settling.settle.Goals.{After-follow}
 
 pub loop-turn-init : goal.loop-turn-init
 loop-turn-init g c = record {
-  under = c.requires.tree;
-  ready = c.requires.open;
+  ready = c.requires.begins.ready;
   puts = omega arith;
   counted = subst (λ (shifts : List Shift). IsCounted c.args.store.now c.args.tree.now
       c.args.tree.now (shift_ids shifts) c.args.search.now.level c.args.steps.now c.args.steps.now)
-      (sym c.requires.begins) (counted_none c.args.store.now c.args.tree.now
+      (sym c.requires.begins.none) (counted_none c.args.store.now c.args.tree.now
       c.args.search.now.level c.args.steps.now);
-  shifts = shifts_none c.args.tree.now c.args.search.now.shifts c.requires.begins;
+  shifts = shifts_none c.args.tree.now c.args.search.now.shifts c.requires.begins.none;
   served = λ served. served;
 }
 
@@ -40,13 +39,25 @@ returns-in_default-clause-shifts g c =
     subst (AreShifts c.args.tree.now c.loop-turn.tree) (sym c.in_default.ensures.shifts)
     c.loop-turn.invariant.shifts
 
-pub follow-requires-clause-open : goal.follow-requires-clause-open
-follow-requires-clause-open g c =
-    c.loop-turn.invariant.ready c.in-Some.taken c.in-Some.ensures.some.there
+pub follow-requires-clause-taken : goal.follow-requires-clause-taken
+follow-requires-clause-taken g c = record {
+  can = c.loop-turn.invariant.ready.can c.in-Some.taken c.in-Some.ensures.some.there;
+  level = sym c.in-Some.ensures.some.level;
+}
+
+-- what can be taken after one try more
+ready_more : (g : Over) (c : After-follow g) →
+    IsReady (value_of c.args.store.now) c.args.dfa.now c.args.tree.now c.follow.new.tree
+    c.follow.new.search.waiting
+ready_more g c = c.follow.ensures.ready c.args.tree.now (record {
+  under = c.loop-turn.invariant.ready.under;
+  can = open_taken (value_of c.args.store.now) c.args.dfa.now c.loop-turn.tree c.loop-turn.search
+      c.take.new.self c.in-Some.taken c.in-Some.ensures.some c.loop-turn.invariant.ready.can;
+})
 
 pub returns-in_err-follow-clause-tree : goal.returns-in_err-follow-clause-tree
 returns-in_err-follow-clause-tree g c =
-    c.follow.ensures.tree c.args.tree.now c.loop-turn.invariant.under
+    (ready_more g (goal.at.returns-in_err-follow-clause-tree g c).After-follow).under
 
 -- the steps before it
 counted_now : (g : Over) (c : After-follow g) →
@@ -63,7 +74,7 @@ counted_more : (g : Over) (c : After-follow g) →
     (shift_ids c.follow.new.search.shifts) c.follow.new.search.level c.args.steps.now
     c.follow.new.steps
 counted_more g c =
-    c.follow.ensures.counted c.args.tree.now c.args.steps.now c.loop-turn.invariant.under.rises
+    c.follow.ensures.counted c.args.tree.now c.args.steps.now c.loop-turn.invariant.ready.under.rises
     (counted_now g c)
 
 pub returns-in_err-follow-clause-counted : goal.returns-in_err-follow-clause-counted
@@ -79,11 +90,7 @@ returns-in_err-follow-clause-risen g c =
 
 pub loop-turn-preserved : goal.loop-turn-preserved
 loop-turn-preserved g c = record {
-  under = c.follow.ensures.tree c.args.tree.now c.loop-turn.invariant.under;
-  ready = c.follow.ensures.waiting
-      (open_taken (value_of c.args.store.now) c.args.dfa.now c.loop-turn.tree c.loop-turn.search
-      c.take.new.self c.in-Some.taken c.in-Some.ensures.some
-      c.loop-turn.invariant.ready);
+  ready = ready_more g (goal.at.loop-turn-preserved g c).After-follow;
   puts = omega (arith, c.follow.ensures.puts, c.loop-turn.invariant.puts);
   counted = counted_more g (goal.at.loop-turn-preserved g c).After-follow;
   shifts = c.in_ok-follow.ensures.shifts c.args.tree.now (counted_now g

@@ -2,13 +2,12 @@ use Rattle.std.proofs.Common.{◌+◌, ◌≤◌}
 use Rattle.edge_store.specs.Edges.{value_of}
 use Rattle.dfa_table.specs.DfaValue.{step_of}
 use Rattle.delta_tree.specs.Changes.{AreShifts, shift_ids}
-use Rattle.tree_insert.specs.UnderWay.{AreOpen, AreServed, IsCounted, IsUnderWay}
+use Rattle.tree_insert.specs.UnderWay.{AreServed, IsCounted, IsReady}
 use Rattle.tree_insert.proofs.settling.settle.Given as goal
 
 abbrev pub invariant-loop-turn : goal.invariant-loop-turn
 invariant-loop-turn g l = record {
-  under : IsUnderWay (value_of l.store) (step_of l.dfa) l.fn.tree l.tree;
-  ready : AreOpen (value_of l.store) l.dfa l.tree l.search.waiting;
+  ready : IsReady (value_of l.store) l.dfa l.fn.tree l.tree l.search.waiting;
   puts : l.tree.puts ≤ l.fn.tree.puts + l._turn;
   counted : IsCounted l.store l.fn.tree l.tree (shift_ids l.search.shifts) l.search.level
       l.fn.steps l.steps;

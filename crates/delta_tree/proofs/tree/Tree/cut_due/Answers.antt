@@ -1,5 +1,4 @@
 use Rattle.std.proofs.Common.{◌≡◌, refl, sym, ap, subst, ◌∙◌, arith}
-use Rattle.std.specs.BinaryHeap.{heap_items}
 use Rattle.std.proofs.lemmas.Bool.{OnTrue_at}
 use Rattle.delta_tree.specs.Nodes.{TreeValue, node_of}
 use Rattle.delta_tree.specs.Changes.{living, AreDue, AreShifts, Expires, shift_ids}
@@ -8,12 +7,11 @@ use Rattle.delta_tree.proofs.Expiry.{AreTold, expiring_after, all_alive, kept_af
 use Rattle.delta_tree.proofs.Queue.{pending_taken}
 use Rattle.delta_tree.proofs.tree.Tree.cut_due.Goals as goal
 
-pub loop-id-init : goal.loop-id-init
-loop-id-init c = record {
+pub loop-next-init : goal.loop-next-init
+loop-next-init c = record {
   expiring = record {
     alive = λ id. refl;
     noted = c.self.invariant.noted;
-    order = c.self.invariant.order;
   };
   root = refl;
   puts = refl;
@@ -21,40 +19,38 @@ loop-id-init c = record {
       (sym c.clear.ensures.items) (none_told c.args.now c.self.inside.nodes);
 }
 
-pub loop-id-smaller : goal.loop-id-smaller
-loop-id-smaller c =
-    let (value, reached, moved) = c.in-Some.ensures.taken in
+pub loop-next-smaller : goal.loop-next-smaller
+loop-next-smaller c =
     omega (
       arith,
       c.drop_or_note-lost.ensures.pending,
-      pending_taken c.args.now value (heap_items c.loop-id.self-inside.dues)
-          (heap_items c.next_due.new.dues) c.in-Some.id reached moved,
+      pending_taken c.args.now c.loop-next.self-inside.dues.items
+          c.next_due.new.self.items c.in-Some.next c.in-Some.ensures.next,
     )
 
-pub loop-id-preserved : goal.loop-id-preserved
-loop-id-preserved c =
-    let (value, reached, moved) = c.in-Some.ensures.taken in
+pub loop-next-preserved : goal.loop-next-preserved
+loop-next-preserved c =
     let first = c.self.inside.nodes in
-    let old = c.loop-id.self-inside.nodes in
+    let old = c.loop-next.self-inside.nodes in
     let new = c.drop_or_note-lost.new.nodes in
     record {
       expiring =
-          expiring_after c.args.now c.loop-id.self-inside.nodes
-          c.drop_or_note-lost.new.nodes c.in-Some.id c.drop_or_note-lost.ensures.nodes
-          c.self.inside.nodes (heap_items c.loop-id.self-inside.dues)
-          (heap_items c.next_due.new.dues) (heap_items c.drop_or_note-lost.new.dues) value
-          c.loop-id.invariant.expiring moved c.drop_or_note-lost.ensures.kept
-          c.drop_or_note-lost.ensures.noted c.drop_or_note-lost.ensures.order;
-      root = c.loop-id.invariant.root;
-      puts = c.loop-id.invariant.puts;
-      told = on_both c.loop-id.whole c.add_loss-whole.result c.loop-id.invariant.told
+          expiring_after c.args.now c.loop-next.self-inside.nodes
+          c.drop_or_note-lost.new.nodes c.in-Some.next.item c.drop_or_note-lost.ensures.nodes
+          c.self.inside.nodes c.loop-next.self-inside.dues.items
+          c.next_due.new.self.items c.drop_or_note-lost.new.dues.items c.in-Some.next refl
+          c.loop-next.invariant.expiring c.in-Some.ensures.next c.drop_or_note-lost.ensures.kept
+          c.drop_or_note-lost.ensures.noted;
+      root = c.loop-next.invariant.root;
+      puts = c.loop-next.invariant.puts;
+      told = on_both c.loop-next.whole c.add_loss-whole.result c.loop-next.invariant.told
           c.add_loss-whole.ensures
-          (λ (told : AreTold c.args.now first old c.loop-id.shifts.items)
+          (λ (told : AreTold c.args.now first old c.loop-next.shifts.items)
           (is : c.add_loss-whole.new.shifts.items
-          ≡ with_loss c.loop-id.shifts.items c.in-Some.id c.drop_or_note-lost.result).
+          ≡ with_loss c.loop-next.shifts.items c.in-Some.next.item c.drop_or_note-lost.result).
           subst (AreTold c.args.now first new) (sym is)
-          (told_after c.args.now first old new c.in-Some.id c.drop_or_note-lost.ensures.nodes
-          c.loop-id.shifts.items told c.drop_or_note-lost.result
+          (told_after c.args.now first old new c.in-Some.next.item c.drop_or_note-lost.ensures.nodes
+          c.loop-next.shifts.items told c.drop_or_note-lost.result
           c.drop_or_note-lost.ensures.dropped));
     }
 
@@ -66,15 +62,15 @@ invariant_of-self c =
       puts = c.self.inside.puts;
     } in
     let new : TreeValue = record {
-      root = c.loop-id.self-inside.root;
-      nodes = c.loop-id.self-inside.nodes;
-      puts = c.loop-id.self-inside.puts;
+      root = c.loop-next.self-inside.root;
+      nodes = c.loop-next.self-inside.nodes;
+      puts = c.loop-next.self-inside.puts;
     } in
-    kept_after c.args.now old new (heap_items c.loop-id.self-inside.dues)
-    (heap_items c.next_due.new.dues) c.self.invariant.is_tree c.loop-id.invariant.expiring
+    kept_after c.args.now old new c.loop-next.self-inside.dues.items
+    c.next_due.new.self.items c.self.invariant.is_tree c.loop-next.invariant.expiring
     c.in_default.ensures.later
-    (record { root = c.loop-id.invariant.root; puts = c.loop-id.invariant.puts })
-    c.in_default.ensures.same c.next_due.ensures.order
+    (record { root = c.loop-next.invariant.root; puts = c.loop-next.invariant.puts })
+    c.in_default.ensures.same
 
 pub returns-then-whole-clause-due : goal.returns-then-whole-clause-due
 returns-then-whole-clause-due c =
@@ -83,13 +79,13 @@ returns-then-whole-clause-due c =
       nodes = c.self.inside.nodes;
       puts = c.self.inside.puts;
     } in
-    let told = OnTrue_at c.if-whole.true c.loop-id.invariant.told in
-    subst (λ (tree : TreeValue). AreDue tree c.args.now (shift_ids c.loop-id.shifts.items))
+    let told = OnTrue_at c.if-whole.true c.loop-next.invariant.told in
+    subst (λ (tree : TreeValue). AreDue tree c.args.now (shift_ids c.loop-next.shifts.items))
     c.self.view_is
-    (are_due c.args.now old c.loop-id.self-inside.nodes (shift_ids c.loop-id.shifts.items)
+    (are_due c.args.now old c.loop-next.self-inside.nodes (shift_ids c.loop-next.shifts.items)
     told.gone
-    (all_alive c.args.now c.self.inside.nodes c.loop-id.self-inside.nodes
-    (heap_items c.loop-id.self-inside.dues) c.loop-id.invariant.expiring
+    (all_alive c.args.now c.self.inside.nodes c.loop-next.self-inside.nodes
+    c.loop-next.self-inside.dues.items c.loop-next.invariant.expiring
     c.in_default.ensures.later))
 
 pub returns-then-whole-clause-shifts : goal.returns-then-whole-clause-shifts
@@ -100,29 +96,29 @@ returns-then-whole-clause-shifts c =
       puts = c.self.inside.puts;
     } in
     let new : TreeValue = record {
-      root = c.loop-id.self-inside.root;
-      nodes = c.loop-id.self-inside.nodes;
-      puts = c.loop-id.self-inside.puts;
+      root = c.loop-next.self-inside.root;
+      nodes = c.loop-next.self-inside.nodes;
+      puts = c.loop-next.self-inside.puts;
     } in
-    let told = OnTrue_at c.if-whole.true c.loop-id.invariant.told in
+    let told = OnTrue_at c.if-whole.true c.loop-next.invariant.told in
     let alive : Expires old new c.args.now = all_alive c.args.now c.self.inside.nodes
-    c.loop-id.self-inside.nodes (heap_items c.loop-id.self-inside.dues)
-    c.loop-id.invariant.expiring c.in_default.ensures.later in
-    subst (λ (tree : TreeValue). AreShifts tree new c.loop-id.shifts.items) c.self.view_is
-    (due_shifts old new c.args.now c.loop-id.shifts.items
-    (are_due c.args.now old c.loop-id.self-inside.nodes (shift_ids c.loop-id.shifts.items)
+    c.loop-next.self-inside.nodes c.loop-next.self-inside.dues.items
+    c.loop-next.invariant.expiring c.in_default.ensures.later in
+    subst (λ (tree : TreeValue). AreShifts tree new c.loop-next.shifts.items) c.self.view_is
+    (due_shifts old new c.args.now c.loop-next.shifts.items
+    (are_due c.args.now old c.loop-next.self-inside.nodes (shift_ids c.loop-next.shifts.items)
     told.gone alive) told.losses alive)
 
 pub returns-then-whole-clause-gone : goal.returns-then-whole-clause-gone
 returns-then-whole-clause-gone c id =
-    all_alive c.args.now c.self.inside.nodes c.loop-id.self-inside.nodes
-    (heap_items c.loop-id.self-inside.dues)
-    c.loop-id.invariant.expiring c.in_default.ensures.later id
+    all_alive c.args.now c.self.inside.nodes c.loop-next.self-inside.nodes
+    c.loop-next.self-inside.dues.items
+    c.loop-next.invariant.expiring c.in_default.ensures.later id
     ∙ ap (λ (tree : TreeValue). living c.args.now (node_of tree id)) c.self.view_is
 
 pub returns-else-whole-clause-gone : goal.returns-else-whole-clause-gone
 returns-else-whole-clause-gone c id =
-    all_alive c.args.now c.self.inside.nodes c.loop-id.self-inside.nodes
-    (heap_items c.loop-id.self-inside.dues)
-    c.loop-id.invariant.expiring c.in_default.ensures.later id
+    all_alive c.args.now c.self.inside.nodes c.loop-next.self-inside.nodes
+    c.loop-next.self-inside.dues.items
+    c.loop-next.invariant.expiring c.in_default.ensures.later id
     ∙ ap (λ (tree : TreeValue). living c.args.now (node_of tree id)) c.self.view_is

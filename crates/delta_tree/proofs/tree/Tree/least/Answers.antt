@@ -1,6 +1,5 @@
 use Rattle.std.proofs.Common.{◌≡◌, [], subst}
 use Rattle.std.specs.Prelude.{IfNone, IfSome}
-use Rattle.std.specs.BinaryHeap.{heap_items}
 use Rattle.delta_tree.specs.Nodes.{TreeValue}
 use Rattle.delta_tree.specs.Changes.{IsFloor}
 use Rattle.delta_tree.proofs.Queue.{none_of, floor_of}
@@ -9,7 +8,7 @@ use Rattle.delta_tree.proofs.tree.Tree.least.Goals as goal
 pub returns-clause-none : goal.returns-clause-none
 returns-clause-none c =
     subst (λ (tree : TreeValue). IfNone c.first_due.result (tree.nodes ≡ [])) c.self.view_is
-    (none_of c.self.inside.nodes (heap_items c.self.inside.dues) c.first_due.result
+    (none_of c.self.inside.nodes c.self.inside.dues.items c.first_due.result
     c.self.invariant.noted c.first_due.ensures.none)
 
 pub returns-clause-floor : goal.returns-clause-floor
@@ -20,5 +19,5 @@ returns-clause-floor c =
       puts = c.self.inside.puts;
     } in
     subst (λ (tree : TreeValue). IfSome c.first_due.result (IsFloor tree)) c.self.view_is
-    (floor_of tree (heap_items c.self.inside.dues) c.first_due.result c.self.invariant.noted
+    (floor_of tree c.self.inside.dues.items c.first_due.result c.self.invariant.noted
     c.first_due.ensures.least)

@@ -24,8 +24,7 @@ invariant_of-self-2 c =
           c.requires.raises)
           c.in_ok-set_node.ensures.nodes refl refl
           (subst (λ tree. Carries tree c.args.step.from c.args.value) (sym c.self.view_is)
-          c.requires.from)
-          c.requires.state c.requires.joins c.ranges.value.fits;
+          c.requires.hangs.from)
+          c.requires.hangs.state c.requires.hangs.joins c.ranges.value.fits;
       noted = c.in_ok-set_node.ensures.noted;
-      order = c.set_node.ensures.order;
     }

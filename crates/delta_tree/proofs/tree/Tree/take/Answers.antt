@@ -4,7 +4,6 @@ use Rattle.std.specs.List.{list_any}
 use Rattle.delta_tree.specs.declared.node.NodeId.{NodeId}
 use Rattle.delta_tree.specs.Nodes.{TreeValue, node_in, same_node}
 use Rattle.delta_tree.specs.Changes.{AreBelow, Cuts}
-use Rattle.delta_tree.specs.Dues.{IsNoted, IsQueue}
 use Rattle.delta_tree.proofs.Below.{nothing_cut, all_cut}
 use Rattle.delta_tree.proofs.Trees.{cut_keeps}
 use Rattle.delta_tree.proofs.tree.Tree.take.Goals as goal
@@ -15,7 +14,7 @@ returns-then-is_empty-clause-gone c =
     (eqb-true (length c.args.ids.now) 0 (sym c.if-is_empty.ensures))
 
 -- the nodes that are left
-left : (c : goal.After-give_back) (id : NodeId) → node_in c.take_out.new.nodes id
+left : (c : goal.After-forget_cut) (id : NodeId) → node_in c.take_out.new.nodes id
     ≡ cond (list_any (same_node id) c.args.ids.now) None
     (node_in c.self.inside.nodes id)
 left c id = c.take_out.ensures id
@@ -41,10 +40,7 @@ invariant_of-self c =
           cut_keeps old new c.args.edge c.self.invariant.is_tree
           (all_cut old new c.args.edge c.args.ids.now below (left c))
           (record { root = refl; puts = refl });
-      noted =
-          subst (IsNoted c.take_out.new.nodes) (sym c.give_back.ensures)
-          c.retain_dues.ensures.noted;
-      order = subst IsQueue (sym c.give_back.ensures) c.retain_dues.ensures.order;
+      noted = c.forget_cut.ensures.noted;
     }
 
 pub returns-clause-gone : goal.returns-clause-gone

@@ -1,28 +1,33 @@
-use Rattle.std.proofs.Common.{[]}
+use Rattle.std.proofs.Common.{[], ◌∙◌, rules}
 use Rattle.std.proofs.lemmas.Result.{on_ok_weaker}
 use Rattle.edge_store.specs.Edges.{value_of}
 use Rattle.dfa_table.specs.DfaValue.{step_of}
 use Rattle.tree_insert.specs.UnderWay.{AreServed}
-use Rattle.tree_insert.proofs.UnderWay.{rises_itself, open_gained, open_none}
+use Rattle.tree_insert.proofs.UnderWay.{keeps_risen, rises_itself, open_gained, open_none}
 use Rattle.tree_insert.proofs.Paths.{ways_of_supported, supported_of_ways}
 use Rattle.tree_insert.proofs.Optimal.{optimal_of_served, served_of_best}
 use Rattle.tree_insert.proofs.search.Search.relax.Goals as goal
 
-pub settle-requires-clause-tree : goal.settle-requires-clause-tree
-settle-requires-clause-tree g c = record {
-  tree_is = c.offer_tries.ensures.tree;
-  supported =
-      supported_of_ways (value_of c.args.store.now) (step_of c.args.dfa.now) c.args.tree.now
-      c.offer_tries.ensures.tree c.requires.paths;
-  rises = rises_itself c.args.tree.now;
+pub settle-requires : goal.settle-requires
+settle-requires g c = record {
+  begins = record {
+    puts = c.requires.puts;
+    ready = record {
+      under = record {
+        tree_is = c.offer_tries.ensures.tree;
+        supported =
+            supported_of_ways (value_of c.args.store.now) (step_of c.args.dfa.now) c.args.tree.now
+            c.offer_tries.ensures.tree c.requires.paths;
+        rises = rises_itself c.args.tree.now;
+      };
+      can = open_gained (value_of c.args.store.now) c.args.dfa.now c.args.tree.now c.clear.new.self
+          c.offer_tries.new.search
+          (open_none (value_of c.args.store.now) c.args.dfa.now c.args.tree.now c.clear.new.self.waiting
+          c.clear.ensures.empty) c.offer_tries.ensures.gains;
+    };
+    none = c.offer_tries.ensures.gains.shifts ∙ c.clear.ensures.shifts;
+  };
 }
-
-pub settle-requires-clause-open : goal.settle-requires-clause-open
-settle-requires-clause-open g c =
-    open_gained (value_of c.args.store.now) c.args.dfa.now c.args.tree.now c.clear.new.self
-    c.offer_tries.new.search
-    (open_none (value_of c.args.store.now) c.args.dfa.now c.args.tree.now c.clear.new.self.waiting
-    c.clear.ensures.empty) c.offer_tries.ensures.gains
 
 pub returns-clause-optimal : goal.returns-clause-optimal
 returns-clause-optimal g c =
@@ -37,7 +42,12 @@ returns-clause-optimal g c =
     c.offer_tries.new.search.waiting c.requires.best c.in_ok-offer_tries.ensures.served)))
     c.settle.ensures.served
 
-pub returns-clause-paths : goal.returns-clause-paths
-returns-clause-paths g c =
-    ways_of_supported (value_of c.args.store.now) (step_of c.args.dfa.now) c.settle.new.tree
-    c.settle.ensures.tree.tree_is c.settle.ensures.tree.supported
+pub returns-clause-relaxes : goal.returns-clause-relaxes
+returns-clause-relaxes g c = record {
+  paths =
+      ways_of_supported (value_of c.args.store.now) (step_of c.args.dfa.now) c.settle.new.tree
+      c.settle.ensures.tree.tree_is c.settle.ensures.tree.supported;
+  keeps = keeps_risen c.args.tree.now c.settle.new.tree c.settle.ensures.tree.rises;
+  later = search rules;
+  steps = c.settle.ensures.counted;
+}

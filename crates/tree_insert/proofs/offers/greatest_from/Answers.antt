@@ -1,5 +1,5 @@
 use Rattle.tree_insert.proofs.Nodes.{carries_found}
-use Rattle.tree_insert.proofs.offers.carried.Goals as goal
+use Rattle.tree_insert.proofs.offers.greatest_from.Goals as goal
 
 pub returns-clause-carries : goal.returns-clause-carries
 returns-clause-carries c =
