@@ -23,6 +23,7 @@ use Rattle.tree_delete.specs.Laws.{RemovalElsewhereKeepsOptimal}
 use Rattle.tree_delete.specs.Removal.{IsRemoved}
 use Rattle.source_tree.specs.declared.change.Change.{Change}
 use Rattle.source_tree.specs.declared.change.Change.TheVariants.{Raise, Remove, Expire}
+use Rattle.source_tree.specs.Product.{ProductValue, steps_of}
 use Rattle.source_tree.specs.Taking.{KeepsNodes, WasOptimalBefore}
 use Rattle.delta_forest.specs.Changes.{TakesChange}
 use Rattle.delta_forest.specs.Candidates.{IsElsewhere}
@@ -46,14 +47,14 @@ removed_is old new edge updates = record {
         by false is = refl
 
 -- a tree that was optimal for the store before the change was so before it
-pub was_optimal : (change : Change) (old new : Edges) (step : ℕ → ℕ → Option ℕ)
-    (tree : TreeValue) → TakesChange change old new → IsOptimal (value_in old) step tree →
-    WasOptimalBefore change (value_in new) step tree
-was_optimal (Raise edge value) old new step tree takes optimal =
-    (value_in old, optimal, raises_are_raises old new edge value takes)
-was_optimal (Remove edge) old new step tree takes optimal =
-    (value_in old, optimal, removed_is old new edge takes)
-was_optimal (Expire now) old new step tree takes optimal = (value_in old, optimal, takes)
+pub was_optimal : (change : Change) (old : Edges) (product : ProductValue) (tree : TreeValue) →
+    TakesChange change old product.store →
+    IsOptimal (value_in old) (steps_of product) tree → WasOptimalBefore change product tree
+was_optimal (Raise edge value) old product tree takes optimal =
+    (value_in old, optimal, raises_are_raises old product.store edge value takes)
+was_optimal (Remove edge) old product tree takes optimal =
+    (value_in old, optimal, removed_is old product.store edge takes)
+was_optimal (Expire now) old product tree takes optimal = (value_in old, optimal, takes)
 
 -- ---- trees that stay
 

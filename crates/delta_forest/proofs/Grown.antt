@@ -9,6 +9,7 @@ use Rattle.tree_insert.specs.Trees.{IsOptimal}
 use Rattle.tree_insert.proofs.Expiry.{bare_is_optimal}
 use Rattle.source_tree.specs.declared.change.Change.{Change}
 use Rattle.source_tree.specs.Ends.{SourceValue}
+use Rattle.source_tree.specs.Product.{product_of}
 use Rattle.source_table.specs.Sources.{AreReady, source_in}
 use Rattle.delta_forest.specs.Changes.{TakesChange}
 use Rattle.delta_forest.specs.Keeping.{IsKept}
@@ -55,11 +56,11 @@ module _ {change : Change} {dfa : DfaValue} {calls : ℕ} {old : Edges}
       (are.only root source found)
 
   -- each source is ready
-  pub ready : (new : Edges) → TakesChange change old new → calls < 2 ^ 60 →
-      AreReady change (value_in new) (step_of dfa) roots grown.sources
-  ready new takes few root source listed found = record {
+  pub ready : (new : Edges) (finals : List ℕ) → TakesChange change old new → calls < 2 ^ 60 →
+      AreReady change (product_of new dfa finals) roots grown.sources
+  ready new finals takes few root source listed found = record {
     puts = let puts = grown_puts root source found in omega (arith, puts, few);
-    before = was_optimal change old new (step_of dfa) source.tree takes
+    before = was_optimal change old (product_of new dfa finals) source.tree takes
         (grown_optimal root source found);
   }
 

@@ -1,5 +1,5 @@
 -- What a change does to a forest.
-use Rattle.std.specs.Prelude.{◌≡◌, ◌≢◌, ◌⊎◌, ◌↔◌, ℕ, ◌≤◌, List, map, Contains, AllPairs, Option, None, Some, IsSome}
+use Rattle.std.specs.Prelude.{◌≡◌, ◌≢◌, ◌⊎◌, ◌↔◌, ℕ, ◌+◌, ◌≤◌, false, List, map, Contains, AllPairs, Option, None, Some, IsSome}
 use Rattle.std.specs.Ordering.{nat_cmp}
 use Rattle.std.specs.List.Sorted.{IsStrictlySortedBy}
 use Rattle.edge_store.specs.Edges.{Edges, Expires, Updates, raised, value_of}
@@ -10,7 +10,7 @@ use Rattle.source_tree.specs.declared.change.EndChange.{EndChange}
 use Rattle.source_tree.specs.declared.change.Reached.{Reached}
 use Rattle.source_tree.specs.Ends.{end_change}
 use Rattle.source_tree.specs.Taking.{KeepsNodes}
-use Rattle.delta_forest.specs.Forest.{ForestValue, IsEnd, kept, tree_of}
+use Rattle.delta_forest.specs.Forest.{ForestValue, IsEnd, IsIndexed, kept, tree_of}
 
 -- a store takes a change: a raise gives the edge the greater of its value and the new one, a
 -- removal takes the edge out, an expiry all edges whose value is at most the clock
@@ -57,6 +57,18 @@ pub record AreEndChangesOf (old new : ForestValue) (log : List EndChange) : Type
       Contains log (end_change root vertex before after)
   pub once : AllPairs (λ (first second : EndChange).
       (first.root ≢ second.root) ⊎ (first.vertex ≢ second.vertex)) log
+
+-- a forest took a change: its store did, its trees have the best paths of the store, what the
+-- change doesn't touch is as it was, and the forest reports the touched roots and exactly the
+-- changed ends
+pub record Applies (change : Change) (old new : ForestValue) : Type 0 where
+  pub store : TakesChange change old.store new.store
+  pub indexed : IsIndexed new
+  pub keeps : KeepsTrees change old new
+  pub touched : AreTouched change old new new.touched
+  pub log : AreEndChangesOf old new new.log
+  pub calls : new.calls ≡ old.calls + 1
+  pub unbroken : new.broken ≡ false
 
 -- the list has exactly the vertices with an end, as seen from the root, in rising order, each with
 -- it

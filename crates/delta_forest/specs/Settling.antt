@@ -1,5 +1,5 @@
 -- What follows in an index after its sources took a change. No public contract cites this file.
-use Rattle.std.specs.Prelude.{◌≡◌, ◌≢◌, ◌↔◌, ℕ, ◌+◌, Bool, true, false, nat_lt, List, [], ◌∷◌, ◌++◌, cond, length, filter, flat_map, Contains, IsTrue, None, Some}
+use Rattle.std.specs.Prelude.{◌≡◌, ◌≢◌, ◌↔◌, ℕ, Bool, true, false, nat_lt, List, [], ◌∷◌, ◌++◌, cond, length, filter, flat_map, Contains, IsTrue, None, Some}
 use Rattle.std.specs.Option.{option_map, unwrap_or}
 use Rattle.delta_tree.specs.declared.node.NodeId.{NodeId}
 use Rattle.delta_tree.specs.Nodes.{IsTree}
@@ -14,7 +14,6 @@ use Rattle.source_index.specs.Dues.{due_of}
 use Rattle.source_index.specs.Holders.{HoldersValue, Holds}
 use Rattle.source_table.specs.Sources.{AreApart, source_in}
 use Rattle.delta_forest.specs.Forest.{ForestValue}
-use Rattle.delta_forest.specs.Changes.{AreEndChangesOf, AreTouched, KeepsTrees, TakesChange}
 use Rattle.delta_forest.specs.Keeping.{AreFinals, IsDueFor, IsKept, forest_with}
 use Rattle.delta_forest.specs.declared.index.Index.{Index}
 use Rattle.delta_forest.specs.declared.index.Findings.{Findings}
@@ -101,14 +100,6 @@ abbrev pub forest_of : DfaValue → Bool → State → ForestValue
 forest_of dfa broken state =
     forest_with dfa state.store state.index.sources state.calls broken state.found.touched.items
     state.found.log.items
-
--- what a forest says of a change that it took
-pub record Advances (change : Change) (old new : ForestValue) : Type 0 where
-  pub store : TakesChange change old.store new.store
-  pub keeps : KeepsTrees change old new
-  pub touched : AreTouched change old new new.touched
-  pub log : AreEndChangesOf old new new.log
-  pub calls : new.calls ≡ old.calls + 1
 
 -- while a forest isn't broken, it keeps what it keeps between changes; its final states are known
 pub record IsIntact (dfa : DfaValue) (finals : List ℕ) (broken : Bool) (state : State)

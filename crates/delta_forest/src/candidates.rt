@@ -10,7 +10,8 @@ ghost use Rattle.delta_forest.specs.Candidates.{Adds, AddsSource, AreCandidates,
 use crate::index::Index;
 use delta_tree::NodeId;
 use dfa_table::Dfa;
-use edge_store::{EdgeId, NoMemory};
+use edge_store::EdgeId;
+use rpq_base::Memory;
 use source_index::{Dues, Holders};
 use source_table::SourceTable;
 use source_tree::{Change, SourceTree};
@@ -28,7 +29,7 @@ fn put_in_order(roots: &mut Vec<u32>)
 }
 
 /// A new source for the root, where it has none.
-fn add_source(alloc: Global, sources: &mut SourceTable, root: u32) -> Result<(), NoMemory>
+fn add_source(alloc: Global, sources: &mut SourceTable, root: u32) -> Result<(), Memory>
     ensures { OnOk result (AddsSource sources.old sources.new root) }
 {
     if sources.get(root).is_some() {
@@ -53,7 +54,7 @@ fn add_held_at(
     edge: EdgeId,
     state: u32,
     roots: &mut Vec<u32>,
-) -> Result<(), NoMemory>
+) -> Result<(), Memory>
     requires { state < length dfa.now.rows }
     ensures { OnOk result (Adds roots.old.items roots.new.items
         (IsHeldBy holders.now (step_of dfa.now) edge state)) }
@@ -70,12 +71,7 @@ fn add_held_at(
 
 /// Adds the roots that are held where the edge leaves, with a state with a step by it. No node
 /// stands with the state 0.
-fn add_held(
-    holders: &Holders,
-    dfa: &Dfa,
-    edge: EdgeId,
-    roots: &mut Vec<u32>,
-) -> Result<(), NoMemory>
+fn add_held(holders: &Holders, dfa: &Dfa, edge: EdgeId, roots: &mut Vec<u32>) -> Result<(), Memory>
     ensures { OnOk result (Adds roots.old.items roots.new.items
         (IsHeldBySome holders.now (step_of dfa.now) edge)) }
 {
@@ -93,7 +89,7 @@ fn add_start(
     dfa: &Dfa,
     edge: EdgeId,
     roots: &mut Vec<u32>,
-) -> Result<(), NoMemory>
+) -> Result<(), Memory>
     ensures { OnOk result (StartsBy sources.old sources.new (step_of dfa.now) edge
         roots.old.items roots.new.items) }
 {
@@ -122,7 +118,7 @@ fn add_if_hung(
     id: NodeId,
     root: u32,
     roots: &mut Vec<u32>,
-) -> Result<(), NoMemory>
+) -> Result<(), Memory>
     ensures { OnOk result (Adds roots.old.items roots.new.items
         (λ each. (each ≡ root) × IsHungAt sources.now edge id each)) }
 {
@@ -140,7 +136,7 @@ fn add_hung(
     edge: EdgeId,
     id: NodeId,
     roots: &mut Vec<u32>,
-) -> Result<(), NoMemory>
+) -> Result<(), Memory>
     ensures { OnOk result (Adds roots.old.items roots.new.items
         (IsHungBy sources.now holders.now edge id)) }
 {
@@ -158,7 +154,7 @@ fn add_raised(
     dfa: &Dfa,
     edge: EdgeId,
     roots: &mut Vec<u32>,
-) -> Result<(), NoMemory>
+) -> Result<(), Memory>
     requires { roots.old.items ≡ [] }
     ensures { OnOk result (AreRaised sources.old sources.new holders.now (step_of dfa.now) edge
         roots.new.items) }
@@ -176,7 +172,7 @@ fn add_removed(
     dfa: &Dfa,
     edge: EdgeId,
     roots: &mut Vec<u32>,
-) -> Result<(), NoMemory>
+) -> Result<(), Memory>
     requires { roots.old.items ≡ [] }
     ensures valid { IsDfa dfa.now }
     ensures roots { OnOk result (AreInOrder
@@ -194,19 +190,14 @@ fn add_removed(
 }
 
 /// Adds those whose numbers are at most the clock, which they lose.
-fn add_expired(dues: &mut Dues, now: u64, roots: &mut Vec<u32>) -> Result<(), NoMemory>
+fn add_expired(dues: &mut Dues, now: u64, roots: &mut Vec<u32>) -> Result<(), Memory>
     ensures { OnOk result (AreTaken dues.old dues.new now roots.new.items) }
 {
-    for _ in 0..u64::MAX {
-        match dues.take(now) {
-            Some(root) => roots.push(root)?,
-            None => {
-                put_in_order(roots);
-                return Ok(());
-            }
-        }
+    while let Some(root) = dues.take(now) {
+        roots.push(root)?;
     }
-    Err(NoMemory)
+    put_in_order(roots);
+    Ok(())
 }
 
 /// Makes the list that of the roots whose trees the change may touch, in order, each once, in the
@@ -217,7 +208,7 @@ pub(crate) fn find_candidates(
     dfa: &Dfa,
     change: Change,
     roots: &mut Vec<u32>,
-) -> Result<(), NoMemory>
+) -> Result<(), Memory>
     ensures { (store : Edges) (calls : ℕ) → IsKept dfa.now store calls index.old →
         OnOk result (AreCandidates change (step_of dfa.now) index.old index.new roots.new.items) }
 {

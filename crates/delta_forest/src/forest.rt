@@ -1,9 +1,9 @@
 //! The forest.
 
-ghost use Rattle.std.specs.Prelude.{◌≡◌, ℕ, ◌+◌, ◌^◌, ◌<◌, ◌≤◌, [], true, false, IfOk, IsTrue, OnErr, OnOk, length};
+ghost use Rattle.std.specs.Prelude.{◌≡◌, ◌^◌, ◌<◌, ◌≤◌, [], true, false, IfOk, IsTrue, OnErr, OnOk, length};
 ghost use Rattle.edge_store.specs.Edges.{IsEmpty};
 ghost use Rattle.delta_forest.specs.Forest.{IsIndexed, kept};
-ghost use Rattle.delta_forest.specs.Changes.{AreEndChangesOf, AreReachedFrom, AreTouched, KeepsTrees, TakesChange};
+ghost use Rattle.delta_forest.specs.Changes.{Applies, AreReachedFrom};
 ghost use Rattle.dfa_table.specs.DfaValue.{is_final};
 ghost use Rattle.delta_forest.specs.Candidates.{Adds};
 ghost use Rattle.delta_forest.specs.Keeping.{AreFinals};
@@ -12,9 +12,9 @@ ghost use Rattle.delta_forest.specs.Settling.{IsNewState};
 use crate::advancing::advance;
 use crate::index::{Findings, Index, State};
 use dfa_table::Dfa;
-use edge_store::{EdgeStore, NoMemory};
+use edge_store::EdgeStore;
 use rpq_base::Memory;
-use rpq_io::Gate;
+use rpq_io::{Context, Gate};
 use source_index::{Dues, Holders};
 use source_table::SourceTable;
 use source_tree::{Change, EndChange, Reached};
@@ -74,7 +74,7 @@ fn finals_of(alloc: Global, dfa: &Dfa) -> Result<Vec<u32>, Memory>
 }
 
 /// Nothing was changed yet.
-fn new_state(alloc: Global) -> Result<State, NoMemory>
+fn new_state(alloc: Global) -> Result<State, Memory>
     ensures { IfOk result IsNewState }
 {
     let store = EdgeStore::new(alloc)?;
@@ -122,63 +122,48 @@ impl Forest {
         ensures log { IfOk result (λ forest. forest.log ≡ []) }
     {
         let finals = finals_of(alloc, &dfa)?;
-        match new_state(alloc) {
-            Ok(state) => Ok(Forest {
-                alloc,
-                dfa,
-                finals,
-                state,
-                broken: false,
-            }),
-            Err(NoMemory) => Err(Memory),
-        }
+        let state = new_state(alloc)?;
+        Ok(Forest {
+            alloc,
+            dfa,
+            finals,
+            state,
+            broken: false,
+        })
     }
 
     /// Takes a change: first the store does, then by so many workers the trees that it may touch.
-    /// The trees are cut into chunks of as many as their number divided by that of the workers,
-    /// rounded up; each worker tells the gate before it begins. Where there is no tree, none does.
+    /// The trees are cut into at most as many chunks of the same size as there are workers; each
+    /// worker passes the gate before it begins. Where there is no tree, none does.
     ///
     /// The only error is [`Memory`], after which the forest is broken. It may have taken fewer than
     /// 2^60 changes since it was made or cleared.
     pub fn apply<R: Threads + Sync, G: Gate>(
         &mut self,
-        rt: &R,
+        context: &Context<'_, R, G>,
         change: Change,
         workers: u32,
-        gate: &G,
     ) -> Result<(), Memory>
         requires unbroken { self.old.broken ≡ false }
         requires some { 1 ≤ workers }
         requires few { workers ≤ 64 }
         requires calls { self.old.calls < 2 ^ 60 }
-        ensures store { OnOk result (TakesChange change self.old.store self.new.store) }
-        ensures indexed { OnOk result (IsIndexed self.new) }
-        ensures keeps { OnOk result (KeepsTrees change self.old self.new) }
-        ensures touched { OnOk result (AreTouched change self.old self.new self.new.touched) }
-        ensures log { OnOk result (AreEndChangesOf self.old self.new self.new.log) }
-        ensures calls { OnOk result (self.new.calls ≡ self.old.calls + 1) }
+        ensures applied { OnOk result (Applies change self.old self.new) }
         ensures dfa { self.new.dfa ≡ self.old.dfa }
-        ensures unbroken { OnOk result (self.new.broken ≡ false) }
         ensures broken { OnErr result (self.new.broken ≡ true) }
     {
         // until the change is taken to its end
         self.broken = true;
-        match advance(
-            rt,
-            self.alloc,
+        advance(
+            context,
             &self.dfa,
             &self.finals,
             &mut self.state,
             change,
             workers,
-            gate,
-        ) {
-            Ok(()) => {
-                self.broken = false;
-                Ok(())
-            }
-            Err(NoMemory) => Err(Memory),
-        }
+        )?;
+        self.broken = false;
+        Ok(())
     }
 
     /// Whether memory ran out in a change. While it hasn't, all trees are optimal for the store.
@@ -211,10 +196,7 @@ impl Forest {
         let Some(source) = self.state.index.sources.get(x) else {
             return Ok(Vec::new(self.alloc));
         };
-        match source.reached(&self.finals) {
-            Ok(reached) => Ok(reached),
-            Err(NoMemory) => Err(Memory),
-        }
+        source.reached(&self.finals)
     }
 
     /// The automaton.

@@ -12,13 +12,13 @@ ghost use Rattle.delta_forest.specs.Settling.{AreFound, AreSettled, FindsAt, Fin
 
 use crate::index::{Findings, Index};
 use delta_tree::NodeId;
-use edge_store::NoMemory;
+use rpq_base::Memory;
 use source_index::{Dues, Holders};
 use source_tree::{Change, SourceTree};
 
 /// Holds the root at a place where a raise brought a node, and no more where another change took
 /// one.
-fn hold_at(holders: &mut Holders, root: u32, id: NodeId, change: Change) -> Result<(), NoMemory>
+fn hold_at(holders: &mut Holders, root: u32, id: NodeId, change: Change) -> Result<(), Memory>
     ensures { OnOk result (HoldsAnew holders.old holders.new root (is_raise change) (id ∷ [])) }
 {
     match change {
@@ -38,12 +38,7 @@ fn hold_at(holders: &mut Holders, root: u32, id: NodeId, change: Change) -> Resu
 }
 
 /// Does so at each place where a node came or went.
-fn hold(
-    holders: &mut Holders,
-    source: &SourceTree,
-    root: u32,
-    change: Change,
-) -> Result<(), NoMemory>
+fn hold(holders: &mut Holders, source: &SourceTree, root: u32, change: Change) -> Result<(), Memory>
     ensures { OnOk result
         (HoldsAnew holders.old holders.new root (is_raise change) source.now.moved) }
 {
@@ -61,7 +56,7 @@ fn follow_touch(
     source: &SourceTree,
     root: u32,
     change: Change,
-) -> Result<(), NoMemory>
+) -> Result<(), Memory>
     ensures held { OnOk result
         (HoldsAnew holders.old holders.new root (is_raise change) (moved_of source.now)) }
     ensures found { OnOk result (FindsMore found.old found.new source.now root) }
@@ -88,7 +83,7 @@ fn may_be_sooner(source: &SourceTree, change: Change) -> bool
 }
 
 /// Notes when the first node of the tree may be due, where there is a node.
-fn note_least(dues: &mut Dues, source: &SourceTree, root: u32) -> Result<(), NoMemory>
+fn note_least(dues: &mut Dues, source: &SourceTree, root: u32) -> Result<(), Memory>
     ensures due { OnOk result (IsDueFor dues.new root source.now.tree) }
     ensures others { (each : ℕ) → each ≢ root → due_of dues.new each ≡ due_of dues.old each }
 {
@@ -102,7 +97,7 @@ fn note_least(dues: &mut Dues, source: &SourceTree, root: u32) -> Result<(), NoM
 }
 
 /// Does so where a node may be due sooner.
-fn note(dues: &mut Dues, source: &SourceTree, root: u32, change: Change) -> Result<(), NoMemory>
+fn note(dues: &mut Dues, source: &SourceTree, root: u32, change: Change) -> Result<(), Memory>
     ensures due { OnOk result
         (is_sooner change source.now ≡ true → IsDueFor dues.new root source.now.tree) }
     ensures same { is_sooner change source.now ≡ false →
@@ -123,7 +118,7 @@ fn follow(
     found: &mut Findings,
     source: &SourceTree,
     change: Change,
-) -> Result<bool, NoMemory>
+) -> Result<bool, Memory>
     ensures tree { IsTree source.now.tree }
     ensures held { OnOk result (HoldsAnew holders.old holders.new source.now.tree.root
         (is_raise change) (moved_of source.now)) }
@@ -144,12 +139,7 @@ fn follow(
 
 /// Follows what the change did to the tree of a root, where it has one; a source without nodes
 /// goes.
-fn settle(
-    index: &mut Index,
-    found: &mut Findings,
-    root: u32,
-    change: Change,
-) -> Result<(), NoMemory>
+fn settle(index: &mut Index, found: &mut Findings, root: u32, change: Change) -> Result<(), Memory>
     requires apart { AreApart index.old.sources }
     ensures settled { OnOk result (AreSettled change index.old index.new (root ∷ [])) }
     ensures found { OnOk result (FindsAt index.old.sources found.old found.new root) }
@@ -169,7 +159,7 @@ pub(crate) fn settle_all(
     found: &mut Findings,
     roots: &[u32],
     change: Change,
-) -> Result<(), NoMemory>
+) -> Result<(), Memory>
     requires apart { AreApart index.old.sources }
     requires sorted { IsStrictlySortedBy nat_cmp roots.now }
     requires touched { found.old.touched.items ≡ [] }

@@ -2,15 +2,15 @@
 use Rattle.std.proofs.Common.{◌≡◌, ◌≢◌, ◌<◌, ◌+◌, ◌⊎◌, inl, inr, ℕ, true, false, List, [], ◌∷◌, length, get_or, take, filter_map, Option, None, Some, Result, Ok, Err, slice_get, nat_eq, Contains, All, refl, sym, ap, subst, ◌∙◌, true≢false, arith}
 use Rattle.std.specs.Cmp.{nat_eq_equiv}
 use Rattle.std.specs.Prelude.{OnOk, OnErr, set}
-use Rattle.edge_store.specs.declared.no_memory.NoMemory.{NoMemory}
+use Rattle.rpq_base.specs.declared.memory.Memory.{Memory}
 use Rattle.std.specs.List.{IsDistinct}
 use Rattle.std.proofs.lemmas.List.{take_more, get_or-take, get_or_default, length-take-le, get_or-set_same, get_or-set_other}
 use Rattle.std.proofs.lemmas.List.Elements.{All-contains, Contains-append_left, Contains-get_or, Contains-push, Contains-push_cases}
 use Rattle.std.proofs.lemmas.Map.Keys.{apart_from_distinct}
 use Rattle.std.proofs.lemmas.Option.{get_or_from_slice_get, slice_get-get_or, slice_get_within}
-use Rattle.edge_store.specs.declared.edge.EdgeId.{EdgeId}
 use Rattle.source_tree.specs.declared.change.Change.{Change}
 use Rattle.source_tree.specs.Ends.{SourceValue}
+use Rattle.source_tree.specs.Product.{ProductValue}
 use Rattle.source_tree.specs.Taking.{HasTaken, IsReady}
 use Rattle.source_table.specs.Parts.{AreSound, Tries, TriesIf, TriesOne}
 use Rattle.source_table.specs.Places.{ArePlaced, place_of}
@@ -63,11 +63,10 @@ next_new chosen k d below once (j, within, is) =
     same = ap (λ n. nat_eq n (get_or chosen k place)) here ∙ ap (nat_eq place) there
         ∙ nat_eq_equiv.refl place
 
-module _ (change : Change) (values : EdgeId → Option ℕ) (step : ℕ → ℕ → Option ℕ)
-    (finals : List ℕ) where
+module _ (change : Change) (product : ProductValue) where
   -- before the first
   pub none_tried : (place : ℕ) (source : SourceValue) →
-      TriesIf (Contains [] place) change values step finals source source
+      TriesIf (Contains [] place) change product source source
   none_tried place source = record {
     root = refl;
     taken = λ there. absurd (nothing_there place there);
@@ -77,7 +76,7 @@ module _ (change : Change) (values : EdgeId → Option ℕ) (step : ℕ → ℕ 
   -- before its turn it is as it was
   pub untouched : (chosen : List ℕ) (k d place : ℕ) (before now : SourceValue) →
       k < length chosen → IsDistinct nat_eq chosen → get_or chosen k d ≡ place →
-      TriesIf (Contains (take k chosen) place) change values step finals before now →
+      TriesIf (Contains (take k chosen) place) change product before now →
       now ≡ before
   untouched chosen k d place before now below once here so = so.other (λ there.
       next_new chosen k d below once
@@ -86,19 +85,19 @@ module _ (change : Change) (values : EdgeId → Option ℕ) (step : ℕ → ℕ 
   -- one place more
   pub one_more : (chosen : List ℕ) (k d place : ℕ) (before now after : SourceValue) →
       k < length chosen → IsDistinct nat_eq chosen →
-      TriesIf (Contains (take k chosen) place) change values step finals before now →
-      TriesIf (get_or chosen k d ≡ place) change values step finals now after →
-      TriesIf (Contains (take (k + 1) chosen) place) change values step finals before after
+      TriesIf (Contains (take k chosen) place) change product before now →
+      TriesIf (get_or chosen k d ≡ place) change product now after →
+      TriesIf (Contains (take (k + 1) chosen) place) change product before after
   one_more chosen k d place before now after below once so then = record {
     root = then.root ∙ so.root;
     taken = λ there. elim (more_cases chosen k d place below there) [
       | inl was ↦
           let same : after ≡ now = then.other (λ here. next_new chosen k d below once
           (subst (Contains (take k chosen)) (sym here) was)) in
-          λ sound. subst (HasTaken change values step finals before) (sym same)
+          λ sound. subst (HasTaken change product before) (sym same)
           (so.taken was (sym (ap (λ (each : SourceValue). each.broken) same) ∙ sound))
       | inr here ↦
-          λ sound. subst (λ old. HasTaken change values step finals old after)
+          λ sound. subst (λ old. HasTaken change product old after)
           (untouched chosen k d place before now below once here so)
           (then.taken here sound)
     ];
@@ -110,7 +109,7 @@ module _ (change : Change) (values : EdgeId → Option ℕ) (step : ℕ → ℕ 
 
   -- a source that stands elsewhere
   pub elsewhere : (chosen : Type 0) (source : SourceValue) → (chosen → ⊥) →
-      TriesIf chosen change values step finals source source
+      TriesIf chosen change product source source
   elsewhere chosen source apart = record {
     root = refl;
     taken = λ is. absurd (apart is);
@@ -118,12 +117,12 @@ module _ (change : Change) (values : EdgeId → Option ℕ) (step : ℕ → ℕ 
   }
 
   -- the one at its place
-  pub one_tried : (chosen : Type 0) (result : Result (Unit {0}) NoMemory)
+  pub one_tried : (chosen : Type 0) (result : Result (Unit {0}) Memory)
       (before after : SourceValue) → chosen →
       after.tree.root ≡ before.tree.root →
-      OnOk result (HasTaken change values step finals before after) →
+      OnOk result (HasTaken change product before after) →
       OnErr result (after.broken ≡ true) →
-      TriesIf chosen change values step finals before after
+      TriesIf chosen change product before after
   one_tried chosen (Ok done) before after is root taken broken = record {
     root = root;
     taken = λ _ _. taken;
@@ -138,25 +137,25 @@ module _ (change : Change) (values : EdgeId → Option ℕ) (step : ℕ → ℕ 
   -- a part in which one was tried
   pub part_tried : (place start offset : ℕ) (old : List SourceValue) (after : SourceValue) →
       place ≡ start + offset → offset < length old →
-      ((d : SourceValue) → TriesIf (place ≡ start + offset) change values step finals
+      ((d : SourceValue) → TriesIf (place ≡ start + offset) change product
       (get_or old offset d) after) →
-      TriesOne place start change values step finals old (set old offset after)
+      TriesOne place start change product old (set old offset after)
   part_tried place start offset old after is within tried other d below =
       elim (by_order other offset) [
         | inl less ↦ apart (λ same. omega (arith, less, same))
         | inr rest ↦ elim rest [
           | inl same ↦
-              subst (λ n. TriesIf (place ≡ start + n) change values step finals (get_or old n d)
+              subst (λ n. TriesIf (place ≡ start + n) change product (get_or old n d)
               (get_or (set old offset after) n d)) (sym same)
-              (subst (TriesIf (place ≡ start + offset) change values step finals
+              (subst (TriesIf (place ≡ start + offset) change product
               (get_or old offset d)) (sym (get_or-set_same old offset after d within)) (tried d))
           | inr more ↦ apart (λ same. omega (arith, more, same))
         ]
       ]
     where
-      apart : (other ≢ offset) → TriesIf (place ≡ start + other) change values step finals
+      apart : (other ≢ offset) → TriesIf (place ≡ start + other) change product
           (get_or old other d) (get_or (set old offset after) other d)
-      apart distinct = subst (TriesIf (place ≡ start + other) change values step finals
+      apart distinct = subst (TriesIf (place ≡ start + other) change product
           (get_or old other d)) (sym (get_or-set_other old offset other after d distinct))
           (elsewhere (place ≡ start + other) (get_or old other d)
           (λ at. distinct (omega (arith, at, is))))
@@ -166,13 +165,13 @@ module _ (change : Change) (values : EdgeId → Option ℕ) (step : ℕ → ℕ 
   -- a chosen source can take the change
   pub can_take : (sources : List SourceValue) (places : List ℕ) (roots : List ℕ)
       (place : ℕ) (d : SourceValue) → ArePlaced (roots_of sources) places →
-      AreReady change values step roots sources →
+      AreReady change product roots sources →
       Contains (filter_map (place_of places) roots) place →
-      IsReady change values step (get_or sources place d)
+      IsReady change product (get_or sources place d)
   can_take sources places roots place d placed ready there =
       let (root, among, is) = chosen_from (place_of places) roots place there in
       let (source, at, has) = at_place sources places placed place root is in
-      subst (IsReady change values step)
+      subst (IsReady change product)
       (sym (get_or_from_slice_get sources place source d at))
       (ready root source among (source_at sources places placed place root source at has))
 
@@ -180,11 +179,11 @@ module _ (change : Change) (values : EdgeId → Option ℕ) (step : ℕ → ℕ 
   pub have_taken : (old new : List SourceValue) (places : List ℕ) (roots : List ℕ) →
       ArePlaced (roots_of old) places → roots_of new ≡ roots_of old →
       ((place : ℕ) (d : SourceValue) → place < length old →
-      TriesIf (Contains (filter_map (place_of places) roots) place) change values step finals
+      TriesIf (Contains (filter_map (place_of places) roots) place) change product
       (get_or old place d) (get_or new place d)) →
       length new ≡ length old →
       AreSound (filter_map (place_of places) roots) new →
-      HaveTaken change values step finals roots old new
+      HaveTaken change product roots old new
   have_taken old new places roots placed same tries len sound = record {
     taken = λ root before after among was is.
         let (place, at, has) = stands_at old root before was in
@@ -193,9 +192,9 @@ module _ (change : Change) (values : EdgeId → Option ℕ) (step : ℕ → ℕ 
         let here : now ≡ place = some_is_one now place
         (sym (placed_at new places afterwards now root after stands with_root) ∙ own) in
         let there = chosen_has (place_of places) roots root place among own in
-        subst (λ source. HasTaken change values step finals source after)
+        subst (λ source. HasTaken change product source after)
         (get_or_from_slice_get old place before before at)
-        (subst (HasTaken change values step finals (get_or old place before))
+        (subst (HasTaken change product (get_or old place before))
         (get_or_from_slice_get new place after before (ap (slice_get new) (sym here) ∙ stands))
         ((tries place before (slice_get_within old place before at)).taken there
         (All-contains (λ each. (d : SourceValue) → (get_or new each d).broken ≡ false)
@@ -234,11 +233,11 @@ all_within sources places roots placed k d below =
     within sources places placed place root is
 
 -- each source has the root that it had
-pub same_roots : (chosen : List ℕ) (change : Change) (values : EdgeId → Option ℕ)
-    (step : ℕ → ℕ → Option ℕ) (finals : List ℕ) (old new : List SourceValue) →
-    length new ≡ length old → Tries chosen 0 change values step finals old new →
+pub same_roots : (chosen : List ℕ) (change : Change) (product : ProductValue)
+    (old new : List SourceValue) →
+    length new ≡ length old → Tries chosen 0 change product old new →
     roots_of new ≡ roots_of old
-same_roots chosen change values step finals old new len tries =
+same_roots chosen change product old new len tries =
     same_lists root_of old new len (λ k d below. (tries k d below).root)
 
 -- what follows from a good outcome
@@ -248,30 +247,30 @@ on_ok (Ok x) then so = then so
 on_ok (Err e) then so = tt
 
 -- the places from the first on
-pub from_first : (chosen : List ℕ) (change : Change) (values : EdgeId → Option ℕ)
-    (step : ℕ → ℕ → Option ℕ) (finals : List ℕ) (old new : List SourceValue) →
-    Tries chosen 0 change values step finals old new → (place : ℕ) (d : SourceValue) →
+pub from_first : (chosen : List ℕ) (change : Change) (product : ProductValue)
+    (old new : List SourceValue) →
+    Tries chosen 0 change product old new → (place : ℕ) (d : SourceValue) →
     place < length old →
-    TriesIf (Contains chosen place) change values step finals (get_or old place d)
+    TriesIf (Contains chosen place) change product (get_or old place d)
     (get_or new place d)
-from_first chosen change values step finals old new tries place d below =
+from_first chosen change product old new tries place d below =
     let same : 0 + place ≡ place = omega arith in
-    subst (λ each. TriesIf (Contains chosen each) change values step finals (get_or old place d)
+    subst (λ each. TriesIf (Contains chosen each) change product (get_or old place d)
     (get_or new place d)) same (tries place d below)
 
 -- the chosen sources took the change
-pub all_taken : (chosen : List ℕ) (change : Change) (values : EdgeId → Option ℕ)
-    (step : ℕ → ℕ → Option ℕ) (finals : List ℕ) (old new : List SourceValue)
+pub all_taken : (chosen : List ℕ) (change : Change) (product : ProductValue)
+    (old new : List SourceValue)
     (places : List ℕ) (roots : List ℕ) → ArePlaced (roots_of old) places →
     chosen ≡ filter_map (place_of places) roots → length new ≡ length old →
-    Tries chosen 0 change values step finals old new → AreSound chosen new →
-    HaveTaken change values step finals roots old new
-all_taken chosen change values step finals old new places roots placed is len tries sound =
-    have_taken change values step finals old new places roots placed
-    (same_roots chosen change values step finals old new len tries)
+    Tries chosen 0 change product old new → AreSound chosen new →
+    HaveTaken change product roots old new
+all_taken chosen change product old new places roots placed is len tries sound =
+    have_taken change product old new places roots placed
+    (same_roots chosen change product old new len tries)
     (subst (λ (list : List ℕ). (place : ℕ) (d : SourceValue) → place < length old →
-    TriesIf (Contains list place) change values step finals (get_or old place d)
+    TriesIf (Contains list place) change product (get_or old place d)
     (get_or new place d)) is
-    (from_first chosen change values step finals old new tries))
+    (from_first chosen change product old new tries))
     len
     (subst (λ (list : List ℕ). AreSound list new) is sound)

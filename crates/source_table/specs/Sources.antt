@@ -1,9 +1,9 @@
 -- The trees of some sources, each found by its root.
 use Rattle.std.specs.Prelude.{◌≡◌, ◌==◌, ℕ, cond, List, map, find, Contains, Option, Some}
 use Rattle.std.specs.List.{IsDistinct}
-use Rattle.edge_store.specs.declared.edge.EdgeId.{EdgeId}
 use Rattle.source_tree.specs.declared.change.Change.{Change}
 use Rattle.source_tree.specs.Ends.{SourceValue}
+use Rattle.source_tree.specs.Product.{ProductValue}
 use Rattle.source_tree.specs.Taking.{HasTaken, IsReady}
 
 -- the roots of these sources
@@ -24,17 +24,16 @@ GivesSource old new root source =
     (each : ℕ) → source_in new each ≡ cond (root == each) source (source_in old each)
 
 -- the sources of these roots can take the change
-abbrev pub AreReady : Change → (EdgeId → Option ℕ) → (ℕ → ℕ → Option ℕ) → List ℕ →
-    List SourceValue → Type 0
-AreReady change values step roots sources =
+abbrev pub AreReady : Change → ProductValue → List ℕ → List SourceValue → Type 0
+AreReady change product roots sources =
     (root : ℕ) (source : SourceValue) → Contains roots root →
-    source_in sources root ≡ Some source → IsReady change values step source
+    source_in sources root ≡ Some source → IsReady change product source
 
 -- the sources of these roots took the change, and all others are as they were
-pub record HaveTaken (change : Change) (values : EdgeId → Option ℕ) (step : ℕ → ℕ → Option ℕ)
-    (finals roots : List ℕ) (old new : List SourceValue) : Type 0 where
+pub record HaveTaken (change : Change) (product : ProductValue) (roots : List ℕ)
+    (old new : List SourceValue) : Type 0 where
   pub taken : (root : ℕ) (before after : SourceValue) → Contains roots root →
       source_in old root ≡ Some before → source_in new root ≡ Some after →
-      HasTaken change values step finals before after
+      HasTaken change product before after
   pub others : (root : ℕ) → (Contains roots root → ⊥) →
       source_in new root ≡ source_in old root

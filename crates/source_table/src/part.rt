@@ -2,27 +2,19 @@
 
 ghost use Rattle.std.specs.Prelude.{◌≡◌, ◌*◌, ◌/◌, ◌+◌, ◌<◌, ◌≤◌, length, nat_eq, filter_map, All, OnOk};
 ghost use Rattle.std.specs.List.{IsDistinct};
-ghost use Rattle.edge_store.specs.Edges.{value_of};
-ghost use Rattle.dfa_table.specs.DfaValue.{step_of};
 ghost use Rattle.source_table.specs.Parts.{AreSound, CanTry, CanTryOne, Tries, TriesOne};
 ghost use Rattle.source_table.specs.Places.{place_of};
 
 use crate::places::Places;
-use dfa_table::Dfa;
-use edge_store::{EdgeStore, NoMemory};
-use rpq_io::{Gate, Who};
-use source_tree::{Change, SourceTree};
-use std::alloc::Global;
+use rpq_base::Memory;
+use rpq_io::{Context, Gate, Who};
+use source_tree::{Change, ProductGraph, SourceTree};
 use std::thread;
 use std::thread::Threads;
 use tree_insert::Search;
 
 /// Makes the list that of the places of these roots, of those that have one.
-pub(crate) fn choose(
-    places: &Places,
-    roots: &[u32],
-    chosen: &mut Vec<usize>,
-) -> Result<(), NoMemory>
+pub(crate) fn choose(places: &Places, roots: &[u32], chosen: &mut Vec<usize>) -> Result<(), Memory>
     ensures { OnOk result
         (chosen.new.items ≡ filter_map (place_of places.now.marks.items) roots.now) }
 {
@@ -52,15 +44,12 @@ fn change_one(
     place: usize,
     start: usize,
     part: &mut [SourceTree],
-    store: &EdgeStore,
-    dfa: &Dfa,
-    finals: &[u32],
+    product: &ProductGraph<'_>,
     change: Change,
 )
-    requires { CanTryOne place start change (value_of store.now) (step_of dfa.now) part.old }
+    requires { CanTryOne place start change product.now part.old }
     ensures len { length part.new ≡ length part.old }
-    ensures tries { TriesOne place start change (value_of store.now) (step_of dfa.now) finals.now
-        part.old part.new }
+    ensures tries { TriesOne place start change product.now part.old part.new }
 {
     if place < start {
         return;
@@ -70,7 +59,7 @@ fn change_one(
         return;
     }
     // A source for which memory ran out says so afterwards.
-    let _ = part[offset].take(search, store, dfa, finals, change);
+    let _ = part[offset].take(search, product, change);
 }
 
 /// Makes the chosen sources of a part, which begins at this place, take a change.
@@ -79,29 +68,26 @@ fn change_part(
     chosen: &[usize],
     start: usize,
     part: &mut [SourceTree],
-    store: &EdgeStore,
-    dfa: &Dfa,
-    finals: &[u32],
+    product: &ProductGraph<'_>,
     change: Change,
 )
     requires once { IsDistinct nat_eq chosen.now }
-    requires ready { CanTry chosen.now start change (value_of store.now) (step_of dfa.now)
-        part.old }
-    ensures { Tries chosen.now start change (value_of store.now) (step_of dfa.now) finals.now
-        part.old part.new }
+    requires ready { CanTry chosen.now start change product.now part.old }
+    ensures { Tries chosen.now start change product.now part.old part.new }
 {
     for place in chosen {
-        change_one(search, *place, start, part, store, dfa, finals, change);
+        change_one(search, *place, start, part, product, change);
     }
 }
 
-/// The size of the chunks for so many workers.
+/// The size of the chunks for so many workers, which is no greater than it must be.
 pub(crate) fn chunk_size(len: usize, workers: u32) -> usize
     requires some { 0 < len }
     requires worker { 1 ≤ workers }
     requires few { workers ≤ 64 }
     ensures some { 0 < result }
     ensures covers { len ≤ 64 * result }
+    ensures least { result * workers < len + workers }
 {
     len.div_ceil(workers as usize)
 }
@@ -109,105 +95,71 @@ pub(crate) fn chunk_size(len: usize, workers: u32) -> usize
 /// Makes the chosen sources take a change, in chunks of this size, each by a worker that passes the
 /// gate first and has a search of its own.
 fn change_chunks<R: Threads + Sync, G: Gate>(
-    rt: &R,
-    gate: &G,
-    alloc: Global,
+    context: &Context<'_, R, G>,
     size: usize,
     chosen: &[usize],
     sources: &mut Vec<SourceTree>,
-    store: &EdgeStore,
-    dfa: &Dfa,
-    finals: &[u32],
+    product: &ProductGraph<'_>,
     change: Change,
 )
     requires some { 0 < size }
     requires covers { length sources.old.items ≤ 64 * size }
     requires once { IsDistinct nat_eq chosen.now }
-    requires ready { CanTry chosen.now 0 change (value_of store.now) (step_of dfa.now)
-        sources.old.items }
+    requires ready { CanTry chosen.now 0 change product.now sources.old.items }
     ensures len { length sources.new.items ≡ length sources.old.items }
-    ensures tries { Tries chosen.now 0 change (value_of store.now) (step_of dfa.now) finals.now
-        sources.old.items sources.new.items }
+    ensures tries { Tries chosen.now 0 change product.now sources.old.items sources.new.items }
 {
     thread::for_each_chunk_mut(
-        rt,
+        context.rt,
         sources,
         size,
         &|start: usize, part: &mut [SourceTree]|
             requires { (0 < size) × (start < 64 * size) × IsDistinct nat_eq chosen.now
-                × CanTry chosen.now start change (value_of store.now) (step_of dfa.now) part.now }
-            ensures { Tries chosen.entry.now start change (value_of store.entry.now)
-                (step_of dfa.entry.now) finals.entry.now part.entry.now part.exit.now }
+                × CanTry chosen.now start change product.now part.now }
+            ensures { Tries chosen.entry.now start change product.entry.now part.entry.now
+                part.exit.now }
         {
-            gate.pass(Who::Trees(worker_of(start, size)));
-            let mut search = Search::new(alloc);
-            change_part(&mut search, chosen, start, part, store, dfa, finals, change);
+            context.gate.pass(Who::Trees(worker_of(start, size)));
+            let mut search = Search::new(context.alloc);
+            change_part(&mut search, chosen, start, part, product, change);
         },
     );
-}
-
-/// Makes the chosen sources take a change, all by one worker.
-fn change_whole(
-    search: &mut Search,
-    chosen: &[usize],
-    sources: &mut Vec<SourceTree>,
-    store: &EdgeStore,
-    dfa: &Dfa,
-    finals: &[u32],
-    change: Change,
-)
-    requires once { IsDistinct nat_eq chosen.now }
-    requires ready { CanTry chosen.now 0 change (value_of store.now) (step_of dfa.now)
-        sources.old.items }
-    ensures len { length sources.new.items ≡ length sources.old.items }
-    ensures tries { Tries chosen.now 0 change (value_of store.now) (step_of dfa.now) finals.now
-        sources.old.items sources.new.items }
-{
-    change_part(search, chosen, 0, sources, store, dfa, finals, change);
 }
 
 /// Makes the chosen sources take a change, in chunks of this size, each by a worker that passes the
 /// gate first. Where one chunk has all sources, it takes the room of this search.
 pub(crate) fn change_all<R: Threads + Sync, G: Gate>(
-    rt: &R,
-    gate: &G,
-    alloc: Global,
+    context: &Context<'_, R, G>,
     search: &mut Search,
     size: usize,
     chosen: &[usize],
     sources: &mut Vec<SourceTree>,
-    store: &EdgeStore,
-    dfa: &Dfa,
-    finals: &[u32],
+    product: &ProductGraph<'_>,
     change: Change,
 )
     requires some { 0 < size }
     requires covers { length sources.old.items ≤ 64 * size }
     requires once { IsDistinct nat_eq chosen.now }
-    requires ready { CanTry chosen.now 0 change (value_of store.now) (step_of dfa.now)
-        sources.old.items }
+    requires ready { CanTry chosen.now 0 change product.now sources.old.items }
     ensures len { length sources.new.items ≡ length sources.old.items }
-    ensures tries { Tries chosen.now 0 change (value_of store.now) (step_of dfa.now) finals.now
-        sources.old.items sources.new.items }
+    ensures tries { Tries chosen.now 0 change product.now sources.old.items sources.new.items }
 {
     if size < sources.len() {
-        change_chunks(
-            rt, gate, alloc, size, chosen, sources, store, dfa, finals, change,
-        );
+        change_chunks(context, size, chosen, sources, product, change);
     } else {
-        gate.pass(Who::Trees(1));
-        change_whole(search, chosen, sources, store, dfa, finals, change);
+        context.gate.pass(Who::Trees(1));
+        change_part(search, chosen, 0, sources, product, change);
     }
 }
 
 /// Finds whether memory ran out for one of the chosen sources.
-pub(crate) fn check(sources: &[SourceTree], chosen: &[usize]) -> Result<(), NoMemory>
+pub(crate) fn check(sources: &[SourceTree], chosen: &[usize]) -> Result<(), Memory>
     requires { All (λ place. place < length sources.now) chosen.now }
     ensures { OnOk result (AreSound chosen.now sources.now) }
 {
     for place in chosen {
         if sources[*place].is_broken() {
-            return Err(NoMemory);
+            return Err(Memory);
         }
     }
     Ok(())

@@ -3,7 +3,7 @@
 ghost use Rattle.std.specs.Prelude.{◌≡◌, ◌+◌, ◌<◌, ◌^◌, [], length, IfSome, IsSome, OnOk, OnErr, None, Some};
 ghost use Rattle.source_table.specs.Places.{GivesPlace, SamePlaces, place_of};
 
-use edge_store::NoMemory;
+use rpq_base::Memory;
 use std::alloc::Global;
 
 /// For each root the place of its source. Roots are small numbers with few gaps, so this is a plain
@@ -15,7 +15,7 @@ pub(crate) struct Places {
 }
 
 /// Makes the list long enough for the root.
-fn reach(marks: &mut Vec<u32>, root: u32) -> Result<(), NoMemory>
+fn reach(marks: &mut Vec<u32>, root: u32) -> Result<(), Memory>
     ensures long { OnOk result (root < length marks.new.items) }
     ensures same { OnOk result (SamePlaces marks.old.items marks.new.items) }
     ensures unchanged { OnErr result (marks.new.items ≡ marks.old.items) }
@@ -47,14 +47,14 @@ impl Places {
         }
     }
 
-    /// Gives the root this place. The only error is [`NoMemory`], after which all is as before.
-    pub(crate) fn add(&mut self, root: u32, place: usize) -> Result<(), NoMemory>
+    /// Gives the root this place. The only error is [`Memory`], after which all is as before.
+    pub(crate) fn add(&mut self, root: u32, place: usize) -> Result<(), Memory>
         ensures given { OnOk result
             (GivesPlace self.old.marks.items self.new.marks.items root (Some place)) }
         ensures unchanged { OnErr result (self.new.marks.items ≡ self.old.marks.items) }
     {
         if place >= u32::MAX as usize {
-            return Err(NoMemory);
+            return Err(Memory);
         }
         reach(&mut self.marks, root)?;
         self.marks[root as usize] = place as u32 + 1;

@@ -3,17 +3,15 @@
 ghost use Rattle.std.specs.Prelude.{◌≡◌, ◌≤◌, ◌∷◌, ◌++◌, [], option_map, OnOk, OnErr, None};
 ghost use Rattle.std.specs.Ordering.{nat_cmp};
 ghost use Rattle.std.specs.List.Sorted.{IsStrictlySortedBy};
-ghost use Rattle.edge_store.specs.Edges.{value_of};
-ghost use Rattle.dfa_table.specs.DfaValue.{step_of};
 ghost use Rattle.source_tree.specs.Ends.{SourceValue};
 ghost use Rattle.source_table.specs.Sources.{AreApart, AreReady, GivesSource, HaveTaken, roots_of, source_in};
 
 use crate::part::{change_all, check, choose, chunk_size};
 use crate::places::Places;
-use dfa_table::Dfa;
-use edge_store::{EdgeStore, NoMemory, give_back};
-use rpq_io::Gate;
-use source_tree::{Change, SourceTree};
+use due_queue::give_back;
+use rpq_base::Memory;
+use rpq_io::{Context, Gate};
+use source_tree::{Change, ProductGraph, SourceTree};
 use std::alloc::Global;
 use std::marker::Model;
 use std::thread::Threads;
@@ -24,7 +22,6 @@ use tree_insert::Search;
 /// Contracts see the list of the sources, in which each root stands once.
 #[derive(Drop)]
 pub struct SourceTable {
-    alloc: Global,
     sources: Vec<SourceTree>,
     /// The place of each source, by its root.
     places: Places,
@@ -44,7 +41,8 @@ impl Model for SourceTable {
 
     ghost view = { λ table. table.sources.items };
 
-    ghost invariant = { λ table. ArePlaced (roots_of table.sources.items) table.places.marks.items };
+    ghost invariant = { λ table.
+        ArePlaced (roots_of table.sources.items) table.places.marks.items };
 }
 
 impl SourceTable {
@@ -53,7 +51,6 @@ impl SourceTable {
         ensures { result ≡ [] }
     {
         SourceTable {
-            alloc,
             sources: Vec::new(alloc),
             places: Places::new(alloc),
             chosen: Vec::new(alloc),
@@ -72,9 +69,9 @@ impl SourceTable {
         }
     }
 
-    /// Puts a source in whose root has none yet. The only error is [`NoMemory`], after which the
+    /// Puts a source in whose root has none yet. The only error is [`Memory`], after which the
     /// table is as before.
-    pub fn add(&mut self, source: SourceTree) -> Result<(), NoMemory>
+    pub fn add(&mut self, source: SourceTree) -> Result<(), Memory>
         requires new { source_in self.old source.tree.root ≡ None }
         ensures added { OnOk result (self.new ≡ self.old ++ source ∷ []) }
         ensures unchanged { OnErr result (self.new ≡ self.old) }
@@ -118,28 +115,24 @@ impl SourceTable {
     }
 
     /// Makes the sources of these roots take a change of the store, which the store has taken
-    /// before, by so many workers. The sources are cut into as many chunks of the same size as there
-    /// are workers, rounded up; each worker passes the gate and then goes through the chosen sources
+    /// before, by so many workers. The sources are cut into at most as many chunks of the same size
+    /// as there are workers; each worker passes the gate and then goes through the chosen sources
     /// of its chunk. Where there is no source, no worker passes.
     ///
-    /// The only error is [`NoMemory`], after which the same roots have sources, which are of no use.
+    /// The only error is [`Memory`], after which the same roots have sources, which are of no use.
     pub fn change_each<R: Threads + Sync, G: Gate>(
         &mut self,
-        rt: &R,
+        context: &Context<'_, R, G>,
         workers: u32,
-        gate: &G,
         roots: &[u32],
-        store: &EdgeStore,
-        dfa: &Dfa,
-        finals: &[u32],
+        product: &ProductGraph<'_>,
         change: Change,
-    ) -> Result<(), NoMemory>
+    ) -> Result<(), Memory>
         requires some { 1 ≤ workers }
         requires few { workers ≤ 64 }
         requires sorted { IsStrictlySortedBy nat_cmp roots.now }
-        requires ready { AreReady change (value_of store.now) (step_of dfa.now) roots.now self.old }
-        ensures taken { OnOk result (HaveTaken change (value_of store.now) (step_of dfa.now)
-            finals.now roots.now self.old self.new) }
+        requires ready { AreReady change product.now roots.now self.old }
+        ensures taken { OnOk result (HaveTaken change product.now roots.now self.old self.new) }
         ensures roots { roots_of self.new ≡ roots_of self.old }
     {
         if self.sources.is_empty() {
@@ -148,16 +141,12 @@ impl SourceTable {
         choose(&self.places, roots, &mut self.chosen)?;
         let size = chunk_size(self.sources.len(), workers);
         change_all(
-            rt,
-            gate,
-            self.alloc,
+            context,
             &mut self.search,
             size,
             &self.chosen,
             &mut self.sources,
-            store,
-            dfa,
-            finals,
+            product,
             change,
         );
         check(&self.sources, &self.chosen)

@@ -18,9 +18,10 @@ use Rattle.delta_tree.specs.Nodes.{TreeValue, node_of, same_node}
 use Rattle.delta_tree.specs.Changes.{AreBelow, AreDue, AreShifts, Expires, IsSameBeside, IsShift, shift_ids}
 use Rattle.delta_tree.proofs.Ids.{same_node_laws, some_is_one}
 use Rattle.delta_tree.proofs.Trees.{living_some}
-use Rattle.tree_insert.specs.Trees.{IsLater, IsOptimal, Keeps}
+use Rattle.tree_insert.specs.Trees.{IsLater, Keeps}
 use Rattle.tree_insert.proofs.Expiry.{expiry_keeps_optimal}
 use Rattle.tree_delete.specs.Removal.{KeepsApart}
+use Rattle.source_tree.specs.Product.{ProductValue, IsOptimalOn, steps_of, values_of}
 use Rattle.source_tree.specs.Taking.{IsTouched, WasOptimalBefore}
 use Rattle.source_tree.specs.Telling.{HasChanged, IsByVertex, Touches}
 use Rattle.source_tree.specs.declared.change.Change.{Change}
@@ -28,11 +29,10 @@ use Rattle.source_tree.specs.declared.change.Change.TheVariants.{Remove, Expire}
 
 -- ---- a removal
 
-removal : (values : EdgeId → Option ℕ) (step : ℕ → ℕ → Option ℕ) (old new : TreeValue)
-    (edge : EdgeId) (shifts : List Shift) → IsOptimal values step new → KeepsApart old new edge →
+removal : (product : ProductValue) (old new : TreeValue) (edge : EdgeId) (shifts : List Shift) → IsOptimalOn product new → KeepsApart old new edge →
     AreBelow old edge (shift_ids shifts) → AreShifts old new shifts →
-    HasChanged (Remove edge) values step old new shifts
-removal values step old new edge shifts optimal keeps below are = record {
+    HasChanged (Remove edge) product old new shifts
+removal product old new edge shifts optimal keeps below are = record {
   optimal = optimal;
   keeps = keeps;
   touches = record {
@@ -43,15 +43,14 @@ removal values step old new edge shifts optimal keeps below are = record {
 }
 
 -- where it could be made
-pub removed : {X E : Type 0} (values : EdgeId → Option ℕ) (step : ℕ → ℕ → Option ℕ)
-    (old new : TreeValue) (edge : EdgeId) (items : X → List Shift) (result : Result X E) →
-    OnOk result (IsOptimal values step new) → OnOk result (KeepsApart old new edge) →
+pub removed : {X E : Type 0} (product : ProductValue) (old new : TreeValue) (edge : EdgeId) (items : X → List Shift) (result : Result X E) →
+    OnOk result (IsOptimalOn product new) → OnOk result (KeepsApart old new edge) →
     IfOk result (λ shifts. AreBelow old edge (shift_ids (items shifts))) →
     IfOk result (λ shifts. AreShifts old new (items shifts)) →
-    IfOk result (λ shifts. HasChanged (Remove edge) values step old new (items shifts))
-removed values step old new edge items (Ok shifts) optimal keeps below are =
-    removal values step old new edge (items shifts) optimal keeps below are
-removed values step old new edge items (Err fault) optimal keeps below are = below
+    IfOk result (λ shifts. HasChanged (Remove edge) product old new (items shifts))
+removed product old new edge items (Ok shifts) optimal keeps below are =
+    removal product old new edge (items shifts) optimal keeps below are
+removed product old new edge items (Err fault) optimal keeps below are = below
 
 -- ---- an expiry
 
@@ -75,12 +74,13 @@ module _ (old new : TreeValue) (now : ℕ) (gone : Expires old new now) where
     fresh = λ id after is new_value. absurd (new_value after (stood id after is) refl);
   }
 
-  pub expired : (values : EdgeId → Option ℕ) (step : ℕ → ℕ → Option ℕ) (shifts : List Shift) →
-      WasOptimalBefore (Expire now) values step old → IsSameBeside old new →
+  pub expired : (product : ProductValue) (shifts : List Shift) →
+      WasOptimalBefore (Expire now) product old → IsSameBeside old new →
       AreDue old now (shift_ids shifts) → AreShifts old new shifts →
-      HasChanged (Expire now) values step old new shifts
-  expired values step shifts was beside due are = record {
-    optimal = expiry_keeps_optimal was.0 values step old new now was.2 gone beside.root was.1;
+      HasChanged (Expire now) product old new shifts
+  expired product shifts was beside due are = record {
+    optimal = expiry_keeps_optimal was.0 (values_of product) (steps_of product) old new now was.2
+        gone beside.root was.1;
     keeps = expired_keeps;
     touches = record {
       touched = λ k d within. (due.exact (get_or (shift_ids shifts) k d)).0
@@ -90,14 +90,14 @@ module _ (old new : TreeValue) (now : ℕ) (gone : Expires old new now) where
   }
 
 -- where it could be told
-pub expired_result : {X E : Type 0} (values : EdgeId → Option ℕ) (step : ℕ → ℕ → Option ℕ)
-    (old new : TreeValue) (now : ℕ) (shifts : List Shift) (result : Result X E) →
-    Expires old new now → WasOptimalBefore (Expire now) values step old → IsSameBeside old new →
+pub expired_result : {X E : Type 0} (old new : TreeValue) (now : ℕ) (shifts : List Shift)
+    (result : Result X E) → Expires old new now → IsSameBeside old new →
     OnOk result (AreDue old now (shift_ids shifts)) → OnOk result (AreShifts old new shifts) →
-    OnOk result (HasChanged (Expire now) values step old new shifts)
-expired_result values step old new now shifts (Ok one) gone was beside due are =
-    expired old new now gone values step shifts was beside due are
-expired_result values step old new now shifts (Err fault) gone was beside due are = due
+    OnOk result ((product : ProductValue) → WasOptimalBefore (Expire now) product old →
+    HasChanged (Expire now) product old new shifts)
+expired_result old new now shifts (Ok one) gone beside due are =
+    λ product was. expired old new now gone product shifts was beside due are
+expired_result old new now shifts (Err fault) gone beside due are = due
 
 -- ---- another order
 

@@ -9,17 +9,19 @@ use Rattle.delta_tree.specs.Changes.{IsDueAt}
 use Rattle.tree_insert.specs.Trees.{IsLater, IsOptimal, IsRisen, Keeps, WasOptimal}
 use Rattle.tree_delete.specs.Removal.{KeepsApart, WasOptimalWith}
 use Rattle.source_tree.specs.Ends.{SourceValue, AreEndChanges, end_in}
+use Rattle.source_tree.specs.Product.{ProductValue, IsOptimalOn, steps_of, values_of}
 use Rattle.source_tree.specs.declared.change.Change.{Change}
 use Rattle.source_tree.specs.declared.change.Change.TheVariants.{Raise, Remove, Expire}
 
 -- the tree was optimal before this change made the values of the edges what they are
-abbrev pub WasOptimalBefore : Change → (EdgeId → Option ℕ) → (ℕ → ℕ → Option ℕ) → TreeValue →
-    Type 0
-WasOptimalBefore (Raise edge value) values step tree = WasOptimal values step tree edge
-WasOptimalBefore (Remove edge) values step tree = WasOptimalWith values step tree edge
-WasOptimalBefore (Expire now) values step tree =
-    (before : EdgeId → Option ℕ) × IsOptimal before step tree
-    × ((edge : EdgeId) → values edge ≡ above now (before edge))
+abbrev pub WasOptimalBefore : Change → ProductValue → TreeValue → Type 0
+WasOptimalBefore (Raise edge value) product tree =
+    WasOptimal (values_of product) (steps_of product) tree edge
+WasOptimalBefore (Remove edge) product tree =
+    WasOptimalWith (values_of product) (steps_of product) tree edge
+WasOptimalBefore (Expire now) product tree =
+    (before : EdgeId → Option ℕ) × IsOptimal before (steps_of product) tree
+    × ((edge : EdgeId) → values_of product edge ≡ above now (before edge))
 
 -- a node that the change may touch: one that is new or raised; one on whose path the removed edge
 -- stood; one whose value is at most the clock
@@ -58,20 +60,20 @@ KeepsNodes (Expire now) old new = Keeps old new
 
 -- a source can take the change: fewer than 2^126 puts were made on its tree, which was optimal
 -- before it
-pub record IsReady (change : Change) (values : EdgeId → Option ℕ) (step : ℕ → ℕ → Option ℕ)
-    (source : SourceValue) : Type 0 where
+pub record IsReady (change : Change) (product : ProductValue) (source : SourceValue)
+    : Type 0 where
   pub puts : source.tree.puts < 2 ^ 126
-  pub before : WasOptimalBefore change values step source.tree
+  pub before : WasOptimalBefore change product source.tree
 
--- a source took the change: its tree is optimal for the values and keeps what the change doesn't
--- touch; it tells whether the change touched it, the places where nodes came or went, and exactly
--- the changed ends, where these are the final states
-pub record HasTaken (change : Change) (values : EdgeId → Option ℕ) (step : ℕ → ℕ → Option ℕ)
-    (finals : List ℕ) (old new : SourceValue) : Type 0 where
-  pub optimal : IsOptimal values step new.tree
+-- a source took the change: its tree is optimal and keeps what the change doesn't touch; it reports
+-- whether the change touched it, the places where nodes came or went, and exactly the changed ends
+pub record HasTaken (change : Change) (product : ProductValue) (old new : SourceValue)
+    : Type 0 where
+  pub optimal : IsOptimalOn product new.tree
   pub keeps : KeepsNodes change old.tree new.tree
   pub later : IsLater old.tree new.tree
   pub touched : TellsTouched change old.tree new.tree new.touched
   pub moved : AreMoved change old.tree new.tree new.moved
-  pub log : AreEndChanges old.tree.root (end_in finals old.tree) (end_in finals new.tree) new.log
+  pub log : AreEndChanges old.tree.root
+      (end_in product.finals old.tree) (end_in product.finals new.tree) new.log
   pub unbroken : new.broken ≡ false

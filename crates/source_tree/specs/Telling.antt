@@ -1,13 +1,12 @@
 -- How a source tells what a change did to its tree. No contract outside the crate cites this file.
 use Rattle.std.specs.Prelude.{◌≡◌, ◌≢◌, ◌⊎◌, ℕ, Bool, true, false, List, [], ◌∷◌, ◌++◌, length, filter, All, Contains, Option, None, Some}
 use Rattle.std.specs.List.Sorted.{IsNonDecreasingBy}
-use Rattle.edge_store.specs.declared.edge.EdgeId.{EdgeId}
 use Rattle.delta_tree.specs.declared.node.NodeId.{NodeId}
 use Rattle.delta_tree.specs.declared.node.Shift.{Shift}
 use Rattle.delta_tree.specs.Nodes.{TreeValue, node_id, value_of}
 use Rattle.delta_tree.specs.Changes.{AreShifts, IsShift, shift_ids}
-use Rattle.tree_insert.specs.Trees.{IsOptimal}
 use Rattle.source_tree.specs.Ends.{AreEndChanges, end_in}
+use Rattle.source_tree.specs.Product.{ProductValue, IsOptimalOn}
 use Rattle.source_tree.specs.Taking.{AreMoved, IsTouched, KeepsNodes, TellsTouched}
 use Rattle.source_tree.specs.declared.change.Change.{Change}
 use Rattle.source_tree.specs.declared.change.EndChange.{EndChange}
@@ -19,10 +18,10 @@ pub record Touches (change : Change) (old new : TreeValue) (shifts : List Shift)
   pub touched : All (IsTouched change old new) (shift_ids shifts)
   pub values : AreShifts old new shifts
 
--- the change made the tree optimal for the values, kept what it doesn't touch, and touched this
-pub record HasChanged (change : Change) (values : EdgeId → Option ℕ) (step : ℕ → ℕ → Option ℕ)
-    (old new : TreeValue) (shifts : List Shift) : Type 0 where
-  pub optimal : IsOptimal values step new
+-- the change made the tree optimal, kept what it doesn't touch, and touched this
+pub record HasChanged (change : Change) (product : ProductValue) (old new : TreeValue)
+    (shifts : List Shift) : Type 0 where
+  pub optimal : IsOptimalOn product new
   pub keeps : KeepsNodes change old new
   pub touches : Touches change old new shifts
 

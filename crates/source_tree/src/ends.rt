@@ -10,7 +10,7 @@ ghost use Rattle.source_tree.specs.Telling.{IsByVertex, IsInOrder, IsRun, Logs};
 use crate::change::EndChange;
 use crate::room::add;
 use delta_tree::{NodeId, Shift, Tree};
-use edge_store::NoMemory;
+use rpq_base::Memory;
 
 /// Whether the state is one of these.
 pub(crate) fn is_final(finals: &[u32], state: u32) -> bool
@@ -87,7 +87,7 @@ fn log_end(
     vertex: u32,
     before: Option<u64>,
     after: Option<u64>,
-) -> Result<(), NoMemory>
+) -> Result<(), Memory>
     ensures { OnOk result (Logs log.old.items log.new.items
         (end_change root vertex before after)) }
 {
@@ -109,7 +109,7 @@ fn log_by_one(
     state: u32,
     shifts: &[Shift],
     log: &mut Vec<EndChange>,
-) -> Result<(), NoMemory>
+) -> Result<(), Memory>
     ensures { OnOk result ((old new : TreeValue) → AreShifts old new shifts.now →
         log.old.items ≡ [] → AreEndChanges root (end_in (state ∷ []) old)
         (end_in (state ∷ []) new) log.new.items) }
@@ -142,7 +142,7 @@ fn log_by_runs(
     finals: &[u32],
     shifts: &[Shift],
     log: &mut Vec<EndChange>,
-) -> Result<(), NoMemory>
+) -> Result<(), Memory>
     ensures { OnOk result ((old : TreeValue) → AreShifts old tree.now shifts.now →
         IsByVertex shifts.now → log.old.items ≡ [] →
         AreEndChanges tree.now.root (end_in finals.now old)
@@ -165,7 +165,7 @@ pub(crate) fn log_ends(
     finals: &[u32],
     shifts: &[Shift],
     log: &mut Vec<EndChange>,
-) -> Result<(), NoMemory>
+) -> Result<(), Memory>
     ensures { OnOk result ((old : TreeValue) → AreShifts old tree.now shifts.now →
         IsInOrder finals.now shifts.now → log.old.items ≡ [] →
         AreEndChanges tree.now.root (end_in finals.now old)

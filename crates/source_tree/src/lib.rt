@@ -1,4 +1,4 @@
-//! The tree of one source with what it tells of its query: the end of each vertex.
+//! The tree of one source with what it says of its query: the end of each vertex.
 //!
 //! The end of a vertex is the greatest value of its nodes with a final state: up to when the pair
 //! of source and vertex is an answer, if nothing more comes. A [`SourceTree`] takes each change of
@@ -16,11 +16,13 @@
 
 mod change;
 mod ends;
+mod product;
 mod reached;
+mod report;
 mod room;
 mod source;
 mod steps;
-mod told;
 
 pub use change::{Change, EndChange, Reached};
+pub use product::ProductGraph;
 pub use source::SourceTree;

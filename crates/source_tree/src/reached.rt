@@ -8,7 +8,7 @@ ghost use Rattle.source_tree.specs.Listing.{AddsEnd, HaveEnds};
 use crate::change::Reached;
 use crate::ends::{end_of, is_final};
 use delta_tree::Tree;
-use edge_store::NoMemory;
+use rpq_base::Memory;
 use std::alloc::Global;
 
 /// Adds the vertex with its end, where it has one.
@@ -17,7 +17,7 @@ fn add_end(
     finals: &[u32],
     vertex: u32,
     reached: &mut Vec<Reached>,
-) -> Result<(), NoMemory>
+) -> Result<(), Memory>
     ensures { OnOk result (AddsEnd finals.now tree.now vertex
         reached.old.items reached.new.items) }
 {
@@ -28,11 +28,7 @@ fn add_end(
 }
 
 /// The vertices that have an end, each with it, once for each of its nodes with a final state.
-pub(crate) fn list_ends(
-    alloc: Global,
-    tree: &Tree,
-    finals: &[u32],
-) -> Result<Vec<Reached>, NoMemory>
+pub(crate) fn list_ends(alloc: Global, tree: &Tree, finals: &[u32]) -> Result<Vec<Reached>, Memory>
     ensures { IfOk result (λ reached. HaveEnds finals.now tree.now reached.items) }
 {
     let mut reached = Vec::new(alloc);

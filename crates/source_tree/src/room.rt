@@ -2,7 +2,7 @@
 
 ghost use Rattle.std.specs.Prelude.{◌≡◌, ◌++◌, ◌∷◌, [], OnOk};
 
-use edge_store::NoMemory;
+use rpq_base::Memory;
 
 /// The number of places up to which a list keeps its memory. Most changes are small, and there are
 /// many sources.
@@ -21,7 +21,7 @@ pub(crate) fn empty_for<T: Drop>(list: &mut Vec<T>, most: usize)
 
 /// Adds an element at the end. A list has room for one at first, and then for twice as many as
 /// before, since most lists never get longer than that.
-pub(crate) fn add<T: Drop>(list: &mut Vec<T>, element: T) -> Result<(), NoMemory>
+pub(crate) fn add<T: Drop>(list: &mut Vec<T>, element: T) -> Result<(), Memory>
     ensures { OnOk result (list.new.items ≡ list.old.items ++ element ∷ []) }
 {
     if list.len() == list.capacity() {

@@ -1,8 +1,6 @@
 //! The tree of a source.
 
 ghost use Rattle.std.specs.Prelude.{◌≡◌, ◌↔◌, [], IfOk, IfNone, IfSome, IsTrue, OnOk, OnErr, true, false};
-ghost use Rattle.edge_store.specs.Edges.{value_of as value_in};
-ghost use Rattle.dfa_table.specs.DfaValue.{step_of};
 ghost use Rattle.delta_tree.specs.Nodes.{node_id, value_of, IsTree};
 ghost use Rattle.delta_tree.specs.Paths.{HangsBy};
 ghost use Rattle.delta_tree.specs.Changes.{IsFloor};
@@ -11,12 +9,13 @@ ghost use Rattle.source_tree.specs.Ends.{AreReached};
 ghost use Rattle.source_tree.specs.Taking.{HasTaken, IsReady};
 
 use crate::change::{Change, EndChange, Reached};
+use crate::product::ProductGraph;
 use crate::reached::{list_ends, put_in_order};
+use crate::report::{Report, empty_report};
 use crate::steps::change_tree;
-use crate::told::{Told, nothing_told};
 use delta_tree::{NodeId, Tree};
-use dfa_table::Dfa;
-use edge_store::{EdgeId, EdgeStore, NoMemory};
+use edge_store::EdgeId;
+use rpq_base::Memory;
 use std::alloc::Global;
 use std::marker::Model;
 use tree_insert::Search;
@@ -29,7 +28,7 @@ pub struct SourceTree {
     alloc: Global,
     tree: Tree,
     /// What the last change did to the tree.
-    told: Told,
+    report: Report,
     /// Whether memory ran out in the last change.
     broken: bool,
 }
@@ -41,16 +40,16 @@ impl Model for SourceTree {
 
     ghost view = { λ source. record {
       tree = source.tree;
-      moved = source.told.moved.items;
-      log = source.told.log.items;
-      touched = source.told.touched;
+      moved = source.report.moved.items;
+      log = source.report.log.items;
+      touched = source.report.touched;
       broken = source.broken;
     } };
 }
 
 impl SourceTree {
-    /// A tree without nodes for the source with this number. The only error is [`NoMemory`].
-    pub fn new(alloc: Global, root: u32) -> Result<SourceTree, NoMemory>
+    /// A tree without nodes for the source with this number. The only error is [`Memory`].
+    pub fn new(alloc: Global, root: u32) -> Result<SourceTree, Memory>
         ensures root { IfOk result (λ source. source.tree.root ≡ root) }
         ensures bare { IfOk result (λ source. source.tree.nodes ≡ []) }
         ensures puts { IfOk result (λ source. source.tree.puts ≡ 0) }
@@ -59,7 +58,7 @@ impl SourceTree {
         Ok(SourceTree {
             alloc,
             tree: Tree::new(alloc, root)?,
-            told: nothing_told(alloc),
+            report: empty_report(alloc),
             broken: false,
         })
     }
@@ -103,8 +102,8 @@ impl SourceTree {
     }
 
     /// The vertices that have an end, where these are the final states, in rising order, each with
-    /// it. The only error is [`NoMemory`]. It goes through all nodes.
-    pub fn reached(&self, finals: &[u32]) -> Result<Vec<Reached>, NoMemory>
+    /// it. The only error is [`Memory`]. It goes through all nodes.
+    pub fn reached(&self, finals: &[u32]) -> Result<Vec<Reached>, Memory>
         ensures { IfOk result (λ reached. AreReached finals.now self.now.tree reached.items) }
     {
         let mut reached = list_ends(self.alloc, &self.tree, finals)?;
@@ -116,21 +115,21 @@ impl SourceTree {
     pub fn moved(&self) -> &[NodeId]
         ensures { result.now ≡ self.now.moved }
     {
-        &self.told.moved
+        &self.report.moved
     }
 
     /// The ends that the last change changed.
     pub fn log(&self) -> &[EndChange]
         ensures { result.now ≡ self.now.log }
     {
-        &self.told.log
+        &self.report.log
     }
 
     /// Whether the last change touched the tree.
     pub fn is_touched(&self) -> bool
         ensures { result ≡ self.now.touched }
     {
-        self.told.touched
+        self.report.touched
     }
 
     /// Whether memory ran out in the last change.
@@ -141,18 +140,15 @@ impl SourceTree {
     }
 
     /// Takes a change of the store into account, which the store has taken before, in the room of a
-    /// search. The only error is [`NoMemory`], after which the tree is of no use.
+    /// search. The only error is [`Memory`], after which the tree is of no use.
     pub fn take(
         &mut self,
         search: &mut Search,
-        store: &EdgeStore,
-        dfa: &Dfa,
-        finals: &[u32],
+        product: &ProductGraph<'_>,
         change: Change,
-    ) -> Result<(), NoMemory>
-        requires ready { IsReady change (value_in store.now) (step_of dfa.now) self.old }
-        ensures taken { OnOk result (HasTaken change (value_in store.now) (step_of dfa.now)
-            finals.now self.old self.new) }
+    ) -> Result<(), Memory>
+        requires ready { IsReady change product.now self.old }
+        ensures taken { OnOk result (HasTaken change product.now self.old self.new) }
         ensures later { IsLater self.old.tree self.new.tree }
         ensures broken { OnErr result (self.new.broken ≡ true) }
     {
@@ -161,11 +157,9 @@ impl SourceTree {
             self.alloc,
             search,
             &mut self.tree,
-            store,
-            dfa,
-            finals,
+            product,
             change,
-            &mut self.told,
+            &mut self.report,
         )?;
         self.broken = false;
         Ok(())

@@ -2,15 +2,15 @@ use Rattle.std.proofs.Common.{ap, subst, sym, ◌∙◌}
 use Rattle.source_index.specs.Dues.{AllLater, DuesValue, due_of}
 use Rattle.delta_forest.proofs.candidates.add_expired.Goals as goal
 
-pub returns-in-None : goal.returns-in-None
-returns-in-None c =
-    let same = c.in-None.ensures.same in
+pub returns : goal.returns
+returns c =
+    let same = c.in_default.ensures.same in
     record {
       sorted = c.put_in_order.ensures.sorted;
       later = subst (λ (dues : DuesValue). AllLater dues c.args.now) (sym same)
-          c.in-None.ensures.later;
+          c.in_default.ensures.later;
       others = λ root unlisted.
           ap (λ (dues : DuesValue). due_of dues root) same
-          ∙ c.loop.invariant root
+          ∙ c.loop-root.invariant root
           (λ member. unlisted ((c.put_in_order.ensures.exact root).1 member));
     }

@@ -1,11 +1,9 @@
-use Rattle.edge_store.specs.Edges.{value_of as value_in}
-use Rattle.dfa_table.specs.DfaValue.{step_of}
 use Rattle.source_tree.proofs.Changing.{removed}
 use Rattle.source_tree.proofs.steps.remove_edge.Goals as goal
 
 pub returns-clause-changed : goal.returns-clause-changed
 returns-clause-changed c =
     let found = c.search_removed.ensures in
-    removed (value_in c.args.store.now) (step_of c.args.dfa.now) c.args.tree.now
-    c.search_removed.new.tree c.args.edge (λ shifts. shifts.items) c.search_removed.result
+    removed c.args.product.now c.args.tree.now c.search_removed.new.tree
+    c.args.edge (λ shifts. shifts.items) c.search_removed.result
     found.optimal found.keeps found.cut found.shifts

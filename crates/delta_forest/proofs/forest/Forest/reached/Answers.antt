@@ -1,4 +1,5 @@
 use Rattle.std.proofs.Common.{◌≡◌, ℕ, List, false, [], sym, subst}
+use Rattle.std.proofs.lemmas.Result.{IfOk-weaker}
 use Rattle.source_tree.specs.declared.change.Reached.{Reached}
 use Rattle.source_tree.specs.Ends.{AreReached}
 use Rattle.delta_forest.specs.Forest.{ForestValue}
@@ -16,16 +17,21 @@ returns-in_default c =
     c.self.inside.broken state.found.touched.items state.found.log.items c.args.x
     (sym c.in_default.ensures.source)))
 
-pub returns-in-Ok : goal.returns-in-Ok
-returns-in-Ok c =
+pub returns : goal.returns
+returns c =
     let state = c.self.inside.state in
-    subst (λ (forest : ForestValue). AreReachedFrom forest c.args.x c.in-Ok.reached.items)
+    let source = c.in-Some.source.now in
+    IfOk-weaker c.reached.result
+    (λ reached. AreReached c.deref.result.now source.tree reached.items)
+    (λ reached. AreReachedFrom c.args.self.now c.args.x reached.items)
+    (λ reached are. subst (λ (forest : ForestValue). AreReachedFrom forest c.args.x reached.items)
     c.self.view_is
     (reached_some c.self.inside.dfa c.self.inside.finals.items state.store state.calls state.index
     c.self.inside.broken state.found.touched.items state.found.log.items c.args.x
-    c.in-Some.source.now c.in-Ok.reached.items c.self.invariant.finals_are
+    source reached.items c.self.invariant.finals_are
     (c.self.invariant.kept
     (subst (λ (forest : ForestValue). forest.broken ≡ false) (sym c.self.view_is) c.requires))
     (sym c.in-Some.ensures.source)
-    (subst (λ (finals : List ℕ). AreReached finals c.in-Some.source.now.tree
-    c.in-Ok.reached.items) c.deref.ensures.value c.in-Ok.ensures))
+    (subst (λ (finals : List ℕ). AreReached finals source.tree reached.items)
+    c.deref.ensures.value are)))
+    c.reached.ensures

@@ -1,7 +1,5 @@
 use Rattle.std.proofs.Common.{◌≡◌, ◌+◌, ◌<◌, ℕ, List, All, Contains, filter_map, length, nat_eq, sym, ap, subst, ◌∙◌, arith}
 use Rattle.std.specs.List.{IsDistinct}
-use Rattle.edge_store.specs.Edges.{value_of}
-use Rattle.dfa_table.specs.DfaValue.{step_of}
 use Rattle.source_tree.specs.Ends.{SourceValue}
 use Rattle.source_table.specs.Places.{ArePlaced, place_of}
 use Rattle.source_table.specs.Parts.{AreSound}
@@ -21,10 +19,9 @@ change_all-requires-clause-once g c κs within =
 
 pub change_all-requires-clause-ready : goal.change_all-requires-clause-ready
 change_all-requires-clause-ready g c κs within offset d below there =
-    can_take c.args.change (value_of c.args.store.now) (step_of c.args.dfa.now)
-    c.args.finals.now c.self.inside.sources.items c.self.inside.places.marks.items
+    can_take c.args.change c.args.product.now c.self.inside.sources.items c.self.inside.places.marks.items
     c.args.roots.now offset d c.self.invariant
-    (subst (AreReady c.args.change (value_of c.args.store.now) (step_of c.args.dfa.now)
+    (subst (AreReady c.args.change c.args.product.now
     c.args.roots.now) (sym c.self.view_is) c.requires.ready)
     (subst (λ (list : List ℕ). Contains list offset)
     (c.deref.ensures.value ∙ c.in_ok-choose.ensures)
@@ -44,21 +41,20 @@ check-requires g c =
 pub invariant_of-self-2 : goal.invariant_of-self-2
 invariant_of-self-2 g c =
     subst (λ (roots : List ℕ). ArePlaced roots c.self.inside.places.marks.items)
-    (sym (same_roots c.deref.result.now c.args.change (value_of c.args.store.now)
-    (step_of c.args.dfa.now) c.args.finals.now c.self.inside.sources.items
+    (sym (same_roots c.deref.result.now c.args.change c.args.product.now
+    c.self.inside.sources.items
     c.change_all.new.sources.items c.change_all.ensures.len c.change_all.ensures.tries))
     c.self.invariant
 
 pub returns-clause-taken : goal.returns-clause-taken
 returns-clause-taken g c =
-    let values = value_of c.args.store.now in
-    let step = step_of c.args.dfa.now in
+    let product = c.args.product.now in
     let new = c.change_all.new.sources.items in
     let chosen = c.deref.result.now in
     on_ok c.check.result (λ sound.
-    subst (λ (old : List SourceValue). HaveTaken c.args.change values step c.args.finals.now
+    subst (λ (old : List SourceValue). HaveTaken c.args.change product
     c.args.roots.now old new) c.self.view_is
-    (all_taken chosen c.args.change values step c.args.finals.now c.self.inside.sources.items
+    (all_taken chosen c.args.change product c.self.inside.sources.items
     new c.self.inside.places.marks.items c.args.roots.now c.self.invariant
     (c.deref.ensures.value ∙ c.in_ok-choose.ensures) c.change_all.ensures.len
     c.change_all.ensures.tries
@@ -69,7 +65,7 @@ returns-clause-taken g c =
 
 pub returns-clause-roots : goal.returns-clause-roots
 returns-clause-roots g c =
-    same_roots c.deref.result.now c.args.change (value_of c.args.store.now)
-    (step_of c.args.dfa.now) c.args.finals.now c.self.inside.sources.items
+    same_roots c.deref.result.now c.args.change c.args.product.now
+    c.self.inside.sources.items
     c.change_all.new.sources.items c.change_all.ensures.len c.change_all.ensures.tries
     ∙ ap (λ (all : List SourceValue). roots_of all) c.self.view_is

@@ -1,6 +1,6 @@
 use Rattle.std.proofs.Common.{◌≡◌, [], ◌++◌, drop}
 use Rattle.source_tree.specs.Telling.{moved_ids}
-use Rattle.source_tree.proofs.told.list_moved.Given as goal
+use Rattle.source_tree.proofs.report.list_moved.Given as goal
 
 -- the places so far, with those of the shifts that are left, are all
 abbrev pub invariant-loop-shift : goal.invariant-loop-shift

@@ -1,4 +1,4 @@
-//! What a change did to a tree, as a source tells it.
+//! What a change did to a tree, as a source reports it.
 
 ghost use Rattle.std.specs.Prelude.{◌≡◌, [], OnOk};
 ghost use Rattle.delta_tree.specs.Nodes.{TreeValue};
@@ -9,13 +9,13 @@ use crate::change::EndChange;
 use crate::ends::log_ends;
 use crate::room::{add, empty_for};
 use delta_tree::{NodeId, Shift, Tree};
-use edge_store::NoMemory;
+use rpq_base::Memory;
 use std::alloc::Global;
 use tree_insert::Search;
 
 /// What the last change did to the tree.
 #[derive(Drop)]
-pub(crate) struct Told {
+pub(crate) struct Report {
     /// The places where nodes came or went.
     pub moved: Vec<NodeId>,
     /// The ends that changed.
@@ -24,9 +24,9 @@ pub(crate) struct Told {
     pub touched: bool,
 }
 
-/// Nothing. It takes no memory.
-pub(crate) fn nothing_told(alloc: Global) -> Told {
-    Told {
+/// A report of nothing. It takes no memory.
+pub(crate) fn empty_report(alloc: Global) -> Report {
+    Report {
         moved: Vec::new(alloc),
         log: Vec::new(alloc),
         touched: false,
@@ -41,7 +41,7 @@ fn is_moved(before: Option<u64>, after: Option<u64>) -> bool
 }
 
 /// Lists the places where a node came or went, in an empty list.
-fn list_moved(shifts: &[Shift], moved: &mut Vec<NodeId>) -> Result<(), NoMemory>
+fn list_moved(shifts: &[Shift], moved: &mut Vec<NodeId>) -> Result<(), Memory>
     ensures { OnOk result (moved.old.items ≡ [] → moved.new.items ≡ moved_ids shifts.now) }
 {
     for shift in shifts {
@@ -52,53 +52,53 @@ fn list_moved(shifts: &[Shift], moved: &mut Vec<NodeId>) -> Result<(), NoMemory>
     Ok(())
 }
 
-/// Tells what the change did that these shifts are of.
-fn tell(tree: &Tree, finals: &[u32], shifts: &[Shift], told: &mut Told) -> Result<(), NoMemory>
+/// Reports what the change did that these shifts are of.
+fn fill(tree: &Tree, finals: &[u32], shifts: &[Shift], report: &mut Report) -> Result<(), Memory>
     ensures { OnOk result ((change : Change) (old : TreeValue) →
         Touches change old tree.now shifts.now → IsInOrder finals.now shifts.now →
         Tells change finals.now old tree.now
-        told.new.moved.items told.new.log.items told.new.touched) }
+        report.new.moved.items report.new.log.items report.new.touched) }
 {
-    told.touched = !shifts.is_empty();
-    empty_for(&mut told.moved, shifts.len());
-    list_moved(shifts, &mut told.moved)?;
-    empty_for(&mut told.log, shifts.len());
-    log_ends(tree, finals, shifts, &mut told.log)
+    report.touched = !shifts.is_empty();
+    empty_for(&mut report.moved, shifts.len());
+    list_moved(shifts, &mut report.moved)?;
+    empty_for(&mut report.log, shifts.len());
+    log_ends(tree, finals, shifts, &mut report.log)
 }
 
-/// Tells what the change did that the search made.
-pub(crate) fn tell_searched(
+/// Reports what the change did that the search made.
+pub(crate) fn report_search(
     tree: &Tree,
     finals: &[u32],
     search: &mut Search,
-    told: &mut Told,
-) -> Result<(), NoMemory>
+    report: &mut Report,
+) -> Result<(), Memory>
     ensures { OnOk result ((change : Change) (old : TreeValue) →
         Touches change old tree.now search.old.shifts →
         Tells change finals.now old tree.now
-        told.new.moved.items told.new.log.items told.new.touched) }
+        report.new.moved.items report.new.log.items report.new.touched) }
 {
     // Where one state is final, no order is needed.
     if finals.len() != 1 {
         search.sort_shifts();
     }
-    tell(tree, finals, search.shifts(), told)
+    fill(tree, finals, search.shifts(), report)
 }
 
-/// Tells what the change did that these shifts are of, in whatever order.
-pub(crate) fn tell_listed(
+/// Reports what the change did that these shifts are of, in whatever order.
+pub(crate) fn report_shifts(
     tree: &Tree,
     finals: &[u32],
     shifts: &mut Vec<Shift>,
-    told: &mut Told,
-) -> Result<(), NoMemory>
+    report: &mut Report,
+) -> Result<(), Memory>
     ensures { OnOk result ((change : Change) (old : TreeValue) →
         Touches change old tree.now shifts.old.items →
         Tells change finals.now old tree.now
-        told.new.moved.items told.new.log.items told.new.touched) }
+        report.new.moved.items report.new.log.items report.new.touched) }
 {
     if finals.len() != 1 {
         shifts.sort_unstable_by_key(|each| each.id.vertex);
     }
-    tell(tree, finals, shifts, told)
+    fill(tree, finals, shifts, report)
 }

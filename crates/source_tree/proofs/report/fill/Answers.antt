@@ -2,7 +2,7 @@ use Rattle.std.proofs.Common.{sym, subst}
 use Rattle.std.proofs.lemmas.Result.{on_ok_weaker}
 use Rattle.source_tree.specs.Taking.{AreMoved}
 use Rattle.source_tree.proofs.Moves.{are_moved, tells_touched}
-use Rattle.source_tree.proofs.told.tell.Goals as goal
+use Rattle.source_tree.proofs.report.fill.Goals as goal
 
 pub returns : goal.returns
 returns c =

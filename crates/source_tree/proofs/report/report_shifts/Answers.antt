@@ -4,13 +4,13 @@ use Rattle.std.proofs.lemmas.Result.{on_ok_weaker}
 use Rattle.delta_tree.specs.declared.node.Shift.{Shift}
 use Rattle.source_tree.specs.Telling.{IsByVertex, Touches}
 use Rattle.source_tree.proofs.Changing.{touches_moved}
-use Rattle.source_tree.proofs.told.tell_listed.Goals.{then-finals-ne1, else-finals-ne1}
-use Rattle.source_tree.proofs.told.tell_listed.Goals as goal
+use Rattle.source_tree.proofs.report.report_shifts.Goals.{then-finals-ne1, else-finals-ne1}
+use Rattle.source_tree.proofs.report.report_shifts.Goals as goal
 
 pub returns : goal.returns
 returns c =
     let tree = c.args.tree.now in
-    on_ok_weaker c.tell.result
+    on_ok_weaker c.fill.result
     (λ tells change old touches. elim c.if-finals-ne1.branch [
       | then-finals-ne1 w ↦
           let sorted = w.sort_unstable_by_key.new.self.items in
@@ -29,4 +29,4 @@ returns c =
           tells change old (subst (Touches change old tree) (sym now) touches)
           (λ other. absurd (other w.if-finals-ne1.false))
     ])
-    c.tell.ensures
+    c.fill.ensures

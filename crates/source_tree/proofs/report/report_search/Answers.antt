@@ -3,13 +3,13 @@ use Rattle.std.proofs.lemmas.Result.{on_ok_weaker}
 use Rattle.tree_insert.specs.Waiting.{SearchValue}
 use Rattle.source_tree.specs.Telling.{IsByVertex, Touches}
 use Rattle.source_tree.proofs.Changing.{by_vertex, touches_moved}
-use Rattle.source_tree.proofs.told.tell_searched.Goals.{then-finals-ne1, else-finals-ne1}
-use Rattle.source_tree.proofs.told.tell_searched.Goals as goal
+use Rattle.source_tree.proofs.report.report_search.Goals.{then-finals-ne1, else-finals-ne1}
+use Rattle.source_tree.proofs.report.report_search.Goals as goal
 
 pub returns : goal.returns
 returns c =
     let tree = c.args.tree.now in
-    on_ok_weaker c.tell.result
+    on_ok_weaker c.fill.result
     (λ tells change old touches. elim c.if-finals-ne1.branch [
       | then-finals-ne1 w ↦
           let sorted = w.sort_shifts.new.self.shifts in
@@ -24,4 +24,4 @@ returns c =
           tells change old (subst (Touches change old tree) (sym now) touches)
           (λ other. absurd (other w.if-finals-ne1.false))
     ])
-    c.tell.ensures
+    c.fill.ensures
