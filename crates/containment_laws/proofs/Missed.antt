@@ -11,7 +11,8 @@ use Rattle.rpq_base.specs.declared.data.Edge.{Edge}
 use Rattle.rpq_base.specs.declared.data.Act.TheVariants.{Insert}
 use Rattle.rpq_base.specs.declared.data.Entry.{Entry}
 use Rattle.rpq_model.specs.declared.mode.Mode.TheVariants.{Arbitrary, Simple}
-use Rattle.rpq_model.specs.Window.{WindowValue, clock, is_in_window, is_deleted, edges_at}
+use Rattle.rpq_model.specs.Window.{WindowValue, clock, is_in_window, is_seen}
+use Rattle.rpq_model.specs.Window.{is_deleted, edges_at}
 use Rattle.rpq_model.specs.Answers.{IsJoinedBy}
 use Rattle.rpq_model.specs.Relations.{between}
 use Rattle.rpq_model.proofs.LiveEdges.{first_live, none_live}
@@ -35,10 +36,10 @@ all_live : (edges : List Edge) (window : WindowValue) (now stream time : ℕ) �
 all_live [] window now stream time seen = none_live window now
 all_live (edge ∷ edges) window now stream time seen =
     let later = inserts stream time edges in
-    let live : (is_in_window window now time && not (is_deleted later edge)) ≡ true =
-    λ i. seen i && not (not_deleted edges stream time edge i) in
+    let live : (is_seen window now time None && not (is_deleted later edge)) ≡ true =
+    λ i. (seen i && true) && not (not_deleted edges stream time edge i) in
     first_live window now
-    (record { stream = stream; tuple = record { time = time; act = Insert edge } }) later
+    (record { stream = stream; tuple = record { time = time; act = Insert edge None } }) later
     ∙ (ap (λ (test : Bool). cons_option (if test then Some edge else None)
     (edges_at window now later)) live
     ∙ ap (λ (rest : List Edge). edge ∷ rest) (all_live edges window now stream time seen))

@@ -1,7 +1,7 @@
 -- What simple paths miss for a language without the property of containment: the two ends of a
 -- line, a loop at its end, and a line from there.
 use Rattle.std.specs.Prelude.{◌≢◌, ℕ, ◌-◌, ◌≤◌, List, [], ◌∷◌, ◌++◌, length, map, take, drop}
-use Rattle.std.specs.Prelude.{AllPairs}
+use Rattle.std.specs.Prelude.{AllPairs, None}
 use Rattle.rpq_base.specs.declared.data.Label.{Label}
 use Rattle.rpq_base.specs.declared.data.Edge.{Edge}
 use Rattle.rpq_base.specs.declared.data.Act.TheVariants.{Insert}
@@ -44,10 +44,14 @@ line_loop_line first names p q w =
     let names_left = drop (length p) names in
     line ++ (loop_of turn q names_left ++ line_of turn w (drop (length q - 1) names_left))
 
--- the history of one stream that inserts the edges, one after another, all at one time
+-- the history of one stream that inserts the edges, one after another, all at one time and with no
+-- end of their own
 abbrev pub inserts : ℕ → ℕ → List Edge → List Entry
 inserts stream time edges =
-    map (λ edge. record { stream = stream; tuple = record { time = time; act = Insert edge } })
+    map (λ edge. record {
+      stream = stream;
+      tuple = record { time = time; act = Insert edge None };
+    })
     edges
 
 -- a pair of two different vertices that is an answer by all paths and none by simple paths

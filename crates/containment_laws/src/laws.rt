@@ -8,7 +8,8 @@ ghost use Rattle.containment_laws.specs.Lines.{SimpleMissesAPair};
 ghost use Rattle.containment_laws.specs.SimplePaths.{ContainedAnswersAgree, ContainedIsSimple};
 ghost use Rattle.containment_laws.specs.SimplePaths.{SimpleAnswersFromAll};
 
-use rpq_model::{Language, histories_have_answers};
+use path_syntax::Language;
+use rpq_model::histories_have_answers;
 
 /// A language has the property of containment exactly where simple paths join each pair of two
 /// vertices that any path joins, whatever edges there are.

@@ -14,7 +14,7 @@ use state_pairs::PairTable;
 use std::alloc::Global;
 
 /// The word of the labels of these numbers.
-fn spelled(alloc: Global, dfa: &Dfa, numbers: &[u32]) -> Result<Word, Memory>
+fn spell(alloc: Global, dfa: &Dfa, numbers: &[u32]) -> Result<Word, Memory>
     requires { All (λ number. number < length dfa.now.labels) numbers.now }
     ensures { IfOk result (λ word. word ≡ map (label_at dfa.now) numbers.now) }
 {
@@ -44,9 +44,9 @@ pub fn contained(alloc: Global, dfa: &Dfa) -> Result<Verdict, Memory>
         return Ok(Verdict::Yes);
     };
     let rest = pairs.least_extra_word(alloc, Some(front.state), front.needed.next)?;
-    let p = spelled(alloc, dfa, &front.word)?;
+    let p = spell(alloc, dfa, &front.word)?;
     // where a longer part can't be left out after p, one of its labels can't
-    let q = spelled(alloc, dfa, &[front.needed.label])?;
-    let w = spelled(alloc, dfa, &rest)?;
+    let q = spell(alloc, dfa, &[front.needed.label])?;
+    let w = spell(alloc, dfa, &rest)?;
     Ok(Verdict::No { p, q, w })
 }

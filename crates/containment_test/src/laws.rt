@@ -2,7 +2,7 @@
 
 ghost use Rattle.containment_test.specs.Laws.{EmptyWordIsNoMatter, OneVerdict, SecondIsOneLabel};
 
-use crate::language::Language;
+use path_syntax::Language;
 
 /// A language has at most one verdict: at most one least triple, and none where it has the
 /// property.

@@ -13,12 +13,10 @@
 
 mod decision;
 mod front;
-mod language;
 mod laws;
 mod needed;
 mod verdict;
 
 pub use decision::contained;
-pub use language::Language;
 pub use laws::{empty_word_is_no_matter, one_verdict, second_is_one_label};
 pub use verdict::Verdict;

@@ -90,7 +90,7 @@ struct Ends {
 
 impl Ends {
     /// The ends of this part followed by the one on its right.
-    fn then(self, right: Ends) -> Ends
+    fn followed_by(self, right: Ends) -> Ends
         ensures first { (p : ℕ) →
             has result.first p ≡ (has self.first p || (self.nullable && has right.first p)) }
         ensures last { (p : ℕ) →
@@ -143,7 +143,7 @@ fn connect(expr: &Expr, from: u32, follow: &mut [PositionSet]) -> Ends
             let left = connect(left, from, follow);
             let right = connect(right, left.next, follow);
             add_follow(follow, left.last, right.first);
-            left.then(right)
+            left.followed_by(right)
         }
         Expr::Alt(one, other) => {
             let one = connect(one, from, follow);

@@ -8,7 +8,7 @@ ghost use Rattle.dfa_build.specs.StateSets.{IsAfter, AreRows, HasTooMany, set_of
 use crate::fault::BuildFault;
 use crate::position_set::PositionSet;
 use crate::transitions::PositionSets;
-use dfa_table::discovery::{Discovered, Steps, discover};
+use dfa_table::discovery::{Discovered, Walk, discover};
 use rpq_base::Memory;
 use std::alloc::Global;
 
@@ -27,7 +27,7 @@ fn after(follow: &[PositionSet], set: PositionSet) -> PositionSet
     reach
 }
 
-impl Steps for PositionSets {
+impl Walk for PositionSets {
     ghost graph = { λ sets. set_graph sets.follow.items sets.masks.items };
 
     ghost can_step = { λ sets. (length sets.follow.items ≤ 64) × (length sets.masks.items ≤ 64) };

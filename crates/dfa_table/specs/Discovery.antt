@@ -60,6 +60,11 @@ pub record IsRowOf (graph : GraphValue) (nodes : List ℕ) (node : ℕ)
   pub opens : graph.opens node front
   pub is : IsRow graph nodes front graph.label_count row
 
+-- the nodes that have numbers: distinct, and within the limit
+pub record AreNumbered (limit : ℕ) (nodes : List ℕ) : Type 0 where
+  pub few : length nodes ≤ limit
+  pub apart : AllPairs ◌≢◌ nodes
+
 -- the nodes after a part of a row was made: those before it and the next ones from the front, all
 -- distinct and within the limit
 pub record Grows (graph : GraphValue) (limit front : ℕ) (before after : List ℕ) : Type 0 where

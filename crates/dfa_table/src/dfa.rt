@@ -37,7 +37,7 @@ impl Model for Dfa {
 }
 
 /// The rows, each of this width, one after another.
-fn joined(
+fn join_rows(
     alloc: Global,
     rows: &[Vec<Option<u32>>],
     width: usize,
@@ -75,7 +75,7 @@ impl Dfa {
         ensures { IfOk result (λ dfa.
             dfa ≡ value_of labels.items (map (λ row. row.items) rows.items) finals.items) }
     {
-        let steps = joined(alloc, &rows, labels.len())?;
+        let steps = join_rows(alloc, &rows, labels.len())?;
         Ok(Dfa {
             labels,
             steps,

@@ -2,9 +2,9 @@
 
 ghost use Rattle.std.specs.Prelude.{◌≡◌, ℕ, ◌+◌, ◌<◌, ◌≤◌, ◌∷◌, ◌++◌, ◌⊎◌, ◌≢◌, [], length, map, max, Contains};
 ghost use Rattle.std.specs.Prelude.{Some, IfOk, IfSome, IfNone, OnOk};
-ghost use Rattle.std.specs.List.{AllPairs};
 ghost use Rattle.dfa_table.specs.Order.{IsInOrder, greatest_of};
-ghost use Rattle.dfa_table.specs.Discovery.{GraphValue, IsDeterminate, IsReached, node_at, IsNumberOf, IsStep, IsRow, Grows, IsFull, AreRows, HasTooMany};
+ghost use Rattle.dfa_table.specs.Discovery.{GraphValue, IsDeterminate, IsReached, node_at, IsNumberOf, IsStep, IsRow};
+ghost use Rattle.dfa_table.specs.Discovery.{AreNumbered, Grows, IsFull, AreRows, HasTooMany};
 ghost use Rattle.dfa_table.specs.FaultTexts.{discovery_fault_text};
 ghost use Rattle.dfa_table.specs.declared.discovery.DiscoveryFault.{DiscoveryFault};
 
@@ -14,7 +14,7 @@ use std::fmt;
 
 /// A graph whose nodes a walk numbers. A node is any number; it opens to a front, and from a front
 /// each label, by its number from 0, leads to a node or to none.
-pub trait Steps {
+pub trait Walk {
     /// The graph, as contracts see it.
     ghost graph: { Self → GraphValue };
 
@@ -117,7 +117,7 @@ fn number(nodes: &mut Vec<u64>, limit: u32, node: u64) -> Result<u32, DiscoveryF
 }
 
 /// The step that the label makes from the front.
-fn step<G: Steps>(
+fn step<G: Walk>(
     graph: &G,
     nodes: &mut Vec<u64>,
     limit: u32,
@@ -126,8 +126,7 @@ fn step<G: Steps>(
 ) -> Result<Option<u32>, DiscoveryFault>
     requires valid { G.can_step graph.now }
     requires label { label < (G.graph graph.now).label_count }
-    requires few { length nodes.old.items ≤ limit }
-    requires apart { AllPairs ◌≢◌ nodes.old.items }
+    requires nodes { AreNumbered limit nodes.old.items }
     ensures nodes { Grows (G.graph graph.now) limit front nodes.old.items nodes.new.items }
     ensures step { IfOk result (IsStep (G.graph graph.now) nodes.new.items front label) }
     ensures order { IfOk result (λ step. IsInOrder (length nodes.old.items) (step ∷ [])) }
@@ -143,7 +142,7 @@ fn step<G: Steps>(
 }
 
 /// The row of the front: for each label its step.
-fn row<G: Steps>(
+fn row<G: Walk>(
     alloc: Global,
     graph: &G,
     nodes: &mut Vec<u64>,
@@ -151,8 +150,7 @@ fn row<G: Steps>(
     front: u64,
 ) -> Result<Vec<Option<u32>>, DiscoveryFault>
     requires valid { G.can_step graph.now }
-    requires few { length nodes.old.items ≤ limit }
-    requires apart { AllPairs ◌≢◌ nodes.old.items }
+    requires nodes { AreNumbered limit nodes.old.items }
     ensures nodes { Grows (G.graph graph.now) limit front nodes.old.items nodes.new.items }
     ensures row { IfOk result (λ row.
         IsRow (G.graph graph.now) nodes.new.items front (G.graph graph.now).label_count
@@ -175,7 +173,7 @@ fn row<G: Steps>(
 ///
 /// The start is no node: its row is that of the first front. Each node to which a step leads is
 /// looked up among those that are there, one after another.
-pub fn discover<G: Steps>(
+pub fn discover<G: Walk>(
     alloc: Global,
     graph: &G,
     first: u64,

@@ -152,7 +152,7 @@ other_call : (lines : List Line) (call : Call) (test : Call → Bool) → test c
 other_call lines call test passes none member =
     both_ways (list_any test (calls lines)) none (list_any_at test (calls lines) member.0 call member.1 (ap test member.2 ∙ passes))
 
--- a shut for want of memory
+-- a shut because memory ran out
 abbrev is_memory : CallAct → Bool
 is_memory Append = false
 is_memory EndStream = false

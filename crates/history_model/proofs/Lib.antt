@@ -2,6 +2,7 @@ mod Pushes
 mod ByLines
 mod Own
 mod Fronts
+mod Waits
 mod Examples
 mod Blocks
 mod Safety

@@ -16,7 +16,7 @@ use Rattle.history_model.specs.Lines.{append_line, end_line, publish_line, shut_
 use Rattle.history_model.specs.Legal.{HasItsTuple, IsLegal}
 use Rattle.history_model.specs.World.{Terms, Pairs, Snapshot, Block, World, start, no_pairs, pairs_after}
 use Rattle.history_model.specs.Steps.{Step, Appends, Ends, Shuts, Feeds, Publishes, Looks, IsBlockAt, IsAllowed, with_line, after, after_all, AreAllowed}
-use Rattle.history_model.specs.Safe.{AreBlocks, HoldsAnswers, IsBehind, IsSafe, IsPublished}
+use Rattle.history_model.specs.Safe.{AreBlocks, HoldsAnswers, ShowsAnswers, IsBehind, IsSafe, IsPublished}
 use Rattle.history_model.specs.WorldLaws.{CoreSafe, ShutIsFinal, StepsAreCalls}
 use Rattle.history_model.proofs.ByLines.{entries_push, published_push, no_entry, none_legal, push_legal, may_follow}
 use Rattle.history_model.proofs.Blocks.{push_block}
@@ -220,6 +220,44 @@ onward held grow each terms steps earlier later reader allowed is =
     subst (λ (world : World). (middle.readers reader).position ≤ (world.readers reader).position) end
     (onward_steps later held grow terms middle reader safe both.1)
 
+-- ---- what was answered stays the answer
+
+behind_line : (terms : Terms) (world : World) (line : Line) (snapshot : Snapshot) → IsSafe terms world → IsBehind terms world snapshot →
+    ShowsAnswers terms.queries (entries (world.lines ++ line ∷ [])) snapshot
+behind_line terms world line snapshot safe behind =
+    still_holds terms.queries snapshot.position world.lines line snapshot.pairs (omega (arith, behind.position, safe.shown_behind, safe.fed_behind)) behind.answers
+
+behind_step : (terms : Terms) (world : World) (step : Step) (snapshot : Snapshot) → IsSafe terms world → IsAllowed terms world step → IsBehind terms world snapshot →
+    IsBehind terms (after world step) snapshot
+behind_step terms world (Appends stream tuple) snapshot safe allowed behind =
+    record { position = behind.position; answers = behind_line terms world (append_line stream tuple) snapshot safe behind }
+behind_step terms world (Ends stream) snapshot safe allowed behind =
+    record { position = behind.position; answers = behind_line terms world (end_line stream) snapshot safe behind }
+behind_step terms world (Shuts why) snapshot safe allowed behind =
+    record { position = behind.position; answers = behind_line terms world (shut_line why) snapshot safe behind }
+behind_step terms world (Feeds block) snapshot safe allowed behind = record { position = behind.position; answers = behind.answers }
+behind_step terms world Publishes snapshot safe allowed behind =
+    let rises = allowed.1 in
+    record { position = omega (arith, behind.position, rises); answers = behind_line terms world (publish_line world.fed) snapshot safe behind }
+behind_step terms world (Looks other) snapshot safe allowed behind = record { position = behind.position; answers = behind.answers }
+
+behind_steps : (steps : List Step) → HeldStep → EventsGrow → (terms : Terms) (world : World) (snapshot : Snapshot) → IsSafe terms world →
+    AreAllowed terms world steps → IsBehind terms world snapshot → IsBehind terms (after_all world steps) snapshot
+behind_steps [] held grow terms world snapshot safe allowed behind = behind
+behind_steps (step ∷ steps) held grow terms world snapshot safe allowed behind =
+    behind_steps steps held grow terms (after world step) snapshot (safe_step held grow terms world step safe allowed.0) allowed.1
+    (behind_step terms world step snapshot safe allowed.0 behind)
+
+stays : HeldStep → EventsGrow → EachHeldIsAnswers → (terms : Terms) (steps earlier later : List Step) (reader : ℕ) → AreAllowed terms start steps →
+    steps ≡ earlier ++ later → IsBehind terms (after_all start steps) ((after_all start earlier).readers reader)
+stays held grow each terms steps earlier later reader allowed is =
+    let both = parts_allowed earlier later terms start (subst (AreAllowed terms start) is allowed) in
+    let middle = after_all start earlier in
+    let safe = safe_steps earlier held grow terms start (start_safe each terms) both.0 in
+    let end : after_all middle later ≡ after_all start steps = sym (fold-append after start earlier later) ∙ ap (after_all start) (sym is) in
+    subst (λ (world : World). IsBehind terms world (middle.readers reader)) end
+    (behind_steps later held grow terms middle (middle.readers reader) safe both.1 (safe.readers reader))
+
 -- ---- the law
 
 published_given : (terms : Terms) (world : World) (reader : ℕ) → IsSafe terms world → IsPublished terms world ((after world (Looks reader)).readers reader)
@@ -234,6 +272,7 @@ core_safe held grow each terms steps allowed =
       world = safe;
       look = λ reader. published_given terms (after_all start steps) reader safe;
       onward = λ earlier later reader is. onward held grow each terms steps earlier later reader allowed is;
+      stays = λ earlier later reader is. stays held grow each terms steps earlier later reader allowed is;
     }
 
 -- ---- after a shut
@@ -268,6 +307,8 @@ steps_are_calls terms world safe = record {
     (λ may. push_legal terms.streams terms.cap world.lines (shut_line why) safe.legal
         (record { tuple = no_tuple 0 (Shut why) (λ is. cc); call = may })),
   );
+  feeds = λ block at goes. (goes, at);
+  looks = λ reader. tt;
   publishes = (
     (λ allowed. (may_follow terms.streams terms.cap world.lines (publish_line world.fed)
         (publish_legal terms world safe allowed.0 allowed.1)).call),

@@ -47,6 +47,18 @@ abbrev pub FrontsAreLegal : Type 0
 FrontsAreLegal = (streams cap : ℕ) (front rest : List Line) → IsLegal streams cap (front ++ rest) →
     IsFront streams cap front (front ++ rest)
 
+-- what holds for good once no one waits any more: where all streams have ended and all entries are
+-- published, the position is the number of all entries ever, and nothing more is published; nor is
+-- anything after a shut
+pub record EndsWaits (streams : ℕ) (front lines : List Line) : Type 0 where
+  pub whole : AllEnded streams front → published front ≡ length (entries front) →
+      (published front ≡ length (entries lines)) × (published lines ≡ published front)
+  pub shut : IsShut front → published lines ≡ published front
+
+abbrev pub WaitsEnd : Type 0
+WaitsEnd = (streams cap : ℕ) (front rest : List Line) → IsLegal streams cap (front ++ rest) →
+    EndsWaits streams front (front ++ rest)
+
 -- lines are told by their calls and their entries
 pub record LinesAreJoined : Type 0 where
   pub whole : (lines : List Line) → All HasItsTuple lines →

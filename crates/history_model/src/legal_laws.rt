@@ -4,7 +4,7 @@ ghost use Rattle.std.specs.Prelude.{◌≡◌, ◌↔◌, IsTrue};
 ghost use Rattle.history_model.specs.declared.line.Why.{Why};
 ghost use Rattle.history_model.specs.declared.line.Call.{Call};
 ghost use Rattle.history_model.specs.LegalLaws.{LegalByLines, LegalIsSound, FrontsAreLegal};
-ghost use Rattle.history_model.specs.LegalLaws.{LinesAreJoined};
+ghost use Rattle.history_model.specs.LegalLaws.{WaitsEnd, LinesAreJoined};
 ghost use Rattle.history_model.specs.Examples.{LineExamples, LegalExamples};
 
 use crate::line::{Call, Why};
@@ -26,6 +26,12 @@ pub fn legal_is_sound()
 /// nothing more is appended or published, nor is anything appended after all streams have ended.
 pub fn fronts_are_legal()
     ensures { FrontsAreLegal }
+{}
+
+/// A wait for the answers over all entries may end where all streams have ended and all entries are
+/// published, or after a shut: no position is published later.
+pub fn waits_end()
+    ensures { WaitsEnd }
 {}
 
 /// Lines are told by their calls and their entries, so a history may be kept as these two lists.

@@ -20,7 +20,7 @@ mod world_laws;
 
 pub use legal_laws::{
     calls_are_told_apart, fronts_are_legal, legal_by_lines, legal_examples, legal_is_sound,
-    line_examples, lines_are_joined,
+    line_examples, lines_are_joined, waits_end,
 };
 pub use line::{Call, CallAct, Line, Why};
 pub use world_laws::{core_safe, run_example, shut_is_final, steps_are_calls};

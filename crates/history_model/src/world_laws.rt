@@ -9,8 +9,8 @@ use rpq_model::{each_held_is_answers, events_grow, held_step};
 /// After any steps that are allowed from the start, the lines are legal. The published position
 /// isn't ahead of the entries that were fed, nor are these ahead of those that were appended. The
 /// blocks are those of the entries that were fed, with their events, and the pairs kept are the
-/// answers over them. Whoever looks gets the published position and the answers there, and no
-/// reader's position falls.
+/// answers over them. Whoever looks gets the published position and the answers there; no reader's
+/// position falls, and what a reader got earlier are the answers still, at its position.
 pub fn core_safe()
     ensures { CoreSafe }
 {
@@ -24,7 +24,8 @@ pub fn shut_is_final()
     ensures { ShutIsFinal }
 {}
 
-/// In a safe world, a step that adds a line is allowed exactly where its call may come next.
+/// In a safe world, a step that adds a line is allowed exactly where its call may come next. Until
+/// a shut the next entry may be fed, whatever is published, and anyone may look at any time.
 pub fn steps_are_calls()
     ensures { StepsAreCalls }
 {}

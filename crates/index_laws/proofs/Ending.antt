@@ -1,10 +1,9 @@
 -- Each answer of an accepted query has an end.
-use Rattle.std.proofs.Common.{◌≡◌, ℕ, zero, suc, ◌+◌, ◌*◌, ◌<◌, ◌≤◌, max, List, [], ◌∷◌, map, fold}
-use Rattle.std.proofs.Common.{Some, refl, ap, subst, ⊎_elim, arith}
-use Rattle.std.specs.Prelude.{Contains, slice_get}
+use Rattle.std.proofs.Common.{◌≡◌, ℕ, zero, suc, ◌+◌, ◌*◌, ◌<◌, ◌≤◌, max, List, [], ◌∷◌}
+use Rattle.std.proofs.Common.{refl, subst, ⊎_elim, arith}
+use Rattle.std.specs.Prelude.{Contains}
 use Rattle.std.proofs.lemmas.Bool.{cases_lt}
 use Rattle.std.proofs.lemmas.Nat.{mul-le}
-use Rattle.std.proofs.lemmas.Option.{none-some, same_Some}
 use Rattle.std.proofs.lemmas.List.Elements.{All-head}
 use Rattle.rpq_base.specs.declared.data.Edge.{Edge}
 use Rattle.rpq_base.specs.declared.data.Entry.{Entry}
@@ -13,7 +12,9 @@ use Rattle.rpq_model.specs.Window.{WindowValue, clock, edges_at}
 use Rattle.rpq_model.specs.Answers.{Joins, IsAnswer, IsAnswerAt}
 use Rattle.rpq_model.specs.Ends.{tick, with_tick}
 use Rattle.rpq_model.specs.Query.{Query, language_of, path_query}
-use Rattle.rpq_model.proofs.Deadlines.{deadline_of, deadline_is, seen_below_deadline}
+use Rattle.rpq_model.proofs.Clocks.{at_most_clock}
+use Rattle.rpq_model.proofs.Deadlines.{deadline_of as of_time, deadline_is as is_of_time}
+use Rattle.rpq_model.proofs.OwnDeadlines.{deadline_of, deadline_is, seen_below_deadline, within}
 use Rattle.rpq_model.proofs.Pairs.{has, has_iff}
 use Rattle.rpq_model.proofs.Places.{edges_by_places}
 use Rattle.rpq_model.proofs.Ticks.{tick_moves_the_clock}
@@ -23,24 +24,6 @@ use Rattle.index_laws.proofs.Told.{OrNot, told_by}
 use Rattle.index_laws.proofs.Values.{same}
 
 -- ---- no edge is live for ever
-
-at_least_first : (times : List ℕ) (first : ℕ) → first ≤ fold max first times
-at_least_first [] first = omega arith
-at_least_first (time ∷ times) first =
-    let more = at_least_first times (max first time) in omega (arith, more)
-
--- the time of each entry is at most the clock
-at_most_clock : (entries : List Entry) (place : ℕ) (entry : Entry) (first : ℕ) →
-    slice_get entries place ≡ Some entry →
-    entry.tuple.time ≤ fold max first (map (λ each. each.tuple.time) entries)
-at_most_clock [] place entry first there = absurd (none-some entry there)
-at_most_clock (one ∷ entries) zero entry first there =
-    let is = ap (λ (each : Entry). each.tuple.time) (same_Some one entry there) in
-    let more = at_least_first (map (λ (each : Entry). each.tuple.time) entries)
-    (max first one.tuple.time) in
-    omega (arith, is, more)
-at_most_clock (one ∷ entries) (suc place) entry first there =
-    at_most_clock entries place entry (max first one.tuple.time) there
 
 -- a clock at which no entry of the history is seen any more
 abbrev all_gone : WindowValue → List Entry → ℕ
@@ -59,15 +42,18 @@ none_left : (window : WindowValue) (history : List Entry) (edge : Edge) → 0 < 
 none_left window history edge some member =
     let now = all_gone window history in
     let found = (edges_by_places same window now history edge).0 member in
-    let time = found.1.tuple.time in
+    let tuple = found.1.tuple in
     let low = at_most_clock history found.0 found.1 0 found.2.undeleted.there in
-    let due = deadline_is window time some in
+    let due = deadline_is window tuple some in
+    let due_of_time = is_of_time window tuple.time some in
     let after = not_before window history some in
-    let reached : deadline_of window time ≤ now =
-    due.least (clock history + window.size) (omega (arith, low, after)) in
-    let less = (seen_below_deadline window now time (deadline_of window time) some due).0
+    let reached : of_time window tuple.time ≤ now =
+    due_of_time.least (clock history + window.size) (omega (arith, low, after)) in
+    let no_later = within window tuple (deadline_of window tuple) (of_time window tuple.time) due
+    due_of_time in
+    let less = (seen_below_deadline window now tuple (deadline_of window tuple) some due).0
     found.2.seen in
-    absurd (omega (arith, less, reached))
+    absurd (omega (arith, less, no_later, reached))
 
 -- and so no pair is an answer there
 joins_none : (path : List Edge) (query : Query) (edges : List Edge) (pair : Pair) →

@@ -7,7 +7,8 @@ use Rattle.rpq_base.specs.declared.data.Act.{Act}
 use Rattle.rpq_base.specs.declared.data.Act.TheVariants.{Insert, Delete, Tick}
 use Rattle.rpq_base.specs.declared.data.Entry.{Entry}
 use Rattle.dfa_table.specs.DfaValue.{DfaValue, place_of}
-use Rattle.rpq_model.specs.Window.{WindowValue}
+use Rattle.rpq_model.specs.Window.{WindowValue, Inserts, inserted_edge}
+use Rattle.rpq_model.proofs.LiveEdges.{one_inserted, inserts_no_delete, inserts_no_tick}
 use Rattle.name_table.specs.Names.{KeepsNumbers}
 use Rattle.edge_store.specs.declared.edge.EdgeId.{EdgeId}
 use Rattle.edge_store.specs.Edges.{Edges, value_of, IsEmpty, Updates, raised, above, same_edge}
@@ -75,18 +76,17 @@ module _ (window : WindowValue) (history : List Entry) (last : Entry) (names : L
 
   -- other edges than the last entry's
   other_inserted : (stored : Edge → Option ℕ) → IsStored stored → (edge : Edge) →
-      last.tuple.act ≡ Insert edge → AreOthersKept edge kept stored
+      Inserts last.tuple.act edge → AreOthersKept edge kept stored
   other_inserted stored stored_is edge inserts other differ =
       (step stored stored_is other).other
-      (λ also. let same : Insert edge ≡ Insert other = sym inserts ∙ also in
-      let edges : other ≡ edge = cc in differ edges)
-      (λ deletes. let both : Insert edge ≡ Delete other = sym inserts ∙ deletes in cc)
+      (λ also. differ (one_inserted last.tuple.act other edge also inserts))
+      (λ deletes. inserts_no_delete last.tuple.act edge other inserts deletes)
 
   other_deleted : (stored : Edge → Option ℕ) → IsStored stored → (edge : Edge) →
       last.tuple.act ≡ Delete edge → AreOthersKept edge kept stored
   other_deleted stored stored_is edge deletes other differ =
       (step stored stored_is other).other
-      (λ inserts. let both : Delete edge ≡ Insert other = sym deletes ∙ inserts in cc)
+      (λ inserts. inserts_no_delete last.tuple.act other edge inserts deletes)
       (λ also. let same : Delete edge ≡ Delete other = sym deletes ∙ also in
       let edges : other ≡ edge = cc in differ edges)
 
@@ -104,7 +104,7 @@ module _ (window : WindowValue) (history : List Entry) (last : Entry) (names : L
   }
 
   pub insert : (after : Edges) (edge : Edge) (id : EdgeId) (deadline : ℕ) →
-      last.tuple.act ≡ Insert edge → HasNumbers names dfa edge id →
+      Inserts last.tuple.act edge → HasNumbers names dfa edge id →
       IsDue window history last deadline →
       Updates expired after id (Some (raised (value_of expired id) deadline)) →
       HoldsStoreOf window (history ++ last ∷ []) names dfa after
@@ -142,7 +142,7 @@ module _ (window : WindowValue) (history : List Entry) (last : Entry) (names : L
       let before = by_numbers_steps.steps names dfa store (value_of is.before) is.holds.numbers in
       held stored stored_is (before.expire stored (value_of expired) now as_kept is.expires)
 
-  late_insert : (edge : Edge) (deadline : ℕ) → last.tuple.act ≡ Insert edge →
+  late_insert : (edge : Edge) (deadline : ℕ) → Inserts last.tuple.act edge →
       IsLate window history last deadline →
       HoldsStoreOf window (history ++ last ∷ []) names dfa expired
   late_insert edge deadline inserts late =
@@ -154,7 +154,7 @@ module _ (window : WindowValue) (history : List Entry) (last : Entry) (names : L
       (λ differ. other_inserted stored stored_is edge inserts other differ)
       (edges_or_not other edge))
 
-  foreign_insert : (edge : Edge) → last.tuple.act ≡ Insert edge →
+  foreign_insert : (edge : Edge) → Inserts last.tuple.act edge →
       place_of dfa edge.label ≡ None →
       HoldsStoreOf window (history ++ last ∷ []) names dfa expired
   foreign_insert edge inserts lacks =
@@ -175,17 +175,19 @@ module _ (window : WindowValue) (history : List Entry) (last : Entry) (names : L
 
   by_act : (act : Act) → last.tuple.act ≡ act → ChangesNone window history last names dfa →
       HoldsStoreOf window (history ++ last ∷ []) names dfa expired
-  by_act (Insert edge) act_is none = ⊎_elim
-      (λ lacks. foreign_insert edge act_is lacks)
-      (λ late. late_insert edge late.0 act_is late.1)
-      (none.insert edge act_is)
+  by_act (Insert edge until) act_is none =
+      let inserts : Inserts last.tuple.act edge = ap inserted_edge act_is in
+      ⊎_elim
+      (λ lacks. foreign_insert edge inserts lacks)
+      (λ late. late_insert edge late.0 inserts late.1)
+      (none.insert edge inserts)
   by_act (Delete edge) act_is none = absent_delete edge act_is (none.delete edge act_is)
   by_act Tick act_is none =
       let stored = stored_now.0 in
       let stored_is = stored_now.1 in
       only_expired stored stored_is (λ edge.
       (step stored stored_is edge).other
-      (λ inserts. let both : Tick ≡ Insert edge = sym act_is ∙ inserts in cc)
+      (λ inserts. inserts_no_tick last.tuple.act edge inserts act_is)
       (λ deletes. let both : Tick ≡ Delete edge = sym act_is ∙ deletes in cc))
 
   pub other : ChangesNone window history last names dfa →

@@ -6,11 +6,12 @@ use Rattle.std.specs.Prelude.{◌↔◌}
 use Rattle.std.proofs.lemmas.Bool.{ltb-true, ltb-false, cases_lt}
 use Rattle.std.proofs.lemmas.Option.{none-some}
 use Rattle.rpq_base.specs.declared.data.Edge.{Edge}
-use Rattle.rpq_base.specs.declared.data.Act.TheVariants.{Insert, Delete}
+use Rattle.rpq_base.specs.declared.data.Act.TheVariants.{Delete}
 use Rattle.rpq_base.specs.declared.data.Entry.{Entry}
-use Rattle.rpq_model.specs.Window.{WindowValue, clock}
-use Rattle.rpq_model.specs.WindowLaws.{IsDeadline, IsSeenInsert}
-use Rattle.rpq_model.proofs.Deadlines.{seen_below_deadline}
+use Rattle.rpq_model.specs.Window.{WindowValue, Inserts, clock}
+use Rattle.rpq_model.specs.WindowLaws.{IsTupleDeadline, IsSeenInsert}
+use Rattle.rpq_model.proofs.LiveEdges.{inserts_no_delete}
+use Rattle.rpq_model.proofs.OwnDeadlines.{seen_below_deadline}
 use Rattle.rpq_model.proofs.OneMore.{one_entry_more}
 use Rattle.rpq_model.proofs.Places.{live_by_places}
 use Rattle.rpq_model.proofs.Ticks.{clock_more}
@@ -130,15 +131,14 @@ module _ (window : WindowValue) (history : List Entry) (last : Entry)
   after_is_above edge number reached =
       value_above window (history ++ last ∷ []) after are.slide are.is number edge reached
 
-  no_delete : (edge : Edge) → last.tuple.act ≡ Insert edge → last.tuple.act ≡ Delete edge → ⊥
-  no_delete edge inserts deletes =
-      let both : Insert edge ≡ Delete edge = sym inserts ∙ deletes in cc
+  no_delete : (edge : Edge) → Inserts last.tuple.act edge → last.tuple.act ≡ Delete edge → ⊥
+  no_delete edge inserts deletes = inserts_no_delete last.tuple.act edge edge inserts deletes
 
   -- a seen insert has a deadline above the clock
-  seen_above : (edge : Edge) (deadline later : ℕ) → IsDeadline window last.tuple.time deadline →
+  seen_above : (edge : Edge) (deadline later : ℕ) → IsTupleDeadline window last.tuple deadline →
       IsSeenInsert window later last edge → later < deadline
   seen_above edge deadline later due seen =
-      (seen_below_deadline window later last.tuple.time deadline are.slide due).0 seen.1
+      (seen_below_deadline window later last.tuple deadline are.slide due).0 seen.1
 
   -- where no insert is seen and the edge isn't deleted
   pub only_expired : (edge : Edge) → (last.tuple.act ≡ Delete edge → ⊥) →
@@ -157,8 +157,8 @@ module _ (window : WindowValue) (history : List Entry) (last : Entry)
         (λ there. reached.1 (inr (kept.0 there, stays))),
       ))
 
-  pub insert : (edge : Edge) (deadline : ℕ) → last.tuple.act ≡ Insert edge →
-      IsDeadline window last.tuple.time deadline → now < deadline →
+  pub insert : (edge : Edge) (deadline : ℕ) → Inserts last.tuple.act edge →
+      IsTupleDeadline window last.tuple deadline → now < deadline →
       after edge ≡ Some (raised (above now (before edge)) deadline)
   insert edge deadline inserts due over =
       let kept = above now (before edge) in
@@ -168,7 +168,7 @@ module _ (window : WindowValue) (history : List Entry) (last : Entry)
       let reached = after_reaches edge later le in
       let either = raised_reaches kept deadline (later + 1) in
       let old = above_reaches (before edge) now (later + 1) (omega (arith, le)) in
-      let seen = seen_below_deadline window later last.tuple.time deadline are.slide due in (
+      let seen = seen_below_deadline window later last.tuple deadline are.slide due in (
         (λ there. either.1 (⊎_elim
             (λ here. let less = seen.0 here.1 in inl (omega (arith, less)))
             (λ both. inr (old.1 both.0))
@@ -179,8 +179,8 @@ module _ (window : WindowValue) (history : List Entry) (last : Entry)
             (either.0 there))),
       ))
 
-  pub late : (edge : Edge) (deadline : ℕ) → last.tuple.act ≡ Insert edge →
-      IsDeadline window last.tuple.time deadline → deadline ≤ now →
+  pub late : (edge : Edge) (deadline : ℕ) → Inserts last.tuple.act edge →
+      IsTupleDeadline window last.tuple deadline → deadline ≤ now →
       after edge ≡ above now (before edge)
   late edge deadline inserts due past = only_expired edge (no_delete edge inserts)
       (λ later le seen.
@@ -197,7 +197,7 @@ module _ (window : WindowValue) (history : List Entry) (last : Entry)
         (λ none. absurd none),
       ))
 
-  pub other : (edge : Edge) → last.tuple.act ≢ Insert edge → last.tuple.act ≢ Delete edge →
+  pub other : (edge : Edge) → (Inserts last.tuple.act edge → ⊥) → last.tuple.act ≢ Delete edge →
       after edge ≡ above now (before edge)
   other edge no_insert stays = only_expired edge stays (λ later le seen. no_insert seen.0)
 

@@ -8,9 +8,9 @@ use Rattle.rpq_base.specs.declared.data.Act.{Act}
 use Rattle.rpq_base.specs.declared.data.Act.TheVariants.{Insert, Delete, Tick}
 use Rattle.rpq_base.specs.declared.data.Entry.{Entry}
 use Rattle.rpq_base.proofs.Members.{cons_members, none_in}
-use Rattle.rpq_model.specs.Window.{WindowValue, Placed, clock, live_entries}
-use Rattle.rpq_model.specs.WindowLaws.{IsDeadline}
-use Rattle.rpq_model.proofs.Deadlines.{deadline_of, deadline_is, one_deadline}
+use Rattle.rpq_model.specs.Window.{WindowValue, Placed, Inserts, inserted_edge, clock, live_entries}
+use Rattle.rpq_model.specs.WindowLaws.{IsTupleDeadline}
+use Rattle.rpq_model.proofs.OwnDeadlines.{deadline_of, deadline_is, one_deadline}
 use Rattle.edge_store.specs.Edges.{raised}
 use Rattle.tree_insert.specs.Best.{IsGreatestOf}
 use Rattle.tree_insert.proofs.Bests.{greatest_one}
@@ -57,12 +57,12 @@ greatest_raised (Some value) kind other new more greatest = record {
 -- one of these entries inserts the edge and has the deadline
 abbrev IsDueAmong : WindowValue → List Placed → Edge → ℕ → Type 0
 IsDueAmong window entries edge deadline = (live : Placed) × Contains entries live
-    × (live.entry.tuple.act ≡ Insert edge) × IsDeadline window live.entry.tuple.time deadline
+    × Inserts live.entry.tuple.act edge × IsTupleDeadline window live.entry.tuple deadline
 
 -- an act inserts the edge, or not
-inserts_or_not : (act : Act) (edge : Edge) → OrNot (act ≡ Insert edge)
-inserts_or_not (Insert other) edge = ⊎_elim
-    (λ is. inl (ap Insert is))
+inserts_or_not : (act : Act) (edge : Edge) → OrNot (Inserts act edge)
+inserts_or_not (Insert other until) edge = ⊎_elim
+    (λ is. inl (ap (λ (one : Edge). Some one) is))
     (λ differ. inr (λ is. let edges : other ≡ edge = cc in differ edges))
     (edges_or_not other edge)
 inserts_or_not (Delete other) edge = inr (λ is. cc)
@@ -70,17 +70,17 @@ inserts_or_not Tick edge = inr (λ is. cc)
 
 -- an entry more
 due_more : (window : WindowValue) (first : Placed) (rest : List Placed) (edge : Edge) →
-    0 < window.slide → first.entry.tuple.act ≡ Insert edge → (number : ℕ) →
+    0 < window.slide → Inserts first.entry.tuple.act edge → (number : ℕ) →
     IsDueAmong window (first ∷ rest) edge number
-    ↔ ((deadline_of window first.entry.tuple.time ≡ number) ⊎ IsDueAmong window rest edge number)
+    ↔ ((deadline_of window first.entry.tuple ≡ number) ⊎ IsDueAmong window rest edge number)
 due_more window first rest edge some inserts number =
-    let time = first.entry.tuple.time in
-    let due_is = deadline_is window time some in (
+    let tuple = first.entry.tuple in
+    let due_is = deadline_is window tuple some in (
       (λ due. ⊎_elim
           (λ here.
-          let is = subst (λ (each : Placed). IsDeadline window each.entry.tuple.time number)
+          let is = subst (λ (each : Placed). IsTupleDeadline window each.entry.tuple number)
           (sym here) due.3 in
-          inl (one_deadline window time (deadline_of window time) number due_is is))
+          inl (one_deadline window tuple (deadline_of window tuple) number due_is is))
           (λ later. inr (due.0, later, due.2, due.3))
           ((cons_members first rest due.0).0 due.1)),
       (λ either. ⊎_elim
@@ -88,19 +88,19 @@ due_more window first rest edge some inserts number =
             first,
             (cons_members first rest first).1 (inl refl),
             inserts,
-            subst (IsDeadline window time) here due_is,
+            subst (IsTupleDeadline window tuple) here due_is,
           ))
           (λ due. (due.0, (cons_members first rest due.0).1 (inr due.1), due.2, due.3))
           either),
     )
 
 due_same : (window : WindowValue) (first : Placed) (rest : List Placed) (edge : Edge) →
-    (first.entry.tuple.act ≡ Insert edge → ⊥) → (number : ℕ) →
+    (Inserts first.entry.tuple.act edge → ⊥) → (number : ℕ) →
     IsDueAmong window rest edge number ↔ IsDueAmong window (first ∷ rest) edge number
 due_same window first rest edge other number = (
   (λ due. (due.0, (cons_members first rest due.0).1 (inr due.1), due.2, due.3)),
   (λ due. ⊎_elim
-      (λ here. absurd (other (ap (λ (each : Placed). each.entry.tuple.act) here ∙ due.2)))
+      (λ here. absurd (other (ap (λ (each : Placed). inserted_edge each.entry.tuple.act) here ∙ due.2)))
       (λ later. (due.0, later, due.2, due.3))
       ((cons_members first rest due.0).0 due.1)),
 )
@@ -114,9 +114,9 @@ greatest_due (first ∷ rest) window edge some =
     let new = IsDueAmong window (first ∷ rest) edge in
     ⊎_elim
     (λ inserts.
-    let time = first.entry.tuple.time in (
-      Some (raised before.0 (deadline_of window time)),
-      greatest_raised before.0 old new (deadline_of window time)
+    let tuple = first.entry.tuple in (
+      Some (raised before.0 (deadline_of window tuple)),
+      greatest_raised before.0 old new (deadline_of window tuple)
           (due_more window first rest edge some inserts) before.1,
     ))
     (λ other.

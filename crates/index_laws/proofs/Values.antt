@@ -1,16 +1,16 @@
 -- The values of a store, against clocks.
-use Rattle.std.proofs.Common.{◌≡◌, ℕ, ◌+◌, ◌<◌, ◌≤◌, List, Option, sym, subst, ◌∙◌, arith}
+use Rattle.std.proofs.Common.{◌≡◌, ℕ, ◌+◌, ◌<◌, ◌≤◌, List, Option, subst, arith}
 use Rattle.std.specs.Prelude.{◌↔◌, Contains}
 use Rattle.rpq_base.specs.Laws.{SameIsEqual}
 use Rattle.rpq_base.specs.declared.data.Edge.{Edge}
-use Rattle.rpq_base.specs.declared.data.Act.TheVariants.{Insert}
 use Rattle.rpq_base.specs.declared.data.Entry.{Entry}
 use Rattle.rpq_base.proofs.Equality.{names, labels, edges as edge_test, pairs}
-use Rattle.rpq_model.specs.Window.{WindowValue, Placed, clock, live_entries, edges_at}
+use Rattle.rpq_model.specs.Window.{WindowValue, Placed, Inserts, clock, live_entries, edges_at}
 use Rattle.rpq_model.specs.WindowLaws.{IsLiveAt}
 use Rattle.rpq_model.proofs.Places.{edges_by_places, live_by_places, live_below_deadline}
 use Rattle.rpq_model.proofs.Places.{later_sees_less}
-use Rattle.rpq_model.proofs.Deadlines.{times_have_deadlines}
+use Rattle.rpq_model.proofs.LiveEdges.{one_inserted}
+use Rattle.rpq_model.proofs.OwnDeadlines.{deadline_of, deadline_is}
 use Rattle.tree_insert.specs.Best.{IsAtLeast}
 use Rattle.tree_insert.proofs.Bests.{weaker, value_of, greatest_reached, greatest_is}
 use Rattle.index_laws.specs.Store.{HasDeadline, IsStoreOf}
@@ -21,12 +21,12 @@ same = record { names = names; labels = labels; edges = edge_test; pairs = pairs
 
 -- an entry that is live and inserts the edge is live at its place
 live_at : (window : WindowValue) (now : ℕ) (entries : List Entry) (edge : Edge) (live : Placed) →
-    Contains (live_entries window now entries) live → live.entry.tuple.act ≡ Insert edge →
+    Contains (live_entries window now entries) live → Inserts live.entry.tuple.act edge →
     IsLiveAt window now entries edge live.place live.entry
 live_at window now entries edge live member inserts =
     let found = (live_by_places same window now entries live).0 member in
     let same_edge : found.0 ≡ edge =
-    let both : Insert found.0 ≡ Insert edge = sym found.1.undeleted.inserts ∙ inserts in cc in
+    one_inserted live.entry.tuple.act found.0 edge found.1.undeleted.inserts inserts in
     subst (λ (each : Edge). IsLiveAt window now entries each live.place live.entry) same_edge
     found.1
 
@@ -39,17 +39,18 @@ module _ (window : WindowValue) (history : List Entry) (store : Edge → Option 
       let found = (edges_by_places same window now history edge).0 member in
       let live : Placed = record { place = found.0; entry = found.1 } in
       let here = (live_by_places same window now history live).1 (edge, found.2) in
-      let due = times_have_deadlines window found.1.tuple.time some in
-      let above = (live_below_deadline same window now history edge live due.0 some
-      found.2.undeleted due.1).0 here in
-      let has : HasDeadline window history edge due.0 = record {
+      let deadline = deadline_of window found.1.tuple in
+      let due = deadline_is window found.1.tuple some in
+      let above = (live_below_deadline same window now history edge live deadline some
+      found.2.undeleted due).0 here in
+      let has : HasDeadline window history edge deadline = record {
         live = live;
         member = later_sees_less same window (clock history) now history live some le here;
         inserts = found.2.undeleted.inserts;
-        due = due.1;
+        due = due;
       } in
-      weaker (store edge) due.0 (now + 1)
-      (greatest_reached (store edge) (HasDeadline window history edge) due.0 (is edge) has)
+      weaker (store edge) deadline (now + 1)
+      (greatest_reached (store edge) (HasDeadline window history edge) deadline (is edge) has)
       (omega (arith, above))
 
   -- the deadline that is an edge's value

@@ -1,12 +1,12 @@
 -- What indexes are meant to be, as laws: how their edges follow a history, and what they tell.
 use Rattle.std.specs.Prelude.{◌≡◌, ℕ, ◌<◌, ◌≤◌, ◌⊎◌, List, [], ◌∷◌, ◌++◌, Option, Some, None}
 use Rattle.rpq_base.specs.declared.data.Edge.{Edge}
-use Rattle.rpq_base.specs.declared.data.Act.TheVariants.{Insert, Delete}
+use Rattle.rpq_base.specs.declared.data.Act.TheVariants.{Delete}
 use Rattle.rpq_base.specs.declared.data.Entry.{Entry}
 use Rattle.rpq_base.specs.declared.data.Pair.{Pair}
 use Rattle.dfa_table.specs.DfaValue.{DfaValue, place_of}
-use Rattle.rpq_model.specs.Window.{WindowValue}
-use Rattle.rpq_model.specs.WindowLaws.{IsDeadline}
+use Rattle.rpq_model.specs.Window.{WindowValue, Inserts}
+use Rattle.rpq_model.specs.WindowLaws.{IsTupleDeadline}
 use Rattle.rpq_model.specs.Answers.{IsAnswer}
 use Rattle.rpq_model.specs.Query.{Query, path_query}
 use Rattle.name_table.specs.Names.{KeepsNumbers}
@@ -31,20 +31,20 @@ pub record IsExpired (window : WindowValue) (history : List Entry) (last : Entry
 -- the entry's deadline, which is above the new clock
 pub record IsDue (window : WindowValue) (history : List Entry) (last : Entry)
     (deadline : ℕ) : Type 0 where
-  pub is : IsDeadline window last.tuple.time deadline
+  pub is : IsTupleDeadline window last.tuple deadline
   pub above : clock_after history last < deadline
 
 -- the entry's deadline, which the new clock has reached
 pub record IsLate (window : WindowValue) (history : List Entry) (last : Entry)
     (deadline : ℕ) : Type 0 where
-  pub is : IsDeadline window last.tuple.time deadline
+  pub is : IsTupleDeadline window last.tuple deadline
   pub reached : deadline ≤ clock_after history last
 
 -- the entry changes no edge by numbers: an insert is late or has a label that the automaton lacks,
 -- and the edge of a delete has no numbers
 pub record ChangesNone (window : WindowValue) (history : List Entry) (last : Entry)
     (names : List (List ℕ)) (dfa : DfaValue) : Type 0 where
-  pub insert : (edge : Edge) → last.tuple.act ≡ Insert edge →
+  pub insert : (edge : Edge) → Inserts last.tuple.act edge →
       (place_of dfa edge.label ≡ None) ⊎ ((deadline : ℕ) × IsLate window history last deadline)
   pub delete : (edge : Edge) → last.tuple.act ≡ Delete edge →
       (id : EdgeId) → HasNumbers names dfa edge id → ⊥
@@ -54,7 +54,7 @@ pub record TakesEntry (window : WindowValue) (history : List Entry) (last : Entr
     (names : List (List ℕ)) (dfa : DfaValue) (expired : Edges) : Type 0 where
   -- an insert's edge is raised to its deadline, where that is above the clock
   pub insert : (after : Edges) (edge : Edge) (id : EdgeId) (deadline : ℕ) →
-      last.tuple.act ≡ Insert edge → HasNumbers names dfa edge id →
+      Inserts last.tuple.act edge → HasNumbers names dfa edge id →
       IsDue window history last deadline →
       Updates expired after id (Some (raised (value_of expired id) deadline)) →
       HoldsStoreOf window (history ++ last ∷ []) names dfa after

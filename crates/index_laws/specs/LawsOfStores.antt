@@ -1,10 +1,10 @@
 -- What stores of histories are meant to be, as laws.
 use Rattle.std.specs.Prelude.{◌≡◌, ◌≢◌, ℕ, ◌<◌, ◌≤◌, List, [], ◌∷◌, ◌++◌, Option, Some, None}
 use Rattle.rpq_base.specs.declared.data.Edge.{Edge}
-use Rattle.rpq_base.specs.declared.data.Act.TheVariants.{Insert, Delete}
+use Rattle.rpq_base.specs.declared.data.Act.TheVariants.{Delete}
 use Rattle.rpq_base.specs.declared.data.Entry.{Entry}
-use Rattle.rpq_model.specs.Window.{WindowValue}
-use Rattle.rpq_model.specs.WindowLaws.{IsDeadline}
+use Rattle.rpq_model.specs.Window.{WindowValue, Inserts}
+use Rattle.rpq_model.specs.WindowLaws.{IsTupleDeadline}
 use Rattle.edge_store.specs.Edges.{raised, above}
 use Rattle.index_laws.specs.Store.{clock_after, IsStoreOf}
 
@@ -29,17 +29,17 @@ pub record IsValueStep (window : WindowValue) (history : List Entry) (last : Ent
   -- inserted, with a deadline above the new clock: a value that this clock reaches is gone, and
   -- then the value is raised to the deadline
   pub insert : (deadline : ℕ) →
-      last.tuple.act ≡ Insert edge → IsDeadline window last.tuple.time deadline →
+      Inserts last.tuple.act edge → IsTupleDeadline window last.tuple deadline →
       clock_after history last < deadline →
       after ≡ Some (raised (above (clock_after history last) before) deadline)
   -- inserted late: a value that the clock reaches is gone
   pub late : (deadline : ℕ) →
-      last.tuple.act ≡ Insert edge → IsDeadline window last.tuple.time deadline →
+      Inserts last.tuple.act edge → IsTupleDeadline window last.tuple deadline →
       deadline ≤ clock_after history last → after ≡ above (clock_after history last) before
   -- deleted: any value is gone
   pub delete : last.tuple.act ≡ Delete edge → after ≡ None
   -- neither inserted nor deleted: as where it is inserted late
-  pub other : last.tuple.act ≢ Insert edge → last.tuple.act ≢ Delete edge →
+  pub other : (Inserts last.tuple.act edge → ⊥) → last.tuple.act ≢ Delete edge →
       after ≡ above (clock_after history last) before
 
 -- before the first entry no edge has a value, and each entry makes such a step

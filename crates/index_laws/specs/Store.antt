@@ -2,10 +2,9 @@
 -- That an edge has the greatest one is this project's own rule.
 use Rattle.std.specs.Prelude.{◌≡◌, ℕ, List, [], ◌∷◌, ◌++◌, Contains, Option}
 use Rattle.rpq_base.specs.declared.data.Edge.{Edge}
-use Rattle.rpq_base.specs.declared.data.Act.TheVariants.{Insert}
 use Rattle.rpq_base.specs.declared.data.Entry.{Entry}
-use Rattle.rpq_model.specs.Window.{WindowValue, Placed, clock, live_entries}
-use Rattle.rpq_model.specs.WindowLaws.{IsDeadline}
+use Rattle.rpq_model.specs.Window.{WindowValue, Placed, Inserts, clock, live_entries}
+use Rattle.rpq_model.specs.WindowLaws.{IsTupleDeadline}
 use Rattle.tree_insert.specs.Best.{IsGreatestOf}
 
 -- the clock once one entry more has followed a history
@@ -17,8 +16,8 @@ pub record HasDeadline (window : WindowValue) (history : List Entry) (edge : Edg
     (deadline : ℕ) : Type 0 where
   pub live : Placed
   pub member : Contains (live_entries window (clock history) history) live
-  pub inserts : live.entry.tuple.act ≡ Insert edge
-  pub due : IsDeadline window live.entry.tuple.time deadline
+  pub inserts : Inserts live.entry.tuple.act edge
+  pub due : IsTupleDeadline window live.entry.tuple deadline
 
 -- the map from each edge with a live entry to the greatest deadline of its live entries, and from
 -- each other edge to none

@@ -8,7 +8,7 @@ ghost use Rattle.index_laws.specs.LawsOfNumbers.{BestByNumbers, ByNumbersSteps};
 ghost use Rattle.index_laws.specs.LawsOfIndexes.{StoresFollow, IndexKeepsBests, IndexTellsAnswers};
 
 use containment_laws::accepted_queries_have_answers;
-use rpq_model::Language;
+use path_syntax::Language;
 
 /// Each history has a store, and an edge has one value in it.
 pub fn histories_have_stores()

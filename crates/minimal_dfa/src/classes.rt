@@ -5,7 +5,7 @@ ghost use Rattle.dfa_table.specs.Discovery.{AreRows};
 ghost use Rattle.dfa_table.specs.declared.discovery.DiscoveryFault.{DiscoveryFault};
 ghost use Rattle.minimal_dfa.specs.Classes.{AcceptSame, AreTold, StandsFor, LeadsToClass, class_graph};
 
-use dfa_table::discovery::{Discovered, DiscoveryFault, Steps, discover};
+use dfa_table::discovery::{Discovered, DiscoveryFault, Walk, discover};
 use state_pairs::PairTable;
 use std::alloc::Global;
 
@@ -57,7 +57,7 @@ struct Classes<'a> {
     pairs: &'a PairTable<'a>,
 }
 
-impl<'a> Steps for Classes<'a> {
+impl<'a> Walk for Classes<'a> {
     ghost graph = { λ classes. class_graph classes.pairs.now };
 
     ghost can_step = { λ _. Unit {0} };

@@ -22,10 +22,10 @@ use Rattle.rpq_base.proofs.Orders.{both_equal, pair_cmp_total, pair_cmp_exact}
 use Rattle.rpq_base.proofs.Sorted.{sorted_nil, sorted_cons, same_from_members}
 use Rattle.rpq_model.specs.declared.rows.Ended.{Ended}
 use Rattle.rpq_model.specs.Window.{WindowValue, Placed, clock, live_entries}
-use Rattle.rpq_model.specs.WindowLaws.{IsDeadline, IsLiveDeadline}
+use Rattle.rpq_model.specs.WindowLaws.{IsTupleDeadline, IsLiveDeadline}
 use Rattle.rpq_model.specs.Answers.{PathQuery, IsAnswerAt, IsAnswer, AreAnswers}
 use Rattle.rpq_model.specs.Ends.{IsUntil, AreEndedAnswers, pairs_of}
-use Rattle.rpq_model.proofs.Deadlines.{deadline_of, deadline_is, one_deadline}
+use Rattle.rpq_model.proofs.OwnDeadlines.{deadline_of, deadline_is, one_deadline}
 use Rattle.rpq_model.proofs.Ends.{ended_at, lasts_at, until_from_clocks}
 use Rattle.rpq_model.proofs.Lasting.{above_clock, live_before, answer_lasts, no_answer}
 use Rattle.rpq_model.proofs.Lasting.{above_history}
@@ -36,20 +36,20 @@ use Rattle.rpq_model.proofs.Pairs.{has, has_iff}
 -- the deadlines of entries have a bound
 deadline_bound : (live : List Placed) (window : WindowValue) → 0 < window.slide →
     (bound : ℕ) × ((each : Placed) (deadline : ℕ) → Contains live each →
-    IsDeadline window each.entry.tuple.time deadline → deadline ≤ bound)
+    IsTupleDeadline window each.entry.tuple deadline → deadline ≤ bound)
 deadline_bound [] window some = (0, λ each deadline member is. absurd (none_in each member))
 deadline_bound (first ∷ live) window some =
     let rest = deadline_bound live window some in
-    let own = deadline_of window first.entry.tuple.time in (
+    let own = deadline_of window first.entry.tuple in (
       max own rest.0,
       λ each deadline member is. ⊎_elim
           (λ here.
-          let at_first = subst (λ (one : Placed). IsDeadline window one.entry.tuple.time deadline)
+          let at_first = subst (λ (one : Placed). IsTupleDeadline window one.entry.tuple deadline)
           (sym here) is in
           omega (
             arith,
-            one_deadline window first.entry.tuple.time deadline own at_first
-                (deadline_is window first.entry.tuple.time some),
+            one_deadline window first.entry.tuple deadline own at_first
+                (deadline_is window first.entry.tuple some),
           ))
           (λ there. omega (arith, rest.1 each deadline there is))
           ((cons_members first live each).0 member),
@@ -113,26 +113,26 @@ answers_end same query history pair some answer endless =
 
 -- an entry has this deadline, or none has
 deadline_there : (live : List Placed) (window : WindowValue) (wanted : ℕ) → 0 < window.slide →
-    ((each : Placed) × Contains live each × IsDeadline window each.entry.tuple.time wanted)
+    ((each : Placed) × Contains live each × IsTupleDeadline window each.entry.tuple wanted)
     ⊎ ((each : Placed) (deadline : ℕ) → Contains live each →
-    IsDeadline window each.entry.tuple.time deadline → deadline ≢ wanted)
+    IsTupleDeadline window each.entry.tuple deadline → deadline ≢ wanted)
 deadline_there [] window wanted some = inr (λ each deadline member is. absurd (none_in each member))
 deadline_there (first ∷ live) window wanted some =
-    let time = first.entry.tuple.time in
-    let is_own = deadline_is window time some in
+    let tuple = first.entry.tuple in
+    let is_own = deadline_is window tuple some in
     let members = cons_members first live in ⊎_elim
-    (λ same. inl (first, (members first).1 (inl refl), subst (IsDeadline window time) same is_own))
+    (λ same. inl (first, (members first).1 (inl refl), subst (IsTupleDeadline window tuple) same is_own))
     (λ differs. ⊎_elim
     (λ found. inl (found.0, (members found.0).1 (inr found.1), found.2))
     (λ none. inr (λ each deadline member is. ⊎_elim
     (λ here. λ same.
-    let at_first = subst (λ (one : Placed). IsDeadline window one.entry.tuple.time deadline)
+    let at_first = subst (λ (one : Placed). IsTupleDeadline window one.entry.tuple deadline)
     (sym here) is in
-    differs (one_deadline window time (deadline_of window time) deadline is_own at_first ∙ same))
+    differs (one_deadline window tuple (deadline_of window tuple) deadline is_own at_first ∙ same))
     (λ there. none each deadline there is)
     ((members each).0 member)))
     (deadline_there live window wanted some))
-    (cases_eq (deadline_of window time) wanted)
+    (cases_eq (deadline_of window tuple) wanted)
 
 pub ends_are_deadlines : SameIsEqual → (query : PathQuery) (history : List Entry) (pair : Pair)
     (until : ℕ) → 0 < query.window.slide →

@@ -28,12 +28,12 @@ use Rattle.rpq_base.specs.declared.data.Entry.{Entry}
 use Rattle.rpq_base.specs.declared.data.Pair.{Pair}
 use Rattle.rpq_model.specs.Path.{IsPath}
 use Rattle.rpq_model.specs.Window.{WindowValue, Placed, clock, live_entries, edges_at}
-use Rattle.rpq_model.specs.WindowLaws.{IsDeadline, IsLiveDeadline}
+use Rattle.rpq_model.specs.WindowLaws.{IsTupleDeadline, IsLiveDeadline}
 use Rattle.rpq_model.specs.Answers.{PathQuery, IsAnswerAt, AreAnswersAt}
 use Rattle.rpq_model.specs.declared.rows.Ended.{Ended}
 use Rattle.rpq_model.specs.Ends.{IsUntil, AreEndedAnswers, pairs_of}
 use Rattle.rpq_model.specs.Lasting.{AreDeadlines, GivesEnd, row_of}
-use Rattle.rpq_model.proofs.Deadlines.{deadline_of, deadline_is, one_deadline, seen_below_deadline}
+use Rattle.rpq_model.proofs.OwnDeadlines.{deadline_of, deadline_is, one_deadline, seen_below_deadline}
 use Rattle.rpq_model.proofs.Ends.{later_answers_less, ended_at, lasts_at, until_from_clocks}
 use Rattle.rpq_model.proofs.LiveEdges.{at_place, is_equal}
 use Rattle.rpq_model.proofs.Pairs.{has, has_iff}
@@ -48,7 +48,7 @@ pub above_clock : SameIsEqual → (window : WindowValue) (now : ℕ) (entries : 
     IsLiveDeadline window now entries deadline → now < deadline
 above_clock same window now entries deadline some is =
     let live = (live_by_places same window now entries is.0).0 is.1 in
-    (seen_below_deadline window now is.0.entry.tuple.time deadline some is.2).0 live.1.seen
+    (seen_below_deadline window now is.0.entry.tuple deadline some is.2).0 live.1.seen
 
 -- what is live at a later clock is live before
 pub live_before : SameIsEqual → (window : WindowValue) (now later : ℕ) (entries : List Entry)
@@ -66,16 +66,15 @@ edge_lasts : SameIsEqual → (window : WindowValue) (now : ℕ) (entries : List 
 edge_lasts same window now entries edge some member =
     let found = to_place entries window now edge same member in
     let entry = found.1 in
-    let time = entry.tuple.time in
-    let is = deadline_is window time some in
+    let is = deadline_is window entry.tuple some in
     let live : Placed = at_place found.0 entry in
     let there : Contains (live_entries window now entries) live =
     (live_by_places same window now entries live).1 (edge, found.2) in (
-      deadline_of window time,
+      deadline_of window entry.tuple,
       (live, there, is),
       λ later less. from_place entries found.0 entry window later edge same (record {
         undeleted = found.2.undeleted;
-        seen = (seen_below_deadline window later time (deadline_of window time) some is).1 less;
+        seen = (seen_below_deadline window later entry.tuple (deadline_of window entry.tuple) some is).1 less;
       }),
     )
 
@@ -409,26 +408,26 @@ last_deadline same query history deadlines place horizon ends some are so_far al
 -- the numbers are exactly the deadlines of these entries
 abbrev pub AreDeadlinesOf : WindowValue → List Placed → List ℕ → Type 0
 AreDeadlinesOf window live deadlines = (deadline : ℕ) → Contains deadlines deadline
-    ↔ ((each : Placed) × Contains live each × IsDeadline window each.entry.tuple.time deadline)
+    ↔ ((each : Placed) × Contains live each × IsTupleDeadline window each.entry.tuple deadline)
 
 -- one entry more
 pub one_deadline_more : (window : WindowValue) (live : List Placed) (one : Placed)
     (more : List Placed) (deadline : ℕ) (before after : List ℕ) →
-    HasOneMore live one more → IsDeadline window one.entry.tuple.time deadline →
+    HasOneMore live one more → IsTupleDeadline window one.entry.tuple deadline →
     after ≡ insert_key nat_cmp before deadline →
     AreDeadlinesOf window live before → AreDeadlinesOf window more after
 one_deadline_more window live one more deadline before after has_more is after_is are other =
     let members = insert_members exact_unsigned before deadline other in (
       (λ member. ⊎_elim
-          (λ here. (one, has_more.here, subst (IsDeadline window one.entry.tuple.time) here is))
+          (λ here. (one, has_more.here, subst (IsTupleDeadline window one.entry.tuple) here is))
           (λ there.
           let found = (are other).0 there in
           (found.0, has_more.still found.0 found.1, found.2))
           (members.0 (subst (λ (all : List ℕ). Contains all other) after_is member))),
       (λ found. subst (λ (all : List ℕ). Contains all other) (sym after_is) (members.1 (⊎_elim
           (λ there. inr ((are other).1 (found.0, there, found.2)))
-          (λ here. inl (one_deadline window one.entry.tuple.time deadline other is
-          (subst (λ (each : Placed). IsDeadline window each.entry.tuple.time other)
+          (λ here. inl (one_deadline window one.entry.tuple deadline other is
+          (subst (λ (each : Placed). IsTupleDeadline window each.entry.tuple other)
           (sym here) found.2)))
           (has_more.cases found.0 found.1)))),
     )

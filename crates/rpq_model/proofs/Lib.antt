@@ -7,6 +7,7 @@ pub mod Places
 pub mod Composing
 pub mod Paths
 pub mod Deadlines
+pub mod OwnDeadlines
 pub mod OneMore
 pub mod Ends
 mod Lasting
@@ -15,7 +16,7 @@ pub mod EachEntry
 pub mod ByMembers
 mod ByLabel
 pub mod Closing
-mod Merging
+pub mod Merging
 pub mod EachOnce
 mod Sequences
 mod ByCases
@@ -25,3 +26,5 @@ pub mod Ticks
 pub mod Queries
 pub mod AllEvents
 mod Existence
+pub mod Clocks
+mod EndsOfInserts

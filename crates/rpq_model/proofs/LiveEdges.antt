@@ -23,7 +23,7 @@ use Rattle.rpq_base.specs.declared.data.Act.{Act}
 use Rattle.rpq_base.specs.declared.data.Act.TheVariants.{Insert, Delete, Tick}
 use Rattle.rpq_base.specs.declared.data.Entry.{Entry}
 use Rattle.rpq_model.specs.declared.live.Live.{Live}
-use Rattle.rpq_model.specs.Window.{WindowValue, Placed, inserted_edge, deletes, is_deleted, is_live, live_from, inserted_edges, edges_at}
+use Rattle.rpq_model.specs.Window.{WindowValue, Placed, Inserts, inserted_edge, deletes, is_deleted, is_live, live_from, inserted_edges, edges_at}
 use Rattle.rpq_model.specs.Live.{placed_entry}
 use Rattle.rpq_model.specs.Deleted.{EdgeKey, edge_of, key_cmp, HoldsEdges}
 
@@ -62,9 +62,19 @@ pub none_live : (window : WindowValue) (now : ℕ) → edges_at window now [] �
 unfolding live_from
 none_live window now = refl
 
+-- an act inserts one edge at most, and what inserts an edge deletes none and is no tick
+pub one_inserted : (act : Act) (edge other : Edge) → Inserts act edge → Inserts act other → edge ≡ other
+one_inserted act edge other inserts also = let both : Some edge ≡ Some other = sym inserts ∙ also in cc
+
+pub inserts_no_delete : (act : Act) (edge other : Edge) → Inserts act edge → act ≡ Delete other → ⊥
+inserts_no_delete act edge other inserts deletes = let both : None ≡ Some edge = sym (ap inserted_edge deletes) ∙ inserts in cc
+
+pub inserts_no_tick : (act : Act) (edge : Edge) → Inserts act edge → act ≡ Tick → ⊥
+inserts_no_tick act edge inserts ticks = let both : None ≡ Some edge = sym (ap inserted_edge ticks) ∙ inserts in cc
+
 -- what is no insert inserts no edge
-pub none_inserted : (act : Act) → ((edge : Edge) → act ≡ Insert edge → ⊥) → inserted_edge act ≡ None
-none_inserted (Insert edge) none = absurd (none edge refl)
+pub none_inserted : (act : Act) → ((edge : Edge) (until : Option ℕ) → act ≡ Insert edge until → ⊥) → inserted_edge act ≡ None
+none_inserted (Insert edge until) none = absurd (none edge until refl)
 none_inserted (Delete edge) none = refl
 none_inserted Tick none = refl
 

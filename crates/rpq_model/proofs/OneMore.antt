@@ -28,7 +28,7 @@ pub no_delete_act : SameIsEqual → (act : Act) (edge : Edge) → deletes edge a
 no_delete_act same act edge e is = false≢true (sym e ∙ (ap (deletes edge) is ∙ (same.edges edge edge).1 refl))
 
 pub deletes_no : SameIsEqual → (act : Act) (edge : Edge) → (act ≡ Delete edge → ⊥) → deletes edge act ≡ false
-deletes_no same (Insert other) edge no_ = refl
+deletes_no same (Insert other until) edge no_ = refl
 deletes_no same (Delete other) edge no_ = tested (deletes edge (Delete other)) refl
   where
     tested : (test : Bool) → deletes edge (Delete other) ≡ test → deletes edge (Delete other) ≡ false

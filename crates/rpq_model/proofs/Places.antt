@@ -8,21 +8,22 @@ use Rattle.std.proofs.lemmas.List.Elements.{All-cons, All-nil, All-weaker}
 use Rattle.std.proofs.lemmas.List.Kept.{AllPairs-cons}
 use Rattle.std.proofs.lemmas.Map.Keys.{any_passes_from_place}
 use Rattle.rpq_base.specs.Laws.{SameIsEqual}
+use Rattle.rpq_base.specs.OwnEnds.{own_end}
 use Rattle.rpq_base.specs.declared.data.Edge.{Edge}
 use Rattle.rpq_base.specs.declared.data.Act.{Act}
 use Rattle.rpq_base.specs.declared.data.Act.TheVariants.{Insert, Delete, Tick}
 use Rattle.rpq_base.specs.declared.data.Entry.{Entry}
-use Rattle.rpq_model.specs.Window.{WindowValue, Placed, is_in_window, inserted_edge, deletes, is_deleted, is_live_act, is_live, live_from, edges_at}
-use Rattle.rpq_model.specs.WindowLaws.{IsLiveAt, LiveByPlaces, LiveInOrder, EdgesByPlaces, LiveBelowDeadline, LaterSeesLess}
+use Rattle.rpq_model.specs.Window.{WindowValue, Placed, Inserts, is_seen, inserted_edge, deletes, is_deleted, is_live_act, is_live, live_from, edges_at}
+use Rattle.rpq_model.specs.WindowLaws.{is_tuple_seen, IsLiveAt, LiveByPlaces, LiveInOrder, EdgesByPlaces, LiveBelowDeadline, LaterSeesLess}
 use Rattle.rpq_model.proofs.LiveEdges.{at_place, first_live}
-use Rattle.rpq_model.proofs.Deadlines.{seen_below_deadline, seen_before}
+use Rattle.rpq_model.proofs.OwnDeadlines.{seen_below_deadline, seen_before}
 use Rattle.rpq_base.proofs.Members.{cons_members}
 
 -- ---- deletes
 
 -- an act that deletes an edge is its delete
 deletes_it : SameIsEqual → (act : Act) (edge : Edge) → deletes edge act ≡ true → act ≡ Delete edge
-deletes_it same (Insert other) edge e = absurd (false≢true e)
+deletes_it same (Insert other until) edge e = absurd (false≢true e)
 deletes_it same (Delete other) edge e = ap Delete (sym ((same.edges edge other).0 e))
 deletes_it same Tick edge e = absurd (false≢true e)
 
@@ -51,23 +52,28 @@ chosen : (live : Bool) (other edge : Edge) → (if live then Some other else Non
 chosen true other edge e = (refl, cc)
 chosen false other edge e = cc
 
--- an act that is live inserts an edge that is in the window and stays
+-- an act that is live inserts an edge that is seen and stays
 pub live_act : (act : Act) (window : WindowValue) (now time : ℕ) (later : List Entry) (edge : Edge) →
     (if is_live_act window now time act later then inserted_edge act else None) ≡ Some edge →
-    (act ≡ Insert edge) × (is_in_window window now time ≡ true) × (is_deleted later edge ≡ false)
-live_act (Insert other) window now time later edge e =
-    let seen = is_in_window window now time in
+    Inserts act edge × (is_seen window now time (own_end act) ≡ true) × (is_deleted later edge ≡ false)
+live_act (Insert other until) window now time later edge e =
+    let seen = is_seen window now time until in
     let here = chosen (seen && not (is_deleted later other)) other edge e in
     let parts = and_parts seen (not (is_deleted later other)) here.0 in
-    (ap Insert here.1, parts.0, ap (is_deleted later) (sym here.1) ∙ not-true (is_deleted later other) parts.1)
+    (ap (λ (one : Edge). Some one) here.1, parts.0, ap (is_deleted later) (sym here.1) ∙ not-true (is_deleted later other) parts.1)
 live_act (Delete other) window now time later edge e = cc
 live_act Tick window now time later edge e = cc
 
--- an act that inserts an edge that is in the window and stays is live
+-- an act that inserts an edge that is seen and stays is live
 pub act_is_live : (act : Act) (window : WindowValue) (now time : ℕ) (later : List Entry) (edge : Edge) →
-    act ≡ Insert edge → is_in_window window now time ≡ true → is_deleted later edge ≡ false →
+    Inserts act edge → is_seen window now time (own_end act) ≡ true → is_deleted later edge ≡ false →
     (if is_live_act window now time act later then inserted_edge act else None) ≡ Some edge
-act_is_live act window now time later edge inserts seen stays = rw inserts (rw (seen, stays))
+act_is_live (Insert other until) window now time later edge inserts seen stays =
+    let same_edge : other ≡ edge = cc in
+    let kept = ap (is_deleted later) same_edge ∙ stays in
+    rw (seen, kept) inserts
+act_is_live (Delete other) window now time later edge inserts seen stays = cc
+act_is_live Tick window now time later edge inserts seen stays = cc
 
 -- ---- members, entry by entry
 
@@ -163,8 +169,8 @@ pub from_place : (history : List Entry) (place : ℕ) (live : Entry) (window : W
 from_place [] place live window now edge same is = let there = is.undeleted.there in cc
 from_place (entry ∷ later) zero live window now edge same is =
     let same_entry : entry ≡ live = let there = is.undeleted.there in cc in
-    let inserts = ap (λ (each : Entry). each.tuple.act) same_entry ∙ is.undeleted.inserts in
-    let seen = ap (λ (each : Entry). is_in_window window now each.tuple.time) same_entry ∙ is.seen in
+    let inserts = ap (λ (each : Entry). inserted_edge each.tuple.act) same_entry ∙ is.undeleted.inserts in
+    let seen = ap (λ (each : Entry). is_tuple_seen window now each.tuple) same_entry ∙ is.seen in
     let kept = false_from_ne_true (is_deleted later edge) (λ e.
     let found = deleted_place later edge same e in
     is.undeleted.stays (suc found.0) found.1 (omega arith) found.2 found.3) in
@@ -201,16 +207,21 @@ choice_members false first rest live = (
 
 -- an act that is live inserts an edge
 live_inserts : (act : Act) (window : WindowValue) (now time : ℕ) (later : List Entry) → is_live_act window now time act later ≡ true →
-    (edge : Edge) × (act ≡ Insert edge) × (is_in_window window now time ≡ true) × (is_deleted later edge ≡ false)
-live_inserts (Insert edge) window now time later e =
-    let parts = and_parts (is_in_window window now time) (not (is_deleted later edge)) e in
+    (edge : Edge) × Inserts act edge × (is_seen window now time (own_end act) ≡ true) × (is_deleted later edge ≡ false)
+live_inserts (Insert edge until) window now time later e =
+    let parts = and_parts (is_seen window now time until) (not (is_deleted later edge)) e in
     (edge, refl, parts.0, not-true (is_deleted later edge) parts.1)
 live_inserts (Delete edge) window now time later e = absurd (false≢true e)
 live_inserts Tick window now time later e = absurd (false≢true e)
 
-inserts_live : (act : Act) (window : WindowValue) (now time : ℕ) (later : List Entry) (edge : Edge) → act ≡ Insert edge →
-    is_in_window window now time ≡ true → is_deleted later edge ≡ false → is_live_act window now time act later ≡ true
-inserts_live act window now time later edge inserts seen stays = rw inserts (rw (seen, stays) refl)
+inserts_live : (act : Act) (window : WindowValue) (now time : ℕ) (later : List Entry) (edge : Edge) → Inserts act edge →
+    is_seen window now time (own_end act) ≡ true → is_deleted later edge ≡ false → is_live_act window now time act later ≡ true
+inserts_live (Insert other until) window now time later edge inserts seen stays =
+    let same_edge : other ≡ edge = cc in
+    let kept = ap (is_deleted later) same_edge ∙ stays in
+    rw (seen, kept) refl
+inserts_live (Delete other) window now time later edge inserts seen stays = cc
+inserts_live Tick window now time later edge inserts seen stays = cc
 
 -- a live entry, by its distance from the first
 pub to_live : (entries : List Entry) (window : WindowValue) (now first : ℕ) (live : Placed) → SameIsEqual → Contains (live_from window now first entries) live →
@@ -246,8 +257,8 @@ unfolding live_from
 from_live [] distance window now first edge live same at is = let there = is.undeleted.there in cc
 from_live (entry ∷ later) zero window now first edge live same at is =
     let same_entry : entry ≡ live.entry = let there = is.undeleted.there in cc in
-    let inserts = ap (λ (each : Entry). each.tuple.act) same_entry ∙ is.undeleted.inserts in
-    let seen = ap (λ (each : Entry). is_in_window window now each.tuple.time) same_entry ∙ is.seen in
+    let inserts = ap (λ (each : Entry). inserted_edge each.tuple.act) same_entry ∙ is.undeleted.inserts in
+    let seen = ap (λ (each : Entry). is_tuple_seen window now each.tuple) same_entry ∙ is.seen in
     let kept = false_from_ne_true (is_deleted later edge) (λ e.
     let found = deleted_place later edge same e in
     is.undeleted.stays (suc found.0) found.1 (omega arith) found.2 found.3) in
@@ -272,7 +283,7 @@ live_by_places same window now entries live = (
 -- an insert that no later entry deletes is live below its deadline
 pub live_below_deadline : SameIsEqual → LiveBelowDeadline
 live_below_deadline same window now entries edge live deadline some undeleted is =
-    let below = seen_below_deadline window now live.entry.tuple.time deadline some is in (
+    let below = seen_below_deadline window now live.entry.tuple deadline some is in (
       (λ member. below.0 ((live_by_places same window now entries live).0 member).1.seen),
       (λ less. (live_by_places same window now entries live).1 (edge, record { undeleted = undeleted; seen = below.1 less })),
     )
@@ -282,14 +293,14 @@ pub later_sees_less : SameIsEqual → LaterSeesLess
 later_sees_less same window now later entries live some le member =
     let found = (live_by_places same window later entries live).0 member in
     (live_by_places same window now entries live).1
-    (found.0, record { undeleted = found.1.undeleted; seen = seen_before window now later live.entry.tuple.time some le found.1.seen })
+    (found.0, record { undeleted = found.1.undeleted; seen = seen_before window now later live.entry.tuple some le found.1.seen })
 
 pub edges_before : SameIsEqual → (entries : List Entry) (window : WindowValue) (now later : ℕ) (edge : Edge) → 0 < window.slide → now ≤ later →
     Contains (edges_at window later entries) edge → Contains (edges_at window now entries) edge
 edges_before same entries window now later edge some le member =
     let found = to_place entries window later edge same member in
     from_place entries found.0 found.1 window now edge same
-    (record { undeleted = found.2.undeleted; seen = seen_before window now later found.1.tuple.time some le found.2.seen })
+    (record { undeleted = found.2.undeleted; seen = seen_before window now later found.1.tuple some le found.2.seen })
 
 -- ---- their order
 

@@ -12,9 +12,9 @@ use Rattle.rpq_base.specs.declared.data.Act.{Act}
 use Rattle.rpq_base.specs.declared.data.Act.TheVariants.{Insert, Delete, Tick}
 use Rattle.rpq_base.specs.declared.data.Entry.{Entry}
 use Rattle.rpq_base.specs.declared.data.Pair.{Pair}
-use Rattle.rpq_model.specs.Window.{WindowValue, clock, is_in_window, inserted_edge, deletes, is_deleted, is_live_act, is_live, live_from, edges_at}
+use Rattle.rpq_model.specs.Window.{WindowValue, Inserts, clock, is_seen, inserted_edge, deletes, is_deleted, is_live_act, is_live, live_from, edges_at}
 use Rattle.rpq_model.specs.Answers.{PathQuery, IsJoinedBy, IsAnswerAt, IsAnswer}
-use Rattle.rpq_model.specs.WindowLaws.{DeleteTakesAllBefore, LastInsertIsSeen}
+use Rattle.rpq_model.specs.WindowLaws.{is_tuple_seen, DeleteTakesAllBefore, LastInsertIsSeen}
 use Rattle.rpq_model.proofs.LiveEdges.{first_live}
 use Rattle.rpq_model.proofs.Places.{live_act, act_is_live, found_or_later, from_found, from_later}
 
@@ -33,7 +33,7 @@ not_deleted entries tick edge is =
 -- and leaves each act as live as it was
 live_still : (act : Act) (window : WindowValue) (now time : ℕ) (later : List Entry) (tick : Entry) → tick.tuple.act ≡ Tick →
     is_live_act window now time act (later ++ tick ∷ []) ≡ is_live_act window now time act later
-live_still (Insert edge) window now time later tick is = ap (λ (deleted : Bool). is_in_window window now time && not deleted) (not_deleted later tick edge is)
+live_still (Insert edge until) window now time later tick is = ap (λ (deleted : Bool). is_seen window now time until && not deleted) (not_deleted later tick edge is)
 live_still (Delete edge) window now time later tick is = refl
 live_still Tick window now time later tick is = refl
 
@@ -42,7 +42,7 @@ tick_alone : (act : Act) (window : WindowValue) (now time : ℕ) → act ≡ Tic
 tick_alone act window now time is = rw is
 
 -- so at one clock the edges stay
-edges_still : (entries : List Entry) (window : WindowValue) (now : ℕ) (tick : Entry) → tick.tuple.act ≡ Tick →
+pub edges_still : (entries : List Entry) (window : WindowValue) (now : ℕ) (tick : Entry) → tick.tuple.act ≡ Tick →
     edges_at window now (entries ++ tick ∷ []) ≡ edges_at window now entries
 unfolding live_from
 edges_still [] window now tick is = first_live window now tick [] ∙ tick_alone tick.tuple.act window now tick.tuple.time is
@@ -110,8 +110,8 @@ delete_takes_all_before same window now entries last edge = taken_before entries
 
 -- ---- an insert
 
-seen_last : (entries : List Entry) (window : WindowValue) (now : ℕ) (last : Entry) (edge : Edge) → last.tuple.act ≡ Insert edge →
-    is_in_window window now last.tuple.time ≡ true →
+seen_last : (entries : List Entry) (window : WindowValue) (now : ℕ) (last : Entry) (edge : Edge) → Inserts last.tuple.act edge →
+    is_tuple_seen window now last.tuple ≡ true →
     Contains (edges_at window now (entries ++ last ∷ [])) edge
 seen_last [] window now last edge is seen =
     subst (λ (edges : List Edge). Contains edges edge) (sym (first_live window now last []))

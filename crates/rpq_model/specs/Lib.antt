@@ -10,6 +10,7 @@ pub mod Query
 pub mod QueryEvents
 pub mod QueryCode
 pub mod WindowLaws
+pub mod OwnEndLaws
 pub mod AnswerLaws
 pub mod EventLaws
 pub mod Relations

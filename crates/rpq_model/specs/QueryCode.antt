@@ -96,7 +96,8 @@ label_code =
 -- an expression as its labels and operators
 abbrev pub expression_code : Coded Expression
 expression_code =
-    code_by (List Sign) (coded_list (coded⊎ label_code (coded⊎ coded_bool (coded_option coded_bool))))
+    code_by (List Sign)
+    (coded_list (coded⊎ label_code (coded⊎ coded_bool (coded_option coded_bool))))
     signs of_signs (λ expression. ap last_of (signs_read expression []))
 
 abbrev pub is_simple : Mode → Bool

@@ -11,9 +11,8 @@ ghost use Rattle.rpq_model.specs.AnswerLaws.{LaterAnswersLess, LastsBelowItsEnd,
 ghost use Rattle.rpq_model.specs.AnswerLaws.{EndsAreDeadlines, EndedAnswersAreOne};
 ghost use Rattle.rpq_model.specs.AnswerLaws.{EndedAnswersAreAnswers};
 
-use crate::language::Language;
 use crate::mode::Mode;
-use path_syntax::nullable_has_empty_word;
+use path_syntax::{Language, nullable_has_empty_word};
 use rpq_base::same_is_equal;
 
 /// A query has at most one list of answers at a clock.

@@ -10,7 +10,7 @@ use std::alloc::Global;
 use std::cmp::Ordering;
 
 /// Edges by source, label and target, so that equal ones are side by side.
-fn compared(edge: &Edge, other: &Edge) -> Ordering {
+fn compare_edges(edge: &Edge, other: &Edge) -> Ordering {
     edge.from
         .cmp(&other.from)
         .then(edge.label.cmp(&other.label))
@@ -29,7 +29,7 @@ pub(crate) fn distinct_edges<'a>(alloc: Global, edges: &[&'a Edge]) -> Result<Ve
         Contains (values distinct.items) edge ↔ Contains (values edges.now) edge) }
 {
     let mut distinct = Vec::from_slice(alloc, edges)?;
-    distinct.sort_by(|edge, other| compared(edge, other))?;
+    distinct.sort_by(|edge, other| compare_edges(edge, other))?;
     distinct.dedup_by(|edge, kept| is_same(edge, kept));
     Ok(distinct)
 }

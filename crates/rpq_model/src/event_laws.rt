@@ -7,7 +7,7 @@ ghost use Rattle.rpq_model.specs.EventLaws.{EventsAreChanges, HeldIsAnswers, Eac
 ghost use Rattle.rpq_model.specs.EventLaws.{HeldStep, EntryEventsAreOne, EachHasOneList};
 ghost use Rattle.rpq_model.specs.EventLaws.{EventsGrow, EventsHaveFronts};
 
-use crate::language::Language;
+use path_syntax::Language;
 use rpq_base::same_is_equal;
 
 /// A query has at most one list of events from one history to another.

@@ -4,6 +4,10 @@
 //! The definitions in `specs/` are stated once, over path queries: a language given as a predicate
 //! on words, the paths that a query takes, and its window. A query definition means the path query
 //! whose language is that of its expression. The layer above uses them, and the laws here.
+//!
+//! An insert is seen while its time is in the window. It may have an end of its own, as a lease
+//! has: then it is seen only before that time, which isn't rounded to the slide of the window.
+//!
 //! [`plain_answers`] computes the answers of any query with no automaton: in polynomial time where
 //! it takes all paths, and in exponential time where it takes the simple ones; [`plain_rows`]
 //! computes the end of each of them too. Of the parts that evaluations share, [`clock`] and
@@ -15,9 +19,9 @@ mod closure;
 mod distinct;
 mod event_laws;
 mod events;
-mod language;
 mod live;
 mod mode;
+mod own_end_laws;
 mod plain;
 mod query;
 mod relation;
@@ -38,9 +42,12 @@ pub use event_laws::{
     held_is_answers, held_step,
 };
 pub use events::changes;
-pub use language::Language;
 pub use live::{Live, live_entries};
 pub use mode::Mode;
+pub use own_end_laws::{
+    early_end_never_lives, end_beyond_the_window, inserts_have_deadlines, later_deadline_decides,
+    live_below_its_end, tick_at_the_end,
+};
 pub use plain::plain_answers;
 pub use query::QueryDef;
 pub use rows::{Ended, plain_rows};

@@ -9,7 +9,7 @@ ghost use Rattle.rpq_model.specs.Live.{placed_entry};
 ghost use Rattle.rpq_model.specs.Deleted.{EdgeKey, edge_of, key_cmp, HoldsEdges};
 ghost use Rattle.rpq_model.specs.Relations.{values};
 
-use crate::window::{Window, is_in_window};
+use crate::window::{Window, is_seen};
 use rpq_base::{Act, Edge, Entry, Label, Memory, Name};
 use std::alloc::Global;
 use std::collections::BTreeSet;
@@ -48,15 +48,16 @@ fn is_live<'a>(window: Window, now: u64, entry: &'a Entry, deleted: &BTreeSet<Ed
         result ≡ is_live window now entry.now later }
 {
     match &entry.tuple.act {
-        Act::Insert(edge) => {
-            is_in_window(window, now, entry.tuple.time) && !deleted.contains(&key_of(edge))
+        Act::Insert { edge, until } => {
+            is_seen(window, now, entry.tuple.time, *until) && !deleted.contains(&key_of(edge))
         }
         Act::Delete(_) | Act::Tick => false,
     }
 }
 
 /// The entries that are live at a clock, with their places, in order: those that insert an edge
-/// which is in the window, and which no later entry deletes. The clock may be any number.
+/// whose time is in the window, whose own end, if it has one, is above the clock, and which no
+/// later entry deletes. The clock may be any number.
 ///
 /// The entries are gone through once, from the last to the first, with the set of the edges deleted
 /// so far.
@@ -90,7 +91,7 @@ fn inserted_edges<'a>(alloc: Global, live: &[Live<'a>]) -> Result<Vec<&'a Edge>,
     let mut edges = Vec::new(alloc);
     for each in live {
         let entry = each.entry;
-        if let Act::Insert(edge) = &entry.tuple.act {
+        if let Act::Insert { edge, .. } = &entry.tuple.act {
             edges.push(edge)?;
         }
     }

@@ -13,7 +13,7 @@ use crate::distinct::distinct_edges;
 use crate::live::live_edges;
 use crate::mode::Mode;
 use crate::query::QueryDef;
-use crate::relation::{composed, joined_by_label, united};
+use crate::relation::{composition, joined_by_label, union};
 use crate::simple::joined_simply;
 use crate::window::clock;
 use path_syntax::{Expr, has_empty_word};
@@ -22,27 +22,27 @@ use std::alloc::Global;
 
 /// The pairs that a path of the edges joins whose word is in the language of the expression. A path
 /// has at least one edge, so the empty word joins no pair.
-pub(crate) fn joined(alloc: Global, expr: &Expr, edges: &[&Edge]) -> Result<Vec<Pair>, Memory>
+pub(crate) fn joined_pairs(alloc: Global, expr: &Expr, edges: &[&Edge]) -> Result<Vec<Pair>, Memory>
     ensures { IfOk result (λ pairs. AreExactly
         (IsJoinedBy (values edges.now) (In (expression expr.now)) Arbitrary) pairs.items) }
 {
     match expr {
         Expr::Atom(label) => joined_by_label(alloc, label, edges),
         Expr::Seq(left, right) => {
-            let firsts = joined(alloc, left, edges)?;
-            let seconds = joined(alloc, right, edges)?;
+            let firsts = joined_pairs(alloc, left, edges)?;
+            let seconds = joined_pairs(alloc, right, edges)?;
             let no_first = has_empty_word(left);
             let no_second = has_empty_word(right);
-            composed(alloc, &firsts, &seconds, no_first, no_second)
+            composition(alloc, &firsts, &seconds, no_first, no_second)
         }
         Expr::Alt(left, right) => {
-            let pairs = joined(alloc, left, edges)?;
-            let others = joined(alloc, right, edges)?;
-            united(alloc, &pairs, &others)
+            let pairs = joined_pairs(alloc, left, edges)?;
+            let others = joined_pairs(alloc, right, edges)?;
+            union(alloc, &pairs, &others)
         }
-        Expr::Star(body) => closure(alloc, &joined(alloc, body, edges)?),
-        Expr::Plus(body) => closure(alloc, &joined(alloc, body, edges)?),
-        Expr::Opt(body) => joined(alloc, body, edges),
+        Expr::Star(body) => closure(alloc, &joined_pairs(alloc, body, edges)?),
+        Expr::Plus(body) => closure(alloc, &joined_pairs(alloc, body, edges)?),
+        Expr::Opt(body) => joined_pairs(alloc, body, edges),
     }
 }
 
@@ -69,7 +69,7 @@ pub(crate) fn answers_at(
 {
     let edges = live_edges(alloc, query.window, now, entries)?;
     match query.mode {
-        Mode::Arbitrary => joined(alloc, &query.expr, &edges),
+        Mode::Arbitrary => joined_pairs(alloc, &query.expr, &edges),
         Mode::Simple => joined_simply_once(alloc, &query.expr, &edges),
     }
 }

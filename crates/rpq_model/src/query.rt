@@ -2,10 +2,9 @@
 
 ghost use Rattle.std.specs.Prelude.{◌≡◌, IfOk};
 
-use crate::language::Language;
 use crate::mode::Mode;
 use crate::window::Window;
-use path_syntax::Expr;
+use path_syntax::{Expr, Language};
 use rpq_base::{Copied, Memory, Name};
 use std::alloc::Global;
 use std::marker::Model;

@@ -99,7 +99,7 @@ pub(crate) fn add_composed(
 }
 
 /// The pairs of both lists.
-pub(crate) fn united(alloc: Global, pairs: &[Pair], others: &[Pair]) -> Result<Vec<Pair>, Memory>
+pub(crate) fn union(alloc: Global, pairs: &[Pair], others: &[Pair]) -> Result<Vec<Pair>, Memory>
     ensures { IfOk result (λ all.
         AreExactly (λ pair. Contains pairs.now pair ⊎ Contains others.now pair) all.items) }
 {
@@ -111,7 +111,7 @@ pub(crate) fn united(alloc: Global, pairs: &[Pair], others: &[Pair]) -> Result<V
 
 /// The pairs that one of the first pairs and, after it, one of the second lead to, with the first
 /// alone where the second may be left out, and the second alone where the first may.
-pub(crate) fn composed(
+pub(crate) fn composition(
     alloc: Global,
     firsts: &[Pair],
     seconds: &[Pair],

@@ -2,8 +2,8 @@
 
 ghost use Rattle.std.specs.Prelude.{◌≡◌, ◌≤◌};
 ghost use Rattle.rpq_base.specs.declared.data.TheConstants.{MAX_TIME};
-ghost use Rattle.rpq_model.specs.Window.{clock, is_in_window};
-ghost use Rattle.rpq_model.specs.WindowLaws.{IsDeadline};
+ghost use Rattle.rpq_model.specs.Window.{clock, is_in_window, is_seen};
+ghost use Rattle.rpq_model.specs.WindowLaws.{IsDeadline, IsDeadlineOf};
 
 use rpq_base::{Entry, MAX_TIME};
 use std::marker::Model;
@@ -30,9 +30,11 @@ impl Model for Window {
     ghost inverse = { λ window. record { size = window.size; slide = window.slide } };
 }
 
-/// The clock of a history: the greatest time in it, and 0 for the empty one.
+/// The clock of a history: the greatest time in it, and 0 for the empty one. It is at most
+/// [`MAX_TIME`], as each time is.
 pub fn clock(history: &[Entry]) -> u64
-    ensures { result ≡ clock history.now }
+    ensures clock { result ≡ clock history.now }
+    ensures to { result ≤ MAX_TIME }
 {
     let mut latest = 0;
     for entry in history {
@@ -41,19 +43,45 @@ pub fn clock(history: &[Entry]) -> u64
     latest
 }
 
-/// Whether an edge of this time is seen at this clock by a query with this window.
-pub(crate) fn is_in_window(window: Window, now: u64, time: u64) -> bool
+/// Whether an edge of this time is in the window at this clock.
+fn is_in_window(window: Window, now: u64, time: u64) -> bool
     requires { time ≤ MAX_TIME }
     ensures { result ≡ is_in_window window now time }
 {
     now / window.slide * window.slide < time + window.size
 }
 
+/// Whether an edge of this time, with this end of its own if it has one, is seen at this clock by a
+/// query with this window. The end counts as it is, whatever the slide.
+pub(crate) fn is_seen(window: Window, now: u64, time: u64, until: Option<u64>) -> bool
+    requires { time ≤ MAX_TIME }
+    ensures { result ≡ is_seen window now time until }
+{
+    let is_before_end = match until {
+        Some(end) => now < end,
+        None => true,
+    };
+    is_in_window(window, now, time) && is_before_end
+}
+
 /// The deadline of an edge of this time: the least multiple of the slide that is at least the time
 /// and the size of the window together. The edge is in the window at the clocks below it.
-pub(crate) fn deadline(window: Window, time: u64) -> u64
+fn deadline(window: Window, time: u64) -> u64
     requires { time ≤ MAX_TIME }
     ensures { IsDeadline window time result }
 {
     (time + window.size).next_multiple_of(window.slide)
+}
+
+/// The deadline of an insert of this time, with this end of its own if it has one: that of its
+/// time, or its end where that is less. The edge is seen at the clocks below it.
+pub(crate) fn deadline_of(window: Window, time: u64, until: Option<u64>) -> u64
+    requires { time ≤ MAX_TIME }
+    ensures { IsDeadlineOf window time until result }
+{
+    let deadline = deadline(window, time);
+    match until {
+        Some(end) => deadline.min(end),
+        None => deadline,
+    }
 }

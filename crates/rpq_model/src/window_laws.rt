@@ -32,7 +32,8 @@ pub fn times_have_deadlines()
     ensures { TimesHaveDeadlines }
 {}
 
-/// An insert that no later entry deletes is live exactly where its deadline is above the clock.
+/// An insert that no later entry deletes is live exactly where its deadline, which may be its own
+/// end, is above the clock.
 pub fn live_below_deadline()
     ensures { LiveBelowDeadline }
 {
@@ -46,9 +47,9 @@ pub fn later_sees_less()
     same_is_equal()
 }
 
-/// What one entry more changes, at any clock: an insert adds its edge, if that is in the window; a
-/// delete takes its edge; all other live edges stay; and the clock becomes the greater of the clock
-/// before and the entry's time.
+/// What one entry more changes, at any clock: an insert adds its edge, if that is in the window and
+/// the clock is before its own end; a delete takes its edge; all other live edges stay; and the
+/// clock becomes the greater of the clock before and the entry's time.
 pub fn one_entry_more()
     ensures { OneEntryMore }
 {
@@ -62,8 +63,8 @@ pub fn delete_takes_all_before()
     same_is_equal()
 }
 
-/// An insert is seen while it is in the window, also a late one, and also one after a delete of its
-/// edge.
+/// An insert is live while it is in the window and the clock is before its own end, also a late
+/// one, and also one after a delete of its edge.
 pub fn last_insert_is_seen()
     ensures { LastInsertIsSeen }
 {}

@@ -18,8 +18,8 @@ returns-in_default c =
     let none : (word : List ℕ) → ReachesGoal (state_graph dfa list) 0 word → ⊥ = search rules in
     contained_of dfa list are none
 
-pub spelled-requires : goal.spelled-requires
-spelled-requires c =
+pub spell-requires : goal.spell-requires
+spell-requires c =
     let dfa = c.args.dfa.now in
     let list = c.in_ok-needed.needed.items in
     let word = c.in-Some.front.word.items in
@@ -30,8 +30,8 @@ spelled-requires c =
     subst (λ (numbers : List ℕ). All (λ number. number < length dfa.labels) numbers) (sym c.deref-2.ensures.value)
     (front_within dfa list word state needed are.valid front)
 
-pub spelled-requires-2 : goal.spelled-requires-2
-spelled-requires-2 c =
+pub spell-requires-2 : goal.spell-requires-2
+spell-requires-2 c =
     let dfa = c.args.dfa.now in
     let list = c.in_ok-needed.needed.items in
     let word = c.in-Some.front.word.items in

@@ -10,7 +10,7 @@ use Rattle.dfa_table.proofs.discovery.discover.Goals as goal
 
 pub returns-in_err-row-clause-full : goal.returns-in_err-row-clause-full
 returns-in_err-row-clause-full g c = λ is.
-    let graph = g.G.Steps.graph c.args.graph.now in
+    let graph = g.G.Walk.graph c.args.graph.now in
     let limit = c.args.limit in
     let first = c.args.first in
     let nodes = c.row.new.nodes.items in
@@ -22,7 +22,7 @@ returns-in_err-row-clause-full g c = λ is.
 pub nodes-init : goal.nodes-init
 nodes-init g c =
     let items : Vec (Option ℕ) Global → List (Option ℕ) = λ row. row.items in
-    let graph = g.G.Steps.graph c.args.graph.now in
+    let graph = g.G.Walk.graph c.args.graph.now in
     let limit = c.args.limit in
     let first = c.args.first in
     let nodes = c.row.new.nodes.items in
@@ -37,7 +37,7 @@ nodes-init g c =
 
 pub returns-in_err-row-2-clause-full : goal.returns-in_err-row-2-clause-full
 returns-in_err-row-2-clause-full g c = λ is.
-    let graph = g.G.Steps.graph c.args.graph.now in
+    let graph = g.G.Walk.graph c.args.graph.now in
     let limit = c.args.limit in
     let first = c.args.first in
     let before = c.nodes.nodes.items in
@@ -56,7 +56,7 @@ returns-in_err-row-2-clause-full g c = λ is.
 pub nodes-preserved : goal.nodes-preserved
 nodes-preserved g c =
     let items : Vec (Option ℕ) Global → List (Option ℕ) = λ row. row.items in
-    let graph = g.G.Steps.graph c.args.graph.now in
+    let graph = g.G.Walk.graph c.args.graph.now in
     let limit = c.args.limit in
     let first = c.args.first in
     let before = c.nodes.nodes.items in
@@ -78,7 +78,7 @@ nodes-preserved g c =
 pub returns : goal.returns
 returns g c =
     let items : Vec (Option ℕ) Global → List (Option ℕ) = λ row. row.items in
-    let graph = g.G.Steps.graph c.args.graph.now in
+    let graph = g.G.Walk.graph c.args.graph.now in
     let limit = c.args.limit in
     let first = c.args.first in
     let nodes = c.nodes.nodes.items in

@@ -4,7 +4,7 @@ use Rattle.dfa_table.proofs.discovery.discover.Given as goal
 
 -- the rows so far are those of the start and the first nodes
 abbrev pub invariant-nodes : goal.invariant-nodes
-invariant-nodes g l = AreRows (g.G.Steps.graph l.graph) l.limit l.fn.first l.nodes.items (map (λ row. row.items) l.rows.items) l.done
+invariant-nodes g l = AreRows (g.G.Walk.graph l.graph) l.limit l.fn.first l.nodes.items (map (λ row. row.items) l.rows.items) l.done
 
 -- the nodes that may still come
 abbrev pub decreases-nodes : goal.decreases-nodes

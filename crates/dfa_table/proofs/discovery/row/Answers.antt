@@ -4,7 +4,7 @@ use Rattle.dfa_table.proofs.discovery.row.Goals as goal
 
 pub loop-label-preserved : goal.loop-label-preserved
 loop-label-preserved g c =
-    let graph = g.G.Steps.graph c.args.graph.now in
+    let graph = g.G.Walk.graph c.args.graph.now in
     let front = c.args.front in
     let start = c.args.nodes.now.items in
     let before = c.loop-label.nodes.items in

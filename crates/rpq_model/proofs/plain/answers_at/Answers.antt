@@ -28,14 +28,14 @@ returns-in-Arbitrary c =
     let expr = expression query.expr in
     let edges_are = seen c.in_ok-edges.edges.items c.deref.result.now
     (edges_at query.window c.args.now entries) c.in_ok-edges.ensures c.deref.ensures.value in
-    IfOk-weaker c.joined.result
+    IfOk-weaker c.joined_pairs.result
     (λ (pairs : Vec Pair Global). AreExactly (IsJoinedBy edges (In expr) Arbitrary) pairs.items)
     (λ (pairs : Vec Pair Global). AreAnswersAt (path_query c.args.query.now) c.args.now entries
     pairs.items)
     (λ pairs are. answered c.args.query.now query.name query.window query.mode expr c.args.now
     entries
     edges Arbitrary pairs.items c.query.view_is c.in-Arbitrary.is edges_are are)
-    c.joined.ensures
+    c.joined_pairs.ensures
 
 pub returns : goal.returns
 returns c =

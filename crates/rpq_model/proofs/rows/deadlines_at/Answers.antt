@@ -4,8 +4,9 @@ use Rattle.std.specs.Ordering.{nat_cmp}
 use Rattle.std.proofs.lemmas.List.{take_all}
 use Rattle.rpq_base.specs.declared.data.Entry.{Entry}
 use Rattle.rpq_base.proofs.Members.{next_given}
+use Rattle.rpq_base.specs.OwnEnds.{own_end}
 use Rattle.rpq_model.specs.Window.{Placed, live_entries}
-use Rattle.rpq_model.specs.WindowLaws.{IsDeadline}
+use Rattle.rpq_model.proofs.OwnDeadlines.{deadline_of_same}
 use Rattle.rpq_model.specs.Live.{placed_entry}
 use Rattle.rpq_model.proofs.Lasting.{AreDeadlinesOf, one_deadline_more}
 use Rattle.rpq_model.proofs.rows.deadlines_at.Goals as goal
@@ -15,13 +16,16 @@ loop-each-preserved c =
     let live = c.deref-each-items.result.now in
     let index = c.loop-each.each-index in
     let one = c.each-item.result in
-    let deadline = c.deadline.result in
+    let deadline = c.deadline_of.result in
     one_deadline_more c.args.window (map placed_entry (take index live)) (placed_entry one)
     (map placed_entry (take (index + 1) live)) deadline
     c.loop-each.found.keys c.insert.new.self.keys
     (next_given placed_entry live index one c.loop-each-test.true c.each-item.is)
-    (subst (λ (entry : Entry). IsDeadline c.args.window entry.tuple.time deadline) c.entry.view_is
-    c.deadline.ensures)
+    (deadline_of_same c.args.window _ one.entry.now.tuple.time c.own_end.result
+    (own_end one.entry.now.tuple.act) deadline
+    (ap (λ (entry : Entry). entry.tuple.time) c.entry.view_is)
+    (c.own_end.ensures ∙ ap (λ (entry : Entry). own_end entry.tuple.act) c.entry.view_is)
+    c.deadline_of.ensures)
     c.in_ok-insert.ensures.keys c.loop-each.invariant
 
 pub returns : goal.returns

@@ -37,11 +37,11 @@ loop-deadline-init c =
     let entries = c.args.entries.now in
     let deadlines = c.deref-deadline-items.result.now in
     subst (λ (now : ℕ). IsAtDeadline (path_query query) entries deadlines 0 now c.new-ends.result)
-    (sym c.clock-now.ensures)
+    (sym c.clock-now.ensures.clock)
     (first_deadline same (path_query query) entries deadlines c.new-ends.result
     (slide_of query _ _ c.query.view_is (λ i. (c.query-inside.view_is i).window)
     c.query-inside.invariant.slide_from)
-    (deadlines_of query _ _ entries _ deadlines c.query.view_is c.clock-now.ensures
+    (deadlines_of query _ _ entries _ deadlines c.query.view_is c.clock-now.ensures.clock
     c.deref-deadline-items.ensures.value c.in_ok-deadlines.ensures)
     c.new-ends.ensures.empty)
 
@@ -55,7 +55,7 @@ loop-deadline-preserved c =
     c.loop-deadline.ends c.put_ends.new.ends
     (slide_of query _ _ c.query.view_is (λ i. (c.query-inside.view_is i).window)
     c.query-inside.invariant.slide_from)
-    (deadlines_of query _ _ entries _ deadlines c.query.view_is c.clock-now.ensures
+    (deadlines_of query _ _ entries _ deadlines c.query.view_is c.clock-now.ensures.clock
     c.deref-deadline-items.ensures.value c.in_ok-deadlines.ensures)
     c.loop-deadline.invariant c.loop-deadline-test.true refl c.in_ok-pairs.ensures
     c.in_ok-put_ends.ensures
@@ -75,7 +75,7 @@ returns c =
     c.loop-deadline.now ends
     (slide_of query _ _ c.query.view_is (λ i. (c.query-inside.view_is i).window)
     c.query-inside.invariant.slide_from)
-    (deadlines_of query _ _ entries _ deadlines c.query.view_is c.clock-now.ensures
+    (deadlines_of query _ _ entries _ deadlines c.query.view_is c.clock-now.ensures.clock
     c.deref-deadline-items.ensures.value c.in_ok-deadlines.ensures)
     c.loop-deadline.invariant c.loop-deadline-test.false))
     c.in_rows.ensures.rows
