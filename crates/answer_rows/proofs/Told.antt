@@ -6,15 +6,17 @@ use Rattle.std.specs.List.{list_any}
 use Rattle.std.specs.Option.{is_some}
 use Rattle.std.proofs.lemmas.Bool.{false≢true, not-true}
 use Rattle.std.proofs.lemmas.List.Elements.{Contains-append_left, Contains-append_right, Contains-append_cases}
+use Rattle.std.proofs.lemmas.List.Kept.{IsStrictlySortedBy-filter}
 use Rattle.std.proofs.lemmas.Map.Views.{Contains-from_any, list_any-from_Contains}
+use Rattle.rpq_base.specs.Order.{pair_cmp}
 use Rattle.rpq_base.specs.Same.{same_pair}
 use Rattle.rpq_base.specs.declared.data.Pair.{Pair}
 use Rattle.rpq_base.specs.declared.data.Event.{Event}
 use Rattle.rpq_base.proofs.Equality.{same_tests, pairs as pair_test}
 use Rattle.rpq_base.proofs.Members.{cons_members, kept_members}
-use Rattle.answer_rows.specs.Answers.{Answer, pair_of, pairs, until_of}
+use Rattle.answer_rows.specs.Answers.{Answer, AreRows, pair_of, pairs, until_of}
 use Rattle.answer_rows.specs.Changes.{event, without, changes}
-use Rattle.answer_rows.specs.Laws.{IsChange}
+use Rattle.answer_rows.specs.Laws.{AreInOrder, IsChange}
 
 -- ---- a pair is there where it has an end
 
@@ -126,3 +128,13 @@ events_are_changes query old new each =
           (λ gain. Contains-append_right losses gains each ((kind_members new old query true each).1 (change.0, gain.0, gain.2, gain.1)))
           change.1),
     )
+
+-- losses come before gains, each sorted
+pub events_are_in_order : (query : ℕ) (old new : List Answer) → AreRows old → AreRows new → AreInOrder query (changes query old new)
+events_are_in_order query old new old_rows new_rows = record {
+  losses = without (pairs old) (pairs new);
+  gains = without (pairs new) (pairs old);
+  split = refl;
+  lost = IsStrictlySortedBy-filter pair_cmp (λ (pair : Pair). not (list_any (same_pair pair) (pairs new))) (pairs old) old_rows;
+  gained = IsStrictlySortedBy-filter pair_cmp (λ (pair : Pair). not (list_any (same_pair pair) (pairs old))) (pairs new) new_rows;
+}

@@ -1,9 +1,11 @@
 -- What the definitions are meant to say, as laws.
-use Rattle.std.specs.Prelude.{◌≡◌, ℕ, ◌↔◌, ◌⊎◌, true, false, List, Contains, None, IsSome}
+use Rattle.std.specs.Prelude.{◌≡◌, ℕ, ◌↔◌, ◌⊎◌, true, false, List, ◌++◌, map, Contains, None, IsSome}
+use Rattle.std.specs.List.Sorted.{IsStrictlySortedBy}
+use Rattle.rpq_base.specs.Order.{pair_cmp}
 use Rattle.rpq_base.specs.declared.data.Pair.{Pair}
 use Rattle.rpq_base.specs.declared.data.Event.{Event}
 use Rattle.answer_rows.specs.Answers.{Answer, AreRows, until_of, row_of, end_of}
-use Rattle.answer_rows.specs.Changes.{changes}
+use Rattle.answer_rows.specs.Changes.{changes, event}
 
 -- rows in which all pairs have the same ends are the same
 abbrev pub EndsTellRows : Type 0
@@ -26,3 +28,16 @@ IsChange old new each =
 abbrev pub EventsAreChanges : Type 0
 EventsAreChanges = (query : ℕ) (old new : List Answer) (each : Event) →
     Contains (changes query old new) each ↔ ((each.query ≡ query) × IsChange old new each)
+
+-- the events are losses and then gains, each of the two in the order of the pairs
+pub record AreInOrder (query : ℕ) (events : List Event) : Type 0 where
+  pub losses : List Pair
+  pub gains : List Pair
+  pub split : events ≡ map (event query false) losses ++ map (event query true) gains
+  pub lost : IsStrictlySortedBy pair_cmp losses
+  pub gained : IsStrictlySortedBy pair_cmp gains
+
+-- so are the events between two lists of answers
+abbrev pub EventsAreInOrder : Type 0
+EventsAreInOrder = (query : ℕ) (old new : List Answer) → AreRows old → AreRows new →
+    AreInOrder query (changes query old new)

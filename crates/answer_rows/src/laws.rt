@@ -1,6 +1,7 @@
 //! Laws of the definitions. The functions do nothing: their contracts are the laws.
 
 ghost use Rattle.answer_rows.specs.Laws.{EndsTellRows, EndsAreInRows, EventsAreChanges};
+ghost use Rattle.answer_rows.specs.Laws.{EventsAreInOrder};
 
 /// Rows in which all pairs have the same ends are the same.
 pub fn ends_tell_rows()
@@ -15,4 +16,10 @@ pub fn ends_are_in_rows()
 /// The events between two lists of answers are exactly the pairs that lost their end or got one.
 pub fn events_are_changes()
     ensures { EventsAreChanges }
+{}
+
+/// The events between two lists of answers are losses and then gains, each in the order of the
+/// pairs.
+pub fn events_are_in_order()
+    ensures { EventsAreInOrder }
 {}

@@ -8,7 +8,8 @@
 //! makes the row anew. [`changes`] and [`changes_in`] give the events from old rows to new ones.
 //! The contract for the layer above: rows are told by the ends of their pairs
 //! ([`ends_tell_rows`]), each call says which ends it changes, and the events are the pairs lost
-//! and then the pairs gained ([`events_are_changes`]).
+//! and then the pairs gained ([`events_are_changes`]), each in their order
+//! ([`events_are_in_order`]).
 #![tactic(auto)]
 
 mod edits;
@@ -16,10 +17,8 @@ mod events;
 mod laws;
 mod rows;
 mod target;
-#[cfg(test)]
-mod tests;
 
 pub use events::{changes, changes_in};
-pub use laws::{ends_are_in_rows, ends_tell_rows, events_are_changes};
+pub use laws::{ends_are_in_rows, ends_tell_rows, events_are_changes, events_are_in_order};
 pub use rows::Rows;
 pub use target::Target;

@@ -4,7 +4,8 @@
 ghost use Rattle.answer_view.specs.Laws.{RowsAreOne, RowsHoldAnswers, ViewsAreOne};
 
 use answer_rows::ends_tell_rows;
-use rpq_model::{Language, answers_end};
+use path_syntax::Language;
+use rpq_model::answers_end;
 
 /// A query has one list of rows over a history.
 pub fn rows_are_one<L: Language>(language: &L)

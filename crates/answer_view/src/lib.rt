@@ -11,8 +11,6 @@
 
 mod laws;
 mod plain;
-#[cfg(test)]
-mod tests;
 mod view;
 
 pub use laws::{rows_are_one, rows_hold_answers, views_are_one};

@@ -102,7 +102,7 @@ impl Names {
     /// The sort key of the name of this number, by one index: its first 16 bytes as one number, the
     /// first byte the most significant, and 0 where the name is shorter. A name whose key is below
     /// that of another is before it, which [`crate::keys_follow_names`] says; names with one key
-    /// are compared by [`Names::compared`].
+    /// are compared by [`Names::compare`].
     pub fn key_of(&self, number: u32) -> u128
         requires { number < length self.now }
         ensures key { result ≡ sort_key (name_at self.now number) }
@@ -114,7 +114,7 @@ impl Names {
 
     /// The order of the names of these numbers, by their bytes. A number that no name has is before
     /// all names.
-    pub fn compared(&self, first: u32, second: u32) -> Ordering
+    pub fn compare(&self, first: u32, second: u32) -> Ordering
         ensures { result ≡ name_cmp (name_at self.now first) (name_at self.now second) }
     {
         bytes_compared(self.bytes_of(first), self.bytes_of(second))

@@ -74,4 +74,6 @@ examples = record {
       (subst (λ (f : Expression). IsLeastTriple (In f) p q w) (one_expression (codes " a+") e some_a read (outcome (codes " a+"))) least);
   lacking = PassedOver [] 0 [] (codes " # no query" ∷ []) (Err (fault_at 2 NoQuery)) (inl refl)
       (PassedOver [] 1 (codes " # no query") [] (Err (fault_at 2 NoQuery)) (inr refl) (NoneAtEnd 2));
+  last = λ before line e f. omega (arith, e, f);
+  over = λ before line e. omega (arith, e);
 }

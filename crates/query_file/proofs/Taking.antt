@@ -23,7 +23,7 @@ defs_push (first ∷ list) one = ap (λ (qs : List Query). first.def ∷ qs) (de
 
 -- ---- the lines of a text
 
-lines_first : (text line after : List ℕ) → raw_lines text ≡ line ∷ raw_lines after → lines text ≡ without_return line ∷ lines after
+pub lines_first : (text line after : List ℕ) → raw_lines text ≡ line ∷ raw_lines after → lines text ≡ without_return line ∷ lines after
 lines_first text line after first = ap (λ (ls : List (List ℕ)). map without_return ls) first
 
 lines_none : (text : List ℕ) → raw_lines text ≡ [] → lines text ≡ []

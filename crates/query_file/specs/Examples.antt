@@ -1,19 +1,19 @@
 -- Some lines and files with what they give.
-use Rattle.std.specs.Prelude.{◌≡◌, List, [], ◌∷◌, codes, Some, None, Err}
+use Rattle.std.specs.Prelude.{◌≡◌, ℕ, List, [], ◌∷◌, length, codes, Some, None, Err}
 use Rattle.rpq_base.specs.declared.data.Label.{Label}
 use Rattle.path_syntax.specs.declared.read.BadExpr.TheVariants.{Unexpected, Ended}
 use Rattle.containment_laws.specs.LineExamples.{a, b}
 use Rattle.rpq_model.specs.declared.mode.Mode.TheVariants.{Simple}
 use Rattle.rpq_model.specs.Query.{Query}
-use Rattle.query_file.specs.declared.fault.QueryKind.TheVariants.{Number, Twice, NoQuery, Expr}
-use Rattle.query_file.specs.declared.fault.QueryKind.TheVariants.{NotContained}
+use Rattle.query_file.specs.declared.fault.QueryKind.TheVariants.{Number, Twice, TooMany, NoQuery}
+use Rattle.query_file.specs.declared.fault.QueryKind.TheVariants.{Expr, NotContained}
 use Rattle.query_file.specs.Queries.{fault_at, Queries}
 use Rattle.query_file.specs.QueryLine.{HasParts, length_of, HasFault, IsFirstFault}
 
 -- a line with its parts: blanks may stand in front, and none behind the colon; lengths of time from
 -- 1 to 2^62 - 1; a number that is no length; a name that is taken; a fault of the expression,
 -- whose place is counted from the colon; an expression that is empty; two queries that take simple
--- paths, of which one isn't accepted; a file without a query
+-- paths, of which one isn't accepted; a file without a query; the 64th query and the 65th
 pub record LineExamples : Type 0 where
   pub parts : HasParts (codes "  query q window 10 slide x simple:a b")
       (record {
@@ -39,3 +39,7 @@ pub record LineExamples : Type 0 where
   pub accepted : (p q w : List Label) →
       HasFault [] (codes "query q window 10 slide 5 simple: a+") (NotContained p q w) → ⊥
   pub lacking : Queries (codes "\n # no query\n") (Err (fault_at 2 NoQuery))
+  pub last : (before : List Query) (line : List ℕ) → length before ≡ 63 →
+      HasFault before line TooMany → ⊥
+  pub over : (before : List Query) (line : List ℕ) → length before ≡ 64 →
+      HasFault before line TooMany

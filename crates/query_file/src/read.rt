@@ -3,6 +3,7 @@
 ghost use Rattle.std.specs.Prelude.{◌≡◌, ◌≢◌, ◌+◌, ◌<◌, ◌≤◌, ◌^◌, Ok, Err, map, length, All, List};
 ghost use Rattle.std.specs.Prelude.{IfOk, IfErr, OnOk, Result, IsTrue, ◌↔◌, ◌⊎◌};
 ghost use Rattle.std.specs.Prelude.{MatchResult};
+ghost use Rattle.text_parts.specs.Lines.{lines};
 ghost use Rattle.containment_laws.specs.Accepted.{IsAccepted};
 ghost use Rattle.rpq_model.specs.Query.{Query};
 ghost use Rattle.query_file.specs.declared.fault.QueryKind.{QueryKind};
@@ -35,6 +36,8 @@ pub fn read_queries(alloc: Global, bytes: &[u8]) -> Result<Vec<Compiled>, QueryF
     ensures exact { (outcome : Result (List Query) FaultOf) → Queries bytes.now outcome →
         MatchResult result (λ found. outcome ≡ Ok (map (λ each. each.def) found.items))
         (λ fault. (fault.kind ≡ QueryKind.Memory) ⊎ (outcome ≡ Err fault)) }
+    ensures memory { IfErr result (λ fault. fault.kind ≡ QueryKind.Memory →
+        (1 ≤ fault.line) × (fault.line ≤ length (lines bytes.now))) }
     ensures few { IfOk result (λ found. (1 ≤ length found.items) × (length found.items ≤ 64)) }
     ensures compiled { IfOk result (λ found. All IsCompiled found.items) }
     ensures accepted { IfOk result (λ found. All (λ each. IsAccepted each.def) found.items) }

@@ -32,7 +32,7 @@ some_kind [] error (inl memory) other = absurd (other memory)
 some_kind [] error (inr none) other = absurd none
 some_kind (kind ∷ kinds) error has other = search rules
 
--- words of which the parse fails for another cause than want of memory aren't
+-- words of which the parse fails for another cause than out of memory aren't
 pub refused_from : (command : App) (words : List Text) (error : Error) → command ≡ rpq_command →
     (is_simple_and_free command ≡ true → HasKind (fault_of command words) error) →
     (kind_of error ≡ OutOfMemory → ⊥) → is_taken words ≡ false

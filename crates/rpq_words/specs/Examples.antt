@@ -18,9 +18,9 @@ plain streams = record {
 
 -- The defaults. An option between streams, and zeros in front of its number. Values that begin with
 -- `-` or are empty behind `=`, and words behind `--`. A check; generated tuples. The greatest
--- numbers. Refused: no stream; no queries; a number above its range, below it, or with a sign; a
--- flag given twice; asks without replies; a check with generated tuples, or with a stream; a value
--- that begins with `-`; a name cut short; and `--help`.
+-- numbers. Refused: too many tuples to generate; no stream; no queries; a number above its range,
+-- below it, or with a sign; a flag given twice; asks without replies; a check with generated
+-- tuples, or with a stream; a value that begins with `-`; a name cut short; and `--help`.
 pub record SettingsExamples : Type 0 where
   pub defaults : settings (codes "rpq" ∷ codes "q" ∷ codes "s" ∷ [])
       ≡ Some (plain (codes "s" ∷ []))
@@ -39,6 +39,9 @@ pub record SettingsExamples : Type 0 where
   pub greatest : settings (codes "rpq" ∷ codes "--workers=64" ∷ codes "--history=2000000"
       ∷ codes "q" ∷ codes "s" ∷ [])
       ≡ Some (record (plain (codes "s" ∷ [])) { workers = 64; history = 2000000 })
+  pub most_made : settings (codes "rpq" ∷ codes "--generate=1000000" ∷ codes "q" ∷ [])
+      ≡ Some (record (plain []) { generate = Some 1000000 })
+  pub over_made : settings (codes "rpq" ∷ codes "--generate=1000001" ∷ codes "q" ∷ []) ≡ None
   pub no_stream : settings (codes "rpq" ∷ codes "q" ∷ []) ≡ None
   pub no_queries : settings (codes "rpq" ∷ []) ≡ None
   pub above : settings (codes "rpq" ∷ codes "--workers=65" ∷ codes "q" ∷ codes "s" ∷ []) ≡ None

@@ -9,7 +9,7 @@ ghost use Rattle.rpq_words.specs.Command.{rpq_command};
 use clap::{Arg, ArgAction, Command};
 use std::alloc::{AllocError, Global};
 
-/// The command. The only error is want of memory.
+/// The command. The only error is out of memory.
 pub(crate) fn command<'a>(alloc: Global) -> Result<Command<'a>, AllocError>
     ensures { IfOk result (λ command. app_of command ≡ rpq_command) }
 {

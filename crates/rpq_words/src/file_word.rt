@@ -20,7 +20,7 @@ impl Model for FileWord {
 }
 
 impl FileWord {
-    /// The word with this text, which is copied. The only error is want of memory.
+    /// The word with this text, which is copied. The only error is out of memory.
     pub(crate) fn new(alloc: Global, text: &str) -> Result<FileWord, AllocError>
         ensures { IfOk result (λ word. word ≡ text.now) }
     {
@@ -37,7 +37,7 @@ impl FileWord {
     }
 }
 
-/// The words with these texts, in their order. The only error is want of memory.
+/// The words with these texts, in their order. The only error is out of memory.
 pub(crate) fn file_words(alloc: Global, texts: &[&str]) -> Result<Vec<FileWord>, AllocError>
     ensures { IfOk result (λ words. words.items ≡ map (λ text. text.now) texts.now) }
 {
@@ -48,7 +48,7 @@ pub(crate) fn file_words(alloc: Global, texts: &[&str]) -> Result<Vec<FileWord>,
     Ok(words)
 }
 
-/// The word with this text, if there is one. The only error is want of memory.
+/// The word with this text, if there is one. The only error is out of memory.
 pub(crate) fn optional_file_word(
     alloc: Global,
     text: Option<&str>,

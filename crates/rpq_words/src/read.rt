@@ -37,14 +37,14 @@ pub fn read_words(alloc: Global, words: &[String]) -> Result<Chosen, WordsFault>
     ensures none { settings (texts words.now) ≡ None
         → (result ≡ Err WordsFault.Refused) ⊎ (result ≡ Err WordsFault.Memory) }
 {
-    match parsed(alloc, words) {
-        Ok(matches) => settled(alloc, &matches),
+    match parse(alloc, words) {
+        Ok(matches) => settings_of_matches(alloc, &matches),
         Err(fault) => Err(fault),
     }
 }
 
 /// What the command finds in the words.
-fn parsed<'a>(alloc: Global, words: &'a [String]) -> Result<ArgMatches<'a>, WordsFault>
+fn parse<'a>(alloc: Global, words: &'a [String]) -> Result<ArgMatches<'a>, WordsFault>
     ensures taken { IfOk result (λ matches. is_taken (texts words.now) ≡ true) }
     ensures found { IfOk result (λ matches. rows_of (found_of matches)
         ≡ found_in (texts words.now)) }
@@ -58,7 +58,8 @@ fn parsed<'a>(alloc: Global, words: &'a [String]) -> Result<ArgMatches<'a>, Word
 
 /// Why words aren't taken of which the parse fails so.
 fn fault_of(kind: ErrorKind) -> WordsFault
-    ensures { result ≡ WordsFault.Refused → kind ≢ ErrorKind.OutOfMemory }
+    ensures refused { result ≡ WordsFault.Refused → kind ≢ ErrorKind.OutOfMemory }
+    ensures memory { result ≡ WordsFault.Memory → kind ≡ ErrorKind.OutOfMemory }
 {
     match kind {
         ErrorKind::OutOfMemory => WordsFault::Memory,
@@ -68,12 +69,12 @@ fn fault_of(kind: ErrorKind) -> WordsFault
 
 /// What was found, where each number is in its range and all can stand together.
 #[tactic(auto, unfolding(crate::specs::Settings::settled))]
-fn settled(alloc: Global, matches: &ArgMatches<'_>) -> Result<Chosen, WordsFault>
+fn settings_of_matches(alloc: Global, matches: &ArgMatches<'_>) -> Result<Chosen, WordsFault>
     ensures ok { IfOk result (λ chosen. settled (rows_of (found_of matches.now)) ≡ Some chosen) }
     ensures refused { result ≡ Err WordsFault.Refused
         → settled (rows_of (found_of matches.now)) ≡ None }
 {
-    let chosen = chosen(alloc, matches)?;
+    let chosen = read_choices(alloc, matches)?;
     if chosen.clashes() {
         return Err(WordsFault::Refused);
     }
@@ -82,7 +83,7 @@ fn settled(alloc: Global, matches: &ArgMatches<'_>) -> Result<Chosen, WordsFault
 
 /// What was found, where each number is in its range.
 #[tactic(auto, unfolding(crate::specs::Settings::settings_of))]
-fn chosen(alloc: Global, matches: &ArgMatches<'_>) -> Result<Chosen, WordsFault>
+fn read_choices(alloc: Global, matches: &ArgMatches<'_>) -> Result<Chosen, WordsFault>
     ensures ok { IfOk result
         (λ chosen. settings_of (rows_of (found_of matches.now)) ≡ Some chosen) }
     ensures refused { result ≡ Err WordsFault.Refused

@@ -37,11 +37,11 @@ pub struct History {
 impl Model for History {
     ghost use Rattle.std.specs.Coded.{codes};
     ghost use Rattle.stream_history.specs.History.{HistoryValue};
-    ghost use Rattle.stream_history.specs.JournalCode.{terms_code};
+    ghost use Rattle.rpq_model.specs.QueryCode.{query_code};
 
     ghost Value = { HistoryValue };
 
-    ghost coded = { Prim.hlevel (codes, terms_code) };
+    ghost coded = { Prim.hlevel (codes, query_code) };
 
     ghost view = { λ history. record {
       turns = history.turns;

@@ -47,11 +47,12 @@ pub struct Journal {
 impl Model for Journal {
     ghost use Rattle.std.specs.Prelude.{vec_capacity};
     ghost use Rattle.stream_history.specs.Journal.{JournalValue};
-    ghost use Rattle.stream_history.specs.JournalCode.{journal_code};
+    ghost use Rattle.std.specs.Coded.{codes};
+    ghost use Rattle.rpq_model.specs.QueryCode.{query_code};
 
     ghost Value = { JournalValue };
 
-    ghost coded = { journal_code };
+    ghost coded = { Prim.hlevel (codes, query_code) };
 
     ghost use Rattle.stream_history.specs.Kept.{journal_of, IsKept};
 

@@ -7,7 +7,7 @@ use crate::lines::is_blank;
 use std::alloc::{AllocError, Global};
 
 /// The fields of a line: its greatest runs of bytes that are neither space nor tab.
-/// The only error is want of memory for the list.
+/// The only error is out of memory for the list.
 pub fn fields<'a>(alloc: Global, line: &'a [u8]) -> Result<Vec<&'a [u8]>, AllocError>
     ensures ok { IfOk result (λ found. map (λ field. field.now) found.items ≡ fields line.now) }
     ensures solid { IfOk result (λ found. All (λ field. IsField field.now) found.items) }

@@ -1,8 +1,8 @@
 -- Tuples as they are written: one space between fields, and always an insert's or a delete's sign.
 use Rattle.std.specs.Prelude.{◌≡◌, ℕ, ◌+◌, ◌*◌, ◌≤◌, codes, decimal}
-use Rattle.std.specs.Prelude.{List, [], ◌++◌, length, map, All, Some, Ok}
+use Rattle.std.specs.Prelude.{List, [], ◌++◌, length, map, All, Option, Some, None, Ok}
 use Rattle.text_parts.specs.Lines.{lines, text_of}
-use Rattle.rpq_base.specs.declared.data.TheConstants.{MAX_TIME}
+use Rattle.rpq_base.specs.TupleValue.{IsInRange}
 use Rattle.rpq_base.specs.declared.data.Edge.{Edge}
 use Rattle.rpq_base.specs.declared.data.Act.{Act}
 use Rattle.rpq_base.specs.declared.data.Act.TheVariants.{Insert, Delete, Tick}
@@ -14,9 +14,14 @@ use Rattle.tuple_text.specs.Parts.{IsStreamEdge}
 abbrev pub written_edge : Edge → List ℕ
 written_edge edge = codes " " ++ edge.from ++ codes " " ++ edge.label.name ++ codes " " ++ edge.to
 
--- an act: nothing for a tick, else the edge and the sign
+-- the own end of an insert, if it has one, behind the word and each after a space
+abbrev pub written_until : Option ℕ → List ℕ
+written_until None = []
+written_until (Some end) = codes " until " ++ decimal end
+
+-- an act: nothing for a tick, else the edge, the sign and the own end
 abbrev pub written_act : Act → List ℕ
-written_act (Insert edge) = written_edge edge ++ codes " +"
+written_act (Insert edge until) = written_edge edge ++ codes " +" ++ written_until until
 written_act (Delete edge) = written_edge edge ++ codes " -"
 written_act Tick = []
 
@@ -26,13 +31,13 @@ written tuple = decimal tuple.time ++ written_act tuple.act
 
 -- an act of an edge that a line may name, or a tick
 abbrev pub IsStreamAct : Act → Type 0
-IsStreamAct (Insert edge) = IsStreamEdge edge
+IsStreamAct (Insert edge until) = IsStreamEdge edge
 IsStreamAct (Delete edge) = IsStreamEdge edge
 IsStreamAct Tick = Unit {0}
 
--- a tuple of such an act, at a time in range: a tuple that some line gives
+-- a tuple of such an act, with a time and an end in range: a tuple that some line gives
 pub record IsStreamTuple (tuple : Tuple) : Type 0 where
-  pub time : tuple.time ≤ MAX_TIME
+  pub range : IsInRange tuple.time tuple.act
   pub act : IsStreamAct tuple.act
 
 -- what is written is read as the tuple that it was
@@ -41,10 +46,11 @@ WrittenIsRead =
     (tuple : Tuple) → IsStreamTuple tuple → line_tuple (written tuple) ≡ Ok (Some tuple)
 
 -- what is written has at most the 19 digits of a time, three names of 255 bytes and a sign, each of
--- the last four after a space
+-- these four after a space, the word of an end, and the 19 digits of the end
 abbrev pub WrittenIsShort : Type 0
 WrittenIsShort =
-    (tuple : Tuple) → IsStreamTuple tuple → length (written tuple) ≤ 19 + 3 * (1 + 255) + 2
+    (tuple : Tuple) → IsStreamTuple tuple
+    → length (written tuple) ≤ 19 + 3 * (1 + 255) + 2 + 7 + 19
 
 -- the lines of a text of written tuples, each followed by a line feed, are read as these tuples
 abbrev pub WrittenLinesAreRead : Type 0

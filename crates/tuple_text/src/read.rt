@@ -1,13 +1,15 @@
 //! Reading a line of a stream.
 
-ghost use Rattle.std.specs.Prelude.{◌≡◌, ◌≢◌, ◌+◌, ◌^◌, ◌<◌, ◌≤◌, ◌↔◌, map, length, codes};
+ghost use Rattle.std.specs.Prelude.{ℕ, ◌≡◌, ◌≢◌, ◌+◌, ◌^◌, ◌<◌, ◌≤◌, ◌↔◌, map, length, codes};
 ghost use Rattle.std.specs.Prelude.{Some, IfOk, IfErr, IfSome};
 ghost use Rattle.rpq_base.specs.Plain.{IsPlainLabel, IsPlainAct, IsPlainTuple};
 ghost use Rattle.tuple_text.specs.declared.read.BadLine.{BadLine};
 ghost use Rattle.tuple_text.specs.FaultTexts.{fault_text};
 ghost use Rattle.tuple_text.specs.Parts.{GivesNothing};
-ghost use Rattle.tuple_text.specs.Reading.{time_of, name_of, edge_of, act_of, tick_of, change_of};
-ghost use Rattle.tuple_text.specs.Reading.{tuple_of_fields, line_tuple};
+ghost use Rattle.rpq_base.specs.TupleValue.{IsInRange};
+ghost use Rattle.tuple_text.specs.Reading.{time_of, name_of, edge_of, act_of, end_of, ending_of};
+ghost use Rattle.tuple_text.specs.Reading.{tick_of, change_of, lasting_of, tuple_of_fields};
+ghost use Rattle.tuple_text.specs.Reading.{line_tuple};
 
 use rpq_base::{Act, Edge, Label, MAX_TIME, Memory, Name, NameFault, Tuple};
 use std::alloc::{AllocError, Global};
@@ -19,7 +21,7 @@ use text_parts::{NumberFault, fields, is_blank_line, is_comment, read_number};
 /// several fields that are no names the first counts.
 #[derive(Clone, Copy, Debug, PartialEq, Eq)]
 pub enum BadLine {
-    /// The line has this many fields, and not 1, 4 or 5.
+    /// The line has this many fields, and not 1, 4, 5, 6 or 7.
     Fields(u32),
     /// The first field isn't made of digits.
     Time,
@@ -27,8 +29,11 @@ pub enum BadLine {
     TimeRange,
     /// The field at this place, from 1, should be a name and isn't.
     BadName(u32),
-    /// The fifth field is neither `+` nor `-`.
+    /// The fifth of five fields is neither `+` nor `-`, or the fifth of seven is not `+`.
     Op,
+    /// The last two of six or seven fields are not the word `until` and a time in digits of at most
+    /// [`MAX_TIME`].
+    Until,
     /// Memory ran out.
     Memory,
 }
@@ -51,6 +56,7 @@ impl fmt::Display for BadLine {
             Self::TimeRange => f.write_str("time range"),
             Self::BadName(place) => write!(f, "name {place}"),
             Self::Op => f.write_str("operation"),
+            Self::Until => f.write_str("until"),
             Self::Memory => f.write_str("memory"),
         }
     }
@@ -63,8 +69,8 @@ impl Error for BadLine {}
 /// would be part of its fields.
 ///
 /// A tick is written `TIME`, an insert `TIME SOURCE LABEL TARGET` or the same with `+` as a fifth
-/// field, a delete with `-`. The time is written in digits and is at most [`MAX_TIME`], and the
-/// other three are names.
+/// field, a delete with `-`. Behind an insert, `until END` gives it an end of its own. The time and
+/// the end are written in digits and are at most [`MAX_TIME`], and the other three are names.
 #[tactic(auto, unfolding(crate::specs::Reading::line_tuple))]
 pub fn read_tuple(alloc: Global, line: &[u8]) -> Result<Option<Tuple>, BadLine>
     requires { length line.now < 2 ^ 24 + 1 }
@@ -95,6 +101,14 @@ fn read_fields(alloc: Global, fields: &[&[u8]]) -> Result<Tuple, BadLine>
         [time, source, label, target] => read_change(alloc, time, source, label, target, b"+"),
         [time, source, label, target, sign] => {
             read_change(alloc, time, source, label, target, sign)
+        }
+        [time, source, label, target, word, end] => {
+            let until = read_end(word, end);
+            read_lasting(alloc, time, source, label, target, b"+", until)
+        }
+        [time, source, label, target, sign, word, end] => {
+            let until = read_end(word, end);
+            read_lasting(alloc, time, source, label, target, sign, until)
         }
         _ => Err(BadLine::Fields(fields.len() as u32)),
     }
@@ -132,6 +146,31 @@ fn read_change(
     let time = read_time(time)?;
     let edge = read_edge(alloc, source, label, target)?;
     let act = read_act(edge, sign)?;
+    Ok(Tuple { time, act })
+}
+
+/// The insert with an end of its own that six or seven fields give. Whether the end is right counts
+/// after all other fields, so it is handed over as it was read.
+#[tactic(auto, unfolding(crate::specs::Reading::lasting_of))]
+fn read_lasting(
+    alloc: Global,
+    time: &[u8],
+    source: &[u8],
+    label: &[u8],
+    target: &[u8],
+    sign: &[u8],
+    until: Result<u64, BadLine>,
+) -> Result<Tuple, BadLine>
+    requires within { IfOk until (λ end. end ≤ MAX_TIME) }
+    ensures ok { IfOk result (λ tuple.
+        lasting_of time.now source.now label.now target.now sign.now until ≡ Ok tuple) }
+    ensures err { IfErr result (λ bad. bad ≢ BadLine.Memory
+        → lasting_of time.now source.now label.now target.now sign.now until ≡ Err bad) }
+    ensures plain { IfOk result IsPlainTuple }
+{
+    let time = read_time(time)?;
+    let edge = read_edge(alloc, source, label, target)?;
+    let act = read_insert(edge, sign, until)?;
     Ok(Tuple { time, act })
 }
 
@@ -184,10 +223,44 @@ fn read_act(edge: Edge, sign: &[u8]) -> Result<Act, BadLine>
     requires { IsPlainLabel edge.label }
     ensures exact { result ≡ act_of edge sign.now }
     ensures plain { IfOk result IsPlainAct }
+    ensures within { (time : ℕ) → time ≤ MAX_TIME → IfOk result (IsInRange time) }
 {
     match sign {
-        [b'+'] => Ok(Act::Insert(edge)),
+        [b'+'] => Ok(Act::Insert { edge, until: None }),
         [b'-'] => Ok(Act::Delete(edge)),
         _ => Err(BadLine::Op),
+    }
+}
+
+/// The insert of an edge up to an end, where the sign is one of an insert.
+#[tactic(auto, unfolding(crate::specs::Reading::ending_of))]
+fn read_insert(edge: Edge, sign: &[u8], until: Result<u64, BadLine>) -> Result<Act, BadLine>
+    requires plain { IsPlainLabel edge.label }
+    requires end { IfOk until (λ end. end ≤ MAX_TIME) }
+    ensures exact { result ≡ ending_of edge sign.now until }
+    ensures plain { IfOk result IsPlainAct }
+    ensures within { (time : ℕ) → time ≤ MAX_TIME → IfOk result (IsInRange time) }
+{
+    match sign {
+        [b'+'] => Ok(Act::Insert {
+            edge,
+            until: Some(until?),
+        }),
+        _ => Err(BadLine::Op),
+    }
+}
+
+/// The end that the word `until` and a field of digits give.
+#[tactic(auto, unfolding(crate::specs::Reading::end_of))]
+fn read_end(word: &[u8], field: &[u8]) -> Result<u64, BadLine>
+    ensures exact { result ≡ end_of word.now field.now }
+    ensures within { IfOk result (λ end. end ≤ MAX_TIME) }
+{
+    if word != b"until".as_slice() {
+        return Err(BadLine::Until);
+    }
+    match read_number(field, MAX_TIME) {
+        Ok(end) => Ok(end),
+        Err(_) => Err(BadLine::Until),
     }
 }

@@ -5,23 +5,24 @@ ghost use Rattle.rpq_base.specs.Names.{IsName};
 ghost use Rattle.rpq_base.specs.Plain.{IsPlainLabel, IsPlainAct, IsPlainTuple};
 ghost use Rattle.tuple_text.specs.Parts.{IsStreamEdge};
 ghost use Rattle.tuple_text.specs.Reading.{line_tuple};
-ghost use Rattle.tuple_text.specs.Written.{written_edge, written_act, written, IsStreamAct};
+ghost use Rattle.tuple_text.specs.Written.{written_edge, written_until, written_act, written};
+ghost use Rattle.tuple_text.specs.Written.{IsStreamAct};
 
 use crate::laws::{written_is_read, written_is_short};
 use rpq_base::{Act, Edge, Memory, Name, Tuple};
 use std::alloc::{AllocError, Global};
 use text_parts::push_decimal;
 
-/// The written form of a tuple, without a line feed: its time, and for an insert or a delete the
-/// source, the label, the target and the sign, with one space between fields. The label points
-/// forwards.
+/// The written form of a tuple, without a line feed: its time, for an insert or a delete the
+/// source, the label, the target and the sign, and for an insert with an end of its own the word
+/// `until` and this end, with one space between fields. The label points forwards.
 ///
 /// [`read_tuple`](crate::read_tuple) reads it as the tuple that it was.
 pub fn write_tuple(alloc: Global, tuple: &Tuple) -> Result<Vec<u8>, Memory>
     requires { IsPlainTuple tuple.now }
     ensures ok { IfOk result (λ text. text.items ≡ written tuple.now) }
     ensures read { IfOk result (λ text. line_tuple text.items ≡ Ok (Some tuple.now)) }
-    ensures short { IfOk result (λ text. length text.items ≤ 19 + 3 * (1 + 255) + 2) }
+    ensures short { IfOk result (λ text. length text.items ≤ 19 + 3 * (1 + 255) + 2 + 7 + 19) }
 {
     let mut text = Vec::new(alloc);
     push_tuple(&mut text, tuple)?;
@@ -34,7 +35,7 @@ pub fn push_tuple(text: &mut Vec<u8>, tuple: &Tuple) -> Result<(), Memory>
     requires { IsPlainTuple tuple.now }
     ensures ok { OnOk result (text.new.items ≡ text.old.items ++ written tuple.now) }
     ensures read { OnOk result (line_tuple (written tuple.now) ≡ Ok (Some tuple.now)) }
-    ensures short { OnOk result (length (written tuple.now) ≤ 19 + 3 * (1 + 255) + 2) }
+    ensures short { OnOk result (length (written tuple.now) ≤ 19 + 3 * (1 + 255) + 2 + 7 + 19) }
 {
     push_decimal(text, tuple.time)?;
     push_act(text, &tuple.act)?;
@@ -50,15 +51,29 @@ fn push_act(text: &mut Vec<u8>, act: &Act) -> Result<(), AllocError>
     ensures stream { OnOk result (IsStreamAct act.now) }
 {
     match act {
-        Act::Insert(edge) => {
+        Act::Insert { edge, until } => {
             push_edge(text, edge)?;
-            text.extend_from_slice(b" +")
+            text.extend_from_slice(b" +")?;
+            push_until(text, *until)
         }
         Act::Delete(edge) => {
             push_edge(text, edge)?;
             text.extend_from_slice(b" -")
         }
         Act::Tick => Ok(()),
+    }
+}
+
+/// Writes the end of its own that an insert has, if it has one, at the end of the text.
+fn push_until(text: &mut Vec<u8>, until: Option<u64>) -> Result<(), AllocError>
+    ensures { OnOk result (text.new.items ≡ text.old.items ++ written_until until) }
+{
+    match until {
+        Some(end) => {
+            text.extend_from_slice(b" until ")?;
+            push_decimal(text, end)
+        }
+        None => Ok(()),
     }
 }
 

@@ -9,7 +9,7 @@ use Rattle.query_file.specs.Queries.{IsQueryLine, fault_at}
 use Rattle.query_file.specs.QueryLine.{IsFirstFault}
 use Rattle.query_file.specs.Takes.{defs, Takes}
 use Rattle.query_file.proofs.OneOutcome.{answered, one_outcome}
-use Rattle.query_file.proofs.Taking.{turn, stop, end, no_end}
+use Rattle.query_file.proofs.Taking.{lines_first, turn, stop, end, no_end}
 use Rattle.query_file.proofs.Verdicts.{accepted_of}
 use Rattle.query_file.proofs.read.read_queries.Goals as goal
 
@@ -37,10 +37,17 @@ loop-line-preserved c =
     record {
       so_far = turn c.args.bytes.now loop.rest.now c.in-Some.line.now c.in-Some.after.now (defs loop.queries.items) (defs after) loop.count so_far.so_far
           c.in-Some.ensures.first (subst (λ (l : List ℕ). Takes (defs loop.queries.items) l (defs after)) c.without_return.ensures.line taken.ok);
+      numbered = omega (arith, ap length (lines_first loop.rest.now c.in-Some.line.now c.in-Some.after.now c.in-Some.ensures.first), so_far.numbered);
       counted = omega (arith, shorter, counted);
       few = taken.few so_far.few;
       compiled = taken.compiled so_far.compiled;
     }
+
+pub returns-in-Err-clause-memory : goal.returns-in-Err-clause-memory
+returns-in-Err-clause-memory c = λ memory.
+    let loop = c.loop-line in
+    let first = ap length (lines_first loop.rest.now c.in-Some.line.now c.in-Some.after.now c.in-Some.ensures.first) in
+    (omega arith, omega (arith, first, loop.invariant.numbered))
 
 pub returns-then-is_empty-clause-fault : goal.returns-then-is_empty-clause-fault
 returns-then-is_empty-clause-fault c = λ other.

@@ -1,4 +1,4 @@
-use Rattle.std.proofs.Common.{◌+◌, ◌≤◌, [], length}
+use Rattle.std.proofs.Common.{◌≡◌, ◌+◌, ◌≤◌, [], length}
 use Rattle.std.specs.List.{All}
 use Rattle.text_parts.specs.Lines.{lines}
 use Rattle.query_file.specs.Compiled.{IsCompiled}
@@ -9,6 +9,7 @@ use Rattle.query_file.proofs.read.read_queries.Given as goal
 abbrev pub invariant-loop-line : goal.invariant-loop-line
 invariant-loop-line l = record {
   so_far : GivesSo (defs l.queries.items) l.count (lines l.rest) [] 0 (lines l.bytes);
+  numbered : l.count + length (lines l.rest) ≡ length (lines l.bytes);
   counted : l.count + length l.rest ≤ length l.bytes;
   few : length l.queries.items ≤ 64;
   compiled : All IsCompiled l.queries.items;

@@ -6,5 +6,5 @@ use Rattle.rpq_words.proofs.read.read_words.Goals as goal
 
 pub returns-in-Ok-clause-sound : goal.returns-in-Ok-clause-sound
 returns-in-Ok-clause-sound c =
-    IfOk-weaker c.settled.result _ _ (settled_are (rows_of (found_of c.in-Ok.matches)))
-    c.settled.ensures.ok
+    IfOk-weaker c.settings_of_matches.result _ _ (settled_are (rows_of (found_of c.in-Ok.matches)))
+    c.settings_of_matches.ensures.ok
