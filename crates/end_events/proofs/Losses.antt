@@ -4,24 +4,27 @@ use Rattle.std.specs.Prelude.{◌↔◌, IsSome}
 use Rattle.std.proofs.lemmas.Bool.{false≢true, both_ways, not-true, and_parts, false_from_ne_true, eqb-true, eq-eqb}
 use Rattle.std.proofs.lemmas.Option.{same_Some}
 use Rattle.rpq_base.specs.declared.data.Pair.{Pair}
+use Rattle.rpq_model.specs.declared.mode.Mode.{Mode}
+use Rattle.rpq_model.specs.declared.mode.Mode.TheVariants.{Arbitrary, Simple}
 use Rattle.name_table.specs.Names.{number_of}
 use Rattle.source_tree.specs.declared.change.EndChange.{EndChange}
 use Rattle.source_tree.specs.Ends.{end_change}
-use Rattle.end_events.specs.Changes.{Ends, AreChangesOf, IsLoss}
+use Rattle.end_events.specs.Changes.{Ends, AreChangesOf, IsLoss, counts}
+use Rattle.end_events.specs.declared.pairs.Outcome.TheVariants.{Lost, Gained}
 use Rattle.end_events.specs.Pairs.{is_loss, IsGiven}
 use Rattle.end_events.proofs.Adding.{one_name}
 
 -- ---- the test
 
 -- numbers that count differ where they have to
-numbers_apart : (apart : Bool) (root vertex : ℕ) → not (apart && root == vertex) ≡ true → apart ≡ true → root ≢ vertex
-numbers_apart false root vertex counts e same = false≢true e
-numbers_apart true root vertex counts e same = both_ways (root == vertex) (not-true (root == vertex) counts) (eq-eqb root vertex same)
+pub numbers_apart : (mode : Mode) (root vertex : ℕ) → counts mode root vertex ≡ true → mode ≡ Simple → root ≢ vertex
+numbers_apart Arbitrary root vertex count is same = absurd cc
+numbers_apart Simple root vertex count is same = both_ways (root == vertex) (not-true (root == vertex) count) (eq-eqb root vertex same)
 
 -- and the other way round
-apart_counts : (apart : Bool) (root vertex : ℕ) → (apart ≡ true → root ≢ vertex) → not (apart && root == vertex) ≡ true
-apart_counts false root vertex differ = refl
-apart_counts true root vertex differ = ap not (false_from_ne_true (root == vertex) (λ e. differ refl (eqb-true root vertex e)))
+pub apart_counts : (mode : Mode) (root vertex : ℕ) → (mode ≡ Simple → root ≢ vertex) → counts mode root vertex ≡ true
+apart_counts Arbitrary root vertex differ = refl
+apart_counts Simple root vertex differ = ap not (false_from_ne_true (root == vertex) (λ e. differ refl (eqb-true root vertex e)))
 
 -- there is no number
 none_from : (found : Option ℕ) → is_none found ≡ true → found ≡ None
@@ -36,28 +39,28 @@ all_three true false c p q r = absurd (false≢true q)
 all_three false b c p q r = absurd (false≢true p)
 
 -- a pair that passes the test is lost
-loss_from : (apart : Bool) (names : List (List ℕ)) (first last : Ends) (pair : Pair) (root vertex : ℕ) →
+loss_from : (mode : Mode) (names : List (List ℕ)) (first last : Ends) (pair : Pair) (root vertex : ℕ) →
     number_of names pair.from ≡ Some root → number_of names pair.to ≡ Some vertex →
-    is_loss apart root vertex (first root vertex) (last root vertex) ≡ true → IsLoss apart names first last pair
-loss_from apart names first last pair root vertex from to test =
-    let outer = and_parts (not (apart && root == vertex) && is_some (first root vertex)) (is_none (last root vertex)) test in
-    let inner = and_parts (not (apart && root == vertex)) (is_some (first root vertex)) outer.0 in
+    is_loss mode root vertex (first root vertex) (last root vertex) ≡ true → IsLoss mode names first last pair
+loss_from mode names first last pair root vertex from to test =
+    let outer = and_parts (counts mode root vertex && is_some (first root vertex)) (is_none (last root vertex)) test in
+    let inner = and_parts (counts mode root vertex) (is_some (first root vertex)) outer.0 in
     record {
       root = root;
       vertex = vertex;
       from = from;
       to = to;
-      counts = λ e same. numbers_apart apart root vertex inner.0 e (same_Some root vertex (sym from ∙ (ap (number_of names) same ∙ to)));
+      apart = λ e same. numbers_apart mode root vertex inner.0 e (same_Some root vertex (sym from ∙ (ap (number_of names) same ∙ to)));
       had = inner.1;
       gone = none_from (last root vertex) outer.1;
     }
 
 -- and a loss passes it
-loss_test : (apart : Bool) (names : List (List ℕ)) (first last : Ends) (pair : Pair) (loss : IsLoss apart names first last pair) →
-    is_loss apart loss.root loss.vertex (first loss.root loss.vertex) (last loss.root loss.vertex) ≡ true
-loss_test apart names first last pair loss =
-    all_three (not (apart && loss.root == loss.vertex)) (is_some (first loss.root loss.vertex)) (is_none (last loss.root loss.vertex))
-    (apart_counts apart loss.root loss.vertex (λ e same. loss.counts e
+loss_test : (mode : Mode) (names : List (List ℕ)) (first last : Ends) (pair : Pair) (loss : IsLoss mode names first last pair) →
+    is_loss mode loss.root loss.vertex (first loss.root loss.vertex) (last loss.root loss.vertex) ≡ true
+loss_test mode names first last pair loss =
+    all_three (counts mode loss.root loss.vertex) (is_some (first loss.root loss.vertex)) (is_none (last loss.root loss.vertex))
+    (apart_counts mode loss.root loss.vertex (λ e same. loss.apart e
     (one_name names pair.from pair.to loss.root loss.from (loss.to ∙ ap (λ n. Some n) (sym same)))))
     loss.had
     (ap is_none loss.gone)
@@ -69,14 +72,14 @@ differ had lacking there none same = both_ways (is_some had) (ap is_some (same �
 -- ---- the lists
 
 -- the ends that the changes take away are lost
-pub lost_is_loss : (apart : Bool) (names : List (List ℕ)) (before after : Ends) (log : List EndChange) → AreChangesOf before after log →
-    (pair : Pair) → IsGiven apart false names log pair ↔ IsLoss apart names before after pair
-lost_is_loss apart names before after log are pair = (
+pub lost_is_loss : (mode : Mode) (names : List (List ℕ)) (before after : Ends) (log : List EndChange) → AreChangesOf before after log →
+    (pair : Pair) → IsGiven mode Lost names log pair ↔ IsLoss mode names before after pair
+lost_is_loss mode names before after log are pair = (
   (λ given.
       let each = given.each in
       let is = ((are each).0 given.member).0 in
-      loss_from apart names before after pair each.root each.vertex given.from given.to
-      (ap₂ (is_loss apart each.root each.vertex)
+      loss_from mode names before after pair each.root each.vertex given.from given.to
+      (ap₂ (is_loss mode each.root each.vertex)
       (ap (λ (change : EndChange). change.before) (sym is))
       (ap (λ (change : EndChange). change.after) (sym is))
       ∙ given.gives)),
@@ -89,19 +92,19 @@ lost_is_loss apart names before after log are pair = (
         member = (are each).1 (refl, differ had gone loss.had loss.gone);
         from = loss.from;
         to = loss.to;
-        gives = loss_test apart names before after pair loss;
+        gives = loss_test mode names before after pair loss;
       }),
 )
 
 -- and those that they bring are gained, which are lost the other way round
-pub gained_is_loss : (apart : Bool) (names : List (List ℕ)) (before after : Ends) (log : List EndChange) → AreChangesOf before after log →
-    (pair : Pair) → IsGiven apart true names log pair ↔ IsLoss apart names after before pair
-gained_is_loss apart names before after log are pair = (
+pub gained_is_loss : (mode : Mode) (names : List (List ℕ)) (before after : Ends) (log : List EndChange) → AreChangesOf before after log →
+    (pair : Pair) → IsGiven mode Gained names log pair ↔ IsLoss mode names after before pair
+gained_is_loss mode names before after log are pair = (
   (λ given.
       let each = given.each in
       let is = ((are each).0 given.member).0 in
-      loss_from apart names after before pair each.root each.vertex given.from given.to
-      (ap₂ (is_loss apart each.root each.vertex)
+      loss_from mode names after before pair each.root each.vertex given.from given.to
+      (ap₂ (is_loss mode each.root each.vertex)
       (ap (λ (change : EndChange). change.after) (sym is))
       (ap (λ (change : EndChange). change.before) (sym is))
       ∙ given.gives)),
@@ -114,6 +117,6 @@ gained_is_loss apart names before after log are pair = (
         member = (are each).1 (refl, λ same. differ had gone loss.had loss.gone (sym same));
         from = loss.from;
         to = loss.to;
-        gives = loss_test apart names after before pair loss;
+        gives = loss_test mode names after before pair loss;
       }),
 )

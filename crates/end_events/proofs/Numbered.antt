@@ -1,6 +1,6 @@
 -- Pairs by the numbers of their names: their order, each once, and which of them are among others.
-use Rattle.std.proofs.Common.{◌≡◌, ℕ, ◌+◌, ◌<◌, Bool, true, false, not, ◌==◌, ◌&&◌, cond, List, [], ◌∷◌, ◌++◌, length, get_or, take, map, Result, Ok, Err, refl, sym, ap, ap₂, subst, ◌∙◌, ⊎_elim, append_assoc, arith}
-use Rattle.std.specs.Prelude.{◌↔◌, Contains, is_ok, if◌then◌else◌}
+use Rattle.std.proofs.Common.{◌≡◌, ℕ, ◌+◌, ◌<◌, Bool, true, false, ◌==◌, ◌&&◌, cond, List, [], ◌∷◌, length, get_or, Result, Ok, Err, refl, sym, ap, ap₂, subst, ◌∙◌, ⊎_elim, arith}
+use Rattle.std.specs.Prelude.{◌↔◌, Contains, is_ok}
 use Rattle.std.specs.Cmp.{both_tied}
 use Rattle.std.specs.Cmp.Lexicographic.{texts_ties}
 use Rattle.std.specs.List.{dedup, dedup_from}
@@ -9,8 +9,8 @@ use Rattle.std.specs.Ordering.{is_lt, ordering_reverse, eq_by_cmp}
 use Rattle.std.specs.declared.cmp.Ordering.TheVariants.{Equal}
 use Rattle.std.proofs.lemmas.Bool.{false_from_ne_true, cases_lt, and_parts, eqb-true, eq-eqb}
 use Rattle.std.proofs.lemmas.Cmp.{tied_itself}
-use Rattle.std.proofs.lemmas.List.{append-nil, map-append, get_or-map, length-map}
-use Rattle.std.proofs.lemmas.List.Elements.{All-head, All-tail, filter_more}
+use Rattle.std.proofs.lemmas.List.{get_or-map, length-map}
+use Rattle.std.proofs.lemmas.List.Elements.{All-head, All-tail}
 use Rattle.std.proofs.lemmas.List.Kept.{Contains-dedup, Contains-from_dedup, IsStrictlySortedBy-dedup}
 use Rattle.std.proofs.lemmas.List.Sorted.{Contains-permutation, IsPermutation-map, IsPermutation-sym, searchable_from_sorted}
 use Rattle.std.proofs.lemmas.Map.Keys.{Less-from_sorted}
@@ -18,10 +18,8 @@ use Rattle.std.proofs.lemmas.Option.{same_Some}
 use Rattle.rpq_base.specs.Order.{name_cmp, pair_cmp}
 use Rattle.rpq_base.specs.Same.{same_pair}
 use Rattle.rpq_base.specs.declared.data.Pair.{Pair}
-use Rattle.rpq_base.specs.declared.data.Event.{Event}
 use Rattle.rpq_base.proofs.Equality.{same_tests, pairs as pair_test}
 use Rattle.rpq_base.proofs.Orders.{pair_cmp_total, pair_cmp_exact}
-use Rattle.rpq_model.specs.Events.{event, without}
 use Rattle.rpq_model.proofs.Pairs.{has, has_iff, same_pair_equivalence}
 use Rattle.name_table.specs.Keys.{sort_key}
 use Rattle.name_table.specs.Names.{name_at, number_of}
@@ -188,46 +186,3 @@ found_by_search names (Err gap) others one numbered all sorted found within =
     (λ before. let less = point.0 place one (omega arith) before in cc)
     (λ after. let greater = point.1 place one after below in cc)
     (cases_lt place gap)))
-
--- nothing is among no pairs
-pub none_among : (names : List (List ℕ)) (others : List NumberedPair) (pair : Pair) → length others ≡ 0 →
-    has (pairs_at names others) pair ≡ false
-none_among names [] pair empty = refl
-none_among names (first ∷ rest) pair empty = absurd (omega (arith, empty))
-
--- ---- the events
-
--- one pair more is kept or not
-kept_more : (pairs others : List Pair) (index : ℕ) (pair : Pair) (test : Bool) →
-    index < length pairs → pair ≡ get_or pairs index pair → has others pair ≡ test →
-    without (take (index + 1) pairs) others ≡ without (take index pairs) others ++ (if not test then pair ∷ [] else [])
-kept_more pairs others index pair test below is found =
-    let kept = without (take index pairs) others in
-    filter_more (λ (each : Pair). not (has others each)) pairs index pair below
-    ∙ (ap (λ (each : Pair). kept ++ (if not (has others each) then each ∷ [] else [])) (sym is)
-    ∙ ap (λ (among : Bool). kept ++ (if not among then pair ∷ [] else [])) found)
-
--- a pair that isn't among the others gives an event
-pub told_more : (pairs others : List Pair) (index : ℕ) (pair : Pair) (query : ℕ) (added : Bool)
-    (old found : List Event) →
-    index < length pairs → pair ≡ get_or pairs index pair →
-    has others pair ≡ false → found ≡ old ++ map (event query added) (without (take index pairs) others) →
-    found ++ event query added pair ∷ [] ≡ old ++ map (event query added) (without (take (index + 1) pairs) others)
-told_more pairs others index pair query added old found below is absent so_far =
-    let kept = without (take index pairs) others in
-    ap (λ (events : List Event). events ++ event query added pair ∷ []) so_far
-    ∙ (append_assoc old (map (event query added) kept) (event query added pair ∷ [])
-    ∙ ap (λ (events : List Event). old ++ events)
-    (sym (map-append (event query added) kept (pair ∷ [])) ∙ ap (map (event query added))
-    (sym (kept_more pairs others index pair false below is absent))))
-
--- one that is gives none
-pub told_same : (pairs others : List Pair) (index : ℕ) (pair : Pair) (query : ℕ) (added : Bool)
-    (old found : List Event) →
-    index < length pairs → pair ≡ get_or pairs index pair →
-    has others pair ≡ true → found ≡ old ++ map (event query added) (without (take index pairs) others) →
-    found ≡ old ++ map (event query added) (without (take (index + 1) pairs) others)
-told_same pairs others index pair query added old found below is among so_far =
-    let kept = without (take index pairs) others in
-    so_far ∙ ap (λ (all : List Pair). old ++ map (event query added) all)
-    (sym (kept_more pairs others index pair true below is among ∙ append-nil kept))

@@ -1,32 +1,39 @@
 -- The pairs that lists of changed ends take away or bring. No public contract cites this file.
-use Rattle.std.specs.Prelude.{◌≡◌, ◌⊎◌, ℕ, ◌<◌, Bool, true, not, ◌==◌, ◌&&◌, List, length, map, All, Contains}
-use Rattle.std.specs.Prelude.{Option, Some, is_some, is_none, if◌then◌else◌}
+use Rattle.std.specs.Prelude.{◌≡◌, ◌⊎◌, ℕ, ◌<◌, Bool, true, false, ◌&&◌, List, length, map, All}
+use Rattle.std.specs.Prelude.{Contains, Option, Some, is_some, is_none}
 use Rattle.rpq_base.specs.declared.data.Pair.{Pair}
+use Rattle.rpq_model.specs.declared.mode.Mode.{Mode}
 use Rattle.rpq_model.specs.Relations.{Adds, AreExactly}
 use Rattle.name_table.specs.Keys.{sort_key, AreBytes}
 use Rattle.name_table.specs.Names.{name_at, number_of}
 use Rattle.source_tree.specs.declared.change.EndChange.{EndChange}
 use Rattle.end_events.specs.declared.pairs.NumberedPair.{NumberedPair}
+use Rattle.end_events.specs.declared.pairs.Outcome.{Outcome}
+use Rattle.end_events.specs.declared.pairs.Outcome.TheVariants.{Lost, Gained}
+use Rattle.end_events.specs.Changes.{counts}
 
 -- whether a pair with these numbers counts, and has an end at first and none at last
-abbrev pub is_loss : Bool → ℕ → ℕ → Option ℕ → Option ℕ → Bool
-is_loss apart root vertex first last =
-    not (apart && root == vertex) && is_some first && is_none last
+abbrev pub is_loss : Mode → ℕ → ℕ → Option ℕ → Option ℕ → Bool
+is_loss mode root vertex first last = counts mode root vertex && is_some first && is_none last
 
--- whether a change takes away the end of a pair that counts, or, where `added`, brings it
-abbrev pub gives_event : Bool → Bool → EndChange → Bool
-gives_event apart added each =
-    if added then is_loss apart each.root each.vertex each.after each.before
-    else is_loss apart each.root each.vertex each.before each.after
+-- whether a pair with this outcome is gained
+abbrev pub is_gain : Outcome → Bool
+is_gain Lost = false
+is_gain Gained = true
+
+-- whether a change takes away the end of a pair that counts, or brings it
+abbrev pub gives_event : Mode → Outcome → EndChange → Bool
+gives_event mode Lost each = is_loss mode each.root each.vertex each.before each.after
+gives_event mode Gained each = is_loss mode each.root each.vertex each.after each.before
 
 -- a change in the list gives an event of the pair
-pub record IsGiven (apart added : Bool) (names : List (List ℕ)) (log : List EndChange)
+pub record IsGiven (mode : Mode) (outcome : Outcome) (names : List (List ℕ)) (log : List EndChange)
     (pair : Pair) : Type 0 where
   pub each : EndChange
   pub member : Contains log each
   pub from : number_of names pair.from ≡ Some each.root
   pub to : number_of names pair.to ≡ Some each.vertex
-  pub gives : gives_event apart added each ≡ true
+  pub gives : gives_event mode outcome each ≡ true
 
 -- the number is that of a name, which has this sort key
 pub record IsKeyed (names : List (List ℕ)) (number key : ℕ) : Type 0 where
@@ -52,15 +59,15 @@ abbrev pub pairs_at : List (List ℕ) → List NumberedPair → List Pair
 pairs_at names pairs = map (pair_at names) pairs
 
 -- the pairs of which a change in the list gives an event are added, all of them numbered
-pub record Gathers (apart added : Bool) (names : List (List ℕ)) (log : List EndChange)
+pub record Gathers (mode : Mode) (outcome : Outcome) (names : List (List ℕ)) (log : List EndChange)
     (before after : List NumberedPair) : Type 0 where
-  pub adds : Adds (pairs_at names before) (pairs_at names after) (IsGiven apart added names log)
+  pub adds : Adds (pairs_at names before) (pairs_at names after) (IsGiven mode outcome names log)
   pub numbered : AreNumbered names before → AreNumbered names after
 
 -- the pairs are exactly those of which a change in one of two lists gives an event, in order, each
 -- once
-pub record AreGiven (apart added : Bool) (names : List (List ℕ)) (first second : List EndChange)
-    (pairs : List NumberedPair) : Type 0 where
+pub record AreGiven (mode : Mode) (outcome : Outcome) (names : List (List ℕ))
+    (first second : List EndChange) (pairs : List NumberedPair) : Type 0 where
   pub numbered : AreNumbered names pairs
-  pub exactly : AreExactly (λ pair. IsGiven apart added names first pair
-      ⊎ IsGiven apart added names second pair) (pairs_at names pairs)
+  pub exactly : AreExactly (λ pair. IsGiven mode outcome names first pair
+      ⊎ IsGiven mode outcome names second pair) (pairs_at names pairs)

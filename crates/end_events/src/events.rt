@@ -7,17 +7,18 @@ ghost use Rattle.rpq_base.specs.Order.{pair_cmp};
 ghost use Rattle.rpq_base.specs.Same.{same_pair};
 ghost use Rattle.rpq_model.specs.Events.{event, without};
 ghost use Rattle.end_events.specs.Changes.{AreChangesOf, AreEventsBetween, AreNamed, Ends};
-ghost use Rattle.end_events.specs.Pairs.{pair_at, pairs_at, AreNumbered, IsNumbered};
+ghost use Rattle.end_events.specs.Pairs.{is_gain, pair_at, pairs_at, AreNumbered, IsNumbered};
 
-use crate::pairs::{NumberedPair, given_pairs, pair_order};
+use crate::pairs::{NumberedPair, Outcome, given_pairs, pair_order};
 use name_table::Names;
 use rpq_base::{Copied, Event, Memory, Pair};
+use rpq_model::Mode;
 use source_tree::EndChange;
 use std::alloc::Global;
 
-/// The events of the query with this number that two changes bring, one after the other, whose
-/// changed ends these are. Where `apart` is true, pairs of one vertex bring none. The only error is
-/// [`Memory`].
+/// The events that two changes bring, one after the other, whose changed ends these are, for the
+/// query with this number and mode. A query that takes simple paths has none for pairs of a vertex
+/// with itself. The only error is [`Memory`].
 ///
 /// A pair changes at most twice, so one whose end both goes and comes is as it was before. Each
 /// list is gone through once; the pairs whose ends go or come are put in order by the sort keys of
@@ -26,7 +27,7 @@ use std::alloc::Global;
 pub fn events_between(
     alloc: Global,
     query: u32,
-    apart: bool,
+    mode: Mode,
     names: &Names,
     first: &[EndChange],
     second: &[EndChange],
@@ -36,13 +37,27 @@ pub fn events_between(
     ensures { (start middle last : Ends) →
         AreChangesOf start middle first.now → AreChangesOf middle last second.now →
         IfOk result (λ events.
-        AreEventsBetween query apart names.now start last events.items) }
+        AreEventsBetween query mode names.now start last events.items) }
 {
-    let given = given_pairs(alloc, apart, names, first, second)?;
+    let given = given_pairs(alloc, mode, names, first, second)?;
     let mut events = Vec::new(alloc);
     events.reserve(given.lost.len().saturating_add(given.gained.len()))?;
-    push_events(&mut events, query, false, names, &given.lost, &given.gained)?;
-    push_events(&mut events, query, true, names, &given.gained, &given.lost)?;
+    push_events(
+        &mut events,
+        query,
+        Outcome::Lost,
+        names,
+        &given.lost,
+        &given.gained,
+    )?;
+    push_events(
+        &mut events,
+        query,
+        Outcome::Gained,
+        names,
+        &given.gained,
+        &given.lost,
+    )?;
     Ok(events)
 }
 
@@ -50,7 +65,7 @@ pub fn events_between(
 fn push_events(
     events: &mut Vec<Event>,
     query: u32,
-    added: bool,
+    outcome: Outcome,
     names: &Names,
     pairs: &[NumberedPair],
     others: &[NumberedPair],
@@ -58,12 +73,13 @@ fn push_events(
     requires numbered { AreNumbered names.now pairs.now }
     requires others_numbered { AreNumbered names.now others.now }
     requires others_sorted { IsStrictlySortedBy pair_cmp (pairs_at names.now others.now) }
-    ensures { OnOk result (events.new.items ≡ events.old.items ++ map (event query added)
+    ensures { OnOk result (events.new.items ≡ events.old.items
+        ++ map (event query (is_gain outcome))
         (without (pairs_at names.now pairs.now) (pairs_at names.now others.now))) }
 {
     for pair in pairs {
         if !is_among(names, others, pair) {
-            events.push(event_of(query, added, names, pair)?)?;
+            events.push(event_of(query, outcome, names, pair)?)?;
         }
     }
     Ok(())
@@ -84,14 +100,20 @@ fn is_among(names: &Names, others: &[NumberedPair], pair: &NumberedPair) -> bool
     found.is_ok()
 }
 
-/// The event that the pair is gained, or lost, with copies of its names.
-fn event_of(query: u32, added: bool, names: &Names, pair: &NumberedPair) -> Result<Event, Memory>
+/// The event of the pair with this outcome, with copies of its names.
+fn event_of(
+    query: u32,
+    outcome: Outcome,
+    names: &Names,
+    pair: &NumberedPair,
+) -> Result<Event, Memory>
     requires { IsNumbered names.now pair.now }
-    ensures { IfOk result (λ one. one ≡ event query added (pair_at names.now pair.now)) }
+    ensures { IfOk result (λ one.
+        one ≡ event query (is_gain outcome) (pair_at names.now pair.now)) }
 {
     Ok(Event {
         query,
-        added,
+        added: outcome.is_gain(),
         pair: Pair {
             from: names.name_of(pair.root).copy()?,
             to: names.name_of(pair.vertex).copy()?,

@@ -10,3 +10,4 @@ mod events;
 mod pairs;
 
 pub use events::events_between;
+pub use pairs::counts;

@@ -1,17 +1,19 @@
 //! The pairs that lists of changed ends take away or bring.
 
-ghost use Rattle.std.specs.Prelude.{◌≡◌, ◌<◌, ◌↔◌, ◌∷◌, [], false, true, length};
+ghost use Rattle.std.specs.Prelude.{◌≡◌, ◌<◌, ◌↔◌, ◌∷◌, [], length};
 ghost use Rattle.std.specs.Prelude.{Contains, IfOk, OnOk};
 ghost use Rattle.std.specs.List.Sorted.{IsStrictlySortedBy};
 ghost use Rattle.rpq_base.specs.declared.data.Pair.{Pair};
 ghost use Rattle.rpq_base.specs.Order.{pair_cmp};
-ghost use Rattle.end_events.specs.Changes.{AreNamed};
+ghost use Rattle.end_events.specs.Changes.{AreNamed, counts};
+ghost use Rattle.end_events.specs.declared.pairs.Outcome.TheVariants.{Gained, Lost};
 ghost use Rattle.end_events.specs.Order.{vertex_cmp, numbered_cmp};
-ghost use Rattle.end_events.specs.Pairs.{is_loss, gives_event, pair_at, pairs_at};
+ghost use Rattle.end_events.specs.Pairs.{gives_event, is_gain, is_loss, pair_at, pairs_at};
 ghost use Rattle.end_events.specs.Pairs.{AreGiven, AreNumbered, Gathers, IsNumbered};
 
 use name_table::Names;
 use rpq_base::Memory;
+use rpq_model::Mode;
 use source_tree::EndChange;
 use std::alloc::Global;
 use std::cmp::Ordering;
@@ -24,6 +26,27 @@ pub(crate) struct NumberedPair {
     pub vertex: u32,
     root_key: u128,
     vertex_key: u128,
+}
+
+/// What a change does to a pair that counts.
+#[derive(Clone, Copy)]
+pub(crate) enum Outcome {
+    /// It takes away the pair's end.
+    Lost,
+    /// It brings the pair an end.
+    Gained,
+}
+
+impl Outcome {
+    /// Whether the pair is gained.
+    pub(crate) fn is_gain(self) -> bool
+        ensures { result ≡ is_gain self }
+    {
+        match self {
+            Self::Lost => false,
+            Self::Gained => true,
+        }
+    }
 }
 
 /// The pairs whose ends go, and those whose ends come.
@@ -49,7 +72,7 @@ fn vertex_order(
     } else if first == second {
         Ordering::Equal
     } else {
-        names.compared(first, second)
+        names.compare(first, second)
     }
 }
 
@@ -78,21 +101,31 @@ pub(crate) fn pair_order(names: &Names, first: &NumberedPair, second: &NumberedP
     }
 }
 
-/// Whether the pair of the change counts, and has an end at first and none at last.
-fn is_loss(apart: bool, each: &EndChange, first: Option<u64>, last: Option<u64>) -> bool
-    ensures { result ≡ is_loss apart each.now.root each.now.vertex first last }
+/// Whether a pair of these vertices counts in a query of this mode: no simple path ends where it
+/// begins.
+pub fn counts(mode: Mode, root: u32, vertex: u32) -> bool
+    ensures { result ≡ counts mode root vertex }
 {
-    !(apart && each.root == each.vertex) && first.is_some() && last.is_none()
+    match mode {
+        Mode::Arbitrary => true,
+        Mode::Simple => root != vertex,
+    }
 }
 
-/// Whether the change takes away the end of a pair that counts, or, where `added`, brings it.
-fn gives_event(apart: bool, added: bool, each: &EndChange) -> bool
-    ensures { result ≡ gives_event apart added each.now }
+/// Whether the pair of the change counts, and has an end at first and none at last.
+fn is_loss(mode: Mode, each: &EndChange, first: Option<u64>, last: Option<u64>) -> bool
+    ensures { result ≡ is_loss mode each.now.root each.now.vertex first last }
 {
-    if added {
-        is_loss(apart, each, each.after, each.before)
-    } else {
-        is_loss(apart, each, each.before, each.after)
+    counts(mode, each.root, each.vertex) && first.is_some() && last.is_none()
+}
+
+/// Whether the change has this outcome for a pair that counts.
+fn gives_event(mode: Mode, outcome: Outcome, each: &EndChange) -> bool
+    ensures { result ≡ gives_event mode outcome each.now }
+{
+    match outcome {
+        Outcome::Lost => is_loss(mode, each, each.before, each.after),
+        Outcome::Gained => is_loss(mode, each, each.after, each.before),
     }
 }
 
@@ -115,17 +148,17 @@ fn pair_of(names: &Names, each: &EndChange) -> NumberedPair
 /// Adds the pair of the change, where it gives an event.
 fn add_pair(
     found: &mut Vec<NumberedPair>,
-    apart: bool,
-    added: bool,
+    mode: Mode,
+    outcome: Outcome,
     names: &Names,
     each: &EndChange,
 ) -> Result<(), Memory>
     requires root { each.now.root < length names.now }
     requires vertex { each.now.vertex < length names.now }
-    ensures { OnOk result (Gathers apart added names.now (each.now ∷ []) found.old.items
+    ensures { OnOk result (Gathers mode outcome names.now (each.now ∷ []) found.old.items
         found.new.items) }
 {
-    if gives_event(apart, added, each) {
+    if gives_event(mode, outcome, each) {
         found.push(pair_of(names, each))?;
     }
     Ok(())
@@ -135,19 +168,19 @@ fn add_pair(
 fn add_given(
     lost: &mut Vec<NumberedPair>,
     gained: &mut Vec<NumberedPair>,
-    apart: bool,
+    mode: Mode,
     names: &Names,
     changes: &[EndChange],
 ) -> Result<(), Memory>
     requires { AreNamed names.now changes.now }
-    ensures lost { OnOk result (Gathers apart false names.now changes.now lost.old.items
+    ensures lost { OnOk result (Gathers mode Lost names.now changes.now lost.old.items
         lost.new.items) }
-    ensures gained { OnOk result (Gathers apart true names.now changes.now gained.old.items
+    ensures gained { OnOk result (Gathers mode Gained names.now changes.now gained.old.items
         gained.new.items) }
 {
     for each in changes {
-        add_pair(lost, apart, false, names, each)?;
-        add_pair(gained, apart, true, names, each)?;
+        add_pair(lost, mode, Outcome::Lost, names, each)?;
+        add_pair(gained, mode, Outcome::Gained, names, each)?;
     }
     Ok(())
 }
@@ -168,7 +201,7 @@ fn put_in_order(names: &Names, pairs: &mut Vec<NumberedPair>)
 /// are none, nothing is allocated.
 pub(crate) fn given_pairs(
     alloc: Global,
-    apart: bool,
+    mode: Mode,
     names: &Names,
     first: &[EndChange],
     second: &[EndChange],
@@ -176,14 +209,14 @@ pub(crate) fn given_pairs(
     requires first_named { AreNamed names.now first.now }
     requires second_named { AreNamed names.now second.now }
     ensures lost { IfOk result (λ given.
-        AreGiven apart false names.now first.now second.now given.lost.items) }
+        AreGiven mode Lost names.now first.now second.now given.lost.items) }
     ensures gained { IfOk result (λ given.
-        AreGiven apart true names.now first.now second.now given.gained.items) }
+        AreGiven mode Gained names.now first.now second.now given.gained.items) }
 {
     let mut lost = Vec::new(alloc);
     let mut gained = Vec::new(alloc);
-    add_given(&mut lost, &mut gained, apart, names, first)?;
-    add_given(&mut lost, &mut gained, apart, names, second)?;
+    add_given(&mut lost, &mut gained, mode, names, first)?;
+    add_given(&mut lost, &mut gained, mode, names, second)?;
     put_in_order(names, &mut lost);
     put_in_order(names, &mut gained);
     Ok(LostAndGained { lost, gained })

@@ -6,46 +6,34 @@ use Rattle.std.specs.Global.{Global}
 use Rattle.rpq_base.specs.declared.memory.Memory.{Memory}
 use Rattle.std.specs.List.{All}
 use Rattle.std.proofs.lemmas.List.Elements.{All-nil, All-append, All-map}
-use Rattle.rpq_base.specs.declared.data.Act.TheVariants.{Insert, Delete, Tick}
+use Rattle.rpq_base.specs.declared.data.Act.TheVariants.{Delete, Tick}
 use Rattle.rpq_base.specs.declared.data.Entry.{Entry}
 use Rattle.rpq_base.specs.declared.data.Event.{Event}
 use Rattle.rpq_base.specs.declared.data.Pair.{Pair}
 use Rattle.path_syntax.specs.Laws.{nonempty}
 use Rattle.dfa_table.specs.DfaValue.{DfaValue}
 use Rattle.dfa_table.specs.Runs.{Accepts}
-use Rattle.rpq_model.specs.declared.mode.Mode.TheVariants.{Simple}
+use Rattle.rpq_model.specs.declared.mode.Mode.{Mode}
 use Rattle.rpq_model.specs.Events.{event, AreEvents}
 use Rattle.rpq_model.specs.Query.{language_of, path_query}
 use Rattle.rpq_model.proofs.Ticks.{clock_more}
 use Rattle.source_tree.specs.declared.change.Change.{Change}
 use Rattle.source_tree.specs.declared.change.EndChange.{EndChange}
 use Rattle.delta_forest.specs.Forest.{ForestValue, kept}
-use Rattle.delta_forest.specs.Laws.{EachHasAnEnd, EndsAreOne, KeptIsBest}
 use Rattle.end_events.specs.Changes.{Ends, AreChangesOf, AreNamed, AreEventsBetween}
-use Rattle.containment_laws.specs.Accepted.{AcceptedHaveAnswers}
 use Rattle.index_laws.specs.Store.{clock_after}
 use Rattle.index_laws.specs.Index.{IsIndexOf}
-use Rattle.index_laws.specs.LawsOfIndexes.{IndexKeepsBests, IndexTellsAnswers, StoresFollow}
 use Rattle.query_file.specs.Compiled.{CompiledValue, IsCompiled}
 use Rattle.query_file.proofs.Verdicts.{accepted_of}
 use Rattle.path_engine.specs.declared.index.Index.{Index}
 use Rattle.path_engine.specs.Engine.{IsIndexFor}
+use Rattle.path_engine.specs.Laws.{Laws}
 use Rattle.path_engine.specs.Answering.{HasAnswered, HasHistory, HasStepped, MayHaveApplied}
 use Rattle.path_engine.specs.Showing.{HaveNames}
 use Rattle.path_engine.proofs.Stepping.{is_index, follows, expired_by}
 use Rattle.path_engine.proofs.Telling.{HaveEnds, are_changes, are_events, ends_of, have_names}
 use Rattle.path_engine.proofs.Telling.{log_named, no_changes}
 use Rattle.path_engine.proofs.Kept.{keeps_forest}
-
--- the laws of the layers below
-pub record Laws : Type 0 where
-  pub best : KeptIsBest
-  pub one : EndsAreOne
-  pub have : EachHasAnEnd
-  pub follow : StoresFollow
-  pub keeps : IndexKeepsBests
-  pub tells : IndexTellsAnswers
-  pub answers : AcceptedHaveAnswers
 
 abbrev pub have_ends : Laws → HaveEnds
 have_ends laws forest indexed root vertex = laws.have forest root vertex
@@ -55,10 +43,10 @@ each_is_of : (pairs : List Pair) (query : ℕ) (added : Bool) →
 each_is_of pairs query added =
     All-map (λ (e : Event). e.query ≡ query) (event query added) pairs (λ k d within. refl)
 
-numbers_are : (number : ℕ) (apart : Bool) (names : List (List ℕ)) (first last : Ends)
-    (events : List Event) → AreEventsBetween number apart names first last events →
+numbers_are : (number : ℕ) (mode : Mode) (names : List (List ℕ)) (first last : Ends)
+    (events : List Event) → AreEventsBetween number mode names first last events →
     All (λ (e : Event). e.query ≡ number) events
-numbers_are number apart names first last events between =
+numbers_are number mode names first last events between =
     subst (All (λ (e : Event). e.query ≡ number)) (sym between.are)
     (All-append (λ (e : Event). e.query ≡ number) (map (event number false) between.lost)
     (map (event number true) between.gained) (each_is_of between.lost number false)
@@ -95,7 +83,7 @@ module _ (laws : Laws) (names : List (List ℕ)) (entry : Entry) (query : Compil
       holds = (laws.follow.step query.def.window history tick names middle.dfa middle.store
           (expired_by laws.follow query history names entry old new first second some was stepped
           tick same_clock)).other (record {
-            insert = λ edge inserts. let both : Tick ≡ Insert edge = inserts in absurd cc;
+            insert = λ edge inserts. let both : None ≡ Some edge = inserts in absurd cc;
             delete = λ edge deletes id has. let both : Tick ≡ Delete edge = deletes in absurd cc;
           });
       bests = laws.best middle stepped.expired.indexed;
@@ -165,52 +153,51 @@ module _ (laws : Laws) (names : List (List ℕ)) (entry : Entry) (query : Compil
     second_changes : AreChangesOf between last second
     second_changes = changes_by stepped.change stepped.changed
 
-    pub events_are : (number : ℕ) (apart : Bool) (events : List Event) →
-        (apart ≡ true) ↔ (query.def.mode ≡ Simple) →
-        AreEventsBetween number apart names start last events →
+    pub events_are : (number : ℕ) (events : List Event) →
+        AreEventsBetween number query.def.mode names start last events →
         AreEvents (path_query query.def) number history (history ++ entry ∷ []) events
-    events_are number apart events simple are =
+    events_are number events are =
         are_events laws.answers query.def (accepted_of query compiled) names history
-        (history ++ entry ∷ []) old.forest new.forest start last apart number events
+        (history ++ entry ∷ []) old.forest new.forest start last number events
         (laws.tells query.def history names old.forest.dfa (kept old.forest) index_before)
         (laws.tells query.def (history ++ entry ∷ []) names new.forest.dfa (kept new.forest)
         index_after)
         (λ root vertex. (laws.have old.forest root vertex).1)
-        (λ root vertex. (laws.have new.forest root vertex).1) simple are
+        (λ root vertex. (laws.have new.forest root vertex).1) are
 
-  pub answered : (number : ℕ) (apart : Bool) (events : List Event) → HasHistory query names old →
-      (apart ≡ true) ↔ (query.def.mode ≡ Simple) →
+  pub answered : (number : ℕ) (events : List Event) → HasHistory query names old →
       ((start middle last : Ends) → AreChangesOf start middle first →
       AreChangesOf middle last second →
-      AreEventsBetween number apart names start last events) →
+      AreEventsBetween number query.def.mode names start last events) →
       HasAnswered names entry number query old new events
-  answered number apart events has simple are = record {
+  answered number events has are = record {
     stands = λ history was. after history was;
     events = λ history was.
-        events_are history was number apart events simple
+        events_are history was number events
         (are (start history was) (between history was) (last history was)
         (first_changes history was) (second_changes history was));
     keeps = keeps_forest laws.best names new.clock entry.tuple.time old.forest middle new.forest
         first second has.is.indexed (after has.history has.is).indexed stepped.expired
         entry.tuple.act stepped.change stepped.suits stepped.changed;
-    numbers = numbers_are number apart names (start has.history has.is) (last has.history has.is)
+    numbers = numbers_are number query.def.mode names (start has.history has.is) (last has.history has.is)
         events
         (are (start has.history has.is) (between has.history has.is) (last has.history has.is)
         (first_changes has.history has.is) (second_changes has.history has.is));
   }
 
   -- where events came out
-  pub answered_if : (number : ℕ) (apart : Bool) (firsts seconds : List EndChange) →
+  pub answered_if : (number : ℕ) (mode : Mode) (firsts seconds : List EndChange) →
       firsts ≡ first → seconds ≡ second → HasHistory query names old →
-      (apart ≡ true) ↔ (query.def.mode ≡ Simple) →
+      mode ≡ query.def.mode →
       (result : Result (Vec Event Global) Memory) →
       ((start middle last : Ends) → AreChangesOf start middle firsts →
       AreChangesOf middle last seconds →
-      IfOk result (λ events. AreEventsBetween number apart names start last events.items)) →
+      IfOk result (λ events. AreEventsBetween number mode names start last events.items)) →
       IfOk result (λ events. HasAnswered names entry number query old new events.items)
-  answered_if number apart firsts seconds first_is second_is has simple (Ok events) given =
-      answered number apart events.items has simple
+  answered_if number mode firsts seconds first_is second_is has mode_is (Ok events) given =
+      answered number events.items has
       (λ start middle last one two.
-      given start middle last (subst (AreChangesOf start middle) (sym first_is) one)
-      (subst (AreChangesOf middle last) (sym second_is) two))
-  answered_if number apart firsts seconds first_is second_is has simple (Err fault) given = tt
+      subst (λ (each : Mode). AreEventsBetween number each names start last events.items) mode_is
+      (given start middle last (subst (AreChangesOf start middle) (sym first_is) one)
+      (subst (AreChangesOf middle last) (sym second_is) two)))
+  answered_if number mode firsts seconds first_is second_is has mode_is (Err fault) given = tt

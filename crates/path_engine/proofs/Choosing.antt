@@ -5,7 +5,7 @@ use Rattle.rpq_base.specs.declared.data.Act.{Act}
 use Rattle.rpq_base.specs.declared.data.Act.TheVariants.{Delete}
 use Rattle.rpq_base.specs.declared.data.Edge.{Edge}
 use Rattle.dfa_table.specs.DfaValue.{DfaValue, place_of}
-use Rattle.edge_store.specs.Clock.{ClockValue}
+use Rattle.window_clock.specs.Clock.{ClockValue}
 use Rattle.edge_store.specs.declared.edge.EdgeId.{EdgeId}
 use Rattle.source_tree.specs.declared.change.Change.{Change}
 use Rattle.index_laws.specs.Numbered.{HasNumbers}

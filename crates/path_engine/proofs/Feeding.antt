@@ -14,7 +14,8 @@ use Rattle.index_laws.specs.LawsOfIndexes.{StoresFollow}
 use Rattle.query_file.specs.Compiled.{CompiledValue}
 use Rattle.path_engine.specs.Engine.{EngineValue, StandsFor, definitions}
 use Rattle.path_engine.specs.Answering.{HaveAnswered}
-use Rattle.path_engine.specs.Keeping.{KeepsPlaces}
+use Rattle.path_engine.specs.Feeding.{Feeds}
+use Rattle.path_engine.specs.Keeping.{BringsNoName, KeepsPlaces}
 use Rattle.path_engine.proofs.Each.{AreIndexes, HaveHistories, have_histories, more_named, zip_map}
 use Rattle.path_engine.proofs.Each.{each_events, each_keeps, each_numbers, each_stands}
 
@@ -55,22 +56,34 @@ module _ (follow : StoresFollow) (old new : EngineValue) (entry : Entry) (events
         (over history stands) answered);
   }
 
-  pub fed_events : (history : List Entry) → StandsFor old history →
+  fed_events : (history : List Entry) → StandsFor old history →
       AreEntryEvents (definitions old) history entry events
   fed_events history stands =
       each_events new.names entry history 0 old.queries old.indexes new.indexes events
       (over history stands) answered
 
-  pub fed_keeps : KeepsPlaces entry.tuple.act old new
+  fed_keeps : KeepsPlaces entry.tuple.act old new
   fed_keeps = record {
     names = kept;
     forests = each_keeps new.names entry 0 old.queries old.indexes new.indexes events answered;
   }
 
-  pub fed_numbers : All (λ (event : Event). event.query < length old.queries) events
+  fed_numbers : All (λ (event : Event). event.query < length old.queries) events
   fed_numbers =
       let all = each_numbers new.names entry 0 old.queries old.indexes new.indexes events answered in
       λ k d within. omega (arith, all k d within)
+
+  -- all of it
+  pub fed : (BringsNoName entry.tuple.act old.queries → new.names ≡ old.names) →
+      Feeds old entry new events
+  fed same = record {
+    stands = fed_stands;
+    events = fed_events;
+    keeps = fed_keeps;
+    names = same;
+    numbers = fed_numbers;
+    position = position;
+  }
 
 -- the rows of each query make the view
 pub view_of : (engine : EngineValue) (history : List Entry) (rows : List (List Answer))

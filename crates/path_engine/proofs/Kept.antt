@@ -10,7 +10,7 @@ use Rattle.std.proofs.lemmas.Option.{same_Some}
 use Rattle.rpq_base.specs.declared.data.Act.{Act}
 use Rattle.rpq_base.specs.declared.data.Act.TheVariants.{Insert, Delete, Tick}
 use Rattle.dfa_table.specs.DfaValue.{DfaValue, step_of}
-use Rattle.edge_store.specs.Clock.{ClockValue}
+use Rattle.window_clock.specs.Clock.{ClockValue}
 use Rattle.edge_store.specs.declared.edge.EdgeId.{EdgeId}
 use Rattle.edge_store.specs.Edges.{Edges, Updates, above, raised, same_edge, value_of as value_in}
 use Rattle.delta_tree.specs.declared.node.NodeId.{NodeId}
@@ -308,7 +308,7 @@ module _ (law : KeptIsBest) (names : List (List ℕ)) (clock : ClockValue) (time
   all_above act None suits same = λ edge value there.
       all_middle edge value
       (subst (λ (forest : ForestValue). value_in forest.store edge ≡ Some value) same.0 there)
-  all_above (Insert inserted) (Some (Raise id value)) suits applied = λ edge there found.
+  all_above (Insert inserted until) (Some (Raise id value)) suits applied = λ edge there found.
       updated_above middle.store new.store id (Some (raised (value_in middle.store id) value)) now
       all_middle
       (λ each same.
@@ -318,8 +318,8 @@ module _ (law : KeptIsBest) (names : List (List ℕ)) (clock : ClockValue) (time
   all_above (Delete deleted) (Some (Remove id)) suits applied = λ edge there found.
       updated_above middle.store new.store id None now all_middle (λ each none. absurd cc)
       applied.store edge there found
-  all_above (Insert inserted) (Some (Remove id)) suits applied = absurd suits
-  all_above (Insert inserted) (Some (Expire other)) suits applied = absurd suits
+  all_above (Insert inserted until) (Some (Remove id)) suits applied = absurd suits
+  all_above (Insert inserted until) (Some (Expire other)) suits applied = absurd suits
   all_above (Delete deleted) (Some (Raise id value)) suits applied = absurd suits
   all_above (Delete deleted) (Some (Expire other)) suits applied = absurd suits
   all_above Tick (Some change) suits applied = absurd suits
@@ -365,7 +365,7 @@ module _ (law : KeptIsBest) (names : List (List ℕ)) (clock : ClockValue) (time
         let node = subst (λ (each : TreeValue). node_of each id ≡ Some left) tree
         (node_in_middle less) in
         same_Some right left (sym right_is ∙ node)
-    by_change (Insert inserted) (Some (Raise raise value)) less suits applied never =
+    by_change (Insert inserted until) (Some (Raise raise value)) less suits applied never =
         let found = standing less in
         (applied.keeps.nodes root found.tree after found.tree_is after_is).same id left right
         (node_in_middle less) right_is same
@@ -387,8 +387,8 @@ module _ (law : KeptIsBest) (names : List (List ℕ)) (clock : ClockValue) (time
           );
         })) in
         same_Some right left (sym right_is ∙ node)
-    by_change (Insert inserted) (Some (Remove removed)) less suits applied never = absurd suits
-    by_change (Insert inserted) (Some (Expire other)) less suits applied never = absurd suits
+    by_change (Insert inserted until) (Some (Remove removed)) less suits applied never = absurd suits
+    by_change (Insert inserted until) (Some (Expire other)) less suits applied never = absurd suits
     by_change (Delete deleted) (Some (Raise raise value)) less suits applied never = absurd suits
     by_change (Delete deleted) (Some (Expire other)) less suits applied never = absurd suits
     by_change Tick (Some change) less suits applied never = absurd suits

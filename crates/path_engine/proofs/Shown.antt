@@ -1,6 +1,6 @@
 -- The answers that a forest shows.
 use Rattle.std.proofs.Common.{◌≡◌, ◌≢◌, ℕ, zero, suc, ◌+◌, ◌<◌, ◌≤◌, Bool, true, false, List, [], ◌∷◌, length}
-use Rattle.std.proofs.Common.{get_or, take, Some, refl, sym, ap, subst, ◌∙◌, ◌⊎◌, inl, inr, ⊎_elim, arith, true≢false}
+use Rattle.std.proofs.Common.{get_or, take, Some, refl, sym, ap, subst, ◌∙◌, ◌⊎◌, inl, inr, ⊎_elim, arith}
 use Rattle.std.specs.Prelude.{◌↔◌, Contains}
 use Rattle.std.specs.List.{All}
 use Rattle.std.proofs.lemmas.Bool.{both_ways, cases_eq}
@@ -13,7 +13,8 @@ use Rattle.rpq_base.specs.declared.data.Entry.{Entry}
 use Rattle.rpq_base.specs.declared.data.Pair.{Pair}
 use Rattle.rpq_base.proofs.Equality.{names as name_test, pairs as pair_test}
 use Rattle.rpq_base.proofs.Members.{HasOneMore, none_in, next_one}
-use Rattle.rpq_model.specs.declared.mode.Mode.TheVariants.{Simple}
+use Rattle.rpq_model.specs.declared.mode.Mode.{Mode}
+use Rattle.rpq_model.specs.declared.mode.Mode.TheVariants.{Arbitrary, Simple}
 use Rattle.rpq_model.specs.Query.{Query, path_query}
 use Rattle.name_table.specs.Names.{number_of}
 use Rattle.source_tree.specs.declared.change.Reached.{Reached}
@@ -29,18 +30,18 @@ use Rattle.path_engine.proofs.Telling.{below}
 -- ---- rows of a query
 
 pub rows_of_query : (query : Query) (history : List Entry) (names : List (List ℕ))
-    (forest : ForestValue) (apart : Bool) (count : ℕ) (rows : List Answer) →
+    (forest : ForestValue) (count : ℕ) (rows : List Answer) →
     TellsAnswers query history names forest.dfa (kept forest) →
-    (apart ≡ true) ↔ (query.mode ≡ Simple) → count ≡ length names → AreRows rows →
-    HaveShown apart names forest count rows → AreRowsOf (path_query query) history rows
-rows_of_query query history names forest apart count rows tells simple all sorted shown = record {
+    count ≡ length names → AreRows rows →
+    HaveShown query.mode names forest count rows → AreRowsOf (path_query query) history rows
+rows_of_query query history names forest count rows tells all sorted shown = record {
   sorted = sorted;
   exact = λ pair until. (
     (λ there.
         let found = (shown pair until).0 there in
         let shows = found.2 in
         ((tells.pairs pair found.0 shows.vertex (shows.from, shows.to)).until until).1
-        ((λ mode. shows.counts (simple.1 mode)), shows.end)),
+        ((λ mode. shows.apart mode), shows.end)),
     (λ is.
         let found = tells.numbered pair is.answer in
         let both = ((tells.pairs pair found.0 found.1 found.2).until until).0 is in
@@ -51,7 +52,7 @@ rows_of_query query history names forest apart count rows tells simple all sorte
             vertex = found.1;
             from = found.2.0;
             to = found.2.1;
-            counts = λ holds. both.0 (simple.0 holds);
+            apart = λ holds. both.0 holds;
             end = both.1;
           },
         )),
@@ -60,59 +61,59 @@ rows_of_query query history names forest apart count rows tells simple all sorte
 
 -- ---- one root more
 
-pub none_shown : (apart : Bool) (names : List (List ℕ)) (forest : ForestValue) →
-    HaveShown apart names forest 0 []
-none_shown apart names forest = λ pair until. (
+pub none_shown : (mode : Mode) (names : List (List ℕ)) (forest : ForestValue) →
+    HaveShown mode names forest 0 []
+none_shown mode names forest = λ pair until. (
   (λ is. absurd cc),
   (λ found. absurd (omega (arith, found.1))),
 )
 
 -- what is shown from one root is what its vertices add
-among_shown : (apart : Bool) (names : List (List ℕ)) (forest : ForestValue) (root : ℕ)
+among_shown : (mode : Mode) (names : List (List ℕ)) (forest : ForestValue) (root : ℕ)
     (reached : List Reached) (pair : Pair) (until : ℕ) → AreReachedFrom forest root reached →
-    IsAmong apart names root reached pair until ↔ Shows apart names forest root pair until
-among_shown apart names forest root reached pair until are = (
+    IsAmong mode names root reached pair until ↔ Shows mode names forest root pair until
+among_shown mode names forest root reached pair until are = (
   (λ among. record {
     vertex = among.vertex;
     from = among.from;
     to = among.to;
-    counts = among.counts;
+    apart = among.apart;
     end = (are.exact among.vertex until).0 among.member;
   }),
   (λ shows. record {
     vertex = shows.vertex;
     from = shows.from;
     to = shows.to;
-    counts = shows.counts;
+    apart = shows.apart;
     member = (are.exact shows.vertex until).1 shows.end;
   }),
 )
 
-pub shown_more : (apart : Bool) (names : List (List ℕ)) (forest : ForestValue) (root : ℕ)
+pub shown_more : (mode : Mode) (names : List (List ℕ)) (forest : ForestValue) (root : ℕ)
     (reached : List Reached) (old new : List Answer) → AreReachedFrom forest root reached →
-    HaveAdded apart names root reached old new → HaveShown apart names forest root old →
-    HaveShown apart names forest (root + 1) new
-shown_more apart names forest root reached old new are added shown = λ pair until. (
+    HaveAdded mode names root reached old new → HaveShown mode names forest root old →
+    HaveShown mode names forest (root + 1) new
+shown_more mode names forest root reached old new are added shown = λ pair until. (
   (λ there. ⊎_elim
       (λ before. let found = (shown pair until).0 before in
       (found.0, omega (arith, found.1), found.2))
       (λ among. (
         root,
         omega arith,
-        (among_shown apart names forest root reached pair until are).0 among,
+        (among_shown mode names forest root reached pair until are).0 among,
       ))
       ((added pair until).0 there)),
   (λ found. (added pair until).1 (⊎_elim
-      (λ same. inr ((among_shown apart names forest root reached pair until are).1
-      (subst (λ (each : ℕ). Shows apart names forest each pair until) same found.2)))
+      (λ same. inr ((among_shown mode names forest root reached pair until are).1
+      (subst (λ (each : ℕ). Shows mode names forest each pair until) same found.2)))
       (λ differ. inl ((shown pair until).1
       (found.0, omega (arith, found.1, differ), found.2)))
       (cases_eq found.0 root))),
 )
 
-pub lacks_root : (apart : Bool) (names : List (List ℕ)) (forest : ForestValue) (root : ℕ)
-    (rows : List Answer) → HaveShown apart names forest root rows → LacksRoot names root rows
-lacks_root apart names forest root rows shown = λ pair until from there.
+pub lacks_root : (mode : Mode) (names : List (List ℕ)) (forest : ForestValue) (root : ℕ)
+    (rows : List Answer) → HaveShown mode names forest root rows → LacksRoot names root rows
+lacks_root mode names forest root rows shown = λ pair until from there.
     let found = (shown pair until).0 there in
     let same : found.0 ≡ root = same_Some found.0 root (sym found.2.from ∙ from) in
     omega (arith, same, found.1)
@@ -138,9 +139,9 @@ one_name names first second number first_is second_is =
     (name_test first (get_or names number [])).0 one
     ∙ sym ((name_test second (get_or names number [])).0 other)
 
-pub none_added : (apart : Bool) (names : List (List ℕ)) (root : ℕ) (rows : List Answer) →
-    HaveAdded apart names root [] rows rows
-none_added apart names root rows = λ pair until. (
+pub none_added : (mode : Mode) (names : List (List ℕ)) (root : ℕ) (rows : List Answer) →
+    HaveAdded mode names root [] rows rows
+none_added mode names root rows = λ pair until. (
   (λ there. inl there),
   (λ either. ⊎_elim (λ before. before) (λ among. absurd (none_in (record { vertex = among.vertex; value = until }) among.member)) either),
 )
@@ -155,47 +156,47 @@ in_front xs count x member = (
       ∙ member.2,
 )
 
-module _ (apart : Bool) (names : List (List ℕ)) (root : ℕ) (reached : List Reached) (index : ℕ)
+module _ (mode : Mode) (names : List (List ℕ)) (root : ℕ) (reached : List Reached) (index : ℕ)
     (one : Reached) (old current : List Answer) (inside : index < length reached)
     (is : one ≡ get_or reached index one)
-    (added : HaveAdded apart names root (take index reached) old current) where
+    (added : HaveAdded mode names root (take index reached) old current) where
   more : HasOneMore (take index reached) one (take (index + 1) reached)
   more = next_one reached index one inside is
 
-  further : (pair : Pair) (until : ℕ) → IsAmong apart names root (take index reached) pair until →
-      IsAmong apart names root (take (index + 1) reached) pair until
+  further : (pair : Pair) (until : ℕ) → IsAmong mode names root (take index reached) pair until →
+      IsAmong mode names root (take (index + 1) reached) pair until
   further pair until among = record {
     vertex = among.vertex;
     from = among.from;
     to = among.to;
-    counts = among.counts;
+    apart = among.apart;
     member = more.still (record { vertex = among.vertex; value = until }) among.member;
   }
 
   -- among the front, or the vertex itself
   cases : (pair : Pair) (until : ℕ) →
-      (among : IsAmong apart names root (take (index + 1) reached) pair until) →
-      IsAmong apart names root (take index reached) pair until ⊎ (one.vertex ≡ among.vertex)
+      (among : IsAmong mode names root (take (index + 1) reached) pair until) →
+      IsAmong mode names root (take index reached) pair until ⊎ (one.vertex ≡ among.vertex)
   cases pair until among = ⊎_elim
       (λ before. inl (record {
         vertex = among.vertex;
         from = among.from;
         to = among.to;
-        counts = among.counts;
+        apart = among.apart;
         member = before;
       }))
       (λ here. inr (ap (λ (each : Reached). each.vertex) here))
       (more.cases (record { vertex = among.vertex; value = until }) among.member)
 
   -- a pair of one vertex that doesn't count
-  pub left_out : apart ≡ true → one.vertex ≡ root →
-      HaveAdded apart names root (take (index + 1) reached) old current
+  pub left_out : mode ≡ Simple → one.vertex ≡ root →
+      HaveAdded mode names root (take (index + 1) reached) old current
   left_out holds same = λ pair until. (
     (λ there. ⊎_elim (λ before. inl before) (λ among. inr (further pair until among))
         ((added pair until).0 there)),
     (λ either. ⊎_elim (λ before. (added pair until).1 (inl before))
         (λ among. ⊎_elim (λ before. (added pair until).1 (inr before))
-        (λ here. absurd (among.counts holds
+        (λ here. absurd (among.apart holds
         (one_name names pair.from pair.to root among.from
         (among.to ∙ ap Some (sym here ∙ same)))))
         (cases pair until among))
@@ -205,10 +206,10 @@ module _ (apart : Bool) (names : List (List ℕ)) (root : ℕ) (reached : List R
   -- a pair that is put
   pub put_in : HasOneEach reached → LacksRoot names root old → (from to : List ℕ) →
       (new : List Answer) → number_of names from ≡ Some root →
-      number_of names to ≡ Some one.vertex → (apart ≡ true → from ≢ to) →
+      number_of names to ≡ Some one.vertex → (mode ≡ Simple → from ≢ to) →
       until_of new (pair_of from to) ≡ Some one.value →
       KeepsOtherPairs (pair_of from to) current new →
-      HaveAdded apart names root (take (index + 1) reached) old new
+      HaveAdded mode names root (take (index + 1) reached) old new
   put_in once lacks from to new from_is to_is counts put kept = λ pair until.
       tested pair until (same_pair pair (pair_of from to)) refl
     where
@@ -216,7 +217,7 @@ module _ (apart : Bool) (names : List (List ℕ)) (root : ℕ) (reached : List R
           same_pair pair (pair_of from to) ≡ test →
           (until_of new pair ≡ Some until)
           ↔ ((until_of old pair ≡ Some until)
-          ⊎ IsAmong apart names root (take (index + 1) reached) pair until)
+          ⊎ IsAmong mode names root (take (index + 1) reached) pair until)
       tested pair until true e =
           let same : pair ≡ pair_of from to = (pair_test pair (pair_of from to)).0 e in
           let ends : pair.from ≡ from = ap (λ (each : Pair). each.from) same in
@@ -232,7 +233,7 @@ module _ (apart : Bool) (names : List (List ℕ)) (root : ℕ) (reached : List R
                   vertex = one.vertex;
                   from = root_is;
                   to = vertex_is;
-                  counts = λ holds both. counts holds (sym ends ∙ (both ∙ targets));
+                  apart = λ holds both. counts holds (sym ends ∙ (both ∙ targets));
                   member = subst (λ (value : ℕ). Contains (take (index + 1) reached)
                       (record { vertex = one.vertex; value = value })) until_is more.here;
                 })),
@@ -272,15 +273,15 @@ module _ (apart : Bool) (names : List (List ℕ)) (root : ℕ) (reached : List R
 
   -- the one or the other
   pub added_more : HasOneEach reached → LacksRoot names root old → (new : List Answer) →
-      (apart ≡ true → one.vertex ≡ root → new ≡ current) →
-      ((apart ≡ true → one.vertex ≡ root → ⊥) → IsPut names root one current new) →
-      HaveAdded apart names root (take (index + 1) reached) old new
+      (mode ≡ Simple → one.vertex ≡ root → new ≡ current) →
+      ((mode ≡ Simple → one.vertex ≡ root → ⊥) → IsPut names root one current new) →
+      HaveAdded mode names root (take (index + 1) reached) old new
   added_more once lacks new skipped put =
-      ⊎_elim (λ same. by apart refl same) (λ differ. placed (λ holds is. differ is))
+      ⊎_elim (λ same. by mode refl same) (λ differ. placed (λ holds is. differ is))
       (cases_eq one.vertex root)
     where
-      placed : (apart ≡ true → one.vertex ≡ root → ⊥) →
-          HaveAdded apart names root (take (index + 1) reached) old new
+      placed : (mode ≡ Simple → one.vertex ≡ root → ⊥) →
+          HaveAdded mode names root (take (index + 1) reached) old new
       placed never =
           let found = put never in
           put_in once lacks found.from found.to new found.from_is found.to_is
@@ -289,19 +290,20 @@ module _ (apart : Bool) (names : List (List ℕ)) (root : ℕ) (reached : List R
           (sym found.to_is ∙ (ap (number_of names) (sym both) ∙ found.from_is))))
           found.put found.kept
 
-      by : (test : Bool) → apart ≡ test → one.vertex ≡ root →
-          HaveAdded apart names root (take (index + 1) reached) old new
-      by true holds same =
+      by : (test : Mode) → mode ≡ test → one.vertex ≡ root →
+          HaveAdded mode names root (take (index + 1) reached) old new
+      by Simple holds same =
           subst (λ (rows : List Answer).
-          HaveAdded apart names root (take (index + 1) reached) old rows)
+          HaveAdded mode names root (take (index + 1) reached) old rows)
           (sym {A = List Answer} (skipped holds same)) (left_out holds same)
-      by false no_is same = placed (λ holds is. true≢false (sym holds ∙ no_is))
+      by Arbitrary all same =
+          placed (λ holds is. let both : Simple ≡ Arbitrary = sym holds ∙ all in absurd cc)
 
 -- all roots have numbers of names
-pub shown_all : (apart : Bool) (names : List (List ℕ)) (forest : ForestValue) (count end : ℕ)
+pub shown_all : (mode : Mode) (names : List (List ℕ)) (forest : ForestValue) (count end : ℕ)
     (rows : List Answer) → count ≡ length names → count ≤ end →
-    HaveShown apart names forest end rows → HaveShown apart names forest count rows
-shown_all apart names forest count end rows all within shown = λ pair until. (
+    HaveShown mode names forest end rows → HaveShown mode names forest count rows
+shown_all mode names forest count end rows all within shown = λ pair until. (
   (λ there.
       let found = (shown pair until).0 there in
       (found.0, omega (arith, all, below names pair.from found.0 found.2.from), found.2)),
@@ -324,15 +326,15 @@ get_any (x ∷ xs) zero d e inside = refl
 get_any (x ∷ xs) (suc i) d e inside = get_any xs i d e (omega (arith, inside))
 
 -- one vertex more, by its place
-pub added_at : (apart : Bool) (names : List (List ℕ)) (root : ℕ) (reached : List Reached)
+pub added_at : (mode : Mode) (names : List (List ℕ)) (root : ℕ) (reached : List Reached)
     (index : ℕ) (beyond : Reached) (old current new : List Answer) → index < length reached →
-    HaveAdded apart names root (take index reached) old current → HasOneEach reached →
+    HaveAdded mode names root (take index reached) old current → HasOneEach reached →
     LacksRoot names root old →
-    (apart ≡ true → (get_or reached index beyond).vertex ≡ root → new ≡ current) →
-    ((apart ≡ true → (get_or reached index beyond).vertex ≡ root → ⊥) →
+    (mode ≡ Simple → (get_or reached index beyond).vertex ≡ root → new ≡ current) →
+    ((mode ≡ Simple → (get_or reached index beyond).vertex ≡ root → ⊥) →
     IsPut names root (get_or reached index beyond) current new) →
-    HaveAdded apart names root (take (index + 1) reached) old new
-added_at apart names root reached index beyond old current new inside added once lacks skipped put =
+    HaveAdded mode names root (take (index + 1) reached) old new
+added_at mode names root reached index beyond old current new inside added once lacks skipped put =
     let one = get_or reached index beyond in
-    added_more apart names root reached index one old current inside
+    added_more mode names root reached index one old current inside
     (get_any reached index beyond one inside) added once lacks new skipped put

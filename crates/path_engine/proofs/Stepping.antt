@@ -2,18 +2,20 @@
 use Rattle.std.proofs.Common.{◌≡◌, ℕ, ◌+◌, ◌<◌, ◌≤◌, max, false, List, [], ◌∷◌, ◌++◌, Option, Some, None}
 use Rattle.std.proofs.Common.{refl, sym, ap, subst, ◌∙◌, inl, inr, ⊎_elim, arith, length-append}
 use Rattle.std.specs.Prelude.{◌↔◌}
+use Rattle.std.proofs.lemmas.Option.{same_Some}
 use Rattle.rpq_base.specs.declared.data.Edge.{Edge}
 use Rattle.rpq_base.specs.declared.data.Act.{Act}
 use Rattle.rpq_base.specs.declared.data.Act.TheVariants.{Insert, Delete, Tick}
 use Rattle.rpq_base.specs.declared.data.Entry.{Entry}
+use Rattle.rpq_base.specs.OwnEnds.{own_end}
 use Rattle.path_syntax.specs.Laws.{nonempty}
 use Rattle.dfa_table.specs.DfaValue.{DfaValue}
 use Rattle.dfa_table.specs.Runs.{Accepts}
 use Rattle.rpq_model.specs.Query.{language_of}
-use Rattle.rpq_model.specs.Window.{WindowValue}
-use Rattle.rpq_model.specs.WindowLaws.{IsDeadline}
+use Rattle.rpq_model.specs.Window.{WindowValue, Inserts, inserted_edge}
+use Rattle.rpq_model.specs.WindowLaws.{IsDeadline, IsDeadlineOf, IsTupleDeadline}
 use Rattle.rpq_model.proofs.Ticks.{clock_more}
-use Rattle.edge_store.specs.Clock.{IsDeadline as IsClockDeadline}
+use Rattle.window_clock.specs.Clock.{IsDeadlineOf as IsClockDeadlineOf}
 use Rattle.edge_store.specs.Edges.{Expires}
 use Rattle.source_tree.specs.declared.change.Change.{Change}
 use Rattle.source_tree.specs.declared.change.Change.TheVariants.{Raise, Remove, Expire}
@@ -116,12 +118,21 @@ module _ (follow : StoresFollow) (query : CompiledValue) (history : List Entry)
   same_window : seen ≡ window
   same_window = λ i. record { size = size_is i; slide = slide_is i }
 
-  deadline_is : (time deadline : ℕ) → IsClockDeadline new.clock time deadline →
-      IsDeadline window time deadline
-  deadline_is time deadline is =
-      let here : IsDeadline seen time deadline =
-      record { multiple = is.multiple; reached = is.reached; least = is.least } in
-      subst (λ (w : WindowValue). IsDeadline w time deadline) same_window here
+  deadline_of : (time : ℕ) (until : Option ℕ) (deadline : ℕ) →
+      IsClockDeadlineOf new.clock time until deadline → IsDeadlineOf window time until deadline
+  deadline_of time until deadline is =
+      let here : IsDeadline seen time is.0 =
+      record { multiple = is.1.multiple; reached = is.1.reached; least = is.1.least } in
+      (is.0, subst (λ (w : WindowValue). IsDeadline w time is.0) same_window here, is.2)
+
+  -- where the entry inserts an edge with this end of its own
+  deadline_is : (edge : Edge) (until : Option ℕ) (deadline : ℕ) →
+      entry.tuple.act ≡ Insert edge until →
+      IsClockDeadlineOf new.clock entry.tuple.time until deadline →
+      IsTupleDeadline window entry.tuple deadline
+  deadline_is edge until deadline act_is is =
+      subst (λ (end : Option ℕ). IsDeadlineOf window entry.tuple.time end deadline)
+      (sym (ap own_end act_is)) (deadline_of entry.tuple.time until deadline is)
 
   abbrev Holds : ForestValue → Type 0
   Holds forest = HoldsStoreOf window (history ++ entry ∷ []) names middle.dfa forest.store
@@ -129,46 +140,45 @@ module _ (follow : StoresFollow) (query : CompiledValue) (history : List Entry)
   unchanged : new.forest ≡ middle → Holds middle → Holds new.forest
   unchanged same holds = subst Holds (sym same) holds
 
-  past_or_strange : (edge other : Edge) → edge ≡ other →
-      Suits names middle.dfa new.clock entry.tuple.time (Insert edge) None →
-      Suits names middle.dfa new.clock entry.tuple.time (Insert other) None
-  past_or_strange edge other same suits =
+  past_or_strange : (edge other : Edge) (until : Option ℕ) → edge ≡ other →
+      Suits names middle.dfa new.clock entry.tuple.time (Insert edge until) None →
+      Suits names middle.dfa new.clock entry.tuple.time (Insert other until) None
+  past_or_strange edge other until same suits =
       subst (λ (each : Edge).
-      Suits names middle.dfa new.clock entry.tuple.time (Insert each) None) same suits
+      Suits names middle.dfa new.clock entry.tuple.time (Insert each until) None) same suits
 
   by_act : (act : Act) → entry.tuple.act ≡ act → (change : Option Change) →
       Suits names middle.dfa new.clock entry.tuple.time act change →
       MayHaveApplied change middle new.forest second → Holds new.forest
-  by_act (Insert edge) act_is None suits same =
+  by_act (Insert edge until) act_is None suits same =
       unchanged same.0 (takes.other (record {
         insert = λ other inserts.
-            let both : Insert edge ≡ Insert other = sym act_is ∙ inserts in
-            let edges : edge ≡ other = cc in
             ⊎_elim (λ lacks. inl lacks)
             (λ past. inr (
               past.0,
               record {
-                is = deadline_is entry.tuple.time past.0 past.1.deadline;
+                is = deadline_is edge until past.0 act_is past.1.deadline;
                 reached = subst (λ (now : ℕ). past.0 ≤ now) now_is past.1.reached;
               },
             ))
-            (past_or_strange edge other edges suits);
+            (past_or_strange edge other until
+            (same_Some edge other (sym (ap inserted_edge act_is) ∙ inserts)) suits);
         delete = λ other deletes id has.
-            let both : Insert edge ≡ Delete other = sym act_is ∙ deletes in absurd cc;
+            let both : Insert edge until ≡ Delete other = sym act_is ∙ deletes in absurd cc;
       }))
-  by_act (Insert edge) act_is (Some (Raise id value)) suits applied =
-      takes.insert new.forest.store edge id value act_is suits.numbers
+  by_act (Insert edge until) act_is (Some (Raise id value)) suits applied =
+      takes.insert new.forest.store edge id value (ap inserted_edge act_is) suits.numbers
       (record {
-        is = deadline_is entry.tuple.time value suits.deadline;
+        is = deadline_is edge until value act_is suits.deadline;
         above = subst (λ (now : ℕ). now < value) now_is suits.above;
       })
       applied.store
-  by_act (Insert edge) act_is (Some (Remove id)) suits applied = absurd suits
-  by_act (Insert edge) act_is (Some (Expire now)) suits applied = absurd suits
+  by_act (Insert edge until) act_is (Some (Remove id)) suits applied = absurd suits
+  by_act (Insert edge until) act_is (Some (Expire now)) suits applied = absurd suits
   by_act (Delete edge) act_is None suits same =
       unchanged same.0 (takes.other (record {
         insert = λ other inserts.
-            let both : Delete edge ≡ Insert other = sym act_is ∙ inserts in absurd cc;
+            let both : None ≡ Some other = sym (ap inserted_edge act_is) ∙ inserts in absurd cc;
         delete = λ other deletes id has.
             let both : Delete edge ≡ Delete other = sym act_is ∙ deletes in
             let edges : other ≡ edge = cc in
@@ -181,7 +191,7 @@ module _ (follow : StoresFollow) (query : CompiledValue) (history : List Entry)
   by_act Tick act_is None suits same =
       unchanged same.0 (takes.other (record {
         insert = λ other inserts.
-            let both : Tick ≡ Insert other = sym act_is ∙ inserts in absurd cc;
+            let both : None ≡ Some other = sym (ap inserted_edge act_is) ∙ inserts in absurd cc;
         delete = λ other deletes id has.
             let both : Tick ≡ Delete other = sym act_is ∙ deletes in absurd cc;
       }))

@@ -18,7 +18,6 @@ use Rattle.rpq_base.proofs.Equality.{names as name_test, labels, edges as edge_t
 use Rattle.rpq_base.proofs.Members.{none_in}
 use Rattle.rpq_base.proofs.Orders.{pair_cmp_total, pair_cmp_exact}
 use Rattle.rpq_base.proofs.Sorted.{same_from_members}
-use Rattle.rpq_model.specs.declared.mode.Mode.TheVariants.{Simple}
 use Rattle.rpq_model.specs.Answers.{IsAnswer}
 use Rattle.rpq_model.specs.Events.{event, without, AreEvents}
 use Rattle.rpq_model.specs.Query.{Query, path_query}
@@ -157,60 +156,58 @@ some_or_none (Some end) never = absurd (never refl)
 
 -- a query over two histories, by the indexes that tell its answers over the one and the other
 pub losses : (query : Query) (names : List (List ℕ)) (before after : List Entry)
-    (old new : ForestValue) (first last : Ends) (apart : Bool) →
+    (old new : ForestValue) (first last : Ends) →
     TellsAnswers query before names old.dfa (kept old) →
     TellsAnswers query after names new.dfa (kept new) →
     ((root vertex : ℕ) → IsEnd old root vertex (first root vertex)) →
     ((root vertex : ℕ) → IsEnd new root vertex (last root vertex)) →
-    (apart ≡ true) ↔ (query.mode ≡ Simple) → (pair : Pair) →
-    IsLoss apart names first last pair
+    (pair : Pair) → IsLoss query.mode names first last pair
     ↔ (IsAnswer (path_query query) before pair × (IsAnswer (path_query query) after pair → ⊥))
-losses query names before after old new first last apart tells_old tells_new first_is last_is
-    simple pair = (
-      (λ loss.
-          let numbers : AreNumbersOf names pair.from pair.to loss.root loss.vertex =
-          (loss.from, loss.to) in
-          let may : MayAnswer query pair = λ mode. loss.counts (simple.1 mode) in
-          let was = (some_end old loss.root loss.vertex (first loss.root loss.vertex)
-          (first_is loss.root loss.vertex)).1 loss.had in (
-            ((tells_old.pairs pair loss.root loss.vertex numbers).answer).1 (may, was),
-            (λ answer.
-                let still = ((tells_new.pairs pair loss.root loss.vertex numbers).answer).0 answer in
-                let some = (some_end new loss.root loss.vertex (last loss.root loss.vertex)
-                (last_is loss.root loss.vertex)).0 still.1 in
-                absurd (true≢false (sym (subst IsSome loss.gone some)))),
-          )),
-      (λ both.
-          let found = tells_old.numbered pair both.0 in
-          let root = found.0 in
-          let vertex = found.1 in
-          let numbers = found.2 in
-          let was = ((tells_old.pairs pair root vertex numbers).answer).0 both.0 in
-          record {
-            root = root;
-            vertex = vertex;
-            from = numbers.0;
-            to = numbers.1;
-            counts = λ is. was.0 (simple.0 is);
-            had = (some_end old root vertex (first root vertex) (first_is root vertex)).0 was.1;
-            gone = some_or_none (last root vertex) (λ some.
-                both.1 (((tells_new.pairs pair root vertex numbers).answer).1 (
-                  was.0,
-                  (some_end new root vertex (last root vertex) (last_is root vertex)).1 some,
-                )));
-          }),
-    )
+losses query names before after old new first last tells_old tells_new first_is last_is pair = (
+  (λ loss.
+      let numbers : AreNumbersOf names pair.from pair.to loss.root loss.vertex =
+      (loss.from, loss.to) in
+      let may : MayAnswer query pair = λ mode. loss.apart mode in
+      let was = (some_end old loss.root loss.vertex (first loss.root loss.vertex)
+      (first_is loss.root loss.vertex)).1 loss.had in (
+        ((tells_old.pairs pair loss.root loss.vertex numbers).answer).1 (may, was),
+        (λ answer.
+            let still = ((tells_new.pairs pair loss.root loss.vertex numbers).answer).0 answer in
+            let some = (some_end new loss.root loss.vertex (last loss.root loss.vertex)
+            (last_is loss.root loss.vertex)).0 still.1 in
+            absurd (true≢false (sym (subst IsSome loss.gone some)))),
+      )),
+  (λ both.
+      let found = tells_old.numbered pair both.0 in
+      let root = found.0 in
+      let vertex = found.1 in
+      let numbers = found.2 in
+      let was = ((tells_old.pairs pair root vertex numbers).answer).0 both.0 in
+      record {
+        root = root;
+        vertex = vertex;
+        from = numbers.0;
+        to = numbers.1;
+        apart = λ is. was.0 is;
+        had = (some_end old root vertex (first root vertex) (first_is root vertex)).0 was.1;
+        gone = some_or_none (last root vertex) (λ some.
+            both.1 (((tells_new.pairs pair root vertex numbers).answer).1 (
+              was.0,
+              (some_end new root vertex (last root vertex) (last_is root vertex)).1 some,
+            )));
+      }),
+)
 
 -- the sorted pairs that are lost are those of the first list that the second lacks
 lost_pairs : (query : Query) (names : List (List ℕ)) (before after : List Entry)
-    (first last : Ends) (apart : Bool) (olds news lost : List Pair) →
-    ((pair : Pair) → IsLoss apart names first last pair
+    (first last : Ends) (olds news lost : List Pair) →
+    ((pair : Pair) → IsLoss query.mode names first last pair
     ↔ (IsAnswer (path_query query) before pair × (IsAnswer (path_query query) after pair → ⊥))) →
     ((pair : Pair) → Contains olds pair ↔ IsAnswer (path_query query) before pair) →
     ((pair : Pair) → Contains news pair ↔ IsAnswer (path_query query) after pair) →
     IsStrictlySortedBy pair_cmp olds →
-    AreLosses apart names first last lost → lost ≡ without olds news
-lost_pairs query names before after first last apart olds news lost exact old new sorted are =
+    AreLosses query.mode names first last lost → lost ≡ without olds news
+lost_pairs query names before after first last olds news lost exact old new sorted are =
     same_from_members pair_cmp_total pair_cmp_exact lost (without olds news) are.sorted
     (IsStrictlySortedBy-filter pair_cmp
     (λ (pair : Pair). not (list_any (same_pair pair) news)) olds sorted)
@@ -229,24 +226,21 @@ lost_pairs query names before after first last apart olds news lost exact old ne
 
 pub are_events : AcceptedHaveAnswers → (query : Query) → IsAccepted query →
     (names : List (List ℕ)) (before after : List Entry) (old new : ForestValue)
-    (first last : Ends) (apart : Bool) (number : ℕ) (events : List Event) →
+    (first last : Ends) (number : ℕ) (events : List Event) →
     TellsAnswers query before names old.dfa (kept old) →
     TellsAnswers query after names new.dfa (kept new) →
     ((root vertex : ℕ) → IsEnd old root vertex (first root vertex)) →
     ((root vertex : ℕ) → IsEnd new root vertex (last root vertex)) →
-    (apart ≡ true) ↔ (query.mode ≡ Simple) →
-    AreEventsBetween number apart names first last events →
+    AreEventsBetween number query.mode names first last events →
     AreEvents (path_query query) number before after events
-are_events law query accepted names before after old new first last apart number events tells_old
-    tells_new first_is last_is simple between =
+are_events law query accepted names before after old new first last number events tells_old
+    tells_new first_is last_is between =
     let olds = law query accepted before in
     let news = law query accepted after in
-    let lost = lost_pairs query names before after first last apart olds.0 news.0 between.lost
-    (losses query names before after old new first last apart tells_old tells_new first_is last_is
-    simple) olds.1.exact news.1.exact olds.1.sorted between.losses in
-    let gained = lost_pairs query names after before last first apart news.0 olds.0 between.gained
-    (losses query names after before new old last first apart tells_new tells_old last_is first_is
-    simple) news.1.exact olds.1.exact news.1.sorted between.gains in (
+    let lost = lost_pairs query names before after first last olds.0 news.0 between.lost
+    (losses query names before after old new first last tells_old tells_new first_is last_is) olds.1.exact news.1.exact olds.1.sorted between.losses in
+    let gained = lost_pairs query names after before last first news.0 olds.0 between.gained
+    (losses query names after before new old last first tells_new tells_old last_is first_is) news.1.exact olds.1.exact news.1.sorted between.gains in (
       olds.0,
       news.0,
       olds.1,

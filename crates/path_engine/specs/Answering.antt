@@ -10,7 +10,7 @@ use Rattle.dfa_table.specs.DfaValue.{DfaValue, place_of}
 use Rattle.name_table.specs.Names.{number_of}
 use Rattle.rpq_model.specs.Events.{AreEvents}
 use Rattle.rpq_model.specs.Query.{path_query}
-use Rattle.edge_store.specs.Clock.{ClockValue, IsDeadline, IsSameWindow}
+use Rattle.window_clock.specs.Clock.{ClockValue, IsDeadlineOf, IsSameWindow}
 use Rattle.edge_store.specs.declared.edge.EdgeId.{EdgeId}
 use Rattle.source_tree.specs.declared.change.Change.{Change}
 use Rattle.source_tree.specs.declared.change.Change.TheVariants.{Raise, Remove, Expire}
@@ -32,8 +32,8 @@ pub record AreEndsOf (names : List (List ℕ)) (edge : Edge) (ends : Ends) : Typ
 -- the numbers of the vertices of the act's edge; none where an insert's label is strange to the
 -- automaton, where a vertex of a delete has no number, or where there is no edge
 abbrev pub AreEndsFor : List (List ℕ) → DfaValue → Act → Option Ends → Type 0
-AreEndsFor names dfa (Insert edge) (Some ends) = AreEndsOf names edge ends
-AreEndsFor names dfa (Insert edge) None = place_of dfa edge.label ≡ None
+AreEndsFor names dfa (Insert edge until) (Some ends) = AreEndsOf names edge ends
+AreEndsFor names dfa (Insert edge until) None = place_of dfa edge.label ≡ None
 AreEndsFor names dfa (Delete edge) (Some ends) = AreEndsOf names edge ends
 AreEndsFor names dfa (Delete edge) None = (ends : Ends) → AreEndsOf names edge ends → ⊥
 AreEndsFor names dfa Tick ends = Unit {0}
@@ -46,24 +46,24 @@ pub record IsNumbered (dfa : DfaValue) (ends : Option Ends) (edge : Edge) (id : 
 
 -- an insert's edge is raised to its deadline, which is above the clock
 pub record IsRaise (names : List (List ℕ)) (dfa : DfaValue) (clock : ClockValue) (time : ℕ)
-    (edge : Edge) (id : EdgeId) (value : ℕ) : Type 0 where
+    (edge : Edge) (until : Option ℕ) (id : EdgeId) (value : ℕ) : Type 0 where
   pub numbers : HasNumbers names dfa edge id
-  pub deadline : IsDeadline clock time value
+  pub deadline : IsDeadlineOf clock time until value
   pub above : clock.clock < value
 
 -- the deadline is not above the clock
-pub record IsPast (clock : ClockValue) (time value : ℕ) : Type 0 where
-  pub deadline : IsDeadline clock time value
+pub record IsPast (clock : ClockValue) (time : ℕ) (until : Option ℕ) (value : ℕ) : Type 0 where
+  pub deadline : IsDeadlineOf clock time until value
   pub reached : value ≤ clock.clock
 
 -- the change that an act of this time makes at the clock, if it makes one
 abbrev pub Suits : List (List ℕ) → DfaValue → ClockValue → ℕ → Act → Option Change → Type 0
-Suits names dfa clock time (Insert edge) None =
-    (place_of dfa edge.label ≡ None) ⊎ ((value : ℕ) × IsPast clock time value)
-Suits names dfa clock time (Insert edge) (Some (Raise id value)) =
-    IsRaise names dfa clock time edge id value
-Suits names dfa clock time (Insert edge) (Some (Remove id)) = ⊥
-Suits names dfa clock time (Insert edge) (Some (Expire now)) = ⊥
+Suits names dfa clock time (Insert edge until) None =
+    (place_of dfa edge.label ≡ None) ⊎ ((value : ℕ) × IsPast clock time until value)
+Suits names dfa clock time (Insert edge until) (Some (Raise id value)) =
+    IsRaise names dfa clock time edge until id value
+Suits names dfa clock time (Insert edge until) (Some (Remove id)) = ⊥
+Suits names dfa clock time (Insert edge until) (Some (Expire now)) = ⊥
 Suits names dfa clock time (Delete edge) None = (id : EdgeId) → HasNumbers names dfa edge id → ⊥
 Suits names dfa clock time (Delete edge) (Some (Remove id)) = HasNumbers names dfa edge id
 Suits names dfa clock time (Delete edge) (Some (Raise id value)) = ⊥

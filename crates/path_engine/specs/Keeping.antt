@@ -1,10 +1,10 @@
 -- What an entry leaves as it was.
-use Rattle.std.specs.Prelude.{◌≡◌, ℕ, List, Some}
+use Rattle.std.specs.Prelude.{◌≡◌, ℕ, List, All, None, Some}
 use Rattle.std.specs.List.{AllZip}
 use Rattle.rpq_base.specs.declared.data.Edge.{Edge}
 use Rattle.rpq_base.specs.declared.data.Act.{Act}
-use Rattle.rpq_base.specs.declared.data.Act.TheVariants.{Delete}
-use Rattle.dfa_table.specs.DfaValue.{DfaValue}
+use Rattle.rpq_base.specs.declared.data.Act.TheVariants.{Insert, Delete, Tick}
+use Rattle.dfa_table.specs.DfaValue.{DfaValue, place_of}
 use Rattle.name_table.specs.Names.{KeepsNumbers}
 use Rattle.edge_store.specs.declared.edge.EdgeId.{EdgeId}
 use Rattle.delta_tree.specs.declared.node.NodeId.{NodeId}
@@ -13,6 +13,7 @@ use Rattle.delta_tree.specs.Nodes.{TreeValue, node_of}
 use Rattle.delta_tree.specs.Paths.{IsBelow}
 use Rattle.delta_forest.specs.Forest.{ForestValue, tree_of}
 use Rattle.index_laws.specs.Numbered.{HasNumbers}
+use Rattle.query_file.specs.Compiled.{CompiledValue}
 use Rattle.path_engine.specs.Engine.{EngineValue, forests}
 
 -- the act deletes an edge that stood on the path to this place
@@ -38,6 +39,14 @@ pub record KeepsForest (act : Act) (names : List (List ℕ)) (old new : ForestVa
   pub trees : (root : ℕ) (before after : TreeValue) →
       tree_of old root ≡ Some before → tree_of new root ≡ Some after →
       KeepsTree act names old.dfa before after
+
+-- the act names no vertex that a query has to number: it inserts no edge, or one whose label is
+-- strange to all of their automata
+abbrev pub BringsNoName : Act → List CompiledValue → Type 0
+BringsNoName (Insert edge until) queries =
+    All (λ query. place_of query.dfa edge.label ≡ None) queries
+BringsNoName (Delete edge) queries = Unit {0}
+BringsNoName Tick queries = Unit {0}
 
 -- each name keeps its number, and the forest of each query keeps what it has
 pub record KeepsPlaces (act : Act) (old new : EngineValue) : Type 0 where

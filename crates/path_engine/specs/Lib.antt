@@ -1,6 +1,7 @@
 pub mod Engine
-pub mod EngineCode
 pub mod Keeping
+pub mod Feeding
+pub mod Laws
 pub mod Answering
 pub mod Sound
 pub mod Showing

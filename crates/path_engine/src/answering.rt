@@ -1,57 +1,56 @@
 //! An entry for each query: first what the clock reaches goes, and then the entry's edge comes or
 //! goes.
 
-ghost use Rattle.std.specs.Prelude.{◌≡◌, ◌≤◌, ◌<◌, ◌^◌, ◌-◌, ◌++◌, ◌⊎◌, ◌↔◌, ℕ, List, [], length, All};
-ghost use Rattle.std.specs.Prelude.{IfOk, IfNone, IfSome, OnOk, None, Some, true, false};
+ghost use Rattle.std.specs.Prelude.{◌≡◌, ◌≤◌, ◌<◌, ◌^◌, ◌-◌, ◌++◌, ◌⊎◌, ℕ, List, length, All};
+ghost use Rattle.std.specs.Prelude.{IfOk, IfNone, IfSome, OnOk, None, Some, false};
 ghost use Rattle.std.specs.List.{AllZip};
 ghost use Rattle.dfa_table.specs.DfaValue.{place_of};
-ghost use Rattle.rpq_model.specs.declared.mode.Mode.TheVariants.{Simple};
 ghost use Rattle.query_file.specs.Compiled.{IsCompiled};
 ghost use Rattle.path_engine.specs.Answering.{AreEndsFor, HasApplied, HasAnswered, HasHistory};
 ghost use Rattle.path_engine.specs.Answering.{HasStepped, HaveAnswered, IsNumbered, Suits, log_if};
+ghost use Rattle.path_engine.specs.Laws.{Laws};
 ghost use Rattle.rpq_base.specs.declared.data.Act.TheVariants.{Insert, Delete};
-ghost use Rattle.edge_store.specs.Clock.{ClockValue};
+ghost use Rattle.window_clock.specs.Clock.{ClockValue};
 
 use crate::ends::Ends;
 use crate::index::Index;
 use containment_laws::accepted_queries_have_answers;
 use delta_forest::{Change, EndChange, Forest, each_has_an_end, ends_are_one, kept_is_best};
 use dfa_table::Dfa;
-use edge_store::{EdgeId, WindowClock};
+use edge_store::EdgeId;
 use end_events::events_between;
 use index_laws::{index_keeps_bests, index_tells_answers, stores_follow};
 use name_table::Names;
 use query_file::Compiled;
 use rpq_base::{Act, Edge, Entry, Event, Memory};
-use rpq_io::Gate;
+use rpq_io::{Context, Gate};
 use rpq_model::Mode;
 use std::alloc::Global;
 use std::thread::Threads;
+use window_clock::WindowClock;
 
-/// The workers that a change may have: all of these in a young run, and else all of them where the
-/// change before touched many trees, and one where it didn't.
-#[derive(Clone, Copy)]
-pub(crate) struct Crew {
+/// What makes the changes of an entry. A change gets all of these workers in a young run, and else
+/// all of them where the change before touched many trees, and one where it didn't.
+#[derive(Drop)]
+pub(crate) struct Crew<'a, R, G> {
+    pub context: &'a Context<'a, R, G>,
     pub workers: u32,
     pub young: bool,
 }
 
 /// Answers the entry for each query, and gives the events of the first, then those of the next.
 pub(crate) fn answer_each<R: Threads + Sync, G: Gate>(
-    rt: &R,
-    alloc: Global,
+    crew: &Crew<'_, R, G>,
     queries: &[Compiled],
     indexes: &mut [Index],
     names: &Names,
     ends: Option<Ends>,
     entry: &Entry,
-    crew: Crew,
-    gate: &G,
 ) -> Result<Vec<Event>, Memory>
     requires few { length queries.now ≤ 64 }
     requires as_many { length queries.now ≡ length indexes.old }
-    requires some { 1 ≤ crew.workers }
-    requires few_workers { crew.workers ≤ 64 }
+    requires some { 1 ≤ crew.now.workers }
+    requires few_workers { crew.now.workers ≤ 64 }
     requires indexes { AllZip (λ query index. HasHistory query names.now index)
         queries.now indexes.old }
     requires ends { All (λ query. AreEndsFor names.now query.dfa entry.now.tuple.act ends)
@@ -59,21 +58,10 @@ pub(crate) fn answer_each<R: Threads + Sync, G: Gate>(
     ensures { IfOk result (λ events. HaveAnswered names.now entry.now 0 queries.now indexes.old
         indexes.new events.items) }
 {
-    let mut events = Vec::new(alloc);
+    let mut events = Vec::new(crew.context.alloc);
     for (place, index) in indexes.iter_mut().enumerate() {
         let query = &queries[place];
-        let own = answer(
-            rt,
-            alloc,
-            query,
-            place as u32,
-            index,
-            names,
-            ends,
-            entry,
-            crew,
-            gate,
-        )?;
+        let own = answer(crew, query, place as u32, index, names, ends, entry)?;
         push_all(&mut events, own)?;
     }
     Ok(events)
@@ -92,27 +80,44 @@ fn push_all(events: &mut Vec<Event>, mut more: Vec<Event>) -> Result<(), Memory>
 
 /// Answers the entry for a query, under its number.
 fn answer<R: Threads + Sync, G: Gate>(
-    rt: &R,
-    alloc: Global,
+    crew: &Crew<'_, R, G>,
     query: &Compiled,
     number: u32,
     index: &mut Index,
     names: &Names,
     ends: Option<Ends>,
     entry: &Entry,
-    crew: Crew,
-    gate: &G,
 ) -> Result<Vec<Event>, Memory>
-    requires some { 1 ≤ crew.workers }
-    requires few { crew.workers ≤ 64 }
+    requires some { 1 ≤ crew.now.workers }
+    requires few { crew.now.workers ≤ 64 }
     requires index { HasHistory query.now names.now index.old }
     requires ends { AreEndsFor names.now query.now.dfa entry.now.tuple.act ends }
     ensures { IfOk result (λ events. HasAnswered names.now entry.now number query.now index.old
         index.new events.items) }
 {
-    let _slide = slide_of(query);
-    let logs = step(rt, alloc, index, ends, entry, crew, gate)?;
-    let apart = is_simple(query);
+    let mode = mode_of(query);
+    let logs = step(crew, index, ends, entry)?;
+    laws();
+    let alloc = crew.context.alloc;
+    let second = second_log(&logs, &index.forest);
+    events_between(alloc, number, mode, names, &logs.first, second)
+}
+
+/// Which paths the query takes. Its contract also has what the types keep of a query.
+pub(crate) fn mode_of(query: &Compiled) -> Mode
+    ensures is { result ≡ query.now.def.mode }
+    ensures slide { 0 < query.now.def.window.slide }
+    ensures compiled { IsCompiled query.now }
+{
+    // read for the second clause
+    let _slide = query.def.window.slide;
+    query.def.mode
+}
+
+/// The laws of the layers below, called for their clauses.
+fn laws()
+    ensures { Laws }
+{
     kept_is_best();
     ends_are_one();
     each_has_an_end();
@@ -120,27 +125,6 @@ fn answer<R: Threads + Sync, G: Gate>(
     index_keeps_bests();
     index_tells_answers();
     accepted_queries_have_answers();
-    let second = second_log(&logs, &index.forest);
-    events_between(alloc, number, apart, names, &logs.first, second)
-}
-
-/// The slide of the query's window.
-pub(crate) fn slide_of(query: &Compiled) -> u64
-    ensures is { result ≡ query.now.def.window.slide }
-    ensures some { 0 < query.now.def.window.slide }
-    ensures compiled { IsCompiled query.now }
-{
-    query.def.window.slide
-}
-
-/// Whether the query takes simple paths.
-pub(crate) fn is_simple(query: &Compiled) -> bool
-    ensures { (result ≡ true) ↔ (query.now.def.mode ≡ Simple) }
-{
-    match query.def.mode {
-        Mode::Simple => true,
-        Mode::Arbitrary => false,
-    }
 }
 
 /// The ends that the first of the two changes of an entry changed, and whether there was a second,
@@ -160,16 +144,13 @@ fn second_log<'a>(logs: &Logs, forest: &'a Forest) -> &'a [EndChange]
 
 /// Takes the entry into an index.
 fn step<R: Threads + Sync, G: Gate>(
-    rt: &R,
-    alloc: Global,
+    crew: &Crew<'_, R, G>,
     index: &mut Index,
     ends: Option<Ends>,
     entry: &Entry,
-    crew: Crew,
-    gate: &G,
 ) -> Result<Logs, Memory>
-    requires some { 1 ≤ crew.workers }
-    requires few { crew.workers ≤ 64 }
+    requires some { 1 ≤ crew.now.workers }
+    requires few { crew.now.workers ≤ 64 }
     requires unbroken { index.old.forest.broken ≡ false }
     requires calls { index.old.forest.calls < 2 ^ 40 }
     ensures { IfOk result (λ logs. (names : List (List ℕ)) →
@@ -178,11 +159,11 @@ fn step<R: Threads + Sync, G: Gate>(
         (log_if logs.second index.new.forest)) }
 {
     let now = index.clock.advance(entry.tuple.time);
-    apply(rt, &mut index.forest, Change::Expire(now), crew, gate)?;
-    let first = log_of(alloc, &index.forest)?;
+    apply(crew, &mut index.forest, Change::Expire(now))?;
+    let first = log_of(crew.context.alloc, &index.forest)?;
     match change_for(&index.forest, &index.clock, now, ends, entry) {
         Some(change) => {
-            apply(rt, &mut index.forest, change, crew, gate)?;
+            apply(crew, &mut index.forest, change)?;
             Ok(Logs {
                 first,
                 second: true,
@@ -197,20 +178,18 @@ fn step<R: Threads + Sync, G: Gate>(
 
 /// Applies the change to a forest.
 fn apply<R: Threads + Sync, G: Gate>(
-    rt: &R,
+    crew: &Crew<'_, R, G>,
     forest: &mut Forest,
     change: Change,
-    crew: Crew,
-    gate: &G,
 ) -> Result<(), Memory>
-    requires some { 1 ≤ crew.workers }
-    requires few { crew.workers ≤ 64 }
+    requires some { 1 ≤ crew.now.workers }
+    requires few { crew.now.workers ≤ 64 }
     requires unbroken { forest.old.broken ≡ false }
     requires calls { forest.old.calls < 2 ^ 60 }
     ensures { OnOk result (HasApplied change forest.old forest.new forest.new.log) }
 {
-    let workers = workers_for(forest, crew);
-    forest.apply(rt, change, workers, gate)
+    let workers = workers_for(crew, forest);
+    forest.apply(crew.context, change, workers)
 }
 
 /// The ends that the last change of a forest changed, by a copy.
@@ -221,9 +200,9 @@ fn log_of(alloc: Global, forest: &Forest) -> Result<Vec<EndChange>, Memory>
 }
 
 /// How many workers a change gets.
-fn workers_for(forest: &Forest, crew: Crew) -> u32
-    requires some { 1 ≤ crew.workers }
-    requires few { crew.workers ≤ 64 }
+fn workers_for<R, G>(crew: &Crew<'_, R, G>, forest: &Forest) -> u32
+    requires some { 1 ≤ crew.now.workers }
+    requires few { crew.now.workers ≤ 64 }
     ensures some { 1 ≤ result }
     ensures few { result ≤ 64 }
 {
@@ -249,13 +228,15 @@ fn change_for(
 {
     let dfa = forest.dfa();
     match &entry.tuple.act {
-        Act::Insert(edge) => raise_for(dfa, clock, now, ends, edge, entry.tuple.time),
+        Act::Insert { edge, until } => {
+            raise_for(dfa, clock, now, ends, edge, entry.tuple.time, *until)
+        }
         Act::Delete(edge) => remove_for(dfa, ends, edge),
         Act::Tick => None,
     }
 }
 
-/// The raise of an inserted edge.
+/// The raise of an inserted edge, which may have an end of its own.
 fn raise_for(
     dfa: &Dfa,
     clock: &WindowClock,
@@ -263,14 +244,15 @@ fn raise_for(
     ends: Option<Ends>,
     edge: &Edge,
     time: u64,
+    until: Option<u64>,
 ) -> Option<Change>
     requires now { now ≡ clock.now.clock }
     requires time { time ≤ 2 ^ 62 - 1 }
     ensures { (names : List (List ℕ)) →
-        AreEndsFor names dfa.now (Insert edge.now) ends →
-        Suits names dfa.now clock.now time (Insert edge.now) result }
+        AreEndsFor names dfa.now (Insert edge.now until) ends →
+        Suits names dfa.now clock.now time (Insert edge.now until) result }
 {
-    let value = clock.deadline(time);
+    let value = clock.entry_deadline(time, until);
     match number_of(dfa, ends, edge) {
         Some(edge) if value > now => Some(Change::Raise { edge, value }),
         _ => None,

@@ -1,10 +1,11 @@
 //! The numbers of an edge's vertices.
 
-ghost use Rattle.std.specs.Prelude.{◌≡◌, ◌+◌, ◌-◌, ◌^◌, ◌<◌, ◌≤◌, length, All, IfOk, IfNone, IfSome, OnOk};
-ghost use Rattle.std.specs.Prelude.{IsTrue, None, Some, false};
+ghost use Rattle.std.specs.Prelude.{◌≡◌, ◌+◌, ◌-◌, ◌^◌, ◌<◌, ◌≤◌, length, All, None, Some, false};
+ghost use Rattle.std.specs.Prelude.{◌↔◌, IfOk, IfNone, IfSome, OnOk};
 ghost use Rattle.dfa_table.specs.DfaValue.{place_of};
 ghost use Rattle.name_table.specs.Names.{KeepsNumbers, number_of};
 ghost use Rattle.path_engine.specs.Answering.{AreEndsFor, AreEndsOf};
+ghost use Rattle.path_engine.specs.Keeping.{BringsNoName};
 
 use name_table::Names;
 use query_file::Compiled;
@@ -30,11 +31,12 @@ pub(crate) fn ends_for(
     ensures ends { IfOk result (λ ends.
         All (λ query. AreEndsFor names.new query.dfa act.now ends) queries.now) }
     ensures kept { OnOk result (KeepsNumbers names.old names.new) }
+    ensures same { OnOk result (BringsNoName act.now queries.now → names.new ≡ names.old) }
     ensures grown { OnOk result (length names.new ≤ length names.old + 2) }
     ensures named { named.new ≡ length names.new }
 {
     match act {
-        Act::Insert(edge) => {
+        Act::Insert { edge, .. } => {
             if knows(queries, &edge.label) {
                 Ok(Some(number_ends(names, named, edge)?))
             } else {
@@ -48,8 +50,8 @@ pub(crate) fn ends_for(
 
 /// Whether some query's automaton has the label.
 fn knows(queries: &[Compiled], label: &Label) -> bool
-    ensures { result ≡ false →
-        All (λ query. place_of query.dfa label.now ≡ None) queries.now }
+    ensures { (result ≡ false)
+        ↔ All (λ query. place_of query.dfa label.now ≡ None) queries.now }
 {
     for query in queries {
         if query.dfa.label_number(label).is_some() {

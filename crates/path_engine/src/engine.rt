@@ -1,16 +1,15 @@
 //! The engine.
 
-ghost use Rattle.std.specs.Prelude.{◌≡◌, ◌≤◌, ◌<◌, ◌+◌, ◌^◌, ◌++◌, ◌∷◌, ◌↔◌, [], List, true, false};
-ghost use Rattle.std.specs.Prelude.{length, All, Err, IfOk, OnOk, OnErr, Some, slice_get};
+ghost use Rattle.std.specs.Prelude.{◌≡◌, ◌≤◌, ◌<◌, ◌^◌, ◌↔◌, [], List, true, false};
+ghost use Rattle.std.specs.Prelude.{length, Err, IfOk, Some, slice_get};
 ghost use Rattle.rpq_base.specs.declared.data.Entry.{Entry as EntryTaken};
-ghost use Rattle.rpq_model.specs.QueryEvents.{AreEntryEvents};
 ghost use Rattle.answer_view.specs.View.{IsViewOf};
 ghost use Rattle.query_file.specs.Compiled.{CompiledValue};
 ghost use Rattle.path_engine.specs.Engine.{StandsFor, IsForestFor, definitions, forests};
-ghost use Rattle.path_engine.specs.Keeping.{KeepsPlaces};
+ghost use Rattle.path_engine.specs.Feeding.{Feeds, Spends};
 ghost use Rattle.path_engine.specs.declared.fault.FeedFault.{FeedFault as WhyNot};
 
-use crate::answering::{Crew, answer_each, slide_of};
+use crate::answering::{Crew, answer_each, mode_of};
 use crate::ends::ends_for;
 use crate::fault::FeedFault;
 use crate::index::{Index, indexes_of};
@@ -21,7 +20,7 @@ use index_laws::{index_keeps_bests, stores_follow};
 use name_table::Names;
 use query_file::Compiled;
 use rpq_base::{Entry, Event, Memory};
-use rpq_io::Gate;
+use rpq_io::{Context, Gate};
 use std::alloc::Global;
 use std::marker::Model;
 use std::random::RandomSource;
@@ -50,13 +49,14 @@ pub struct Engine {
 }
 
 impl Model for Engine {
+    ghost use Rattle.std.specs.Coded.{codes};
+    ghost use Rattle.query_file.specs.CompiledCode.{compiled_code};
     ghost use Rattle.path_engine.specs.Engine.{EngineValue};
-    ghost use Rattle.path_engine.specs.EngineCode.{engine_code};
     ghost use Rattle.path_engine.specs.Sound.{IsSound};
 
     ghost Value = { EngineValue };
 
-    ghost coded = { engine_code };
+    ghost coded = { Prim.hlevel (codes, compiled_code) };
 
     ghost view = { λ engine. record {
       queries = engine.queries.items;
@@ -102,12 +102,12 @@ impl Engine {
     }
 
     /// Answers one more entry: the events that it brings, those of the first query, then those of
-    /// the next, by at most so many workers, of which the gate is told.
+    /// the next, by at most this many workers, which pass the gate.
     ///
     /// The errors are [`FeedFault::Memory`], after which the engine is spent, and
     /// [`FeedFault::Spent`] at each call after it, which changes nothing. It costs what the entry
-    /// changes in the forest of each query; large changes alone are shared by the workers, and those
-    /// of the first entries.
+    /// changes in the forest of each query; the workers share large changes alone, and those of the
+    /// first entries.
     pub fn feed<R: Threads + Sync, G: Gate>(
         &mut self,
         rt: &R,
@@ -118,47 +118,46 @@ impl Engine {
         requires short { self.old.position < 2 ^ 30 }
         requires some { 1 ≤ workers }
         requires few { workers ≤ 64 }
-        ensures stands { (history : List EntryTaken) → StandsFor self.old history →
-            OnOk result (StandsFor self.new (history ++ entry.now ∷ [])) }
-        ensures events { (history : List EntryTaken) → StandsFor self.old history →
-            IfOk result (λ events.
-            AreEntryEvents (definitions self.old) history entry.now events.items) }
-        ensures keeps { OnOk result (KeepsPlaces entry.now.tuple.act self.old self.new) }
-        ensures numbers { IfOk result (λ events.
-            All (λ event. event.query < length self.old.queries) events.items) }
+        ensures feeds { IfOk result (λ events.
+            Feeds self.old entry.now self.new events.items) }
         ensures queries { self.new.queries ≡ self.old.queries }
-        ensures position { OnOk result (self.new.position ≡ self.old.position + 1) }
-        ensures stays { OnErr result (self.new.position ≡ self.old.position) }
-        ensures memory { result ≡ Err WhyNot.Memory → self.new.spent ≡ true }
+        ensures memory { result ≡ Err WhyNot.Memory → Spends self.old self.new }
         ensures spent { (result ≡ Err WhyNot.Spent) ↔ (self.old.spent ≡ true) }
         ensures unchanged { result ≡ Err WhyNot.Spent → self.new ≡ self.old }
     {
         if self.spent {
             return Err(FeedFault::Spent);
         }
-        stores_follow();
+        stores_follow(); // called for its clauses
         // until the entry is answered to its end
         self.spent = true;
         let act = &entry.tuple.act;
         let ends = ends_for(&mut self.names, &mut self.named, &self.queries, act)?;
+        let alloc = self.alloc;
+        let context = Context { rt, alloc, gate };
         let crew = Crew {
+            context: &context,
             workers,
             young: self.position < 16,
         };
         let events = answer_each(
-            rt,
-            self.alloc,
+            &crew,
             &self.queries,
             &mut self.indexes,
             &self.names,
             ends,
             entry,
-            crew,
-            gate,
         )?;
         self.position += 1;
         self.spent = false;
         Ok(events)
+    }
+
+    /// The queries, in the order of their numbers.
+    pub fn queries(&self) -> &[Compiled]
+        ensures { result.now ≡ self.now.queries }
+    {
+        &self.queries
     }
 
     /// Whether memory ran out in a call before, so that no entry is answered any more.
@@ -204,7 +203,8 @@ impl Engine {
             (query : CompiledValue) → slice_get self.now.queries q ≡ Some query →
             IsForestFor query history self.now.names result.now }
     {
-        let _slide = slide_of(&self.queries[q as usize]);
+        // these are called for their clauses
+        let _mode = mode_of(&self.queries[q as usize]);
         kept_is_best();
         index_keeps_bests();
         &self.indexes[q as usize].forest

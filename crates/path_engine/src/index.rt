@@ -6,11 +6,11 @@ ghost use Rattle.path_engine.specs.Engine.{IsIndexFor};
 
 use crate::automaton::copy_of;
 use delta_forest::Forest;
-use edge_store::WindowClock;
 use index_laws::stores_follow;
 use query_file::Compiled;
 use rpq_base::Memory;
 use std::alloc::Global;
+use window_clock::WindowClock;
 
 /// The clock of a query's window, and its edges with the trees of best paths.
 #[derive(Drop)]

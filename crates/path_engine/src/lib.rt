@@ -20,8 +20,6 @@ mod engine;
 mod fault;
 mod index;
 mod showing;
-#[cfg(test)]
-mod tests;
 
 pub use engine::Engine;
 pub use fault::FeedFault;

@@ -22,6 +22,6 @@ returns c = λ start middle last firsts seconds.
     c.in_ok-push_events-2.ensures
     ∙ ap₂ (λ (before : List Event) (told : List Pair). before ++ map (event query true) told)
     losses (ap₂ left c.deref-3.ensures.value c.deref-4.ensures.value) in
-    events_are query c.args.apart names start middle last c.args.first.now c.args.second.now
+    events_are query c.args.mode names start middle last c.args.first.now c.args.second.now
     (pairs_at names lost) (pairs_at names gained) c.push_events-2.new.events.items firsts seconds
     c.in_ok-given.ensures.lost.exactly c.in_ok-given.ensures.gained.exactly all

@@ -3,9 +3,10 @@ use Rattle.std.proofs.lemmas.List.{get_or-map, length-map, take_all}
 use Rattle.rpq_base.specs.declared.data.Event.{Event}
 use Rattle.rpq_base.specs.declared.data.Pair.{Pair}
 use Rattle.rpq_model.specs.Events.{event, without}
+use Rattle.rpq_model.proofs.Merging.{given_more, given_same}
 use Rattle.end_events.specs.declared.pairs.NumberedPair.{NumberedPair}
-use Rattle.end_events.specs.Pairs.{pair_at, pairs_at}
-use Rattle.end_events.proofs.Numbered.{no_pair, told_more, told_same}
+use Rattle.end_events.specs.Pairs.{is_gain, pair_at, pairs_at}
+use Rattle.end_events.proofs.Numbered.{no_pair}
 use Rattle.end_events.proofs.events.push_events.Goals as goal
 use Rattle.end_events.proofs.events.push_events.Goals.{then-not-is_among+in_ok-event_of+in_ok-push, else-not-is_among}
 
@@ -18,7 +19,7 @@ loop-pair-preserved c =
     let index = c.loop-pair.pair-index in
     let each : NumberedPair = get_or named index no_pair in
     let query = c.args.query in
-    let added = c.args.added in
+    let added = is_gain c.args.outcome in
     let old = c.args.events.now.items in
     let found = c.loop-pair.events.items in
     let below : index < length pairs = omega (arith, c.loop-pair-test.true, length-map named (pair_at names)) in
@@ -29,10 +30,10 @@ loop-pair-preserved c =
           ap (λ (events : Vec Event Global). events.items) w.events-is
           ∙ (w.in_ok-push.ensures.items
           ∙ (ap (λ (one : Event). found ++ one ∷ []) w.in_ok-event_of.ensures
-          ∙ told_more pairs others index (pair_at names each) query added old found below is (sym c.is_among.ensures ∙ w.if-not-is_among.true) c.loop-pair.invariant))
+          ∙ given_more pairs others index (pair_at names each) query added old found below is (sym c.is_among.ensures ∙ w.if-not-is_among.true) c.loop-pair.invariant))
       | else-not-is_among w ↦
           ap (λ (events : Vec Event Global). events.items) w.events-is
-          ∙ told_same pairs others index (pair_at names each) query added old found below is (sym c.is_among.ensures ∙ w.if-not-is_among.false) c.loop-pair.invariant
+          ∙ given_same pairs others index (pair_at names each) query added old found below is (sym c.is_among.ensures ∙ w.if-not-is_among.false) c.loop-pair.invariant
     ]
 
 pub returns : goal.returns
@@ -40,5 +41,5 @@ returns c =
     let names = c.args.names.now in
     let named = c.args.pairs.now in
     c.loop-pair.invariant
-    ∙ ap (λ (all : List Pair). c.args.events.now.items ++ map (event c.args.query c.args.added) (without all (pairs_at names c.args.others.now)))
+    ∙ ap (λ (all : List Pair). c.args.events.now.items ++ map (event c.args.query (is_gain c.args.outcome)) (without all (pairs_at names c.args.others.now)))
     (take_all c.loop-pair.pair-index (pairs_at names named) (omega (arith, c.loop-pair-test.false, length-map named (pair_at names))))

@@ -1,20 +1,21 @@
-use Rattle.std.proofs.Common.{◌+◌, true, false, List, None, get_or, take, subst}
+use Rattle.std.proofs.Common.{◌+◌, List, None, get_or, take, subst}
 use Rattle.std.proofs.lemmas.List.{get_or_default, take_all}
 use Rattle.rpq_base.proofs.Members.{next_one}
 use Rattle.source_tree.specs.declared.change.EndChange.{EndChange}
+use Rattle.end_events.specs.declared.pairs.Outcome.TheVariants.{Lost, Gained}
 use Rattle.end_events.specs.Pairs.{Gathers}
 use Rattle.end_events.proofs.Adding.{gathers_none, gathers_more}
 use Rattle.end_events.proofs.pairs.add_given.Goals as goal
 
 pub loop-each-init : goal.loop-each-init
 loop-each-init c = (
-  gathers_none c.args.apart false c.args.names.now c.args.lost.now.items,
-  gathers_none c.args.apart true c.args.names.now c.args.gained.now.items,
+  gathers_none c.args.mode Lost c.args.names.now c.args.lost.now.items,
+  gathers_none c.args.mode Gained c.args.names.now c.args.gained.now.items,
 )
 
 pub loop-each-preserved : goal.loop-each-preserved
 loop-each-preserved c =
-    let apart = c.args.apart in
+    let mode = c.args.mode in
     let names = c.args.names.now in
     let changes = c.args.changes.now in
     let index = c.loop-each.each-index in
@@ -22,20 +23,20 @@ loop-each-preserved c =
     let before = take index changes in
     let after = take (index + 1) changes in
     let one = next_one changes index each c.loop-each-test.true (get_or_default changes index _ each c.loop-each-test.true) in (
-      gathers_more apart false names before each after c.args.lost.now.items c.loop-each.lost.items c.add_pair.new.found.items one
+      gathers_more mode Lost names before each after c.args.lost.now.items c.loop-each.lost.items c.add_pair.new.found.items one
           c.loop-each.invariant.0 c.in_ok-add_pair.ensures,
-      gathers_more apart true names before each after c.args.gained.now.items c.loop-each.gained.items c.add_pair-in-loop-each.new.found.items one
+      gathers_more mode Gained names before each after c.args.gained.now.items c.loop-each.gained.items c.add_pair-in-loop-each.new.found.items one
           c.loop-each.invariant.1 c.in_ok-add_pair-2.ensures,
     )
 
 pub returns-clause-lost : goal.returns-clause-lost
 returns-clause-lost c =
     let changes = c.args.changes.now in
-    subst (λ (log : List EndChange). Gathers c.args.apart false c.args.names.now log c.args.lost.now.items c.loop-each.lost.items)
+    subst (λ (log : List EndChange). Gathers c.args.mode Lost c.args.names.now log c.args.lost.now.items c.loop-each.lost.items)
     (take_all c.loop-each.each-index changes c.loop-each-test.false) c.loop-each.invariant.0
 
 pub returns-clause-gained : goal.returns-clause-gained
 returns-clause-gained c =
     let changes = c.args.changes.now in
-    subst (λ (log : List EndChange). Gathers c.args.apart true c.args.names.now log c.args.gained.now.items c.loop-each.gained.items)
+    subst (λ (log : List EndChange). Gathers c.args.mode Gained c.args.names.now log c.args.gained.now.items c.loop-each.gained.items)
     (take_all c.loop-each.each-index changes c.loop-each-test.false) c.loop-each.invariant.1

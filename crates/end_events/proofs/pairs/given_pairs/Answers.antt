@@ -1,17 +1,17 @@
-use Rattle.std.proofs.Common.{true, false}
+use Rattle.end_events.specs.declared.pairs.Outcome.TheVariants.{Lost, Gained}
 use Rattle.end_events.proofs.Adding.{are_given}
 use Rattle.end_events.proofs.pairs.given_pairs.Goals as goal
 
 pub returns-clause-lost : goal.returns-clause-lost
 returns-clause-lost c =
-    are_given c.args.apart false c.args.names.now c.args.first.now c.args.second.now
+    are_given c.args.mode Lost c.args.names.now c.args.first.now c.args.second.now
     c.new-lost.result.items c.add_given.new.lost.items c.add_given-2.new.lost.items c.put_in_order.new.pairs.items
     c.new-lost.ensures.items c.in_ok-add_given.ensures.lost c.in_ok-add_given-2.ensures.lost
     c.put_in_order.ensures.numbered c.put_in_order.ensures.sorted c.put_in_order.ensures.same
 
 pub returns-clause-gained : goal.returns-clause-gained
 returns-clause-gained c =
-    are_given c.args.apart true c.args.names.now c.args.first.now c.args.second.now
+    are_given c.args.mode Gained c.args.names.now c.args.first.now c.args.second.now
     c.new-gained.result.items c.add_given.new.gained.items c.add_given-2.new.gained.items c.put_in_order-2.new.pairs.items
     c.new-gained.ensures.items c.in_ok-add_given.ensures.gained c.in_ok-add_given-2.ensures.gained
     c.put_in_order-2.ensures.numbered c.put_in_order-2.ensures.sorted c.put_in_order-2.ensures.same

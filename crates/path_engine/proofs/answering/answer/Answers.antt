@@ -1,83 +1,54 @@
-use Rattle.std.proofs.Common.{◌<◌, sym, subst}
+use Rattle.std.proofs.Common.{List, sym, subst}
 use Rattle.dfa_table.specs.DfaValue.{DfaValue}
+use Rattle.source_tree.specs.declared.change.EndChange.{EndChange}
 use Rattle.end_events.specs.Changes.{AreNamed}
-use Rattle.query_file.specs.Compiled.{IsCompiled}
-use Rattle.path_engine.specs.Answering.{AreEndsFor, log_if}
-use Rattle.path_engine.proofs.Answered.{Laws, answered_if, first_named, second_named}
+use Rattle.path_engine.specs.Answering.{AreEndsFor, HasStepped, log_if}
+use Rattle.path_engine.proofs.Answered.{answered_if, first_named, second_named}
+use Rattle.path_engine.proofs.answering.answer.Given.{Over}
 use Rattle.path_engine.proofs.answering.answer.Goals as goal
+
+-- the ends that the second change changed
+abbrev second : (g : Over) → goal.After-deref g → List EndChange
+second g c = log_if c.in_ok-logs.logs.second c.step.new.index.forest
+
+-- the index took the entry
+stepped : (g : Over) (c : goal.After-deref g) →
+    HasStepped c.args.names.now c.args.entry.now c.args.index.now c.step.new.index
+    c.in_ok-logs.logs.first.items (second g c)
+stepped g c =
+    c.in_ok-logs.ensures c.args.names.now
+    (subst (λ (dfa : DfaValue). AreEndsFor c.args.names.now dfa c.args.entry.now.tuple.act c.args.ends)
+    (sym c.requires.index.is.automaton) c.requires.ends)
 
 pub events_between-requires-clause-first_named : goal.events_between-requires-clause-first_named
 events_between-requires-clause-first_named g c =
-    let laws : Laws = record {
-      best = c.kept_is_best.ensures;
-      one = c.ends_are_one.ensures;
-      have = c.each_has_an_end.ensures;
-      follow = c.stores_follow.ensures;
-      keeps = c.index_keeps_bests.ensures;
-      tells = c.index_tells_answers.ensures;
-      answers = c.accepted_queries_have_answers.ensures;
-    } in
-    let query = c.args.query.now in
     let names = c.args.names.now in
-    let entry = c.args.entry.now in
     let has = c.requires.index in
-    let compiled : IsCompiled query = c.slide_of-slide.ensures.compiled in
-    let some : 0 < query.def.window.slide = c.slide_of-slide.ensures.some in
-    let ends = subst (λ (dfa : DfaValue). AreEndsFor names dfa entry.tuple.act c.args.ends)
-    (sym has.is.automaton) c.requires.ends in
-    let stepped = c.in_ok-logs.ensures names ends in
-    let logs = c.in_ok-logs.logs in
     subst (AreNamed names) (sym c.deref.ensures.value)
-    (first_named laws names entry query c.args.index.now c.step.new.index logs.first.items
-    (log_if logs.second c.step.new.index.forest) some compiled stepped has.history has.is)
+    (first_named c.laws.ensures names c.args.entry.now c.args.query.now c.args.index.now
+    c.step.new.index c.in_ok-logs.logs.first.items (second g c) c.mode_of-mode.ensures.slide
+    c.mode_of-mode.ensures.compiled (stepped g c) has.history has.is)
 
 pub events_between-requires-clause-second_named : goal.events_between-requires-clause-second_named
 events_between-requires-clause-second_named g c =
-    let laws : Laws = record {
-      best = c.kept_is_best.ensures;
-      one = c.ends_are_one.ensures;
-      have = c.each_has_an_end.ensures;
-      follow = c.stores_follow.ensures;
-      keeps = c.index_keeps_bests.ensures;
-      tells = c.index_tells_answers.ensures;
-      answers = c.accepted_queries_have_answers.ensures;
-    } in
-    let query = c.args.query.now in
     let names = c.args.names.now in
-    let entry = c.args.entry.now in
     let has = c.requires.index in
-    let compiled : IsCompiled query = c.slide_of-slide.ensures.compiled in
-    let some : 0 < query.def.window.slide = c.slide_of-slide.ensures.some in
-    let ends = subst (λ (dfa : DfaValue). AreEndsFor names dfa entry.tuple.act c.args.ends)
-    (sym has.is.automaton) c.requires.ends in
-    let stepped = c.in_ok-logs.ensures names ends in
-    let logs = c.in_ok-logs.logs in
     subst (AreNamed names) (sym c.second_log-second.ensures)
-    (second_named laws names entry query c.args.index.now c.step.new.index logs.first.items
-    (log_if logs.second c.step.new.index.forest) some compiled stepped has.history has.is)
+    (second_named c.laws.ensures names c.args.entry.now c.args.query.now c.args.index.now
+    c.step.new.index c.in_ok-logs.logs.first.items (second g c) c.mode_of-mode.ensures.slide
+    c.mode_of-mode.ensures.compiled (stepped g c) has.history has.is)
 
 pub returns : goal.returns
 returns g c =
-    let laws : Laws = record {
-      best = c.kept_is_best.ensures;
-      one = c.ends_are_one.ensures;
-      have = c.each_has_an_end.ensures;
-      follow = c.stores_follow.ensures;
-      keeps = c.index_keeps_bests.ensures;
-      tells = c.index_tells_answers.ensures;
-      answers = c.accepted_queries_have_answers.ensures;
-    } in
-    let query = c.args.query.now in
     let names = c.args.names.now in
     let entry = c.args.entry.now in
-    let has = c.requires.index in
-    let compiled : IsCompiled query = c.slide_of-slide.ensures.compiled in
-    let some : 0 < query.def.window.slide = c.slide_of-slide.ensures.some in
-    let ends = subst (λ (dfa : DfaValue). AreEndsFor names dfa entry.tuple.act c.args.ends)
-    (sym has.is.automaton) c.requires.ends in
-    let stepped = c.in_ok-logs.ensures names ends in
     let logs = c.in_ok-logs.logs in
-    answered_if laws names entry query c.args.index.now c.step.new.index logs.first.items
-    (log_if logs.second c.step.new.index.forest) some compiled stepped c.args.number c.is_simple-apart.result
-    c.deref.result.now c.second_log-second.result.now c.deref.ensures.value c.second_log-second.ensures has
-    c.is_simple-apart.ensures c.events_between.result c.events_between.ensures
+    let taken = c.in_ok-logs.ensures names
+    (subst (λ (dfa : DfaValue). AreEndsFor names dfa entry.tuple.act c.args.ends)
+    (sym c.requires.index.is.automaton) c.requires.ends) in
+    answered_if c.laws.ensures names entry c.args.query.now c.args.index.now c.step.new.index
+    logs.first.items (log_if logs.second c.step.new.index.forest) c.mode_of-mode.ensures.slide
+    c.mode_of-mode.ensures.compiled taken c.args.number c.mode_of-mode.result
+    c.deref.result.now c.second_log-second.result.now c.deref.ensures.value
+    c.second_log-second.ensures c.requires.index c.mode_of-mode.ensures.is
+    c.events_between.result c.events_between.ensures

@@ -8,7 +8,7 @@ pub returns-in-Insert : goal.returns-in-Insert
 returns-in-Insert c = λ names.
     let entry = c.args.entry.now in
     suits_same names c.args.forest.now.dfa c.dfa-dfa.result.now c.args.clock.now entry.tuple.time
-    _ entry.tuple.act (Insert c.in-Insert.edge) c.args.ends c.raise_for.result
+    _ entry.tuple.act (Insert c.in-Insert.edge c.in-Insert.until) c.args.ends c.raise_for.result
     c.dfa-dfa.ensures (ap (λ (each : Entry). each.tuple.time) c.entry.view_is)
     (sym c.in-Insert.is ∙ ap (λ (each : Entry). each.tuple.act) c.entry.view_is)
     (c.raise_for.ensures names)

@@ -5,4 +5,4 @@ use Rattle.path_engine.proofs.showing.add.Given as goal
 -- the vertices so far
 abbrev pub invariant-loop-each : goal.invariant-loop-each
 invariant-loop-each l =
-    HaveAdded l.apart l.names l.root (take l.each-index l.reached) l.fn.rows l.rows
+    HaveAdded l.mode l.names l.root (take l.each-index l.reached) l.fn.rows l.rows

@@ -20,18 +20,18 @@ add-requires-clause-once c =
 
 pub add-requires-clause-lacks : goal.add-requires-clause-lacks
 add-requires-clause-lacks c =
-    lacks_root c.args.apart c.args.names.now c.args.forest.now c.loop-root.root c.loop-root.rows
+    lacks_root c.args.mode c.args.names.now c.args.forest.now c.loop-root.root c.loop-root.rows
     c.loop-root.invariant
 
 pub loop-root-preserved : goal.loop-root-preserved
 loop-root-preserved c =
-    shown_more c.args.apart c.args.names.now c.args.forest.now c.loop-root.root
+    shown_more c.args.mode c.args.names.now c.args.forest.now c.loop-root.root
     c.in_ok-reached.reached.items c.loop-root.rows c.add.new.rows c.in_ok-reached.ensures
     (subst (λ (all : List Reached).
-    HaveAdded c.args.apart c.args.names.now c.loop-root.root all c.loop-root.rows c.add.new.rows)
+    HaveAdded c.args.mode c.args.names.now c.loop-root.root all c.loop-root.rows c.add.new.rows)
     c.deref.ensures.value c.in_ok-add.ensures) c.loop-root.invariant
 
 pub returns : goal.returns
 returns c =
-    shown_all c.args.apart c.args.names.now c.args.forest.now c.args.named c.loop-root.root
+    shown_all c.args.mode c.args.names.now c.args.forest.now c.args.named c.loop-root.root
     c.loop-root.rows c.requires.named c.loop-root-test.false c.loop-root.invariant

@@ -1,21 +1,20 @@
 use Rattle.std.proofs.Common.{◌≡◌, ◌+◌, ◌<◌, false, List, [], ◌∷◌, ◌++◌, length, take, drop}
 use Rattle.std.proofs.Common.{refl, sym, ap, subst, arith}
-use Rattle.std.specs.List.{All}
 use Rattle.std.proofs.lemmas.Slice.Zip.{AllZip-long}
-use Rattle.rpq_base.specs.declared.data.Event.{Event}
-use Rattle.rpq_model.specs.QueryEvents.{AreEntryEvents}
+use Rattle.rpq_base.specs.declared.data.Entry.{Entry}
 use Rattle.query_file.specs.Compiled.{CompiledValue}
 use Rattle.path_engine.specs.declared.index.Index.{Index}
 use Rattle.path_engine.specs.Answering.{HasHistory, HaveAnswered}
-use Rattle.path_engine.specs.Engine.{EngineValue, StandsFor, definitions}
-use Rattle.path_engine.specs.Keeping.{KeepsPlaces}
+use Rattle.path_engine.specs.Engine.{EngineValue}
+use Rattle.path_engine.specs.Feeding.{Feeds}
+use Rattle.path_engine.specs.Keeping.{BringsNoName}
 use Rattle.path_engine.proofs.Each.{HaveHistories, answered_long, written_back}
-use Rattle.path_engine.proofs.Feeding.{fed_events, fed_keeps, fed_numbers, fed_stands, histories}
+use Rattle.path_engine.proofs.Feeding.{fed, fed_stands, histories}
 use Rattle.path_engine.proofs.engine.Engine.feed.Given.{Over}
 use Rattle.path_engine.proofs.engine.Engine.feed.Goals as goal
 
 -- the queries have their indexes before they answer
-have : (g : Over) (c : goal.After-answer_each-arg-2-1 g) →
+have : (g : Over) (c : goal.After-answer_each-arg-1 g) →
     HaveHistories c.ends_for.new.names c.deref-2.result.now c.deref_mut.result.now
 have g c =
     let inside = c.self.inside in
@@ -113,36 +112,16 @@ invariant_of-self-2 g c =
       );
     }
 
-pub returns-clause-stands : goal.returns-clause-stands
-returns-clause-stands g c = λ history stands.
-    fed_stands c.stores_follow.ensures (before g c) (after g c) c.args.entry.now
-    c.in_ok-events.events.items refl refl refl c.in_ok-ends.ensures.kept
-    c.in_ok-ends.ensures.grown (answered g c) history
-    (subst (λ (engine : EngineValue). StandsFor engine history) (sym c.self.view_is) stands)
-
-pub returns-clause-events : goal.returns-clause-events
-returns-clause-events g c = λ history stands.
-    let entry = c.args.entry.now in
-    let events = c.in_ok-events.events.items in
-    subst (λ (engine : EngineValue). AreEntryEvents (definitions engine) history entry events)
-    c.self.view_is
-    (fed_events c.stores_follow.ensures (before g c) (after g c) entry events refl refl refl
-    c.in_ok-ends.ensures.kept c.in_ok-ends.ensures.grown (answered g c) history
-    (subst (λ (engine : EngineValue). StandsFor engine history) (sym c.self.view_is) stands))
-
-pub returns-clause-keeps : goal.returns-clause-keeps
-returns-clause-keeps g c =
-    let entry = c.args.entry.now in
-    subst (λ (engine : EngineValue). KeepsPlaces entry.tuple.act engine (after g c))
-    c.self.view_is
-    (fed_keeps c.stores_follow.ensures (before g c) (after g c) entry
-    c.in_ok-events.events.items refl refl refl c.in_ok-ends.ensures.kept
-    c.in_ok-ends.ensures.grown (answered g c))
-
-pub returns-clause-numbers : goal.returns-clause-numbers
-returns-clause-numbers g c =
-    let events = c.in_ok-events.events.items in
+pub returns-clause-feeds : goal.returns-clause-feeds
+returns-clause-feeds g c =
     subst (λ (engine : EngineValue).
-    All (λ (event : Event). event.query < length engine.queries) events) c.self.view_is
-    (fed_numbers c.stores_follow.ensures (before g c) (after g c) c.args.entry.now events refl
-    refl refl c.in_ok-ends.ensures.kept c.in_ok-ends.ensures.grown (answered g c))
+    Feeds engine c.args.entry.now (after g c) c.in_ok-events.events.items) c.self.view_is
+    (fed c.stores_follow.ensures (before g c) (after g c) c.args.entry.now
+    c.in_ok-events.events.items refl refl refl c.in_ok-ends.ensures.kept
+    c.in_ok-ends.ensures.grown (answered g c)
+    (subst (λ (queries : List CompiledValue).
+    BringsNoName c.args.entry.now.tuple.act queries → c.ends_for.new.names ≡ c.self.inside.names)
+    c.deref.ensures.value
+    (subst (λ (each : Entry).
+    BringsNoName each.tuple.act c.deref.result.now → c.ends_for.new.names ≡ c.self.inside.names)
+    c.entry.view_is c.in_ok-ends.ensures.same)))

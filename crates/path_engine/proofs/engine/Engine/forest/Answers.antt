@@ -54,8 +54,8 @@ returns-clause-stands c = λ history stands query query_is.
     let same : c.index.result.now ≡ query =
     c.index.ensures ∙ get_or_from_slice_get queries c.args.q query c.index.result.now there in
     let some = subst (λ (each : CompiledValue). 0 < each.def.window.slide) same
-    c.slide_of-slide.ensures.some in
-    let compiled = subst IsCompiled same c.slide_of-slide.ensures.compiled in
+    c.mode_of-mode.ensures.slide in
+    let compiled = subst IsCompiled same c.mode_of-mode.ensures.compiled in
     subst (λ (each : EngineValue). IsForestFor query history each.names index.forest) c.self.view_is
     (record {
       automaton = is.automaton;

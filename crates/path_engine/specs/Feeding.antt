@@ -1,0 +1,27 @@
+-- What an entry does to an engine.
+use Rattle.std.specs.Prelude.{◌≡◌, ℕ, ◌+◌, ◌<◌, true, List, [], ◌∷◌, ◌++◌, length, All}
+use Rattle.rpq_base.specs.declared.data.Entry.{Entry}
+use Rattle.rpq_base.specs.declared.data.Event.{Event}
+use Rattle.rpq_model.specs.QueryEvents.{AreEntryEvents}
+use Rattle.path_engine.specs.Engine.{EngineValue, StandsFor, definitions}
+use Rattle.path_engine.specs.Keeping.{BringsNoName, KeepsPlaces}
+
+-- the engine answered the entry by these events: of each history that it stood for these are the
+-- events of the entry, and now it stands for the history with the entry behind; it keeps what it
+-- has of names and trees, and numbers no name in vain; each event has the number of a query, and
+-- one entry more was answered
+pub record Feeds (old : EngineValue) (entry : Entry) (new : EngineValue) (answer : List Event)
+    : Type 0 where
+  pub stands : (history : List Entry) → StandsFor old history →
+      StandsFor new (history ++ entry ∷ [])
+  pub events : (history : List Entry) → StandsFor old history →
+      AreEntryEvents (definitions old) history entry answer
+  pub keeps : KeepsPlaces entry.tuple.act old new
+  pub names : BringsNoName entry.tuple.act old.queries → new.names ≡ old.names
+  pub numbers : All (λ (event : Event). event.query < length old.queries) answer
+  pub position : new.position ≡ old.position + 1
+
+-- the engine answers no more, and counts no entry more
+pub record Spends (old new : EngineValue) : Type 0 where
+  pub spent : new.spent ≡ true
+  pub position : new.position ≡ old.position
