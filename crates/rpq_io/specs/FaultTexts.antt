@@ -11,10 +11,6 @@ use Rattle.rpq_io.specs.declared.fault.LineFault.TheVariants as line_fault
 abbrev pub failed_text : List ℕ
 failed_text = codes "a read or a write failed"
 
--- bytes that could not all be written
-abbrev pub write_text : List ℕ
-write_text = codes "a write failed"
-
 -- why a file was not opened
 abbrev pub open_fault_text : OpenFault → List ℕ
 open_fault_text open_fault.Failed = codes "a file could not be opened"

@@ -1,9 +1,14 @@
 -- The bytes that a reader of lines holds. No public contract cites these.
-use Rattle.std.specs.Prelude.{◌≡◌, ℕ, ◌+◌, ◌-◌, ◌<◌, ◌≤◌, Bool, true, List, [], ◌++◌, length}
-use Rattle.std.specs.Prelude.{slice_range, Option, IfSome, if◌then◌else◌}
+use Rattle.std.specs.Prelude.{◌≡◌, ◌≢◌, ℕ, ◌+◌, ◌-◌, ◌<◌, ◌≤◌, Bool, true, List, [], ◌++◌, length}
+use Rattle.std.specs.Prelude.{take, drop, slice_range, Option, IfSome, if◌then◌else◌}
+use Rattle.std.specs.Prelude.{Result, Ok, Err, OnErr, IsErr}
 use Rattle.std.specs.Io.KnownBytes.{prepend_known}
-use Rattle.text_parts.specs.Lines.{line_length}
-use Rattle.rpq_io.specs.Reader.{ReaderState, CutsLine}
+use Rattle.text_parts.specs.Lines.{line_length, without_return}
+use Rattle.rpq_io.specs.Counts.{CountsFault}
+use Rattle.rpq_io.specs.Reader.{ReaderState, CutsLine, IsLongStream}
+use Rattle.rpq_io.specs.Reads.{tells_end}
+use Rattle.rpq_io.specs.declared.fault.LineFault.{LineFault}
+use Rattle.rpq_io.specs.declared.fault.LineFault.TheVariants.{Read, LongLine, LongStream}
 
 -- the bytes held, how many can be read behind them, and how many can be held at most
 pub record HeldBytes : Type 0 where
@@ -23,6 +28,15 @@ pub record Grows (count : ℕ) (old new : List ℕ) (before after : Option (List
   pub counted : length more ≡ count
   pub joined : new ≡ old ++ more
   pub moved : before ≡ prepend_known more after
+
+-- what a read of a source answered: 0 bytes, which tells the end, only where nothing is left; and a
+-- fault, which took nothing, only where the count of faults rose
+pub record IsRead {S E : Type 0} (left : S → Option (List ℕ)) (has_told_end : S → Bool)
+    (faults : S → ℕ) (old new : S) (result : Result ℕ E) : Type 0 where
+  pub end : result ≡ Ok 0 → IfSome (left new) (λ rest. rest ≡ [])
+  pub told : has_told_end new ≡ tells_end result
+  pub err : OnErr result (left new ≡ left old)
+  pub faults_counted : CountsFault (IsErr result) (faults old) (faults new)
 
 -- there is room for a line as long as may be and one byte more; each line given took a byte at
 -- least; no more bytes were taken than may be
@@ -44,6 +58,22 @@ pub record IsTold (is_at_end has_told_end : Bool) (left : Option (List ℕ))
 -- end
 abbrev pub reads_left : {S : Type 0} → ReaderState S → ℕ
 reads_left reader = reader.byte_limit - reader.taken_count + (if reader.is_at_end then 0 else 1)
+
+-- a copy of the first bytes held, so many, without a carriage return at their end, was given as a
+-- line, and the first bytes held, so many, were let go
+pub record GivesFront {S : Type 0} (line_length count : ℕ) (old new : ReaderState S)
+    (line : List ℕ) : Type 0 where
+  pub copied : line ≡ without_return (take line_length old.held_bytes)
+  pub held : new.held_bytes ≡ drop count old.held_bytes
+  pub counted : new.line_count ≡ old.line_count + 1
+
+-- why no line of the bytes held was given: no read failed; the first is longer than may be; or as
+-- many bytes were taken as may be
+pub record IsFaultOfHeld {S A : Type 0} (reader : ReaderState S)
+    (result : Result A LineFault) : Type 0 where
+  pub read : result ≢ Err Read
+  pub long_line : result ≡ Err LongLine → reader.line_limit < line_length reader.held_bytes
+  pub long_stream : result ≡ Err LongStream → IsLongStream reader
 
 -- a line of the bytes held was given, and the bytes after it are held
 pub record GivesHeld {S : Type 0} (old new : ReaderState S) (line : List ℕ) : Type 0 where

@@ -98,17 +98,18 @@ pub record FileBytes : Type 0 where
   pub piece : ℕ
   pub fails : List ℕ
 
--- files; what sinks opened on them are like; which openings fail; and the names opened in vain, and
--- to write
+-- files; what sinks opened on them are like; which openings fail; and the names that were opened:
+-- to read, to read in vain, to write, and to write in vain
 pub record MemoryDisk : Type 0 where
   pub files : List FileBytes
   pub room : ℕ
   pub piece : ℕ
   pub sink_fails : List ℕ
   pub openings : CallScript
+  pub read_names : List (List ℕ)
   pub unread_names : List (List ℕ)
-  pub unmade_names : List (List ℕ)
   pub made_names : List (List ℕ)
+  pub unmade_names : List (List ℕ)
 
 -- the file of this name, if there is one
 abbrev pub file_named : List ℕ → List FileBytes → Option FileBytes
@@ -118,9 +119,12 @@ file_named name files = find (λ file. bytes_eq file.name name) files
 abbrev pub reader_of : FileBytes → MemoryReader
 reader_of file = new_reader file.bytes file.piece file.fails
 
--- the files after an opening to read with this answer: want of memory counts no call
+-- the files after an opening to read with this answer: out of memory counts no call
 abbrev pub after_source : {A : Type 0} → MemoryDisk → List ℕ → Result A OpenFault → MemoryDisk
-after_source disk name (Ok _) = record disk { openings = after_call disk.openings }
+after_source disk name (Ok _) = record disk {
+  openings = after_call disk.openings;
+  read_names = disk.read_names ++ name ∷ [];
+}
 after_source disk name (Err Failed) = record disk {
   openings = after_call disk.openings;
   unread_names = disk.unread_names ++ name ∷ [];

@@ -1,9 +1,11 @@
 -- A reader of lines, and what its calls do.
 use Rattle.std.specs.Prelude.{◌≡◌, ◌≢◌, ℕ, ◌+◌, ◌<◌, ◌≤◌, Bool, true, false, List, [], ◌∷◌, ◌++◌}
-use Rattle.std.specs.Prelude.{length, Option, IfSome, ◌⊎◌}
+use Rattle.std.specs.Prelude.{length, Option, IfSome, ◌⊎◌, Result, Err}
 use Rattle.std.specs.Option.{IsSomeAnd}
 use Rattle.std.specs.Io.KnownBytes.{prepend_known}
 use Rattle.text_parts.specs.Lines.{line_feed, IsLine, raw_lines, line_length, without_return}
+use Rattle.rpq_io.specs.declared.fault.LineFault.{LineFault}
+use Rattle.rpq_io.specs.declared.fault.LineFault.TheVariants.{Read, LongLine, LongStream}
 
 -- a reader of lines: its source, the bytes taken from it and not yet given as lines, how many bytes
 -- were taken in all, whether the source told its end, how many lines were given, and the most bytes
@@ -105,6 +107,14 @@ pub record IsLongStream {S : Type 0} (reader : ReaderState S) : Type 0 where
   pub untold : reader.is_at_end ≡ false
   pub no_line : line_length reader.held_bytes ≡ length reader.held_bytes
   pub fits : length reader.held_bytes ≤ reader.line_limit
+
+-- why a call gave no line shows in the reader: after a failed read it holds no answer; else it
+-- holds a line longer than may be, or took as many bytes as may be
+pub record ShowsCause {S A : Type 0} (left : S → Option (List ℕ)) (old new : ReaderState S)
+    (result : Result A LineFault) : Type 0 where
+  pub read : result ≡ Err Read → HoldsNoAnswer new
+  pub long_line : result ≡ Err LongLine → IsLongLine left old new
+  pub long_stream : result ≡ Err LongStream → IsLongStream new
 
 -- a call took nothing from the source
 pub record TakesNothing {S : Type 0} (old new : ReaderState S) : Type 0 where

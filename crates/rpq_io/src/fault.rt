@@ -4,7 +4,7 @@ ghost use Rattle.std.specs.Prelude.{◌≡◌, Some};
 ghost use Rattle.rpq_io.specs.declared.fault.AllFault.{AllFault};
 ghost use Rattle.rpq_io.specs.declared.fault.LineFault.{LineFault};
 ghost use Rattle.rpq_io.specs.declared.fault.OpenFault.{OpenFault};
-ghost use Rattle.rpq_io.specs.FaultTexts.{failed_text, write_text, open_fault_text, all_fault_text};
+ghost use Rattle.rpq_io.specs.FaultTexts.{failed_text, open_fault_text, all_fault_text};
 ghost use Rattle.rpq_io.specs.FaultTexts.{line_fault_text};
 
 use rpq_base::Memory;
@@ -12,7 +12,7 @@ use std::alloc::AllocError;
 use std::error::Error;
 use std::fmt;
 
-/// One read or one write failed. Nothing was taken and nothing was written by it.
+/// A read or a write failed, and nothing was taken or written by it.
 #[derive(Clone, Copy, Debug, PartialEq, Eq)]
 pub struct Failed;
 
@@ -25,26 +25,6 @@ impl fmt::Display for Failed {
 }
 
 impl Error for Failed {}
-
-/// Not all the bytes could be written: a proper prefix of them was.
-#[derive(Clone, Copy, Debug, PartialEq, Eq)]
-pub struct Write;
-
-impl From<Failed> for Write {
-    fn from(_: Failed) -> Self {
-        Self
-    }
-}
-
-impl fmt::Display for Write {
-    ghost output = { λ _. Some write_text };
-
-    fn fmt<W: fmt::Write>(&self, f: &mut fmt::Formatter<W>) -> fmt::Result {
-        f.write_str("a write failed")
-    }
-}
-
-impl Error for Write {}
 
 /// Why a file was not opened.
 #[derive(Clone, Copy, Debug, PartialEq, Eq)]

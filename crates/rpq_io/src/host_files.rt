@@ -94,7 +94,7 @@ fn note_outcome<T>(
     }
 }
 
-/// Opens the file of this name to read. Its fault isn't want of memory, so all memory is taken
+/// Opens the file of this name to read. Its fault isn't out of memory, so all memory is taken
 /// before.
 fn open<H: FileSystem>(
     host: &H,
@@ -112,7 +112,7 @@ fn open<H: FileSystem>(
     note_outcome(fs::open(host, name.as_str()), name, opened, failed)
 }
 
-/// Opens the file of this name to write it anew. Its fault isn't want of memory, so all memory is
+/// Opens the file of this name to write it anew. Its fault isn't out of memory, so all memory is
 /// taken before.
 fn create<H: FileSystem>(
     host: &H,
@@ -152,11 +152,13 @@ where
 
     ghost holds = { λ _ _. None };
 
+    ghost opened = { λ files. files.read_names };
+
+    ghost made = { λ files. files.made_names };
+
     ghost unread = { λ files name. times name files.unread_names };
 
     ghost unmade = { λ files name. times name files.unmade_names };
-
-    ghost made = { λ files. files.made_names };
 
     /// Notes the name where it is opened.
     fn source(&mut self, name: &str) -> Result<HostSource<H::File>, OpenFault>

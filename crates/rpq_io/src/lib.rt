@@ -34,6 +34,7 @@
 //! is copied once by [`read_all`], twice at most by [`LineReader`] and not at all by [`put_all`].
 #![tactic(auto)]
 
+mod context;
 mod fault;
 mod files;
 mod gate;
@@ -52,7 +53,8 @@ mod sink;
 mod source;
 mod whole;
 
-pub use fault::{AllFault, Failed, LineFault, OpenFault, Write};
+pub use context::Context;
+pub use fault::{AllFault, Failed, LineFault, OpenFault};
 pub use files::Files;
 pub use gate::{Gate, OpenGate, Who};
 pub use host::{HostSink, HostSource};

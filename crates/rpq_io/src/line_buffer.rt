@@ -1,11 +1,9 @@
 //! Bytes that were taken from a source and not yet given.
 
 ghost use Rattle.std.specs.Prelude.{[], ◌≡◌, ◌+◌, ◌<◌, ◌≤◌, length, take, drop, slice_range, false};
-ghost use Rattle.std.specs.Prelude.{IfOk, OnErr, IsErr, IfSome};
+ghost use Rattle.std.specs.Prelude.{IfOk, OnErr};
 ghost use Rattle.std.specs.Io.KnownBytes.{prepend_known};
-ghost use Rattle.rpq_io.specs.Counts.{CountsFault};
-ghost use Rattle.rpq_io.specs.Held.{HeldBytes, Grows};
-ghost use Rattle.rpq_io.specs.Reads.{tells_end};
+ghost use Rattle.rpq_io.specs.Held.{HeldBytes, Grows, IsRead};
 ghost use Rattle.text_parts.specs.Lines.{line_length};
 
 use crate::fault::Failed;
@@ -117,12 +115,9 @@ impl LineBuffer {
         ensures grown { IfOk result (λ count.
             Grows count self.old.bytes self.new.bytes (S.left source.old) (S.left source.new)) }
         ensures few { IfOk result (λ count. count ≤ most) }
-        ensures end { result ≡ Ok 0 → IfSome (S.left source.new) (λ rest. rest ≡ []) }
-        ensures told { S.has_told_end source.new ≡ tells_end result }
-        ensures err { OnErr result (S.left source.new ≡ S.left source.old) }
         ensures kept { OnErr result (self.new.bytes ≡ self.old.bytes) }
         ensures size { self.new.size ≡ self.old.size }
-        ensures faults { CountsFault (IsErr result) (S.faults source.old) (S.faults source.new) }
+        ensures read { IsRead S.left S.has_told_end S.faults source.old source.new result }
     {
         let count = read_behind(source, self.bytes.as_mut_slice(), self.end, most)?;
         self.end += count;
@@ -148,11 +143,8 @@ fn read_behind<S: Source>(
         ≡ prepend_known (slice_range bytes.new end (end + count)) (S.left source.new)) }
     ensures within { IfOk result (λ count. end + count ≤ length bytes.new) }
     ensures few { IfOk result (λ count. count ≤ most) }
-    ensures end { result ≡ Ok 0 → IfSome (S.left source.new) (λ rest. rest ≡ []) }
-    ensures told { S.has_told_end source.new ≡ tells_end result }
     ensures before { take end bytes.new ≡ take end bytes.old }
-    ensures err { OnErr result (S.left source.new ≡ S.left source.old) }
-    ensures faults { CountsFault (IsErr result) (S.faults source.old) (S.faults source.new) }
+    ensures read { IsRead S.left S.has_told_end S.faults source.old source.new result }
 {
     let room = (bytes.len() - end) as u64;
     let wanted = room.min(most) as usize;

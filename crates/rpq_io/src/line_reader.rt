@@ -1,12 +1,12 @@
 //! The lines of a source.
 
-ghost use Rattle.std.specs.Prelude.{[], take, drop, ◌≡◌, ◌≢◌, ◌+◌, ◌<◌, ◌≤◌, ◌↔◌, length, true};
+ghost use Rattle.std.specs.Prelude.{[], ◌≡◌, ◌<◌, ◌≤◌, ◌↔◌, length, true};
 ghost use Rattle.std.specs.Prelude.{false, IsTrue, IfOk, OnErr, IfErr, IsErr, OnOk, IfSome, IfNone};
 ghost use Rattle.rpq_io.specs.Counts.{CountsFault};
-ghost use Rattle.rpq_io.specs.Held.{reads_left, GivesHeld};
+ghost use Rattle.rpq_io.specs.Held.{reads_left, GivesFront, GivesHeld, IsFaultOfHeld};
 ghost use Rattle.rpq_io.specs.Reader.{HoldsNoAnswer, Had, GivesLine, IsAtEnd, LosesNothing};
-ghost use Rattle.rpq_io.specs.Reader.{TakesNothing, IsLongLine, IsLongStream, StaysSound};
-ghost use Rattle.text_parts.specs.Lines.{line_length, without_return};
+ghost use Rattle.rpq_io.specs.Reader.{ShowsCause, TakesNothing, StaysSound};
+ghost use Rattle.text_parts.specs.Lines.{line_length};
 
 use crate::fault::{Failed, LineFault};
 use crate::line_buffer::{LineBuffer, PIECE};
@@ -105,9 +105,7 @@ impl<S: Source> LineReader<S> {
         ensures err { OnErr result (LosesNothing S.left self.old self.new) }
         ensures faults { CountsFault (result ≡ Err LineFault.Read)
             (S.faults self.old.source) (S.faults self.new.source) }
-        ensures read_on { result ≡ Err LineFault.Read → HoldsNoAnswer self.new }
-        ensures long_line { result ≡ Err LineFault.LongLine → IsLongLine S.left self.old self.new }
-        ensures long_stream { result ≡ Err LineFault.LongStream → IsLongStream self.new }
+        ensures cause { ShowsCause S.left self.old self.new result }
         ensures unread { ¬ HoldsNoAnswer self.old → TakesNothing self.old self.new }
         ensures sound { StaysSound S.left S.has_told_end self.old self.new }
     {
@@ -154,10 +152,7 @@ impl<S: Source> LineReader<S> {
             GivesHeld self.old self.new line.items)) }
         ensures none { IfOk result (λ answer. IfNone answer
             ((self.old.is_at_end ≡ true) × (self.old.held_bytes ≡ []) × (self.new ≡ self.old))) }
-        ensures read { result ≢ Err LineFault.Read }
-        ensures long_line { result ≡ Err LineFault.LongLine
-            → self.old.line_limit < line_length self.old.held_bytes }
-        ensures long_stream { result ≡ Err LineFault.LongStream → IsLongStream self.old }
+        ensures cause { IsFaultOfHeld self.old result }
         ensures err { OnErr result (self.new ≡ self.old) }
         ensures taken { TakesNothing self.old self.new }
         ensures sound { StaysSound S.left S.has_told_end self.old self.new }
@@ -182,10 +177,8 @@ impl<S: Source> LineReader<S> {
         requires some { 0 < count }
         requires order { line ≤ count }
         requires within { count ≤ length self.old.held_bytes }
-        ensures line { IfOk result (λ given.
-            given.items ≡ without_return (take line self.old.held_bytes)) }
-        ensures held { OnOk result (self.new.held_bytes ≡ drop count self.old.held_bytes) }
-        ensures counted { OnOk result (self.new.line_count ≡ self.old.line_count + 1) }
+        ensures given { IfOk result (λ given.
+            GivesFront line count self.old self.new given.items) }
         ensures err { OnErr result (self.new ≡ self.old) }
         ensures taken { TakesNothing self.old self.new }
         ensures sound { StaysSound S.left S.has_told_end self.old self.new }

@@ -74,9 +74,10 @@ pub struct MemoryFiles {
     piece: usize,
     sink_fails: Vec<u64>,
     openings: Script,
+    read: NameList,
     unread: NameList,
-    unmade: NameList,
     made: NameList,
+    unmade: NameList,
 }
 
 impl Model for MemoryFiles {
@@ -91,9 +92,10 @@ impl Model for MemoryFiles {
       piece = files.piece;
       sink_fails = files.sink_fails.items;
       openings = files.openings;
+      read_names = files.read.names;
       unread_names = files.unread.names;
-      unmade_names = files.unmade.names;
       made_names = files.made.names;
+      unmade_names = files.unmade.names;
     } };
 
     ghost invariant = { λ files. 1 ≤ files.piece };
@@ -124,9 +126,10 @@ impl MemoryFiles {
           piece = piece;
           sink_fails = sink_fails.now;
           openings = new_script fails.now;
+          read_names = [];
           unread_names = [];
-          unmade_names = [];
           made_names = [];
+          unmade_names = [];
         }) }
     {
         Ok(MemoryFiles {
@@ -136,9 +139,10 @@ impl MemoryFiles {
             piece,
             sink_fails: Vec::from_slice(alloc, sink_fails)?,
             openings: Script::new(alloc, fails)?,
+            read: NameList::new(alloc),
             unread: NameList::new(alloc),
-            unmade: NameList::new(alloc),
             made: NameList::new(alloc),
+            unmade: NameList::new(alloc),
         })
     }
 
@@ -201,11 +205,13 @@ impl Files for MemoryFiles {
 
     ghost holds = { λ disk name. option_map (λ file. file.bytes) (file_named name disk.files) };
 
+    ghost opened = { λ disk. disk.read_names };
+
+    ghost made = { λ disk. disk.made_names };
+
     ghost unread = { λ disk name. times name disk.unread_names };
 
     ghost unmade = { λ disk name. times name disk.unmade_names };
-
-    ghost made = { λ disk. disk.made_names };
 
     /// Fails exactly at the listed openings and where no file has this name. Memory is taken before
     /// the opening is counted.
@@ -219,12 +225,16 @@ impl Files for MemoryFiles {
         ensures faults { CountsOpening (result ≡ Err OpenFault.Failed) name.now
             (λ any. times any self.old.unread_names) (λ any. times any self.new.unread_names) }
     {
+        self.read.make_room()?;
         self.unread.make_room()?;
         let noted = String::from_str(self.alloc, name)?;
         let source = self.source_of(name)?;
         let fails = self.openings.next_fails();
         match source {
-            Some(source) if !fails => Ok(source),
+            Some(source) if !fails => {
+                self.read.note(noted);
+                Ok(source)
+            }
             _ => {
                 self.unread.note(noted);
                 Err(OpenFault::Failed)

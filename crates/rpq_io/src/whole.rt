@@ -1,13 +1,12 @@
 //! All the bytes of a source, and all bytes to a sink.
 
-ghost use Rattle.std.specs.Prelude.{[], false, ◌≡◌, ◌<◌, is_ok, length, IfOk, OnOk, OnErr, IsErr};
-ghost use Rattle.std.specs.Prelude.{IfSome};
-ghost use Rattle.std.specs.Io.KnownBytes.{prepend_known, append_known};
+ghost use Rattle.std.specs.Prelude.{false, ◌≡◌, is_ok, IfOk, OnOk, OnErr, IsErr};
+ghost use Rattle.std.specs.Io.KnownBytes.{append_known};
 ghost use Rattle.rpq_io.specs.Counts.{CountsFault};
-ghost use Rattle.rpq_io.specs.Takes.{TakesAtMost, IsTooMuch};
+ghost use Rattle.rpq_io.specs.Takes.{TakesAll, TakesAtMost, IsTooMuch};
 ghost use Rattle.rpq_io.specs.Writes.{WritesProperPrefix};
 
-use crate::fault::{AllFault, Write};
+use crate::fault::{AllFault, Failed};
 use crate::sink::Sink;
 use crate::source::Source;
 use std::alloc::Global;
@@ -26,10 +25,7 @@ pub fn read_all<S: Source>(
 ) -> Result<Vec<u8>, AllFault>
     requires { S.has_told_end source.old ≡ false }
     ensures ok { IfOk result (λ bytes.
-        S.left source.old ≡ prepend_known bytes.items (S.left source.new)) }
-    ensures end { OnOk result (IfSome (S.left source.new) (λ rest. rest ≡ [])) }
-    ensures fits { IfOk result (λ bytes. length bytes.items < byte_limit) }
-    ensures whole { IfOk result (λ bytes. IfSome (S.left source.old) (λ left. bytes.items ≡ left)) }
+        TakesAll byte_limit (S.left source.old) (S.left source.new) bytes.items) }
     ensures told { S.has_told_end source.new ≡ is_ok result }
 
     ensures long { result ≡ Err AllFault.Long
@@ -51,9 +47,9 @@ pub fn read_all<S: Source>(
     Err(AllFault::Long)
 }
 
-/// Writes all the bytes, in their order, or a proper prefix of them and answers [`Write`]. A failed
-/// write isn't tried again. Takes no memory.
-pub fn put_all<S: Sink>(sink: &mut S, bytes: &[u8]) -> Result<(), Write>
+/// Writes all the bytes, in their order, or a proper prefix of them, where a write then failed. A
+/// failed write isn't tried again. Takes no memory.
+pub fn put_all<S: Sink>(sink: &mut S, bytes: &[u8]) -> Result<(), Failed>
     ensures ok { OnOk result (S.written sink.new ≡ append_known (S.written sink.old) bytes.now) }
     ensures err { OnErr result
         (WritesProperPrefix bytes.now (S.written sink.old) (S.written sink.new)) }

@@ -1,16 +1,16 @@
 -- Lines that are written one after another.
-use Rattle.std.proofs.Common.{◌≡◌, ℕ, ◌+◌, ◌<◌, ◌≤◌, List, [], ◌∷◌, ◌++◌, length, length-append}
+use Rattle.std.proofs.Common.{◌≡◌, ℕ, ◌+◌, ◌<◌, ◌≤◌, List, [], ◌∷◌, ◌++◌, length}
 use Rattle.std.proofs.Common.{Result, Ok, Err, take, drop, get_or, Option, refl, ap, sym, subst}
 use Rattle.std.proofs.Common.{◌∙◌, append_assoc, arith}
 use Rattle.std.specs.List.{flat_map}
-use Rattle.std.specs.Prelude.{IsOk, IsErr}
+use Rattle.std.specs.Prelude.{IsErr}
 use Rattle.std.specs.Io.KnownBytes.{append_known}
 use Rattle.std.proofs.lemmas.List.{append-nil, take-append-drop, take_more, drop_more, drop_all}
 use Rattle.std.proofs.lemmas.List.Concat.{flat_map-append}
 use Rattle.rpq_io.specs.Counts.{Rose, CountsFault}
-use Rattle.rpq_io.specs.Writes.{WritesProperPrefix}
-use Rattle.rpq_run.specs.declared.report.StreamEnd.{StreamEnd}
-use Rattle.rpq_run.specs.ErrorLines.{end_line, end_lines, TellsLines}
+use Rattle.rpq_text.specs.declared.ends.StreamEnd.{StreamEnd}
+use Rattle.rpq_text.specs.ErrorLines.{end_line, end_lines}
+use Rattle.rpq_run.specs.Written.{TellsLines}
 use Rattle.rpq_run.specs.Written.{GrewByPrefix, Tells}
 use Rattle.rpq_io.proofs.Bytes.{append_known-nil, append_known-append}
 
@@ -165,27 +165,6 @@ split_at {X} f xs i d inside is =
     ∙ sym (ap (flat_map f) (sym (take-append-drop i xs))
     ∙ (flat_map-append f (take i xs) (drop i xs)
     ∙ ap (λ t. flat_map f (take i xs) ++ flat_map f t) (drop_more xs i d inside)))
-
--- a piece more fits
-pub piece_fits : {X : Type 0} (f : X → List ℕ) (xs : List X) (i : ℕ) (d : X) (line : List ℕ)
-    → i < length xs → line ≡ flat_map f (take i xs) → length (flat_map f xs) ≤ 256
-    → length line + length (f (get_or xs i d)) ≤ 256
-piece_fits {X} f xs i d line inside so_far fits =
-    let done = flat_map f (take i xs) in
-    let next = f (get_or xs i d) in
-    let later = flat_map f (drop (i + 1) xs) in
-    let all : flat_map f xs ≡ done ++ (next ++ later) =
-    ap (flat_map f) (sym (take-append-drop i xs))
-    ∙ (flat_map-append f (take i xs) (drop i xs)
-    ∙ ap (λ t. done ++ flat_map f t) (drop_more xs i d inside)) in
-    omega (
-      arith,
-      fits,
-      ap (λ (t : List ℕ). length t) all,
-      length-append done (next ++ later),
-      length-append next later,
-      ap (λ (t : List ℕ). length t) so_far,
-    )
 
 -- one of some texts of a list fails
 pub tells_element : {Sink T E U F X : Type 0} {written : Sink → Option (List ℕ)} {faults : Sink → ℕ}

@@ -11,8 +11,8 @@ use Rattle.rpq_base.specs.Plain.{IsPlain}
 use Rattle.rpq_base.specs.declared.data.Tuple.{Tuple}
 use Rattle.rpq_base.specs.declared.data.Entry.{Entry}
 use Rattle.rpq_io.specs.Reader.{ReaderState}
-use Rattle.rpq_run.specs.declared.report.StreamEnd.TheVariants.{Full, Memory}
-use Rattle.rpq_run.specs.StreamText.{tuples_from}
+use Rattle.rpq_text.specs.declared.ends.StreamEnd.TheVariants.{Full, Memory}
+use Rattle.rpq_text.specs.StreamText.{tuples_from}
 use Rattle.rpq_run.specs.History.{own_tuples, IsPrefix, IsProperPrefix, AreTuplesOfEnd}
 use Rattle.rpq_run.specs.Progress.{IsStreamReader, IsInStep, HasRead}
 use Rattle.rpq_run.specs.Turns.{IsWithin}

@@ -9,10 +9,10 @@ use Rattle.rpq_io.specs.Writes.{WritesProperPrefix}
 use Rattle.rpq_io.proofs.Bytes.{append_known-nil, append_known-append}
 use Rattle.containment_laws.specs.Accepted.{IsAccepted, AcceptedHaveEvents}
 use Rattle.rpq_model.specs.Query.{Query}
-use Rattle.rpq_run.specs.Statuses.{write_status, memory_status}
-use Rattle.rpq_run.specs.Text.{IsText}
+use Rattle.rpq_text.specs.Statuses.{write_status, memory_status}
+use Rattle.rpq_text.specs.Text.{IsText}
 use Rattle.rpq_run.specs.Written.{Grew, GrewByPrefix, GrewByProperPrefix, WritesByStatus}
-use Rattle.rpq_run.proofs.Texts.{no_text, text_goes_on}
+use Rattle.rpq_text.proofs.Texts.{no_text, text_goes_on}
 
 -- the empty history has the empty text
 pub begins : (queries : List Query) (before : Option (List ℕ)) → Grew (IsText queries []) before before
@@ -46,7 +46,7 @@ module _ (IsText : List ℕ → Type 0) (before after : Option (List ℕ)) where
     memory = λ is. whole_is_prefix whole;
   }
 
-  -- the status of want of memory, where a prefix is written
+  -- the status of out of memory, where a prefix is written
   pub by_prefix : (status : ℕ) → status ≡ memory_status → GrewByPrefix IsText before after
       → WritesByStatus status IsText before after
   by_prefix status memory part = record {
@@ -55,7 +55,7 @@ module _ (IsText : List ℕ → Type 0) (before after : Option (List ℕ)) where
     memory = λ is. part;
   }
 
-  -- a status of a failed write or of want of memory, where a proper prefix is written
+  -- a status of a failed write or of out of memory, where a proper prefix is written
   pub by_proper : (status : ℕ) → (status ≡ write_status) ⊎ (status ≡ memory_status)
       → GrewByProperPrefix IsText before after → WritesByStatus status IsText before after
   by_proper status one proper = record {

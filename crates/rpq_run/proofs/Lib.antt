@@ -1,13 +1,8 @@
-mod Texts
-mod Fronts
 mod Grows
 mod Feeding
 mod Emitting
+mod Checking
 mod ErrorTexts
-mod WordPieces
-mod VerdictLines
-mod StreamTexts
-mod ByParts
 mod Reading
 mod Statuses
 mod Settings

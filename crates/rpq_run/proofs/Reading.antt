@@ -19,17 +19,17 @@ use Rattle.rpq_io.specs.Reader.{ReaderState, HoldsNoAnswer, Had, GivesLine, IsAt
 use Rattle.rpq_io.specs.Reader.{TakesNothing, IsLongStream, StaysSound}
 use Rattle.tuple_text.specs.declared.read.BadLine.{BadLine}
 use Rattle.tuple_text.specs.Reading.{line_tuple}
-use Rattle.rpq_run.specs.declared.report.StreamEnd.{StreamEnd}
-use Rattle.rpq_run.specs.declared.report.StreamEnd.TheVariants.{Whole, Line, LongLine, LongStream}
-use Rattle.rpq_run.specs.declared.report.StreamEnd.TheVariants.{Read, Memory}
-use Rattle.rpq_run.specs.Limits.{line_limit, byte_limit}
-use Rattle.rpq_run.specs.StreamText.{StreamTuples, tuples_with, tuples_before, numbered, line_gives}
-use Rattle.rpq_run.specs.StreamText.{tuples_of_lines, tuples_from}
+use Rattle.rpq_text.specs.declared.ends.StreamEnd.{StreamEnd}
+use Rattle.rpq_text.specs.declared.ends.StreamEnd.TheVariants.{Whole, Line, LongLine, LongStream}
+use Rattle.rpq_text.specs.declared.ends.StreamEnd.TheVariants.{Read, Memory}
+use Rattle.rpq_text.specs.Limits.{line_limit, byte_limit}
+use Rattle.rpq_text.specs.StreamText.{StreamTuples, tuples_with, tuples_before, numbered, line_gives}
+use Rattle.rpq_text.specs.StreamText.{tuples_of_lines, tuples_from}
 use Rattle.rpq_run.specs.History.{IsPrefix, AreTaken, AreTuplesOfEnd}
 use Rattle.rpq_run.specs.Progress.{IsStreamReader, IsNew, passed, HasReadLines, HasReadAll, HasRead}
-use Rattle.rpq_run.proofs.StreamTexts.{first_gives, no_lines, tuples_after, faulty_first}
-use Rattle.rpq_run.proofs.StreamTexts.{faulty_last, good_last, nothing_left, long_first}
-use Rattle.rpq_run.proofs.StreamTexts.{long_stream}
+use Rattle.rpq_text.proofs.StreamTexts.{first_gives, no_lines, tuples_after, faulty_first}
+use Rattle.rpq_text.proofs.StreamTexts.{faulty_last, good_last, nothing_left, long_first}
+use Rattle.rpq_text.proofs.StreamTexts.{long_stream}
 
 -- a new reader gave no line
 pub new_reader : {S : Type 0} (left : S → Option (List ℕ)) (reader : ReaderState S) → IsNew reader

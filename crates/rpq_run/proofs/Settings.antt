@@ -1,16 +1,16 @@
 -- What is known of settings that are taken so far, and of words that begin no run.
-use Rattle.std.proofs.Common.{◌≡◌, ℕ, ◌≤◌, Bool, true, false, ◌||◌, List, [], ◌∷◌, length, map}
-use Rattle.std.proofs.Common.{Option, Some, None, refl, ap, sym, subst, ◌∙◌, arith, inl, inr, ◌⊎◌}
+use Rattle.std.proofs.Common.{◌≡◌, ℕ, ◌≤◌, Bool, true, false, ◌||◌, List, [], length}
+use Rattle.std.proofs.Common.{Option, Some, None, refl, sym, subst, ◌∙◌, arith, inl, inr, ◌⊎◌}
 use Rattle.std.specs.Prelude.{is_some, nat_lt, IsSomeAnd, MatchBool}
 use Rattle.std.proofs.lemmas.Bool.{ltb-false}
 use Rattle.rpq_words.specs.Settings.{Settings}
 use Rattle.rpq_words.specs.Modes.{HasMode}
-use Rattle.rpq_run.specs.declared.report.StartFault.{StartFault}
-use Rattle.rpq_run.specs.declared.report.StartFault.TheVariants.{Words, Queries as QueriesFault}
-use Rattle.rpq_run.specs.declared.report.StartFault.TheVariants.{Open, Read, Long, NotYet, Memory}
+use Rattle.rpq_text.specs.declared.ends.StartFault.{StartFault}
+use Rattle.rpq_text.specs.declared.ends.StartFault.TheVariants.{Words, Queries as QueriesFault}
+use Rattle.rpq_text.specs.declared.ends.StartFault.TheVariants.{Open, Read, Long, NotYet, Memory}
 use Rattle.rpq_run.specs.Given.{is_not_yet}
 use Rattle.rpq_run.specs.Ready.{AreTaken, IsWordsCause}
-use Rattle.rpq_run.specs.Run.{IsCause, IsDecided, IsOpeningOf, IsRefusedFor, AreSourcesOf}
+use Rattle.rpq_run.specs.Run.{IsCause, IsOpeningOf, IsRefusedFor, AreSourcesOf}
 
 -- neither of two is true
 neither : (a b : Bool) → (a || b) ≡ false → (a ≡ false) × (b ≡ false)

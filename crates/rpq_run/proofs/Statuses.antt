@@ -13,28 +13,31 @@ use Rattle.rpq_io.specs.Counts.{Rose, CountsFault}
 use Rattle.rpq_io.proofs.Counting.{counts_as}
 use Rattle.query_file.specs.declared.fault.QueryFault.{QueryFault}
 use Rattle.rpq_words.specs.Settings.{Settings}
-use Rattle.rpq_run.specs.declared.report.Which.TheVariants.{Queries, Stream}
-use Rattle.rpq_run.specs.declared.report.Why.{Why}
-use Rattle.rpq_run.specs.declared.report.Why.TheVariants.{Write, Memory as MemoryOfAll}
-use Rattle.rpq_run.specs.declared.report.SinkName.{SinkName}
-use Rattle.rpq_run.specs.declared.report.SinkName.TheVariants.{Events}
-use Rattle.rpq_run.specs.declared.report.StartFault.{StartFault}
-use Rattle.rpq_run.specs.declared.report.StartFault.TheVariants.{Words, Queries as QueriesFault}
-use Rattle.rpq_run.specs.declared.report.StartFault.TheVariants.{Open, Read as ReadAtStart, Long}
-use Rattle.rpq_run.specs.declared.report.StartFault.TheVariants.{NotYet, Memory as MemoryAtStart}
-use Rattle.rpq_run.specs.declared.report.StreamEnd.{StreamEnd}
-use Rattle.rpq_run.specs.declared.report.StreamEnd.TheVariants.{Whole, Line, LongLine, LongStream}
-use Rattle.rpq_run.specs.declared.report.StreamEnd.TheVariants.{Read, Full, Closed, Memory}
+use Rattle.rpq_text.specs.declared.ends.Which.TheVariants.{Queries, Stream}
+use Rattle.rpq_text.specs.declared.ends.Why.{Why}
+use Rattle.rpq_text.specs.declared.ends.Why.TheVariants.{Write, Memory as MemoryOfAll}
+use Rattle.rpq_text.specs.declared.ends.SinkName.{SinkName}
+use Rattle.rpq_text.specs.declared.ends.SinkName.TheVariants.{Events}
+use Rattle.rpq_text.specs.declared.ends.StartFault.{StartFault}
+use Rattle.rpq_text.specs.declared.ends.StartFault.TheVariants.{Words, Queries as QueriesFault}
+use Rattle.rpq_text.specs.declared.ends.StartFault.TheVariants.{Open, Read as ReadAtStart, Long}
+use Rattle.rpq_text.specs.declared.ends.StartFault.TheVariants.{NotYet, Memory as MemoryAtStart}
+use Rattle.rpq_text.specs.declared.ends.StreamEnd.{StreamEnd}
+use Rattle.rpq_text.specs.declared.ends.StreamEnd.TheVariants.{Whole, Line, LongLine, LongStream}
+use Rattle.rpq_text.specs.declared.ends.StreamEnd.TheVariants.{Read, Full, Closed, Memory}
 use Rattle.rpq_run.specs.Given.{file_names}
-use Rattle.rpq_run.specs.Limits.{byte_limit}
-use Rattle.rpq_run.specs.StreamText.{StreamTuples, tuples_with, tuples_from}
+use Rattle.rpq_text.specs.Limits.{byte_limit}
+use Rattle.rpq_text.specs.StreamText.{StreamTuples, tuples_with, tuples_from}
 use Rattle.rpq_run.specs.Files.{IsTooLong, IsFaultyFile, IsFaultless, IsWholeStream, tuple_count}
 use Rattle.rpq_run.specs.History.{own_tuples, AreTuplesOfEnd, IsStreamOf, AreStreamsOf}
-use Rattle.rpq_run.specs.Statuses.{status_of_start, status_of_end, arose, first_arisen, IsStatusOf}
-use Rattle.rpq_run.specs.Statuses.{write_status, memory_status}
+use Rattle.rpq_text.specs.Statuses.{status_of_start, status_of_end, arose, first_status, IsStatusOf}
+use Rattle.rpq_text.specs.Statuses.{write_status, memory_status, AreSomeSinks}
 use Rattle.rpq_run.specs.Ends.{IsReadEnd, IsEndInTurn, IsEndAfterWrite}
-use Rattle.rpq_run.specs.Turns.{failed_sinks, status_after}
-use Rattle.rpq_run.specs.Run.{IsRefusedFor, IsOpeningOf, AreSourcesOf, IsFaultOfFile}
+use Rattle.rpq_run.specs.declared.turns.StreamStop.{StreamStop}
+use Rattle.rpq_run.specs.declared.turns.StreamStop.TheVariants.{InTurn, AfterWrite}
+use Rattle.rpq_run.specs.Turns.{failed_sinks, status_after, end_of, is_after_write, IsEndOfStop}
+use Rattle.rpq_run.specs.Ready.{IsFaultOfFile}
+use Rattle.rpq_run.specs.Run.{IsRefusedFor, IsOpeningOf, AreSourcesOf}
 use Rattle.rpq_run.proofs.Feeding.{own_all}
 
 -- ---- the status of one stream's end, and of a write that failed or not
@@ -50,7 +53,7 @@ no_write Full in_turn is = absurd cc
 no_write (Closed why) in_turn is = absurd in_turn
 no_write Memory in_turn is = absurd cc
 
--- where a write failed the status is that, or that of want of memory
+-- where a write failed the status is that, or that of out of memory
 pub write_or_memory : (end : StreamEnd) → (status_after true end ≡ write_status)
     ⊎ (status_after true end ≡ memory_status)
 write_or_memory Whole = inl refl
@@ -62,6 +65,17 @@ write_or_memory Full = inl refl
 write_or_memory (Closed Write) = inl refl
 write_or_memory (Closed MemoryOfAll) = inr refl
 write_or_memory Memory = inr refl
+
+-- a sink of which a write failed is told once
+pub some_sinks : (failed : Bool) → AreSomeSinks (failed_sinks failed)
+some_sinks true = ((λ _. true), refl)
+some_sinks false = ((λ _. false), refl)
+
+-- how a stream can end, by whether a write failed
+pub stop_ends : (stop : StreamStop) → IsEndOfStop stop
+    → MatchBool (is_after_write stop) (IsEndAfterWrite (end_of stop)) (IsEndInTurn (end_of stop))
+stop_ends (InTurn end) ends = ends
+stop_ends (AfterWrite end) ends = ends
 
 -- the one element of a list
 one_contained : {X : Type 0} (x y : X) → Contains (x ∷ []) y → x ≡ y
@@ -157,7 +171,7 @@ pub record NoneArose (p : ℕ → Bool) : Type 0 where
   pub write : p 6 ≡ false
   pub read : p 5 ≡ false
 
-pub none_arose : (ends : List StreamEnd) (failed : List SinkName) → first_arisen ends failed ≡ 0
+pub none_arose : (ends : List StreamEnd) (failed : List SinkName) → first_status ends failed ≡ 0
     → NoneArose (arose ends failed)
 none_arose ends failed is =
     let p = arose ends failed in
@@ -192,7 +206,7 @@ pub events_quietly : (ends : List StreamEnd) (failed : List SinkName) (status : 
     → IsStatusOf ends failed status → CountsFault (Contains failed Events) before after → status ≡ 0
     → after ≡ before
 events_quietly ends failed status before after is counts done =
-    let first : first_arisen ends failed ≡ 0 = sym (is.others (λ e. absurd (omega (arith, e, done)))) ∙ done in
+    let first : first_status ends failed ≡ 0 = sym (is.others (λ e. absurd (omega (arith, e, done)))) ∙ done in
     counts.quiet (λ has.
     let yes : arose ends failed 6 ≡ true = events_arose ends failed has in
     let no_write : arose ends failed 6 ≡ false = (none_arose ends failed first).write in
@@ -206,7 +220,7 @@ checked_or_memory failed status before after counts is writes =
     let none : failed ≡ [] = no_events failed (λ has. writes (counts.rose has)) in
     elim (cases_eq status 8) [
       | inl eight ↦ inr eight
-      | inr other ↦ inl (is.others other ∙ ap (λ (fs : List SinkName). first_arisen [] fs) none)
+      | inr other ↦ inl (is.others other ∙ ap (λ (fs : List SinkName). first_status [] fs) none)
     ]
 
 -- and no read of the one source
@@ -217,7 +231,7 @@ pub reads_quietly : {S : Type 0} (left : S → Option (List ℕ)) (faults : S �
     → IsStatusOf ends failed status → status ≡ 0 → All (λ source. faults source ≡ 0) sources
 reads_quietly {S} left faults limit file history ends sources failed status are is done =
     let only = is_only left faults limit file sources history ends are in
-    let first : first_arisen ends failed ≡ 0 = sym (is.others (λ e. absurd (omega (arith, e, done)))) ∙ done in
+    let first : first_status ends failed ≡ 0 = sym (is.others (λ e. absurd (omega (arith, e, done)))) ∙ done in
     let none : arose (only.end ∷ []) failed 5 ≡ false =
     subst (λ (es : List StreamEnd). arose es failed 5 ≡ false) only.one_end (none_arose ends failed first).read in
     let quiet : faults only.source ≡ 0 = only.stream.read.quiet
@@ -270,7 +284,7 @@ ends_well : (limit : ℕ) (end : StreamEnd) (file left : Option (List ℕ)) (his
     → IfSome file (λ text. AreTuplesOfEnd byte_limit text left (own_tuples 1 history) end)
     → (end ≡ Full → length history ≡ limit) → (end ≡ Read → ⊥)
     → ((why : Why) → end ≡ Closed why → ⊥)
-    → (first_arisen (end ∷ []) [] ≡ 0) ⊎ (first_arisen (end ∷ []) [] ≡ 8)
+    → (first_status (end ∷ []) [] ≡ 0) ⊎ (first_status (end ∷ []) [] ≡ 8)
 ends_well limit Whole file left history whole few all tied full read closed = inl refl
 ends_well limit (Line number fault) file left history whole few all tied full read closed = absurd
     (cc (tied_tuples file left (own_tuples 1 history) (Line number fault) (λ text is. is) whole tied))
@@ -301,9 +315,9 @@ done_or_memory {S} left faults limit file before after history ends sources fail
     let none : failed ≡ [] = no_events failed (λ has. writes (counts.rose has)) in
     let read : ¬ Rose 0 (faults only.source) = All-head (λ source. ¬ Rose 0 (faults source)) only.source []
     (subst (λ (ss : List S). All (λ source. ¬ Rose 0 (faults source)) ss) only.one_source reads) in
-    let same : first_arisen ends failed ≡ first_arisen (only.end ∷ []) [] =
-    ap (λ (es : List StreamEnd). first_arisen es failed) only.one_end
-    ∙ ap (λ (fs : List SinkName). first_arisen (only.end ∷ []) fs) none in
+    let same : first_status ends failed ≡ first_status (only.end ∷ []) [] =
+    ap (λ (es : List StreamEnd). first_status es failed) only.one_end
+    ∙ ap (λ (fs : List SinkName). first_status (only.end ∷ []) fs) none in
     let well = ends_well limit only.end file (left only.source) history whole few all only.stream.tied
     only.stream.full (λ e. read (only.stream.read.rose e))
     (λ why e. writes (counts.rose (closed why (subst (λ (es : List StreamEnd). Contains es (Closed why))

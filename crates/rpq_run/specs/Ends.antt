@@ -2,10 +2,10 @@
 use Rattle.std.specs.Prelude.{◌≡◌, ℕ, Option, Result, Err}
 use Rattle.rpq_base.specs.declared.data.Tuple.{Tuple}
 use Rattle.tuple_text.specs.declared.read.BadLine.{BadLine}
-use Rattle.rpq_run.specs.declared.report.Why.TheVariants.{Write}
-use Rattle.rpq_run.specs.declared.report.StreamEnd.{StreamEnd}
-use Rattle.rpq_run.specs.declared.report.StreamEnd.TheVariants.{Whole, Line, LongLine, LongStream}
-use Rattle.rpq_run.specs.declared.report.StreamEnd.TheVariants.{Read, Full, Closed, Memory}
+use Rattle.rpq_text.specs.declared.ends.Why.TheVariants.{Write}
+use Rattle.rpq_text.specs.declared.ends.StreamEnd.{StreamEnd}
+use Rattle.rpq_text.specs.declared.ends.StreamEnd.TheVariants.{Whole, Line, LongLine, LongStream}
+use Rattle.rpq_text.specs.declared.ends.StreamEnd.TheVariants.{Read, Full, Closed, Memory}
 
 -- an end that the reading of a stream meets by itself
 abbrev pub IsReadEnd : StreamEnd → Type 0

@@ -7,9 +7,9 @@ use Rattle.query_file.specs.declared.fault.QueryFault.{QueryFault}
 use Rattle.query_file.specs.declared.fault.QueryKind.TheVariants.{Memory}
 use Rattle.query_file.specs.Queries.{Queries}
 use Rattle.rpq_words.specs.Settings.{Settings}
-use Rattle.rpq_run.specs.declared.report.StreamEnd.TheVariants.{Whole}
-use Rattle.rpq_run.specs.Limits.{file_limit}
-use Rattle.rpq_run.specs.StreamText.{stream_tuples}
+use Rattle.rpq_text.specs.declared.ends.StreamEnd.TheVariants.{Whole}
+use Rattle.rpq_text.specs.Limits.{file_limit}
+use Rattle.rpq_text.specs.StreamText.{stream_tuples}
 
 -- a queries file has these bytes, which are not too many, and these queries
 abbrev pub HasQueries : List ℕ → List Query → Type 0
@@ -28,7 +28,7 @@ abbrev pub ForQueries : Option (List ℕ) → (List Query → Type 0) → Type 0
 ForQueries file P =
     IfSome file (λ bytes. (queries : List Query) × HasQueries bytes queries × P queries)
 
--- the bytes of a queries file, where they are told, have this fault, which isn't want of memory
+-- the bytes of a queries file, where they are told, have this fault, which isn't out of memory
 abbrev pub IsFaultyFile : Option (List ℕ) → QueryFault → Type 0
 IsFaultyFile file fault = (fault.kind ≢ Memory) × IfSome file (λ bytes. HasFault bytes fault)
 

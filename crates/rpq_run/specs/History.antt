@@ -5,12 +5,12 @@ use Rattle.std.specs.Io.KnownBytes.{prepend_known}
 use Rattle.rpq_base.specs.declared.data.Tuple.{Tuple}
 use Rattle.rpq_base.specs.declared.data.Entry.{Entry}
 use Rattle.rpq_io.specs.Counts.{CountsFault}
-use Rattle.rpq_run.specs.declared.report.StreamEnd.{StreamEnd}
-use Rattle.rpq_run.specs.declared.report.StreamEnd.TheVariants.{Whole, Line, LongLine, LongStream}
-use Rattle.rpq_run.specs.declared.report.StreamEnd.TheVariants.{Read, Full, Closed, Memory}
-use Rattle.rpq_run.specs.Limits.{byte_limit}
+use Rattle.rpq_text.specs.declared.ends.StreamEnd.{StreamEnd}
+use Rattle.rpq_text.specs.declared.ends.StreamEnd.TheVariants.{Whole, Line, LongLine, LongStream}
+use Rattle.rpq_text.specs.declared.ends.StreamEnd.TheVariants.{Read, Full, Closed, Memory}
+use Rattle.rpq_text.specs.Limits.{byte_limit}
 use Rattle.text_parts.specs.EndedLines.{ended_lines}
-use Rattle.rpq_run.specs.StreamText.{tuples_with, tuples_of_lines, tuples_from}
+use Rattle.rpq_text.specs.StreamText.{tuples_with, tuples_of_lines, tuples_from}
 
 -- the number of one of so many streams, which count from 1
 pub record IsNumberOf (count number : ℕ) : Type 0 where

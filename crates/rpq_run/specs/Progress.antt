@@ -6,11 +6,12 @@ use Rattle.text_parts.specs.Lines.{IsLine, text_of}
 use Rattle.rpq_base.specs.declared.data.Tuple.{Tuple}
 use Rattle.rpq_base.specs.declared.data.Entry.{Entry}
 use Rattle.rpq_io.specs.Reader.{ReaderState}
-use Rattle.rpq_run.specs.declared.report.StreamEnd.{StreamEnd}
-use Rattle.rpq_run.specs.declared.report.StreamEnd.TheVariants.{Whole}
-use Rattle.rpq_run.specs.Limits.{line_limit, byte_limit}
-use Rattle.rpq_run.specs.StreamText.{tuples_with, tuples_before, tuples_of_lines, tuples_from}
-use Rattle.rpq_run.specs.History.{own_tuples}
+use Rattle.rpq_text.specs.declared.ends.StreamEnd.{StreamEnd}
+use Rattle.rpq_text.specs.declared.ends.StreamEnd.TheVariants.{Whole}
+use Rattle.rpq_text.specs.Limits.{line_limit, byte_limit}
+use Rattle.rpq_text.specs.StreamText.{tuples_with, tuples_before, tuples_of_lines, tuples_from}
+use Rattle.rpq_run.specs.Ends.{IsReadEnd}
+use Rattle.rpq_run.specs.History.{own_tuples, AreTuplesOfEnd}
 
 -- a reader has the limits of a stream; each line that it gave took a byte at least; and it was told
 -- the end before its limit, after the last byte
@@ -59,6 +60,21 @@ abbrev pub HasRead : {S : Type 0} → (S → Option (List ℕ)) → Option (List
     → ReaderState S → Type 0
 HasRead left file tuples reader =
     HasReadLines left file tuples reader ⊎ HasReadAll file tuples reader
+
+-- a stream was read on by lines that give these tuples
+pub record ReadsOn {S : Type 0} (left : S → Option (List ℕ)) (old new : ReaderState S)
+    (found : List Tuple) : Type 0 where
+  pub sound : IsStreamReader left new
+  pub forward : passed old < passed new
+  pub read : (file : Option (List ℕ)) (tuples : List Tuple) → HasRead left file tuples old
+      → HasRead left file (tuples ++ found) new
+
+-- a stream was read on to this end, which the reading met by itself
+pub record EndsReading {S : Type 0} (left : S → Option (List ℕ)) (old new : ReaderState S)
+    (end : StreamEnd) : Type 0 where
+  pub tied : (file : Option (List ℕ)) (tuples : List Tuple) → HasRead left file tuples old
+      → IfSome file (λ text. AreTuplesOfEnd new.byte_limit text (left new.source) tuples end)
+  pub met : IsReadEnd end
 
 -- the tuples that were read are those of stream 1 in the history
 abbrev pub IsInStep : {S : Type 0} → (S → Option (List ℕ)) → Option (List ℕ) → List Entry

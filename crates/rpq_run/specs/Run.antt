@@ -1,42 +1,22 @@
 -- What the top call begins with, and why it doesn't begin.
-use Rattle.std.specs.Prelude.{◌≡◌, ℕ, true, false, MatchBool, ◌⊎◌, List, [], ◌∷◌, length, All}
+use Rattle.std.specs.Prelude.{◌≡◌, ℕ, true, false, MatchBool, ◌⊎◌, List, [], ◌∷◌, ◌++◌, length}
+use Rattle.std.specs.Prelude.{take, All}
 use Rattle.std.specs.Prelude.{Option, Some, None, IsSomeAnd}
 use Rattle.rpq_base.specs.declared.data.Entry.{Entry}
 use Rattle.rpq_io.specs.Counts.{Rose, CountsFault}
 use Rattle.rpq_io.specs.Files.{KeepsFiles}
-use Rattle.rpq_io.specs.Reader.{ReaderState}
 use Rattle.rpq_words.specs.Settings.{Settings}
-use Rattle.rpq_run.specs.declared.report.Which.{Which}
-use Rattle.rpq_run.specs.declared.report.Which.TheVariants.{Queries, Stream}
-use Rattle.rpq_run.specs.declared.report.StartFault.{StartFault}
-use Rattle.rpq_run.specs.declared.report.StartFault.TheVariants.{Words, Queries as QueriesFault}
-use Rattle.rpq_run.specs.declared.report.StartFault.TheVariants.{Open, Read, Long, NotYet, Memory}
-use Rattle.rpq_run.specs.declared.report.StreamEnd.{StreamEnd}
-use Rattle.rpq_run.specs.Limits.{byte_limit}
+use Rattle.rpq_text.specs.declared.ends.Which.TheVariants.{Queries, Stream}
+use Rattle.rpq_text.specs.declared.ends.StartFault.{StartFault}
+use Rattle.rpq_text.specs.declared.ends.StartFault.TheVariants.{Words, Queries as QueriesFault}
+use Rattle.rpq_text.specs.declared.ends.StartFault.TheVariants.{Open, Read, Long, NotYet, Memory}
+use Rattle.rpq_text.specs.declared.ends.StreamEnd.{StreamEnd}
 use Rattle.rpq_run.specs.Files.{IsQueriesFile, IsFaultyFile, IsTooLong, IsRestOf}
-use Rattle.rpq_run.specs.Given.{is_not_yet, stream_name}
-use Rattle.rpq_run.specs.History.{IsNumberOf}
-use Rattle.rpq_run.specs.Progress.{IsStreamReader, IsNew}
-use Rattle.rpq_run.specs.Statuses.{status_of_start}
-use Rattle.rpq_run.specs.ErrorLines.{start_line, TellsLines}
-
--- a reader of a stream that has read nothing yet
-pub record IsNewReader {S : Type 0} (left : S → Option (List ℕ)) (faults : S → ℕ)
-    (reader : ReaderState S) : Type 0 where
-  pub counted : faults reader.source ≡ 0
-  pub sound : IsStreamReader left reader
-  pub fresh : IsNew reader
-  pub limit : reader.byte_limit ≡ byte_limit
-
--- where each fault of a file that is read whole may come, by what it holds
-abbrev pub IsFaultOfFile : Which → Option (List ℕ) → StartFault → Type 0
-IsFaultOfFile which file Words = ⊥
-IsFaultOfFile which file (QueriesFault fault) = (which ≡ Queries) × IsFaultyFile file fault
-IsFaultOfFile which file (Open other) = other ≡ which
-IsFaultOfFile which file (Read other) = other ≡ which
-IsFaultOfFile which file (Long other) = (other ≡ which) × IsTooLong file
-IsFaultOfFile which file NotYet = ⊥
-IsFaultOfFile which file Memory = Unit {0}
+use Rattle.rpq_run.specs.Given.{is_not_yet, stream_name, file_names}
+use Rattle.rpq_run.specs.History.{IsNumberOf, IsPrefix}
+use Rattle.rpq_text.specs.Statuses.{status_of_start}
+use Rattle.rpq_text.specs.ErrorLines.{start_line}
+use Rattle.rpq_run.specs.Written.{TellsLines}
 
 -- where each cause of a refusal may come that isn't one of the words, by what the queries file
 -- holds: a stream is looked at only where the queries are understood, and only one that is given
@@ -116,13 +96,39 @@ IsDecided None start = (start ≡ Some Words) ⊎ (start ≡ Some Memory)
 IsDecided (Some given) start =
     is_not_yet given ≡ true → (start ≡ Some NotYet) ⊎ (start ≡ Some Memory)
 
--- what a run does to the files: it changes none and opens none to write, and the openings of no
--- name failed but of the one for which it didn't begin
+-- the names of the files that a run opened to read, in order, by why it didn't begin, if it didn't:
+-- the queries file, and then each stream, once
+abbrev pub AreOpened : Settings → Option StartFault → List (List ℕ) → Type 0
+AreOpened given None names = names ≡ file_names given
+AreOpened given (Some Words) names = names ≡ []
+AreOpened given (Some (QueriesFault fault)) names = names ≡ given.queries ∷ []
+AreOpened given (Some (Open Queries)) names = names ≡ []
+AreOpened given (Some (Open (Stream number))) names = names ≡ take number (file_names given)
+AreOpened given (Some (Read which)) names = names ≡ given.queries ∷ []
+AreOpened given (Some (Long which)) names = names ≡ given.queries ∷ []
+AreOpened given (Some NotYet) names = names ≡ []
+AreOpened given (Some Memory) names = IsPrefix names (file_names given)
+
+-- the same, where words without settings open none
+abbrev pub AreOpenedBy : Option Settings → Option StartFault → List (List ℕ) → Type 0
+AreOpenedBy None start names = names ≡ []
+AreOpenedBy (Some given) start names = AreOpened given start names
+
+-- more names were opened, which are of some kind
+pub record Opens (IsKind : List (List ℕ) → Type 0) (before after : List (List ℕ)) : Type 0 where
+  pub names : List (List ℕ)
+  pub of_kind : IsKind names
+  pub more : after ≡ before ++ names
+
+-- what a run does to the files: it changes none and opens none to write; it opens those to read
+-- that its words name, each once; and the openings of no name failed but of the one for which it
+-- didn't begin
 pub record ReadsFiles {F : Type 0} (holds : F → List ℕ → Option (List ℕ))
-    (unread unmade : F → List ℕ → ℕ) (made : F → List (List ℕ)) (words : Option Settings)
+    (opened made : F → List (List ℕ)) (unread unmade : F → List ℕ → ℕ) (words : Option Settings)
     (start : Option StartFault) (old new : F) : Type 0 where
   pub kept : KeepsFiles holds made old new
   pub unmade_stays : (name : List ℕ) → unmade new name ≡ unmade old name
+  pub opens : Opens (AreOpenedBy words start) (opened old) (opened new)
   pub openings : (name : List ℕ) → CountsFault
       (IsSomeAnd start (λ fault. IsSomeAnd words (λ given. IsOpeningOf given name fault)))
       (unread old name) (unread new name)

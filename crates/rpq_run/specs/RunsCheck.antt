@@ -3,14 +3,15 @@ use Rattle.std.specs.Prelude.{◌≡◌, ℕ, List, [], Contains, Option}
 use Rattle.rpq_base.specs.declared.data.Entry.{Entry}
 use Rattle.rpq_io.specs.Counts.{CountsFault}
 use Rattle.rpq_words.specs.Settings.{Settings}
-use Rattle.rpq_run.specs.declared.report.SinkName.{SinkName}
-use Rattle.rpq_run.specs.declared.report.SinkName.TheVariants.{Events}
-use Rattle.rpq_run.specs.declared.report.StreamEnd.{StreamEnd}
+use Rattle.rpq_text.specs.declared.ends.SinkName.{SinkName}
+use Rattle.rpq_text.specs.declared.ends.SinkName.TheVariants.{Events}
+use Rattle.rpq_text.specs.declared.ends.StreamEnd.{StreamEnd}
 use Rattle.rpq_run.specs.Files.{IsQueriesFile, ForQueries}
-use Rattle.rpq_run.specs.Statuses.{IsStatusOf}
-use Rattle.rpq_run.specs.Verdicts.{AreVerdicts}
+use Rattle.rpq_text.specs.Statuses.{AreSomeSinks, IsStatusOf}
+use Rattle.rpq_text.specs.Verdicts.{AreVerdicts}
 use Rattle.rpq_run.specs.Written.{WritesByStatus}
-use Rattle.rpq_run.specs.ErrorLines.{run_lines, TellsLines}
+use Rattle.rpq_text.specs.ErrorLines.{run_lines}
+use Rattle.rpq_run.specs.Written.{TellsLines}
 
 -- the check: the queries file has queries, no stream is taken, and by the status the verdicts on
 -- the queries are written, and by the status and the failed writes the lines on the errors
@@ -23,6 +24,7 @@ pub record RunsCheck {S K : Type 0} (written : K → Option (List ℕ)) (failure
   pub no_stream : ends ≡ []
   pub no_source : sources ≡ []
   pub failed : List SinkName
+  pub once : AreSomeSinks failed
   pub events_failed : CountsFault (Contains failed Events)
       (failures events_old) (failures events_new)
   pub status_is : IsStatusOf ends failed status

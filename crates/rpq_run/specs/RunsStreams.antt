@@ -3,18 +3,19 @@ use Rattle.std.specs.Prelude.{◌≡◌, ℕ, ◌≤◌, List, length, map, All,
 use Rattle.rpq_base.specs.declared.data.Entry.{Entry}
 use Rattle.rpq_io.specs.Counts.{CountsFault}
 use Rattle.rpq_words.specs.Settings.{Settings}
-use Rattle.rpq_run.specs.declared.report.Why.{Why}
-use Rattle.rpq_run.specs.declared.report.Why.TheVariants.{Write}
-use Rattle.rpq_run.specs.declared.report.SinkName.{SinkName}
-use Rattle.rpq_run.specs.declared.report.SinkName.TheVariants.{Events}
-use Rattle.rpq_run.specs.declared.report.StreamEnd.{StreamEnd}
-use Rattle.rpq_run.specs.declared.report.StreamEnd.TheVariants.{Full, Closed}
+use Rattle.rpq_text.specs.declared.ends.Why.{Why}
+use Rattle.rpq_text.specs.declared.ends.Why.TheVariants.{Write}
+use Rattle.rpq_text.specs.declared.ends.SinkName.{SinkName}
+use Rattle.rpq_text.specs.declared.ends.SinkName.TheVariants.{Events}
+use Rattle.rpq_text.specs.declared.ends.StreamEnd.{StreamEnd}
+use Rattle.rpq_text.specs.declared.ends.StreamEnd.TheVariants.{Full, Closed}
 use Rattle.rpq_run.specs.Files.{IsQueriesFile, ForQueries}
 use Rattle.rpq_run.specs.History.{IsNumberOf, AreStreamsOf}
-use Rattle.rpq_run.specs.Statuses.{IsStatusOf}
-use Rattle.rpq_run.specs.Text.{IsText}
+use Rattle.rpq_text.specs.Statuses.{AreSomeSinks, IsStatusOf}
+use Rattle.rpq_text.specs.Text.{IsText}
 use Rattle.rpq_run.specs.Written.{WritesByStatus}
-use Rattle.rpq_run.specs.ErrorLines.{run_lines, TellsLines}
+use Rattle.rpq_text.specs.ErrorLines.{run_lines}
+use Rattle.rpq_run.specs.Written.{TellsLines}
 
 -- the run over streams: the queries file has queries, and each stream's tuples stand in the
 -- history, which has no other entries and isn't longer than the settings let it be; a stream is
@@ -32,6 +33,7 @@ pub record RunsStreams {S K : Type 0} (left : S → Option (List ℕ)) (faults :
   pub no_other : All (λ entry. IsNumberOf (length given.streams) entry.stream) history
   pub few : length history ≤ given.history
   pub failed : List SinkName
+  pub once : AreSomeSinks failed
   pub events_failed : CountsFault (Contains failed Events)
       (failures events_old) (failures events_new)
   pub full : Contains ends Full → Contains failed Events → ⊥

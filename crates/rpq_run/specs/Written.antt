@@ -1,9 +1,9 @@
 -- What a sink grew by: a text of some kind, or a prefix of one.
 use Rattle.std.specs.Prelude.{◌≡◌, ◌≢◌, ℕ, List, [], ◌++◌, Option, Result, IsOk, IsErr}
 use Rattle.std.specs.Io.KnownBytes.{append_known}
-use Rattle.rpq_io.specs.Counts.{CountsFault}
+use Rattle.rpq_io.specs.Counts.{Rose, CountsFault}
 use Rattle.rpq_io.specs.Writes.{WritesProperPrefix}
-use Rattle.rpq_run.specs.Statuses.{write_status, memory_status}
+use Rattle.rpq_text.specs.Statuses.{write_status, memory_status}
 
 -- a text of this kind was written, all of it
 pub record Grew (IsText : List ℕ → Type 0) (before after : Option (List ℕ)) : Type 0 where
@@ -42,3 +42,9 @@ pub record Tells {Sink T E : Type 0} (written : Sink → Option (List ℕ)) (fau
   pub whole : IsOk result → written new ≡ append_known (written old) text
   pub part : IsErr result → WritesProperPrefix text (written old) (written new)
   pub counted : CountsFault (IsErr result) (faults old) (faults new)
+
+-- these lines were written on a sink, or a prefix of them where its count rose
+pub record TellsLines {K : Type 0} (written : K → Option (List ℕ)) (faults : K → ℕ)
+    (lines : List ℕ) (old new : K) : Type 0 where
+  pub prefix : GrewByPrefix (λ text. text ≡ lines) (written old) (written new)
+  pub whole : ¬ Rose (faults old) (faults new) → written new ≡ append_known (written old) lines

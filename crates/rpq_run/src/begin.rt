@@ -1,17 +1,15 @@
 //! What a run begins with, or why it doesn't.
 
-ghost use Rattle.std.specs.Prelude.{◌≡◌, true, ℕ, List, option_to_list, IfOk, IfErr, IsErrAnd};
-ghost use Rattle.std.specs.Prelude.{IfSome, MatchOption};
+ghost use Rattle.std.specs.Prelude.{◌≡◌, ℕ, List, option_to_list, IfOk, IfErr, IsErrAnd};
 ghost use Rattle.rpq_io.specs.Counts.{CountsFault};
 ghost use Rattle.rpq_io.specs.Files.{KeepsFiles};
-ghost use Rattle.rpq_run.specs.Files.{HasQueries};
-ghost use Rattle.rpq_run.specs.Ready.{AreTaken, AreUnderstood, ReadsStream, definitions_of};
-ghost use Rattle.rpq_run.specs.Run.{IsRefusedFor, IsOpeningOf, AreSourcesOf};
+ghost use Rattle.rpq_run.specs.Ready.{AreTaken, IsReady, fault_of};
+ghost use Rattle.rpq_run.specs.Run.{AreOpened, AreSourcesOf, IsOpeningOf, IsRefusedFor, Opens};
 
-use crate::files::{Refusal, open_stream, queries_of_file, without_source};
-use crate::report::{FIRST_STREAM, StartFault, Which};
+use crate::files::{Refusal, open_stream, queries_of_file};
+use crate::report::FIRST_STREAM;
 use query_file::Compiled;
-use rpq_io::{Files, LineReader, OpenFault, Source};
+use rpq_io::{Files, LineReader, Source};
 use rpq_words::Chosen;
 use std::alloc::Global;
 
@@ -30,16 +28,14 @@ pub fn begin<F: Files>(
     chosen: &Chosen,
 ) -> Result<Ready<F::Source>, Refusal<F::Source>>
     requires { AreTaken chosen.now }
-    ensures queries { IfOk result (λ ready. IfSome (F.holds files.old chosen.now.queries)
-        (λ bytes. HasQueries bytes (definitions_of ready.queries.items))) }
-    ensures understood { IfOk result (λ ready. AreUnderstood ready.queries.items) }
-    ensures reader { IfOk result (λ ready. MatchOption ready.reader (chosen.now.check ≡ true)
-        (ReadsStream F.Source.left F.Source.faults chosen.now (F.holds files.old))) }
-
+    ensures ready { IfOk result (λ ready. IsReady F.Source.left F.Source.faults chosen.now
+        (F.holds files.old) ready.queries.items ready.reader) }
     ensures cause { IfErr result (λ refusal.
         IsRefusedFor chosen.now (F.holds files.old chosen.now.queries) refusal.fault) }
     ensures source { IfErr result (λ refusal. AreSourcesOf F.Source.left F.Source.faults
         (F.holds files.old chosen.now.queries) refusal.fault (option_to_list refusal.source)) }
+    ensures opened { Opens (AreOpened chosen.now (fault_of result))
+        (F.opened files.old) (F.opened files.new) }
     ensures openings { (name : List ℕ) → CountsFault
         (IsErrAnd result (λ refusal. IsOpeningOf chosen.now name refusal.fault))
         (F.unread files.old name) (F.unread files.new name) }
@@ -57,15 +53,11 @@ pub fn begin<F: Files>(
         });
     }
     let stream = &chosen.streams[0];
-    let fault = match open_stream(alloc, files, stream.as_str()) {
-        Ok(reader) => {
-            return Ok(Ready {
-                queries,
-                reader: Some(reader),
-            });
-        }
-        Err(OpenFault::Failed) => StartFault::Open(Which::Stream(FIRST_STREAM)),
-        Err(OpenFault::Memory) => StartFault::Memory,
-    };
-    Err(without_source(fault))
+    match open_stream(alloc, files, stream.as_str(), FIRST_STREAM) {
+        Ok(reader) => Ok(Ready {
+            queries,
+            reader: Some(reader),
+        }),
+        Err(refusal) => Err(refusal),
+    }
 }

@@ -4,26 +4,26 @@
 ghost use Rattle.std.specs.Prelude.{◌≤◌, ◌++◌, codes, length};
 ghost use Rattle.std.specs.List.{flat_map};
 ghost use Rattle.query_file.specs.FaultTexts.{query_kind_text};
-ghost use Rattle.rpq_run.specs.ErrorLines.{query_text, start_line, end_lines, write_line};
-ghost use Rattle.rpq_run.specs.ErrorLines.{run_lines};
-ghost use Rattle.rpq_run.specs.Limits.{stream_limit};
-ghost use Rattle.rpq_run.specs.WordTexts.{not_contained_front, spaced_word};
+ghost use Rattle.rpq_text.specs.ErrorLines.{query_text, start_line, end_lines, write_line};
+ghost use Rattle.rpq_text.specs.ErrorLines.{run_lines};
+ghost use Rattle.rpq_text.specs.Limits.{stream_limit};
+ghost use Rattle.rpq_text.specs.WordTexts.{not_contained_front, spaced_word};
 ghost use Rattle.rpq_run.specs.Written.{Tells};
 
-use crate::error_lines::{
-    Line, end_line, expr_line, file_line, line_of, memory_line, not_contained_front, query_line,
-    write_line,
-};
-use crate::report::{FIRST_STREAM, SinkName, StartFault, StreamEnd};
+use crate::report::FIRST_STREAM;
 use crate::word_texts::end_with_words;
 use itoa::Buffer;
 use query_file::{QueryFault, QueryKind};
 use rpq_base::Word;
-use rpq_io::{Sink, Write, put_all};
+use rpq_io::{Failed, Sink, put_all};
+use rpq_text::{
+    Line, SinkName, StartFault, StreamEnd, end_line, expr_line, file_line, line_of, memory_line,
+    not_contained_front, query_line, write_line,
+};
 use rpq_words::usage_line;
 
 /// Writes the line of a run that didn't begin.
-pub fn tell_start<S: Sink>(errors: &mut S, fault: &StartFault) -> Result<(), Write>
+pub fn tell_start<S: Sink>(errors: &mut S, fault: &StartFault) -> Result<(), Failed>
     ensures { Tells S.written S.faults (start_line fault.now) errors.old errors.new result }
 {
     match fault {
@@ -38,7 +38,7 @@ pub fn tell_start<S: Sink>(errors: &mut S, fault: &StartFault) -> Result<(), Wri
 }
 
 /// Writes the line of a fault of the queries file.
-fn tell_query<S: Sink>(errors: &mut S, fault: &QueryFault) -> Result<(), Write>
+fn tell_query<S: Sink>(errors: &mut S, fault: &QueryFault) -> Result<(), Failed>
     ensures { Tells S.written S.faults
         (query_text fault.now.line (query_kind_text fault.now.kind))
         errors.old errors.new result }
@@ -64,7 +64,7 @@ fn tell_query<S: Sink>(errors: &mut S, fault: &QueryFault) -> Result<(), Write>
 /// Writes that the query in this line of the queries file takes simple paths and its language lacks
 /// the property of containment, which these words show. They may be longer than a line has room
 /// for, so they go out piece by piece.
-fn tell_not_contained<S: Sink>(errors: &mut S, line: u64, words: &[&Word]) -> Result<(), Write>
+fn tell_not_contained<S: Sink>(errors: &mut S, line: u64, words: &[&Word]) -> Result<(), Failed>
     ensures { Tells S.written S.faults
         (not_contained_front line
         ++ (flat_map (λ word. spaced_word word.now) words.now ++ codes "\n"))
@@ -75,13 +75,13 @@ fn tell_not_contained<S: Sink>(errors: &mut S, line: u64, words: &[&Word]) -> Re
 }
 
 /// Writes the lines of a run that began: those of its streams' ends, those of the sinks of which a
-/// write failed, and that of want of memory.
+/// write failed, and that of out of memory.
 pub fn tell_end<S: Sink>(
     errors: &mut S,
     ends: &[StreamEnd],
     failed: &[SinkName],
     status: u8,
-) -> Result<(), Write>
+) -> Result<(), Failed>
     requires { length ends.now ≤ stream_limit }
     ensures { Tells S.written S.faults (run_lines ends.now failed.now status)
         errors.old errors.new result }
@@ -92,7 +92,7 @@ pub fn tell_end<S: Sink>(
 }
 
 /// Writes the lines of the streams' ends.
-fn tell_ends<S: Sink>(errors: &mut S, ends: &[StreamEnd]) -> Result<(), Write>
+fn tell_ends<S: Sink>(errors: &mut S, ends: &[StreamEnd]) -> Result<(), Failed>
     requires { length ends.now ≤ stream_limit }
     ensures { Tells S.written S.faults (end_lines 1 ends.now) errors.old errors.new result }
 {
@@ -103,7 +103,7 @@ fn tell_ends<S: Sink>(errors: &mut S, ends: &[StreamEnd]) -> Result<(), Write>
 }
 
 /// Writes the lines of the sinks of which a write failed.
-fn tell_writes<S: Sink>(errors: &mut S, failed: &[SinkName]) -> Result<(), Write>
+fn tell_writes<S: Sink>(errors: &mut S, failed: &[SinkName]) -> Result<(), Failed>
     ensures { Tells S.written S.faults (flat_map write_line failed.now)
         errors.old errors.new result }
 {
@@ -114,7 +114,7 @@ fn tell_writes<S: Sink>(errors: &mut S, failed: &[SinkName]) -> Result<(), Write
 }
 
 /// Writes a line.
-fn put_line<S: Sink>(errors: &mut S, line: &Line) -> Result<(), Write>
+fn put_line<S: Sink>(errors: &mut S, line: &Line) -> Result<(), Failed>
     ensures { Tells S.written S.faults line.now.bytes errors.old errors.new result }
 {
     put_all(errors, line.as_str().as_bytes())

@@ -5,16 +5,18 @@ ghost use Rattle.std.specs.Prelude.{IsErrAnd, IfSome};
 ghost use Rattle.rpq_io.specs.Counts.{CountsOpening};
 ghost use Rattle.rpq_io.specs.Files.{KeepsFiles};
 ghost use Rattle.query_file.specs.declared.fault.QueryKind.{QueryKind};
-ghost use Rattle.rpq_run.specs.Limits.{file_limit};
+ghost use Rattle.rpq_text.specs.Limits.{file_limit};
 ghost use Rattle.rpq_run.specs.Files.{HasQueries};
-ghost use Rattle.rpq_run.specs.Ready.{AreUnderstood, definitions_of};
-ghost use Rattle.rpq_run.specs.Run.{IsFaultOfFile, AreSourcesOf, IsNewReader};
+ghost use Rattle.rpq_run.specs.Ready.{AreNamesOfFile, AreUnderstood, IsFaultOfFile, IsNewReader};
+ghost use Rattle.rpq_run.specs.Ready.{IsRefusalOfStream, fault_of};
+ghost use Rattle.rpq_text.specs.Definitions.{definitions_of};
+ghost use Rattle.rpq_run.specs.Run.{AreSourcesOf, Opens};
 
 use crate::limits::{BYTE_LIMIT, FILE_LIMIT, LINE_LIMIT};
-use crate::report::{StartFault, Which};
 use query_file::{Compiled, QueryFault, QueryKind, read_queries};
 use rpq_base::Memory;
 use rpq_io::{AllFault, Files, LineReader, OpenFault, read_all};
+use rpq_text::{StartFault, Which};
 use std::alloc::Global;
 
 /// Why a run doesn't begin, and the source of which a read failed, if one did.
@@ -48,6 +50,8 @@ fn whole_file<F: Files>(
         IsFaultOfFile which (F.holds files.old name.now) refusal.fault) }
     ensures source { IfErr result (λ refusal. AreSourcesOf F.Source.left F.Source.faults
         (F.holds files.old name.now) refusal.fault (option_to_list refusal.source)) }
+    ensures opened { Opens (AreNamesOfFile name.now (fault_of result))
+        (F.opened files.old) (F.opened files.new) }
     ensures openings { CountsOpening
         (IsErrAnd result (λ refusal. refusal.fault ≡ StartFault.Open which))
         name.now (F.unread files.old) (F.unread files.new) }
@@ -83,6 +87,8 @@ pub fn queries_of_file<F: Files>(
         IsFaultOfFile Which.Queries (F.holds files.old name.now) refusal.fault) }
     ensures source { IfErr result (λ refusal. AreSourcesOf F.Source.left F.Source.faults
         (F.holds files.old name.now) refusal.fault (option_to_list refusal.source)) }
+    ensures opened { Opens (AreNamesOfFile name.now (fault_of result))
+        (F.opened files.old) (F.opened files.new) }
     ensures openings { CountsOpening
         (IsErrAnd result (λ refusal. refusal.fault ≡ StartFault.Open Which.Queries))
         name.now (F.unread files.old) (F.unread files.new) }
@@ -110,26 +116,35 @@ fn start_fault(fault: QueryFault) -> StartFault
     }
 }
 
-/// A reader of the lines of the stream of this name, which has read nothing yet.
+/// A reader of the lines of the stream with this name and number, which has read nothing yet.
 pub fn open_stream<F: Files>(
     alloc: Global,
     files: &mut F,
     name: &str,
-) -> Result<LineReader<F::Source>, OpenFault>
+    number: u32,
+) -> Result<LineReader<F::Source>, Refusal<F::Source>>
     ensures content { IfOk result (λ reader.
         F.Source.left reader.source ≡ F.holds files.old name.now) }
     ensures fresh { IfOk result (λ reader. IsNewReader F.Source.left F.Source.faults reader) }
-    ensures openings { CountsOpening (result ≡ Err OpenFault.Failed)
+    ensures cause { IfErr result (IsRefusalOfStream number) }
+    ensures opened { Opens (AreNamesOfFile name.now (fault_of result))
+        (F.opened files.old) (F.opened files.new) }
+    ensures openings { CountsOpening
+        (IsErrAnd result (λ refusal. refusal.fault ≡ StartFault.Open (Which.Stream number)))
         name.now (F.unread files.old) (F.unread files.new) }
     ensures kept { KeepsFiles F.holds F.made files.old files.new }
     ensures unmade { (any : List ℕ) → F.unmade files.new any ≡ F.unmade files.old any }
 {
     let source = match files.source(name) {
         Ok(source) => source,
-        Err(fault) => return Err(fault),
+        Err(OpenFault::Failed) => {
+            let which = Which::Stream(number);
+            return Err(without_source(StartFault::Open(which)));
+        }
+        Err(OpenFault::Memory) => return Err(without_source(StartFault::Memory)),
     };
     match LineReader::new(alloc, source, LINE_LIMIT, BYTE_LIMIT) {
         Ok(reader) => Ok(reader),
-        Err((_source, Memory)) => Err(OpenFault::Memory),
+        Err((_source, Memory)) => Err(without_source(StartFault::Memory)),
     }
 }

@@ -7,32 +7,24 @@
 //! turn hands one entry to the engine.
 #![tactic(auto)]
 
-mod arisen;
 mod begin;
-mod block;
 mod check;
-mod context;
-mod error_lines;
 mod errors;
 mod files;
-mod given;
-mod laws;
 mod limits;
-mod named_engine;
 mod report;
 mod room;
 mod run_stream;
-pub mod status;
 mod stream;
 mod streams;
 mod top;
 mod turns;
 mod word_texts;
+mod words;
 
-pub use block::block_text;
-pub use laws::{
-    every_history_has_one_text, fronts_hold_answers, line_examples, one_verdict_text,
-    stream_by_parts,
+pub use report::Report;
+pub use rpq_text::{
+    SinkName, StartFault, StreamEnd, Which, Why, block_text, every_history_has_one_text,
+    fronts_hold_answers, line_examples, one_verdict_text, status, stream_by_parts,
 };
-pub use report::{Report, SinkName, StartFault, StreamEnd, Which, Why};
 pub use top::run;

@@ -2,7 +2,7 @@
 
 ghost use Rattle.std.specs.Prelude.{◌≡◌, ◌≤◌, ◌∷◌, [], IfOk, option_to_list, vec_capacity};
 
-use crate::report::StreamEnd;
+use rpq_text::StreamEnd;
 use std::alloc::{AllocError, Global};
 
 /// Room for the end of the stream and for a source. It is taken before the first file is opened, so
@@ -16,7 +16,7 @@ pub struct Room<S> {
 impl<S> Room<S> {
     ghost use Rattle.rpq_run.specs.Room.{IsRoom};
 
-    /// New room. The only error is want of memory.
+    /// New room. The only error is out of memory.
     pub fn new(alloc: Global) -> Result<Room<S>, AllocError>
         ensures { IfOk result IsRoom }
     {

@@ -2,34 +2,30 @@
 
 ghost use Rattle.std.specs.Prelude.{◌≡◌, true};
 ghost use Rattle.rpq_io.specs.Counts.{CountsFault};
-ghost use Rattle.rpq_run.specs.Ends.{IsEndInTurn, IsEndAfterWrite};
 ghost use Rattle.rpq_run.specs.History.{IsStreamOf};
-ghost use Rattle.rpq_run.specs.Ready.{AreTaken, AreUnderstood, definitions_of};
-ghost use Rattle.rpq_run.specs.Run.{IsNewReader};
-ghost use Rattle.rpq_run.specs.Turns.{IsWithin, status_after};
-ghost use Rattle.rpq_run.specs.Text.{IsText};
+ghost use Rattle.rpq_run.specs.Ready.{AreTaken, AreUnderstood, IsNewReader};
+ghost use Rattle.rpq_text.specs.Definitions.{definitions_of};
+ghost use Rattle.rpq_run.specs.Turns.{IsEndOfStop, IsWithin, end_of, is_after_write, status_after};
+ghost use Rattle.rpq_text.specs.Text.{IsText};
 ghost use Rattle.rpq_run.specs.Written.{WritesByStatus};
-ghost use Rattle.std.specs.Prelude.{MatchBool};
 
-use crate::context::Context;
-use crate::named_engine::NamedEngine;
-use crate::report::StreamEnd;
 use crate::turns::{StreamStop, turn};
+use path_engine::Engine;
 use query_file::Compiled;
 use rpq_base::{Entry, Memory};
-use rpq_io::{Gate, LineReader, Sink, Source};
+use rpq_io::{Context, Gate, LineReader, Sink, Source};
+use rpq_text::StreamEnd;
 use rpq_words::Chosen;
 use std::random::RandomSource;
 use std::thread::Threads;
 
-/// What the run of a stream took, how the stream ended, and whether a write of the events failed.
+/// What the run of a stream took, and why it took no more.
 #[derive(Drop)]
 pub struct StreamRun {
     /// The entries that were taken, in order. Where a write failed the last of them isn't written,
     /// or not whole; where memory ran out it may not be.
     pub history: Vec<Entry>,
-    pub end: StreamEnd,
-    pub failed: bool,
+    pub stop: StreamStop,
 }
 
 /// Takes the tuples of a stream one turn after another, as many as the history may have.
@@ -44,35 +40,27 @@ pub fn run_stream<R: Threads + RandomSource + Sync, G: Gate, S: Source, K: Sink>
     requires understood { AreUnderstood queries.items }
     requires fresh { IsNewReader S.left S.faults reader.old }
     ensures stream { IsStreamOf S.left S.faults 1 chosen.now.history (S.left reader.old.source)
-        reader.new.source result.history.items result.end }
+        reader.new.source result.history.items (end_of result.stop) }
     ensures within { IsWithin chosen.now.history result.history.items }
-    ensures ends { MatchBool result.failed (IsEndAfterWrite result.end) (IsEndInTurn result.end) }
-    ensures text { WritesByStatus (status_after result.failed result.end)
+    ensures ends { IsEndOfStop result.stop }
+    ensures text { WritesByStatus (status_after (is_after_write result.stop) (end_of result.stop))
         (IsText (definitions_of queries.items) result.history.items)
         (K.written events.old) (K.written events.new) }
-    ensures write { CountsFault (result.failed ≡ true) (K.faults events.old) (K.faults events.new) }
+    ensures write { CountsFault (is_after_write result.stop ≡ true)
+        (K.faults events.old) (K.faults events.new) }
 {
-    let limit = chosen.history as usize;
     let mut history = Vec::new(context.alloc);
-    let mut named = match NamedEngine::new(context.rt, context.alloc, queries, chosen.workers) {
-        Ok(named) => named,
+    let mut engine = match Engine::new(context.rt, context.alloc, queries) {
+        Ok(engine) => engine,
         Err(Memory) => {
-            let end = StreamEnd::Memory;
-            return StreamRun {
-                history,
-                end,
-                failed: false,
-            };
+            let stop = StreamStop::InTurn(StreamEnd::Memory);
+            return StreamRun { history, stop };
         }
     };
     loop {
-        let turned = turn(context, &mut named, &mut history, reader, limit, events);
-        if let Err(StreamStop { end, failed }) = turned {
-            return StreamRun {
-                history,
-                end,
-                failed,
-            };
+        let turned = turn(context, chosen, &mut engine, &mut history, reader, events);
+        if let Err(stop) = turned {
+            return StreamRun { history, stop };
         }
     }
 }

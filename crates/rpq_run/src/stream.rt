@@ -1,19 +1,17 @@
 //! The tuples of a stream, one after another.
 
-ghost use Rattle.std.specs.Prelude.{◌≡◌, ◌<◌, ◌≤◌, ◌∷◌, ◌++◌, [], ◌⊎◌, ℕ, List, Option};
-ghost use Rattle.std.specs.Prelude.{option_to_list, length, IfOk, IfErr, OnOk, IfSome};
+ghost use Rattle.std.specs.Prelude.{◌≡◌, ◌≤◌, ◌∷◌, [], ◌⊎◌, option_to_list, length, IfOk, IfErr};
+ghost use Rattle.std.specs.Prelude.{IfSome};
 ghost use Rattle.rpq_base.specs.Plain.{IsPlainTuple};
-ghost use Rattle.rpq_base.specs.declared.data.Tuple.{Tuple as TupleRead};
 ghost use Rattle.rpq_io.specs.Counts.{CountsFault};
 ghost use Rattle.tuple_text.specs.Reading.{line_tuple};
-ghost use Rattle.rpq_run.specs.Limits.{line_limit};
-ghost use Rattle.rpq_run.specs.History.{AreTuplesOfEnd};
-ghost use Rattle.rpq_run.specs.Ends.{IsReadEnd, IsFaultOf};
-ghost use Rattle.rpq_run.specs.Progress.{IsStreamReader, HasRead, passed};
+ghost use Rattle.rpq_text.specs.Limits.{line_limit};
+ghost use Rattle.rpq_run.specs.Ends.{IsFaultOf};
+ghost use Rattle.rpq_run.specs.Progress.{IsStreamReader, ReadsOn, EndsReading};
 
-use crate::report::StreamEnd;
 use rpq_base::Tuple;
 use rpq_io::{LineFault, LineReader, Source};
+use rpq_text::StreamEnd;
 use std::alloc::Global;
 use tuple_text::{BadLine, read_tuple};
 
@@ -21,15 +19,9 @@ use tuple_text::{BadLine, read_tuple};
 pub fn next_tuple<S: Source>(alloc: Global, reader: &mut LineReader<S>) -> Result<Tuple, StreamEnd>
     requires { IsStreamReader S.left reader.old }
     ensures plain { IfOk result IsPlainTuple }
-    ensures sound { OnOk result (IsStreamReader S.left reader.new) }
-    ensures forward { OnOk result (passed reader.old < passed reader.new) }
-    ensures ok { IfOk result (λ tuple. (file : Option (List ℕ)) (tuples : List TupleRead)
-        → HasRead S.left file tuples reader.old
-        → HasRead S.left file (tuples ++ tuple ∷ []) reader.new) }
-    ensures err { IfErr result (λ end. (file : Option (List ℕ)) (tuples : List TupleRead)
-        → HasRead S.left file tuples reader.old → IfSome file (λ text.
-        AreTuplesOfEnd reader.new.byte_limit text (S.left reader.new.source) tuples end)) }
-    ensures ends { IfErr result IsReadEnd }
+    ensures ok { IfOk result (λ tuple.
+        ReadsOn S.left reader.old reader.new (tuple ∷ [])) }
+    ensures err { IfErr result (EndsReading S.left reader.old reader.new) }
     ensures read { CountsFault (result ≡ Err StreamEnd.Read)
         (S.faults reader.old.source) (S.faults reader.new.source) }
     ensures limits { reader.new.byte_limit ≡ reader.old.byte_limit }
@@ -48,15 +40,9 @@ fn read_line<S: Source>(
 ) -> Result<Option<Tuple>, StreamEnd>
     requires { IsStreamReader S.left reader.old }
     ensures plain { IfOk result (λ found. IfSome found IsPlainTuple) }
-    ensures sound { OnOk result (IsStreamReader S.left reader.new) }
-    ensures forward { OnOk result (passed reader.old < passed reader.new) }
-    ensures ok { IfOk result (λ found. (file : Option (List ℕ)) (tuples : List TupleRead)
-        → HasRead S.left file tuples reader.old
-        → HasRead S.left file (tuples ++ option_to_list found) reader.new) }
-    ensures err { IfErr result (λ end. (file : Option (List ℕ)) (tuples : List TupleRead)
-        → HasRead S.left file tuples reader.old → IfSome file (λ text.
-        AreTuplesOfEnd reader.new.byte_limit text (S.left reader.new.source) tuples end)) }
-    ensures ends { IfErr result IsReadEnd }
+    ensures ok { IfOk result (λ found.
+        ReadsOn S.left reader.old reader.new (option_to_list found)) }
+    ensures err { IfErr result (EndsReading S.left reader.old reader.new) }
     ensures read { CountsFault (result ≡ Err StreamEnd.Read)
         (S.faults reader.old.source) (S.faults reader.new.source) }
     ensures limits { reader.new.byte_limit ≡ reader.old.byte_limit }

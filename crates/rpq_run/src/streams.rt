@@ -2,19 +2,18 @@
 
 ghost use Rattle.std.specs.Prelude.{◌≡◌, List, ℕ, Option, None, IfSome};
 ghost use Rattle.rpq_run.specs.Files.{HasQueries};
-ghost use Rattle.rpq_run.specs.Ready.{AreTaken, AreUnderstood, ReadsStream, definitions_of};
+ghost use Rattle.rpq_run.specs.Ready.{AreTaken, AreUnderstood, IsNewReader, ReadsStream};
+ghost use Rattle.rpq_text.specs.Definitions.{definitions_of};
 ghost use Rattle.rpq_run.specs.Room.{IsRoom};
-ghost use Rattle.rpq_run.specs.Run.{IsNewReader};
 ghost use Rattle.rpq_run.specs.RunsStreams.{RunsStreams};
 
-use crate::arisen::{failed_sinks, first_arisen};
-use crate::context::Context;
 use crate::errors::tell_end;
 use crate::report::Report;
 use crate::room::Room;
 use crate::run_stream::{StreamRun, run_stream};
 use query_file::Compiled;
-use rpq_io::{Files, Gate, LineReader};
+use rpq_io::{Context, Files, Gate, LineReader};
+use rpq_text::first_status;
 use rpq_words::Chosen;
 use std::random::RandomSource;
 use std::thread::Threads;
@@ -43,14 +42,10 @@ pub fn run_streams<R: Threads + RandomSource + Sync, G: Gate, F: Files>(
         chosen.now holds events.old events.new errors.old errors.new
         result.status result.history.items result.streams.items result.sources.items }
 {
-    let StreamRun {
-        history,
-        end,
-        failed,
-    } = run_stream(context, chosen, queries, &mut reader, events);
-    let (streams, sources) = room.of_stream(end, reader.into_source());
-    let failed = failed_sinks(failed);
-    let status = first_arisen(&streams, failed);
+    let StreamRun { history, stop } = run_stream(context, chosen, queries, &mut reader, events);
+    let (streams, sources) = room.of_stream(stop.end(), reader.into_source());
+    let failed = stop.failed_sinks();
+    let status = first_status(&streams, failed);
     // A fault of the errors changes no status.
     let _ = tell_end(errors, &streams, failed, status);
     Report {

@@ -4,24 +4,25 @@ ghost use Rattle.std.specs.Prelude.{◌≡◌, false, ◌⊎◌, ℕ, List, [], 
 ghost use Rattle.std.specs.Prelude.{MatchBool};
 ghost use Rattle.rpq_words.specs.Settings.{settings, texts};
 ghost use Rattle.rpq_run.specs.Files.{CanBeDone};
-ghost use Rattle.rpq_run.specs.ErrorLines.{start_line, TellsLines};
+ghost use Rattle.rpq_text.specs.ErrorLines.{start_line};
+ghost use Rattle.rpq_run.specs.Written.{TellsLines};
 ghost use Rattle.rpq_run.specs.Given.{is_not_yet, file_names};
 ghost use Rattle.rpq_run.specs.Run.{IsBegun, IsDecided, Refuses, ReadsFiles, NothingRose};
 ghost use Rattle.rpq_run.specs.Run.{NothingFails};
 ghost use Rattle.rpq_run.specs.RunsCheck.{RunsCheck};
 ghost use Rattle.rpq_run.specs.RunsStreams.{RunsStreams};
-ghost use Rattle.rpq_run.specs.Statuses.{done_status, memory_status, status_of_start};
+ghost use Rattle.rpq_text.specs.Statuses.{done_status, memory_status, status_of_start};
 
 use crate::begin::{Ready, begin};
 use crate::check::run_check;
-use crate::context::Context;
 use crate::errors::tell_start;
 use crate::files::Refusal;
-use crate::given::taken_settings;
-use crate::report::{Report, StartFault};
+use crate::report::Report;
 use crate::room::Room;
 use crate::streams::run_streams;
-use rpq_io::{Files, Gate};
+use crate::words::settings_of;
+use rpq_io::{Context, Files, Gate};
+use rpq_text::StartFault;
 use std::alloc::Global;
 use std::random::RandomSource;
 use std::thread::Threads;
@@ -62,8 +63,8 @@ pub fn run<R: Threads + RandomSource + Sync, F: Files, G: Gate>(
     ensures words { IsDecided (settings (texts words.now)) result.start }
 
     // What it does to the files, and when nothing fails.
-    ensures files { ReadsFiles F.holds F.unread F.unmade F.made (settings (texts words.now))
-        result.start files.old files.new }
+    ensures files { ReadsFiles F.holds F.opened F.made F.unread F.unmade
+        (settings (texts words.now)) result.start files.old files.new }
     ensures done { result.status ≡ done_status → NothingFails F.Source.faults
         (F.unread files.old) (F.unread files.new)
         (F.Sink.faults events.old) (F.Sink.faults events.new) result.sources.items }
@@ -77,7 +78,7 @@ pub fn run<R: Threads + RandomSource + Sync, F: Files, G: Gate>(
         (F.Sink.faults events.old) (F.Sink.faults events.new) result.sources.items
         → (result.status ≡ done_status) ⊎ (result.status ≡ memory_status)) }
 {
-    let chosen = match taken_settings(alloc, words) {
+    let chosen = match settings_of(alloc, words) {
         Ok(chosen) => chosen,
         Err(fault) => return report_of_refusal(alloc, fault, Vec::new(alloc), errors),
     };

@@ -1,31 +1,30 @@
 //! The turns of a stream: each takes one tuple into the history, evaluates the queries and writes
 //! the entry's block.
 
-ghost use Rattle.std.specs.Prelude.{◌≡◌, ◌<◌, ◌≤◌, ◌^◌, ◌∷◌, ◌++◌, [], true, ℕ, List, length, All};
-ghost use Rattle.std.specs.Prelude.{Option, OnOk, OnErr, IfErr, IsErrAnd, MatchBool, IfSome};
-ghost use Rattle.containment_laws.specs.Accepted.{IsAccepted};
+ghost use Rattle.std.specs.Prelude.{◌≡◌, ◌<◌, ◌≤◌, ◌^◌, ◌∷◌, ◌++◌, [], true, ℕ, List, Option};
+ghost use Rattle.std.specs.Prelude.{OnOk, OnErr, IfErr, IsErrAnd, IfSome};
+ghost use Rattle.path_engine.specs.Engine.{definitions};
 ghost use Rattle.rpq_base.specs.Plain.{IsPlain};
-ghost use Rattle.rpq_base.specs.declared.data.Entry.{Entry as EntryTaken};
 ghost use Rattle.rpq_base.specs.declared.data.Tuple.{Tuple as TupleRead};
 ghost use Rattle.rpq_io.specs.Counts.{CountsFault};
-ghost use Rattle.rpq_run.specs.declared.report.Why.{Why as WhyClosed};
 ghost use Rattle.rpq_run.specs.Ends.{IsEndInTurn, IsEndAfterWrite};
 ghost use Rattle.rpq_run.specs.History.{AreTuplesOfEnd};
 ghost use Rattle.rpq_run.specs.Progress.{IsStreamReader, HasRead};
-ghost use Rattle.rpq_run.specs.Text.{IsText};
-ghost use Rattle.rpq_run.specs.Turns.{IsNamed, KeepsUp, IsWithin, TakesOne, EndsSo, Emits};
-ghost use Rattle.rpq_run.specs.Turns.{Continues, status_after};
-ghost use Rattle.rpq_run.specs.Written.{Grew, GrewByProperPrefix, WritesByStatus};
+ghost use Rattle.rpq_run.specs.Ready.{AreTaken};
+ghost use Rattle.rpq_text.specs.Text.{IsText};
+ghost use Rattle.rpq_run.specs.Turns.{IsAtTurn, IsWithin, TakesOne, EndsSo, Emits, StopsSo};
+ghost use Rattle.rpq_run.specs.Turns.{Continues, EmitsEntry, end_of, failed_sinks, is_after_write};
+ghost use Rattle.rpq_run.specs.Written.{GrewByProperPrefix};
+ghost use Rattle.rpq_words.specs.Modes.{IsWithin as IsInRange};
 
-use crate::block::block_text;
-use crate::context::Context;
-use crate::named_engine::NamedEngine;
-use crate::report::{FIRST_STREAM, StreamEnd, Why};
+use crate::report::FIRST_STREAM;
 use crate::stream::next_tuple;
 use containment_laws::accepted_queries_have_events;
-use path_engine::FeedFault;
+use path_engine::{Engine, FeedFault};
 use rpq_base::{Entry, Memory};
-use rpq_io::{Gate, LineReader, Sink, Source, Write, put_all};
+use rpq_io::{Context, Failed, Gate, LineReader, Sink, Source, put_all};
+use rpq_text::{SinkName, StreamEnd, Why, block_text};
+use rpq_words::Chosen;
 use std::alloc::Global;
 use std::thread::Threads;
 
@@ -60,72 +59,87 @@ impl From<FeedFault> for EmitFault {
     }
 }
 
-/// Why there are no more turns: how the stream ended, and whether a write of the events failed
-/// before.
+/// Why there are no more turns.
 #[derive(Clone, Copy, Debug, PartialEq, Eq)]
-pub struct StreamStop {
-    pub end: StreamEnd,
-    pub failed: bool,
+pub enum StreamStop {
+    /// The stream ended so, and no write of the events failed.
+    InTurn(StreamEnd),
+    /// A write of the events failed, and the stream, which was read on, ended so.
+    AfterWrite(StreamEnd),
+}
+
+impl StreamStop {
+    /// How the stream ended.
+    pub fn end(self) -> StreamEnd
+        ensures { result ≡ end_of self }
+    {
+        match self {
+            StreamStop::InTurn(end) => end,
+            StreamStop::AfterWrite(end) => end,
+        }
+    }
+
+    /// The sinks of which a write failed.
+    pub fn failed_sinks(self) -> &'static [SinkName]
+        ensures { result.now ≡ failed_sinks (is_after_write self) }
+    {
+        match self {
+            StreamStop::InTurn(_) => &[],
+            StreamStop::AfterWrite(_) => &[SinkName::Events],
+        }
+    }
 }
 
 /// One turn: takes the next tuple, where the history has fewer entries than its limit, and emits
 /// it. After a failed write the stream is read on to its next tuple, its end or its fault.
 pub fn turn<R: Threads + Sync, G: Gate, S: Source, K: Sink>(
     context: &Context<'_, R, G>,
-    named: &mut NamedEngine,
+    chosen: &Chosen,
+    engine: &mut Engine,
     history: &mut Vec<Entry>,
     reader: &mut LineReader<S>,
-    limit: usize,
     events: &mut K,
 ) -> Result<(), StreamStop>
-    requires sound { IsStreamReader S.left reader.old }
-    requires keeps_up { KeepsUp named.old history.old.items }
-    requires accepted { All IsAccepted named.old.queries.items }
-    requires within { IsWithin limit history.old.items }
-    requires short { limit ≤ 2 ^ 30 }
-    ensures within { IsWithin limit history.new.items }
+    requires taken { AreTaken chosen.now }
+    requires at_turn { IsAtTurn S.left chosen.now.history engine.old history.old.items reader.old }
+    ensures within { IsWithin chosen.now.history history.new.items }
 
     // One tuple was taken and written.
-    ensures taken { OnOk result
+    ensures one { OnOk result
         (TakesOne S.left reader.old reader.new history.old.items history.new.items) }
-    ensures emitted { OnOk result (Emits named.old named.new history.old.items
+    ensures emitted { OnOk result (Emits engine.old engine.new history.old.items
         history.new.items (K.written events.old) (K.written events.new)) }
 
     // There was no further turn, or none to its end.
-    ensures ended { IfErr result (λ stop.
-        EndsSo S.left reader.old reader.new limit history.old.items history.new.items stop.end) }
-    ensures ends { IfErr result (λ stop. MatchBool stop.failed
-        (IsEndAfterWrite stop.end) (IsEndInTurn stop.end)) }
-    ensures text { IfErr result (λ stop. (start : Option (List ℕ))
-        → Grew (IsText named.old.queries.items history.old.items) start (K.written events.old)
-        → WritesByStatus (status_after stop.failed stop.end)
-        (IsText named.old.queries.items history.new.items) start (K.written events.new)) }
+    ensures stopped { IfErr result (StopsSo S.left reader.old reader.new chosen.now.history
+        engine.old history.old.items history.new.items
+        (K.written events.old) (K.written events.new)) }
 
-    ensures read { CountsFault (IsErrAnd result (λ stop. stop.end ≡ StreamEnd.Read))
+    ensures read { CountsFault (IsErrAnd result (λ stop. end_of stop ≡ StreamEnd.Read))
         (S.faults reader.old.source) (S.faults reader.new.source) }
-    ensures write { CountsFault (IsErrAnd result (λ stop. stop.failed ≡ true))
+    ensures write { CountsFault (IsErrAnd result (λ stop. is_after_write stop ≡ true))
         (K.faults events.old) (K.faults events.new) }
 {
-    accepted_queries_have_events();
+    accepted_queries_have_events(); // called for its clause
+    let limit = chosen.history as usize;
     if let Err(end) = take(context.alloc, history, reader, limit) {
-        return Err(StreamStop { end, failed: false });
+        return Err(StreamStop::InTurn(end));
     }
     let position = history.len();
+    let entry = &history[position - 1];
     match emit(
         context,
-        named,
+        chosen.workers,
+        engine,
         position as u64,
-        &history[position - 1],
+        entry,
         events,
     ) {
         Ok(()) => Ok(()),
-        Err(EmitFault::Memory) => {
-            let end = StreamEnd::Memory;
-            Err(StreamStop { end, failed: false })
-        }
+        Err(EmitFault::Memory) => Err(StreamStop::InTurn(StreamEnd::Memory)),
         Err(EmitFault::Write) => {
             let end = end_after_write(context.alloc, reader);
-            Err(StreamStop { end, failed: true })
+            Err(StreamStop::AfterWrite(end))
         }
     }
 }
@@ -167,34 +181,31 @@ fn take<S: Source>(
 /// Feeds the entry at this position, counted from 1, to the engine, and writes the entry's block.
 fn emit<R: Threads + Sync, G: Gate, K: Sink>(
     context: &Context<'_, R, G>,
-    named: &mut NamedEngine,
+    workers: u32,
+    engine: &mut Engine,
     position: u64,
     entry: &Entry,
     events: &mut K,
 ) -> Result<(), EmitFault>
-    requires is_named { IsNamed named.old }
-    requires short { named.old.engine.position < 2 ^ 30 }
+    requires crew { IsInRange 64 workers }
+    requires short { engine.old.position < 2 ^ 30 }
     requires plain { IsPlain entry.now }
-    ensures keeps_up { (before : List EntryTaken) → KeepsUp named.old before
-        → OnOk result (KeepsUp named.new (before ++ entry.now ∷ [])) }
-    ensures ok { OnOk result (Continues named.old position (K.written events.old) (λ before start.
-        Grew (IsText named.old.queries.items (before ++ entry.now ∷ [])) start
-        (K.written events.new))) }
+    ensures ok { OnOk result (EmitsEntry engine.old engine.new position entry.now
+        (K.written events.old) (K.written events.new)) }
     ensures write { result ≡ Err EmitFault.Write
-        → Continues named.old position (K.written events.old) (λ before start.
-        GrewByProperPrefix (IsText named.old.queries.items (before ++ entry.now ∷ [])) start
+        → Continues engine.old position (K.written events.old) (λ before start.
+        GrewByProperPrefix (IsText (definitions engine.old) (before ++ entry.now ∷ [])) start
         (K.written events.new)) }
     ensures memory { result ≡ Err EmitFault.Memory → K.written events.new ≡ K.written events.old }
     ensures counted { CountsFault (result ≡ Err EmitFault.Write)
         (K.faults events.old) (K.faults events.new) }
-    ensures queries { named.new.queries.items ≡ named.old.queries.items }
+    ensures queries { engine.new.queries ≡ engine.old.queries }
 {
-    let workers = named.workers;
-    let found = named.engine.feed(context.rt, entry, workers, context.gate)?;
-    let block = block_text(context.alloc, position, entry, &found, &named.queries)?;
+    let found = engine.feed(context.rt, entry, workers, context.gate)?;
+    let block = block_text(context.alloc, position, entry, &found, engine.queries())?;
     match put_all(events, &block) {
         Ok(()) => Ok(()),
-        Err(Write) => Err(EmitFault::Write),
+        Err(Failed) => Err(EmitFault::Write),
     }
 }
 

@@ -4,21 +4,21 @@ ghost use Rattle.std.specs.Prelude.{◌≡◌, ◌++◌, codes};
 ghost use Rattle.std.specs.List.{flat_map, list_all};
 ghost use Rattle.path_syntax.specs.Grammar.{escaped, is_bare_byte, quoted};
 ghost use Rattle.path_syntax.specs.Written.{caret, written_label, written_name};
-ghost use Rattle.rpq_run.specs.WordTexts.{slashed_label, spaced_word};
+ghost use Rattle.rpq_text.specs.WordTexts.{slashed_label, spaced_word};
 ghost use Rattle.rpq_run.specs.Written.{Tells};
 
 use rpq_base::{Label, Name, Word};
-use rpq_io::{Sink, Write, put_all};
+use rpq_io::{Failed, Sink, put_all};
 
 /// Writes a piece of a text.
-pub fn put_piece<S: Sink>(sink: &mut S, piece: &[u8]) -> Result<(), Write>
+pub fn put_piece<S: Sink>(sink: &mut S, piece: &[u8]) -> Result<(), Failed>
     ensures { Tells S.written S.faults piece.now sink.old sink.new result }
 {
     put_all(sink, piece)
 }
 
 /// Writes the words, each behind a space, and ends the line.
-pub fn end_with_words<S: Sink>(sink: &mut S, words: &[&Word]) -> Result<(), Write>
+pub fn end_with_words<S: Sink>(sink: &mut S, words: &[&Word]) -> Result<(), Failed>
     ensures { Tells S.written S.faults
         (flat_map (λ word. spaced_word word.now) words.now ++ codes "\n")
         sink.old sink.new result }
@@ -28,7 +28,7 @@ pub fn end_with_words<S: Sink>(sink: &mut S, words: &[&Word]) -> Result<(), Writ
 }
 
 /// Writes the words, each behind a space.
-fn put_words<S: Sink>(sink: &mut S, words: &[&Word]) -> Result<(), Write>
+fn put_words<S: Sink>(sink: &mut S, words: &[&Word]) -> Result<(), Failed>
     ensures { Tells S.written S.faults (flat_map (λ word. spaced_word word.now) words.now)
         sink.old sink.new result }
 {
@@ -39,7 +39,7 @@ fn put_words<S: Sink>(sink: &mut S, words: &[&Word]) -> Result<(), Write>
 }
 
 /// Writes a word behind a space.
-fn put_word<S: Sink>(sink: &mut S, word: &[Label]) -> Result<(), Write>
+fn put_word<S: Sink>(sink: &mut S, word: &[Label]) -> Result<(), Failed>
     ensures { Tells S.written S.faults (spaced_word word.now) sink.old sink.new result }
 {
     let [first, rest @ ..] = word else {
@@ -50,7 +50,7 @@ fn put_word<S: Sink>(sink: &mut S, word: &[Label]) -> Result<(), Write>
 }
 
 /// Writes the labels, each behind a slash.
-fn put_slashed<S: Sink>(sink: &mut S, labels: &[Label]) -> Result<(), Write>
+fn put_slashed<S: Sink>(sink: &mut S, labels: &[Label]) -> Result<(), Failed>
     ensures { Tells S.written S.faults (flat_map slashed_label labels.now)
         sink.old sink.new result }
 {
@@ -61,7 +61,7 @@ fn put_slashed<S: Sink>(sink: &mut S, labels: &[Label]) -> Result<(), Write>
 }
 
 /// Writes a label behind a text.
-fn put_label<S: Sink>(sink: &mut S, before: &[u8], label: &Label) -> Result<(), Write>
+fn put_label<S: Sink>(sink: &mut S, before: &[u8], label: &Label) -> Result<(), Failed>
     ensures { Tells S.written S.faults (before.now ++ written_label label.now)
         sink.old sink.new result }
 {
@@ -78,7 +78,7 @@ fn caret(back: bool) -> &'static [u8]
 }
 
 /// Writes a name, in quotes where it needs them.
-fn put_name<S: Sink>(sink: &mut S, name: &[u8]) -> Result<(), Write>
+fn put_name<S: Sink>(sink: &mut S, name: &[u8]) -> Result<(), Failed>
     ensures { Tells S.written S.faults (written_name name.now) sink.old sink.new result }
 {
     if is_bare(name) {
@@ -104,7 +104,7 @@ fn is_bare_byte(byte: u8) -> bool
 }
 
 /// Writes a name as it stands within quotes.
-fn put_quoted<S: Sink>(sink: &mut S, name: &[u8]) -> Result<(), Write>
+fn put_quoted<S: Sink>(sink: &mut S, name: &[u8]) -> Result<(), Failed>
     ensures { Tells S.written S.faults (quoted name.now) sink.old sink.new result }
 {
     for byte in name {
@@ -114,7 +114,7 @@ fn put_quoted<S: Sink>(sink: &mut S, name: &[u8]) -> Result<(), Write>
 }
 
 /// Writes a byte of a name as it stands within quotes.
-fn put_escaped<S: Sink>(sink: &mut S, byte: u8) -> Result<(), Write>
+fn put_escaped<S: Sink>(sink: &mut S, byte: u8) -> Result<(), Failed>
     ensures { Tells S.written S.faults (escaped byte) sink.old sink.new result }
 {
     if matches!(byte, b'"' | b'\\') {

@@ -1,5 +1,5 @@
 use Rattle.std.proofs.Common.{[], ◌∷◌, ap, sym, rules}
-use Rattle.rpq_run.specs.WordTexts.{verdict_at_end, words_at_end}
+use Rattle.rpq_text.specs.WordTexts.{verdict_at_end, words_at_end}
 use Rattle.rpq_run.proofs.ErrorTexts.{tells_as, tells_failed, tells_then}
 use Rattle.rpq_run.proofs.check.end_with_verdict.Goals as goal
 

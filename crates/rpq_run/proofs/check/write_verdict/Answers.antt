@@ -1,8 +1,8 @@
 use Rattle.std.proofs.Common.{◌≡◌, ◌++◌, length, ap, ap₂, ◌∙◌, rules}
 use Rattle.query_file.specs.Compiled.{CompiledValue}
-use Rattle.rpq_run.specs.WordTexts.{verdict_at_end, verdict_front}
+use Rattle.rpq_text.specs.WordTexts.{verdict_at_end, verdict_front}
 use Rattle.rpq_run.proofs.ErrorTexts.{tells_as, tells_failed, tells_then}
-use Rattle.rpq_run.proofs.WordPieces.{verdict_in_parts}
+use Rattle.rpq_text.proofs.WordPieces.{verdict_in_parts}
 use Rattle.rpq_run.proofs.check.write_verdict.Goals as goal
 
 pub returns-in_err-put_piece : goal.returns-in_err-put_piece

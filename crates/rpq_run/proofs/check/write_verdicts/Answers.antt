@@ -1,5 +1,5 @@
 use Rattle.std.proofs.Common.{true, refl, ◌∙◌, rules}
-use Rattle.rpq_run.specs.Ready.{compiled_line}
+use Rattle.rpq_text.specs.Definitions.{compiled_line}
 use Rattle.rpq_run.proofs.ErrorTexts.{tells_element, elements_more}
 use Rattle.rpq_run.proofs.check.write_verdicts.Goals as goal
 

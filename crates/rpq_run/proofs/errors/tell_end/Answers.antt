@@ -1,6 +1,6 @@
 use Rattle.std.proofs.Common.{rules, ◌++◌}
 use Rattle.std.specs.List.{flat_map}
-use Rattle.rpq_run.specs.ErrorLines.{write_line, memory_line, run_lines}
+use Rattle.rpq_text.specs.ErrorLines.{write_line, memory_line, run_lines}
 use Rattle.rpq_run.proofs.ErrorTexts.{tells_as, tells_failed, tells_then}
 use Rattle.rpq_run.proofs.errors.tell_end.Goals as goal
 

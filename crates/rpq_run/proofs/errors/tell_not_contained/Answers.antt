@@ -1,7 +1,7 @@
 use Rattle.std.proofs.Common.{◌++◌, rules}
 use Rattle.std.specs.Prelude.{codes}
 use Rattle.std.specs.List.{flat_map}
-use Rattle.rpq_run.specs.WordTexts.{spaced_word}
+use Rattle.rpq_text.specs.WordTexts.{spaced_word}
 use Rattle.rpq_run.proofs.ErrorTexts.{tells_as, tells_failed, tells_then}
 use Rattle.rpq_run.proofs.errors.tell_not_contained.Goals as goal
 

@@ -1,9 +1,9 @@
 use Rattle.std.proofs.Common.{ap, sym, ◌∙◌}
 use Rattle.query_file.specs.FaultTexts.{query_kind_text}
 use Rattle.query_file.specs.declared.fault.QueryKind.{QueryKind}
-use Rattle.rpq_run.specs.ErrorLines.{query_text}
+use Rattle.rpq_text.specs.ErrorLines.{query_text}
 use Rattle.rpq_run.proofs.ErrorTexts.{tells_as}
-use Rattle.rpq_run.proofs.WordPieces.{not_contained_line}
+use Rattle.rpq_text.proofs.WordPieces.{not_contained_line}
 use Rattle.rpq_run.proofs.errors.tell_query.Goals as goal
 
 pub returns-in-NotContained : goal.returns-in-NotContained

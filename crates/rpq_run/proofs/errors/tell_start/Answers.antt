@@ -1,6 +1,6 @@
 use Rattle.std.proofs.Common.{List, ℕ, ◌++◌, ap, sym, ◌∙◌}
 use Rattle.std.specs.Prelude.{codes}
-use Rattle.rpq_run.specs.ErrorLines.{start_line}
+use Rattle.rpq_text.specs.ErrorLines.{start_line}
 use Rattle.rpq_run.proofs.ErrorTexts.{tells_as}
 use Rattle.rpq_run.proofs.errors.tell_start.Goals as goal
 

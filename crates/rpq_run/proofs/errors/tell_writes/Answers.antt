@@ -1,7 +1,7 @@
 use Rattle.std.proofs.Common.{get_or, rules}
 use Rattle.std.proofs.lemmas.List.{get_or_default}
-use Rattle.rpq_run.specs.declared.report.SinkName.TheVariants.{Events}
-use Rattle.rpq_run.specs.ErrorLines.{write_line}
+use Rattle.rpq_text.specs.declared.ends.SinkName.TheVariants.{Events}
+use Rattle.rpq_text.specs.ErrorLines.{write_line}
 use Rattle.rpq_run.proofs.ErrorTexts.{tells_as, tells_element}
 use Rattle.rpq_run.proofs.errors.tell_writes.Goals as goal
 

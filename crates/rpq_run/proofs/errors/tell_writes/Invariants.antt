@@ -1,7 +1,7 @@
 use Rattle.std.proofs.Common.{◌≡◌, take}
 use Rattle.std.specs.List.{flat_map}
 use Rattle.std.specs.Io.KnownBytes.{append_known}
-use Rattle.rpq_run.specs.ErrorLines.{write_line}
+use Rattle.rpq_text.specs.ErrorLines.{write_line}
 use Rattle.rpq_run.proofs.errors.tell_writes.Given as goal
 
 -- the lines so far are written, and no write failed

@@ -1,19 +1,17 @@
 use Rattle.std.proofs.Common.{◌≡◌, ◌-◌}
-use Rattle.rpq_run.specs.Progress.{IsStreamReader, IsInStep, passed}
-use Rattle.rpq_run.specs.Ready.{definitions_of}
-use Rattle.rpq_run.specs.Text.{IsText}
-use Rattle.rpq_run.specs.Turns.{KeepsUp, IsWithin}
+use Rattle.rpq_run.specs.Progress.{IsInStep, passed}
+use Rattle.rpq_text.specs.Definitions.{definitions_of}
+use Rattle.rpq_text.specs.Text.{IsText}
+use Rattle.rpq_run.specs.Turns.{IsAtTurn}
 use Rattle.rpq_run.specs.Written.{Grew}
 use Rattle.rpq_run.proofs.run_stream.run_stream.Given as goal
 
 -- the history has the tuples that were read, its text is written, and nothing failed
-abbrev pub invariant-loop-end : goal.invariant-loop-end
-invariant-loop-end g l = record {
-  sound : IsStreamReader g.S.Source.left l.reader;
+abbrev pub invariant-loop-stop : goal.invariant-loop-stop
+invariant-loop-stop g l = record {
+  at_turn : IsAtTurn g.S.Source.left l.fn.chosen.history l.engine l.history.items l.reader;
   in_step : IsInStep g.S.Source.left (g.S.Source.left l.fn.reader.source) l.history.items l.reader;
-  queries : l.named.queries.items ≡ definitions_of l.fn.queries.items;
-  keeps_up : KeepsUp l.named l.history.items;
-  within : IsWithin l.limit l.history.items;
+  queries : l.engine.queries ≡ l.fn.queries.items;
   written : Grew (IsText (definitions_of l.fn.queries.items) l.history.items) (g.K.Sink.written l.fn.events)
       (g.K.Sink.written l.events);
   read_quietly : g.S.Source.faults l.reader.source ≡ g.S.Source.faults l.fn.reader.source;
@@ -22,5 +20,5 @@ invariant-loop-end g l = record {
 }
 
 -- how many bytes may still be given
-abbrev pub decreases-loop-end : goal.decreases-loop-end
-decreases-loop-end g l = l.reader.byte_limit - passed l.reader
+abbrev pub decreases-loop-stop : goal.decreases-loop-stop
+decreases-loop-stop g l = l.reader.byte_limit - passed l.reader

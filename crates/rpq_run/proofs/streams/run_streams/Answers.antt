@@ -1,13 +1,15 @@
 use Rattle.std.proofs.Common.{◌≡◌, List, [], ◌∷◌, ap, ap₂, sym, subst, ◌∙◌}
-use Rattle.rpq_run.specs.declared.report.StreamEnd.{StreamEnd}
-use Rattle.rpq_run.specs.declared.report.SinkName.{SinkName}
-use Rattle.rpq_run.specs.ErrorLines.{run_lines, TellsLines}
+use Rattle.rpq_text.specs.declared.ends.StreamEnd.{StreamEnd}
+use Rattle.rpq_text.specs.declared.ends.SinkName.{SinkName}
+use Rattle.rpq_text.specs.ErrorLines.{run_lines}
+use Rattle.rpq_run.specs.Written.{TellsLines}
 use Rattle.rpq_run.specs.History.{IsStreamOf}
-use Rattle.rpq_run.specs.Ready.{definitions_of}
+use Rattle.rpq_text.specs.Definitions.{definitions_of}
 use Rattle.rpq_run.specs.RunsStreams.{RunsStreams}
-use Rattle.rpq_run.specs.Statuses.{first_arisen}
-use Rattle.rpq_run.specs.Turns.{failed_sinks, status_after}
+use Rattle.rpq_text.specs.Statuses.{first_status}
+use Rattle.rpq_run.specs.Turns.{end_of, failed_sinks, is_after_write, status_after}
 use Rattle.rpq_run.proofs.ErrorTexts.{told_lines}
+use Rattle.rpq_run.proofs.Statuses.{stop_ends}
 use Rattle.rpq_run.proofs.Tops.{runs_streams}
 use Rattle.rpq_run.proofs.streams.run_streams.Goals as goal
 
@@ -26,28 +28,31 @@ returns-clause-runs g c = λ holds has reads.
     let errors = c.args.errors.now in
     let errors' = c.tell_end.new.errors in
     let source = c.into_source.result in
-    let ends_are : c.of_stream-streams.result.0.items ≡ run.end ∷ [] = c.of_stream-streams.ensures.ends in
-    let told_of : c.deref-2.result.now ≡ run.end ∷ [] = c.deref-2.ensures.value ∙ ends_are in
-    let failed_are : c.failed_sinks-failed.result.now ≡ failed_sinks run.failed = c.failed_sinks-failed.ensures in
-    let status_is : c.first_arisen-status.result ≡ status_after run.failed run.end =
-    c.first_arisen-status.ensures ∙ ap₂ first_arisen (c.deref.ensures.value ∙ ends_are) failed_are in
-    let lines : run_lines c.deref-2.result.now c.failed_sinks-failed.result.now c.first_arisen-status.result
-    ≡ run_lines (run.end ∷ []) (failed_sinks run.failed) (status_after run.failed run.end) =
+    let end = end_of run.stop in
+    let failed = is_after_write run.stop in
+    let ends_are : c.of_stream-streams.result.0.items ≡ end ∷ [] =
+    c.of_stream-streams.ensures.ends ∙ ap (λ (e : StreamEnd). e ∷ []) c.end.ensures in
+    let told_of : c.deref-2.result.now ≡ end ∷ [] = c.deref-2.ensures.value ∙ ends_are in
+    let failed_are : c.failed_sinks-failed.result.now ≡ failed_sinks failed = c.failed_sinks-failed.ensures in
+    let status_is : c.first_status-status.result ≡ status_after failed end =
+    c.first_status-status.ensures ∙ ap₂ first_status (c.deref.ensures.value ∙ ends_are) failed_are in
+    let lines : run_lines c.deref-2.result.now c.failed_sinks-failed.result.now c.first_status-status.result
+    ≡ run_lines (end ∷ []) (failed_sinks failed) (status_after failed end) =
     ap (run_lines c.deref-2.result.now c.failed_sinks-failed.result.now) status_is
-    ∙ ap₂ (λ (es : List StreamEnd) (fs : List SinkName). run_lines es fs (status_after run.failed run.end))
+    ∙ ap₂ (λ (es : List StreamEnd) (fs : List SinkName). run_lines es fs (status_after failed end))
     told_of failed_are in
     let told = subst (λ ls. TellsLines written failures ls errors errors') lines
     (told_lines written failures (run_lines c.deref-2.result.now c.failed_sinks-failed.result.now
-    c.first_arisen-status.result) errors errors' c.tell_end.result c.tell_end.ensures) in
+    c.first_status-status.result) errors errors' c.tell_end.result c.tell_end.ensures) in
     let base = runs_streams left faults written failures given holds queries (left c.args.reader.source)
-    events events' errors errors' run.history.items run.end source run.failed has reads.content
-    (subst (λ s. IsStreamOf left faults 1 given.history (left c.args.reader.source) s run.history.items run.end)
-    (sym c.into_source.ensures) is.stream) is.within is.ends is.text is.write told in
+    events events' errors errors' run.history.items end source failed has reads.content
+    (subst (λ s. IsStreamOf left faults 1 given.history (left c.args.reader.source) s run.history.items end)
+    (sym c.into_source.ensures) is.stream) is.within (stop_ends run.stop is.ends) is.text is.write told in
     subst (λ status. RunsStreams left faults written failures given holds events events' errors errors'
     status run.history.items c.of_stream-streams.result.0.items c.of_stream-streams.result.1.items) (sym status_is)
     (subst (λ (es : List StreamEnd). RunsStreams left faults written failures given holds events events'
-    errors errors' (status_after run.failed run.end) run.history.items es c.of_stream-streams.result.1.items)
+    errors errors' (status_after failed end) run.history.items es c.of_stream-streams.result.1.items)
     (sym ends_are)
     (subst (λ ss. RunsStreams left faults written failures given holds events events'
-    errors errors' (status_after run.failed run.end) run.history.items (run.end ∷ []) ss)
+    errors errors' (status_after failed end) run.history.items (end ∷ []) ss)
     (sym c.of_stream-streams.ensures.sources) base))

@@ -2,7 +2,7 @@ use Rattle.std.proofs.Common.{◌≡◌, List, [], ◌∷◌, ◌++◌, length, 
 use Rattle.std.proofs.Common.{length-append}
 use Rattle.std.specs.Prelude.{IfSome}
 use Rattle.rpq_base.specs.declared.data.Entry.{Entry}
-use Rattle.rpq_run.specs.declared.report.StreamEnd.TheVariants.{Memory}
+use Rattle.rpq_text.specs.declared.ends.StreamEnd.TheVariants.{Memory}
 use Rattle.rpq_run.specs.History.{own_tuples, AreTuplesOfEnd}
 use Rattle.rpq_run.specs.Turns.{IsWithin}
 use Rattle.rpq_run.proofs.Feeding.{stepped, ended_full, ended_untaken, within_more}
@@ -11,8 +11,8 @@ use Rattle.rpq_run.proofs.turns.take.Goals as goal
 
 pub returns-in-Err-clause-err : goal.returns-in-Err-clause-err
 returns-in-Err-clause-err g c = record {
-  tied = λ file step. c.in-Err.ensures.err file (own_tuples 1 c.args.history.now.items) step;
-  full = λ is. absurd (no_full c.in-Err.end c.in-Err.ensures.ends is);
+  tied = λ file step. c.in-Err.ensures.err.tied file (own_tuples 1 c.args.history.now.items) step;
+  full = λ is. absurd (no_full c.in-Err.end c.in-Err.ensures.err.met is);
   limits = c.next_tuple.ensures.limits;
 }
 
@@ -21,7 +21,7 @@ returns-then-len-limit-clause-err g c =
     let before = c.args.history.now.items in
     record {
       tied = λ file step. ended_full g.S.Source.left file before c.next_tuple.new.reader c.in-Ok.tuple
-          c.in-Ok.ensures.sound (c.in-Ok.ensures.ok file (own_tuples 1 before) step);
+          c.in-Ok.ensures.ok.sound (c.in-Ok.ensures.ok.read file (own_tuples 1 before) step);
       full = λ _. omega (arith, c.len.ensures, c.requires.within.few);
       limits = c.next_tuple.ensures.limits;
     }
@@ -35,8 +35,8 @@ returns-in_default-clause-err g c =
     record {
       tied = λ file step. subst (λ (h : List Entry).
           IfSome file (λ text. AreTuplesOfEnd new.byte_limit text (left new.source) (own_tuples 1 h) Memory)) (sym same)
-          (ended_untaken left file before new c.in-Ok.tuple c.in-Ok.ensures.sound
-          (c.in-Ok.ensures.ok file (own_tuples 1 before) step));
+          (ended_untaken left file before new c.in-Ok.tuple c.in-Ok.ensures.ok.sound
+          (c.in-Ok.ensures.ok.read file (own_tuples 1 before) step));
       full = λ is. absurd cc;
       limits = c.next_tuple.ensures.limits;
     }
@@ -56,10 +56,10 @@ returns-clause-ok g c =
     record {
       entry = entry;
       more = more;
-      sound = c.in-Ok.ensures.sound;
-      forward = c.in-Ok.ensures.forward;
+      sound = c.in-Ok.ensures.ok.sound;
+      forward = c.in-Ok.ensures.ok.forward;
       in_step = λ file step. stepped g.S.Source.left file before c.next_tuple.new.reader tuple
-          c.in-Ok.ensures.sound (c.in-Ok.ensures.ok file (own_tuples 1 before) step) c.push.new.self.items
+          c.in-Ok.ensures.ok.sound (c.in-Ok.ensures.ok.read file (own_tuples 1 before) step) c.push.new.self.items
           entry more refl refl;
       limits = c.next_tuple.ensures.limits;
     }

@@ -1,5 +1,5 @@
 use Rattle.std.proofs.Common.{rules}
-use Rattle.rpq_run.specs.WordTexts.{slashed_label}
+use Rattle.rpq_text.specs.WordTexts.{slashed_label}
 use Rattle.rpq_run.proofs.ErrorTexts.{tells_element}
 use Rattle.rpq_run.proofs.word_texts.put_slashed.Goals as goal
 

@@ -1,7 +1,7 @@
 use Rattle.std.proofs.Common.{◌≡◌, take}
 use Rattle.std.specs.List.{flat_map}
 use Rattle.std.specs.Io.KnownBytes.{append_known}
-use Rattle.rpq_run.specs.WordTexts.{slashed_label}
+use Rattle.rpq_text.specs.WordTexts.{slashed_label}
 use Rattle.rpq_run.proofs.word_texts.put_slashed.Given as goal
 
 -- the texts so far are written, and no write failed

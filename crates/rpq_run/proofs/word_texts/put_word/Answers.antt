@@ -5,7 +5,7 @@ use Rattle.std.proofs.lemmas.List.{take_all, length-drop}
 use Rattle.rpq_base.specs.declared.data.Label.{Label}
 use Rattle.path_syntax.specs.Written.{written_label}
 use Rattle.path_syntax.proofs.Words.{written_parts}
-use Rattle.rpq_run.specs.WordTexts.{slashed_label, spaced_word}
+use Rattle.rpq_text.specs.WordTexts.{slashed_label, spaced_word}
 use Rattle.rpq_run.proofs.ErrorTexts.{tells_as, tells_failed, tells_then}
 use Rattle.rpq_run.proofs.word_texts.put_word.Goals as goal
 

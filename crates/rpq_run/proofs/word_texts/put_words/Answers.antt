@@ -1,6 +1,6 @@
 use Rattle.std.proofs.Common.{◌≡◌, List, Bor, ap, ◌∙◌, rules}
 use Rattle.rpq_base.specs.declared.data.Label.{Label}
-use Rattle.rpq_run.specs.WordTexts.{spaced_word}
+use Rattle.rpq_text.specs.WordTexts.{spaced_word}
 use Rattle.rpq_run.proofs.ErrorTexts.{tells_as, tells_element}
 use Rattle.rpq_run.proofs.word_texts.put_words.Goals as goal
 

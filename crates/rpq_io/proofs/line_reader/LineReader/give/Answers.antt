@@ -15,14 +15,17 @@ returns-in_ok-give_line-clause-line g c = record {
   cut = cut_at_feed _ _ _ _ _ c.line_length-line.result (c.line_length-line.ensures ∙ ap (λ reader. line_length reader.held_bytes) c.self.view_is)
       (omega (arith, ap (λ reader. length reader.held_bytes) c.self.view_is))
       (omega (arith, ap (λ reader. reader.line_limit) c.self.view_is))
-      c.in_ok-give_line.ensures.line c.in_ok-give_line.ensures.held;
-  counted = c.in_ok-give_line.ensures.counted;
+      c.in_ok-give_line.ensures.given.copied c.in_ok-give_line.ensures.given.held;
+  counted = c.in_ok-give_line.ensures.given.counted;
 }
 
-pub returns-then-not-self-clause-long_stream : goal.returns-then-not-self-clause-long_stream
-returns-then-not-self-clause-long_stream g c = λ _.
-    subst IsLongStream c.self.view_is
-    (long_stream _ (λ none. c.requires (subst HoldsNoAnswer c.self.view_is none)) c.if-not-self.true (omega arith) (omega arith) c.self.invariant.0.within)
+pub returns-then-not-self-clause-cause : goal.returns-then-not-self-clause-cause
+returns-then-not-self-clause-cause g c = record {
+  read = λ met. cc met;
+  long_line = λ met. absurd (cc met);
+  long_stream = λ _. subst IsLongStream c.self.view_is
+      (long_stream _ (λ none. c.requires (subst HoldsNoAnswer c.self.view_is none)) c.if-not-self.true (omega arith) (omega arith) c.self.invariant.0.within);
+}
 
 pub returns-in_ok-give_line-2-clause-line : goal.returns-in_ok-give_line-2-clause-line
 returns-in_ok-give_line-2-clause-line g c = record {
@@ -30,6 +33,6 @@ returns-in_ok-give_line-2-clause-line g c = record {
       (omega (arith, ap (λ reader. length reader.held_bytes) c.self.view_is)) (omega arith)
       (omega (arith, ap (λ reader. reader.line_limit) c.self.view_is))
       (sym (ap (λ reader. reader.is_at_end) c.self.view_is) ∙ c.if-not-self.false)
-      c.in_ok-give_line-2.ensures.line c.in_ok-give_line-2.ensures.held;
-  counted = c.in_ok-give_line-2.ensures.counted;
+      c.in_ok-give_line-2.ensures.given.copied c.in_ok-give_line-2.ensures.given.held;
+  counted = c.in_ok-give_line-2.ensures.given.counted;
 }

@@ -1,6 +1,7 @@
 use Rattle.std.proofs.Common.{Option, Some, None, IfSome, sym, subst, ◌<◌}
 use Rattle.std.proofs.lemmas.Result.{IfOk-weaker}
 use Rattle.text_parts.specs.Lines.{line_length}
+use Rattle.rpq_io.specs.Reader.{IsLongStream}
 use Rattle.rpq_io.proofs.TextAhead.{gives_line, long_line_of_text}
 use Rattle.rpq_io.proofs.line_reader.LineReader.next_line.Goals as goal
 
@@ -17,12 +18,18 @@ returns-clause-line g c =
     c.loop-self.invariant.had c.loop-self.invariant.line_limit c.loop-self.invariant.counted c.give.ensures.taken c.give.ensures.sound held) gives)
     c.give.ensures.line
 
-pub returns-clause-long_line : goal.returns-clause-long_line
-returns-clause-long_line g c = λ long.
-    let same = rw long at c.give.ensures.err in
-    let first = subst (λ most. most < line_length c.loop-self.self.held_bytes) c.loop-self.invariant.line_limit (c.give.ensures.long_line long) in
-    record {
-      long = subst (λ reader. c.args.self.now.line_limit < line_length reader.held_bytes)
-          (sym same) first;
-      text = long_line_of_text g.S.Source.left c.args.self.now c.loop-self.self _ c.loop-self.invariant.had first;
-    }
+pub returns-clause-cause : goal.returns-clause-cause
+returns-clause-cause g c = record {
+  read = λ met. absurd (c.give.ensures.cause.read met);
+  long_line = λ met.
+      let same = rw met at c.give.ensures.err in
+      let first = subst (λ most. most < line_length c.loop-self.self.held_bytes) c.loop-self.invariant.line_limit (c.give.ensures.cause.long_line met) in
+      record {
+        long = subst (λ reader. c.args.self.now.line_limit < line_length reader.held_bytes)
+            (sym same) first;
+        text = long_line_of_text g.S.Source.left c.args.self.now c.loop-self.self _ c.loop-self.invariant.had first;
+      };
+  long_stream = λ met.
+      let same = rw met at c.give.ensures.err in
+      subst IsLongStream (sym same) (c.give.ensures.cause.long_stream met);
+}

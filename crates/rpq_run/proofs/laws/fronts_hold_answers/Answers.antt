@@ -1,5 +1,0 @@
-use Rattle.rpq_run.proofs.Fronts.{fronts_hold}
-use Rattle.rpq_run.proofs.laws.fronts_hold_answers.Goals as goal
-
-pub returns : goal.returns
-returns c = fronts_hold c.each_held_is_answers.ensures

@@ -1,5 +1,0 @@
-use Rattle.rpq_run.proofs.VerdictLines.{one_verdict_text}
-use Rattle.rpq_run.proofs.laws.one_verdict_text.Goals as goal
-
-pub returns : goal.returns
-returns c = one_verdict_text c.least_has_fewest.ensures

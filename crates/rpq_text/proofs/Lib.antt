@@ -1,0 +1,7 @@
+mod Pieces
+pub mod Texts
+mod Fronts
+pub mod WordPieces
+pub mod VerdictLines
+pub mod StreamTexts
+mod ByParts

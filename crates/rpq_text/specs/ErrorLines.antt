@@ -1,0 +1,76 @@
+-- The lines on errors, each with a line feed at its end.
+use Rattle.std.specs.Prelude.{ℕ, ◌+◌, ◌==◌, List, [], ◌∷◌, ◌++◌, codes, decimal, if◌then◌else◌}
+use Rattle.std.specs.List.{flat_map}
+use Rattle.tuple_text.specs.FaultTexts.{fault_text}
+use Rattle.query_file.specs.FaultTexts.{query_kind_text}
+use Rattle.rpq_words.specs.Usage.{usage}
+use Rattle.rpq_text.specs.declared.ends.Which.{Which}
+use Rattle.rpq_text.specs.declared.ends.Which.TheVariants.{Queries, Stream}
+use Rattle.rpq_text.specs.declared.ends.SinkName.{SinkName}
+use Rattle.rpq_text.specs.declared.ends.SinkName.TheVariants.{Events}
+use Rattle.rpq_text.specs.declared.ends.StartFault.{StartFault}
+use Rattle.rpq_text.specs.declared.ends.StartFault.TheVariants.{Words, Queries as QueriesFault}
+use Rattle.rpq_text.specs.declared.ends.StartFault.TheVariants.{Open, Read as ReadAtStart, Long}
+use Rattle.rpq_text.specs.declared.ends.StartFault.TheVariants.{NotYet, Memory as MemoryAtStart}
+use Rattle.rpq_text.specs.declared.ends.StreamEnd.{StreamEnd}
+use Rattle.rpq_text.specs.declared.ends.StreamEnd.TheVariants.{Whole, Line, LongLine, LongStream}
+use Rattle.rpq_text.specs.declared.ends.StreamEnd.TheVariants.{Read, Full, Closed, Memory}
+use Rattle.rpq_text.specs.Statuses.{memory_status}
+
+-- a file, as the lines name it
+abbrev pub file_text : Which → List ℕ
+file_text Queries = codes "queries"
+file_text (Stream number) = codes "stream " ++ decimal number
+
+-- what is said of the line of the queries file with this number
+unfoldable pub query_text : ℕ → List ℕ → List ℕ
+query_text line text =
+    codes "rpq: queries line " ++ (decimal line ++ (codes ": " ++ (text ++ codes "\n")))
+
+-- the line of a run that didn't begin; where the words are refused, a second one says how the
+-- command is used
+abbrev pub start_line : StartFault → List ℕ
+start_line Words = codes "rpq: words\n" ++ (usage ++ codes "\n")
+start_line (QueriesFault fault) = query_text fault.line (query_kind_text fault.kind)
+start_line (Open which) = codes "rpq: read failed: " ++ file_text which ++ codes "\n"
+start_line (ReadAtStart which) = codes "rpq: read failed: " ++ file_text which ++ codes "\n"
+start_line (Long which) = codes "rpq: " ++ file_text which ++ codes ": too long\n"
+start_line NotYet = codes "rpq: not yet\n"
+start_line MemoryAtStart = codes "rpq: memory\n"
+
+-- what is said of the line of the stream with these numbers
+unfoldable pub line_text : ℕ → ℕ → List ℕ → List ℕ
+line_text stream line text =
+    codes "rpq: " ++ (file_text (Stream stream)
+    ++ (codes " line " ++ (decimal line ++ (codes ": " ++ (text ++ codes "\n")))))
+
+-- the line of the stream with this number by its end; an end that tells no fault of the stream has
+-- none
+unfoldable pub end_line : ℕ → StreamEnd → List ℕ
+end_line stream Whole = []
+end_line stream (Line line fault) = line_text stream line (fault_text fault)
+end_line stream (LongLine line) = line_text stream line (codes "too long")
+end_line stream LongStream = codes "rpq: " ++ file_text (Stream stream) ++ codes ": too long\n"
+end_line stream Read = codes "rpq: read failed: " ++ file_text (Stream stream) ++ codes "\n"
+end_line stream Full = codes "rpq: " ++ file_text (Stream stream) ++ codes ": history full\n"
+end_line stream (Closed why) = []
+end_line stream Memory = []
+
+-- the lines of streams by their ends; the first stream has this number
+abbrev pub end_lines : ℕ → List StreamEnd → List ℕ
+end_lines number [] = []
+end_lines number (end ∷ ends) = end_line number end ++ end_lines (number + 1) ends
+
+-- the line of a failed write of a sink
+abbrev pub write_line : SinkName → List ℕ
+write_line Events = codes "rpq: write failed: events\n"
+
+-- the line for out of memory, on the status of that
+unfoldable pub memory_line : ℕ → List ℕ
+memory_line status = if status == memory_status then codes "rpq: memory\n" else []
+
+-- the lines of a run that began: those of its streams, those of the sinks of which a write failed,
+-- and that of out of memory
+unfoldable pub run_lines : List StreamEnd → List SinkName → ℕ → List ℕ
+run_lines ends failed status =
+    end_lines 1 ends ++ (flat_map write_line failed ++ memory_line status)

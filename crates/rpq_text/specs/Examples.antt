@@ -1,0 +1,35 @@
+-- Some lines as they are written.
+use Rattle.std.specs.Prelude.{◌≡◌, ℕ, false, List, [], ◌∷◌, ◌++◌, codes}
+use Rattle.rpq_base.specs.declared.data.Label.{Label}
+use Rattle.containment_test.specs.declared.verdict.Verdict.TheVariants.{Yes, No}
+use Rattle.path_syntax.specs.Expression.{Atom}
+use Rattle.rpq_model.specs.declared.mode.Mode.{Mode}
+use Rattle.rpq_model.specs.declared.mode.Mode.TheVariants.{Arbitrary, Simple}
+use Rattle.rpq_model.specs.Query.{Query}
+use Rattle.rpq_text.specs.declared.ends.StartFault.TheVariants.{Words}
+use Rattle.rpq_text.specs.ErrorLines.{start_line}
+use Rattle.rpq_text.specs.Verdicts.{verdict_line}
+
+-- the label with a name
+abbrev pub label_named : List ℕ → Label
+label_named name = record { name = name; back = false }
+
+-- a query for one label with this name and these paths
+abbrev pub query_named : List ℕ → Mode → Query
+query_named name mode = record {
+  name = name;
+  window = record { size = 10; slide = 5 };
+  mode = mode;
+  expr = Atom (label_named (codes "a"));
+}
+
+-- a verdict yes; a verdict no, whose first word is empty and whose last has two labels; and the
+-- lines for words that are refused
+pub record LineExamples : Type 0 where
+  pub yes : verdict_line (query_named (codes "r") Simple) 2 Yes ≡ codes "r simple states 2 yes\n"
+  pub no : verdict_line (query_named (codes "p") Arbitrary) 3
+      (No [] (label_named (codes "a") ∷ [])
+      (label_named (codes "b") ∷ label_named (codes "c|d") ∷ []))
+      ≡ codes "p arbitrary states 3 no () a b/\"c|d\"\n"
+  pub words : start_line Words ≡ codes "rpq: words\nusage: rpq [--workers N] [--history N] "
+      ++ codes "[--asks FILE --replies FILE] [--check] [--generate N] QUERIES [STREAM...]\n"

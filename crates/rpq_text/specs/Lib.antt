@@ -1,0 +1,10 @@
+pub mod Limits
+pub mod StreamText
+pub mod Text
+pub mod Verdicts
+pub mod Definitions
+pub mod WordTexts
+pub mod Statuses
+pub mod ErrorLines
+pub mod Laws
+pub mod Examples

@@ -1,0 +1,106 @@
+-- The status of a run, by why it didn't begin, or by how its streams ended and which writes failed.
+use Rattle.std.specs.Prelude.{◌≡◌, ◌≢◌, ℕ, Bool, ◌==◌, ◌||◌, List, [], ◌∷◌, find, filter, unwrap_or}
+use Rattle.std.specs.List.{list_any}
+use Rattle.rpq_text.specs.declared.ends.Why.TheVariants.{Write, Memory as MemoryOfAll}
+use Rattle.rpq_text.specs.declared.ends.SinkName.{SinkName}
+use Rattle.rpq_text.specs.declared.ends.SinkName.TheVariants.{Events}
+use Rattle.rpq_text.specs.declared.ends.StartFault.{StartFault}
+use Rattle.rpq_text.specs.declared.ends.StartFault.TheVariants.{Words, Queries, Open}
+use Rattle.rpq_text.specs.declared.ends.StartFault.TheVariants.{Read as ReadAtStart, Long, NotYet}
+use Rattle.rpq_text.specs.declared.ends.StartFault.TheVariants.{Memory as MemoryAtStart}
+use Rattle.rpq_text.specs.declared.ends.StreamEnd.{StreamEnd}
+use Rattle.rpq_text.specs.declared.ends.StreamEnd.TheVariants.{Whole, Line, LongLine, LongStream}
+use Rattle.rpq_text.specs.declared.ends.StreamEnd.TheVariants.{Read, Full, Closed, Memory}
+
+-- all was done
+abbrev pub done_status : ℕ
+done_status = 0
+
+-- the words have no settings
+abbrev pub words_status : ℕ
+words_status = 1
+
+-- the queries file has a fault
+abbrev pub queries_status : ℕ
+queries_status = 2
+
+-- a line of a stream is faulty or too long
+abbrev pub line_status : ℕ
+line_status = 4
+
+-- a file couldn't be opened or read
+abbrev pub read_status : ℕ
+read_status = 5
+
+-- a write failed
+abbrev pub write_status : ℕ
+write_status = 6
+
+-- the history is full, or a file has too many bytes
+abbrev pub limit_status : ℕ
+limit_status = 7
+
+-- memory ran out
+abbrev pub memory_status : ℕ
+memory_status = 8
+
+-- the settings of the words aren't taken so far
+abbrev pub not_yet_status : ℕ
+not_yet_status = 9
+
+-- the status of a run that didn't begin
+abbrev pub status_of_start : StartFault → ℕ
+status_of_start Words = words_status
+status_of_start (Queries fault) = queries_status
+status_of_start (Open which) = read_status
+status_of_start (ReadAtStart which) = read_status
+status_of_start (Long which) = limit_status
+status_of_start NotYet = not_yet_status
+status_of_start MemoryAtStart = memory_status
+
+-- the status of a run in which nothing but this end of a stream arose
+abbrev pub status_of_end : StreamEnd → ℕ
+status_of_end Whole = done_status
+status_of_end (Line number fault) = line_status
+status_of_end (LongLine number) = line_status
+status_of_end LongStream = limit_status
+status_of_end Read = read_status
+status_of_end Full = limit_status
+status_of_end (Closed Write) = write_status
+status_of_end (Closed MemoryOfAll) = memory_status
+status_of_end Memory = memory_status
+
+-- the status of a run in which nothing but a failed write of this sink arose
+abbrev pub status_of_sink : SinkName → ℕ
+status_of_sink Events = write_status
+
+-- the sinks on which a run writes what it finds, in the order in which their lines stand on the
+-- errors
+abbrev pub all_sinks : List SinkName
+all_sinks = Events ∷ []
+
+-- some of these sinks, each once and in their order
+abbrev pub AreSomeSinks : List SinkName → Type 0
+AreSomeSinks sinks = (chosen : SinkName → Bool) × (sinks ≡ filter chosen all_sinks)
+
+-- whether the status is that of an end of a stream, or that of a failed write of a sink
+abbrev pub arose : List StreamEnd → List SinkName → ℕ → Bool
+arose ends failed status =
+    list_any (λ end. status_of_end end == status) ends
+    || list_any (λ sink. status_of_sink sink == status) failed
+
+-- the statuses of what can go wrong after the start, in the order in which they count
+abbrev pub status_order : List ℕ
+status_order =
+    memory_status ∷ write_status ∷ limit_status ∷ read_status ∷ line_status ∷ []
+
+-- the first status of the order that arose, else that all was done
+abbrev pub first_status : List StreamEnd → List SinkName → ℕ
+first_status ends failed = unwrap_or (find (arose ends failed) status_order) done_status
+
+-- the status of a run whose streams ended so, and in which writes of these sinks failed: that of
+-- out of memory, which can arise by itself, or else the first that arose
+pub record IsStatusOf (ends : List StreamEnd) (failed : List SinkName) (status : ℕ)
+    : Type 0 where
+  pub memory : first_status ends failed ≡ memory_status → status ≡ memory_status
+  pub others : status ≢ memory_status → status ≡ first_status ends failed

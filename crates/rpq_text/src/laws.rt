@@ -1,0 +1,42 @@
+//! Laws of the definitions. The functions do nothing: their contracts are the laws.
+
+ghost use Rattle.rpq_text.specs.Examples.{LineExamples};
+ghost use Rattle.rpq_text.specs.Laws.{EveryHistoryHasOneText, FrontsHoldAnswers, OneVerdictText};
+ghost use Rattle.rpq_text.specs.Laws.{StreamByParts};
+
+use containment_laws::accepted_queries_have_events;
+use minimal_dfa::least_has_fewest;
+use rpq_model::each_held_is_answers;
+
+/// Each history has exactly one text, where all queries are accepted.
+pub fn every_history_has_one_text()
+    ensures { EveryHistoryHasOneText }
+{
+    accepted_queries_have_events();
+}
+
+/// Going through the events of the first blocks of a text leaves exactly each query's answers over
+/// as many entries.
+pub fn fronts_hold_answers()
+    ensures { FrontsHoldAnswers }
+{
+    each_held_is_answers();
+}
+
+/// The tuples of a stream and its end, by its parts: the lines before the first faulty one, and
+/// that line.
+pub fn stream_by_parts()
+    ensures { StreamByParts }
+{}
+
+/// A query has one verdict line at most, and queries have one text of them.
+pub fn one_verdict_text()
+    ensures { OneVerdictText }
+{
+    least_has_fewest();
+}
+
+/// Some verdict lines, and the lines for words that are refused.
+pub fn line_examples()
+    ensures { LineExamples }
+{}
