@@ -6,7 +6,7 @@ use rpq_words::{Chosen, FileWord, read_words};
 use std::alloc::Global;
 
 /// The words that parts of a request are.
-fn words_of(alloc: Global, text: &[u8]) -> anyhow::Result<Vec<String>> {
+pub fn words_of(alloc: Global, text: &[u8]) -> anyhow::Result<Vec<String>> {
     let mut words = Vec::new(alloc);
     for part in &parts(alloc, text, b';')? {
         words.push(String::from_utf8(decoded(alloc, part)?)?)?;

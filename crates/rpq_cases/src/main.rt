@@ -1,6 +1,6 @@
 //! A program that asks the libraries, so that what they answer can be compared with what it
-//! should be. `stdin` has some thousand requests, and `stdout` the answers, which an evaluator
-//! from outside gave.
+//! should be. `stdin` has some 2,000 requests, and `stdout` the answers, which an evaluator from
+//! outside gave.
 //!
 //! A request is a line of its own: a keyword, and what is asked about. One line is printed for
 //! each. A line of another first word, as one that begins with `#`, is printed as it stands.
@@ -30,9 +30,15 @@
 //! - `events SIZE SLIDE MODE EXPR TUPLES`: what each tuple changes of them, `;` behind each.
 //! - `rows SIZE SLIDE MODE EXPR TUPLES`: the answers after each tuple with their ends, `;` behind
 //!   each.
-//! - `engine WORKERS TEXT TUPLES`: what each tuple changes of the answers of the queries of a queries
-//!   file, `;` behind each, for an engine with so many workers; then its position, and for each
-//!   query `|` and the answers with their ends.
+//! - `engine WORKERS TEXT TUPLES`: what each tuple changes of the answers of the queries of a
+//!   queries file, `;` behind each, for an engine with this number of workers; then its position,
+//!   and for each query `|` and the answers with their ends.
+//! - `view SIZE SLIDE MODE EXPR FROM TO TUPLES`: the view after each tuple, `;` behind each: its
+//!   position, the number of answers, `+` where the pair of both names is one, else `-`, its end,
+//!   and behind `|` the targets of the first name with their ends.
+//! - `run PIECE OPENING WORDS QUERIES STREAM`: a run over the files `q` and `s`, read in pieces of
+//!   this length, where the opening of this number fails: its status, what it writes on the events,
+//!   and behind `|` what it tells on the errors.
 //! - `live SIZE SLIDE CLOCK TUPLES`: the places of the live entries, from 0, with their edges.
 //! - `clock TUPLES`: the clock of the history.
 //! - `tuple LINE`: the tuple of a line as it is written, `nothing`, or the fault of the line.
@@ -62,8 +68,10 @@ mod files;
 mod output;
 mod queries;
 mod request;
+mod runs;
 mod sources;
 mod texts;
+mod views;
 
 use fields::Fields;
 use output::Output;
@@ -94,6 +102,8 @@ fn answer<R: RandomSource + Threads + Sync>(
         Request::Answers => queries::answer_answers(alloc, out, fields),
         Request::Events => queries::answer_events(alloc, out, fields),
         Request::Rows => queries::answer_rows(alloc, out, fields),
+        Request::View => views::answer_view(alloc, out, fields),
+        Request::Run => runs::answer_run(rt, alloc, out, fields),
         Request::Engine => engines::answer_engine(rt, alloc, out, fields),
         Request::Live => queries::answer_live(alloc, out, fields),
         Request::Clock => queries::answer_clock(alloc, out, fields),

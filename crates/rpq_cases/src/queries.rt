@@ -24,7 +24,7 @@ fn window_of(fields: &mut Fields) -> anyhow::Result<Window> {
 }
 
 /// The query of the next four fields.
-fn query_of(alloc: Global, fields: &mut Fields) -> anyhow::Result<QueryDef> {
+pub fn query_of(alloc: Global, fields: &mut Fields) -> anyhow::Result<QueryDef> {
     let window = window_of(fields)?;
     let mode = match fields.next() {
         b"simple" => Mode::Simple,
@@ -133,7 +133,7 @@ pub fn answer_live(alloc: Global, out: &mut Output, mut fields: Fields) -> anyho
 /// Puts the edge that an entry inserts or deletes.
 fn put_act(out: &mut Output, entry: &Entry) -> anyhow::Result<()> {
     match &entry.tuple.act {
-        Act::Insert(edge) => put_edge(out, edge),
+        Act::Insert { edge, .. } => put_edge(out, edge),
         Act::Delete(edge) => put_edge(out, edge),
         Act::Tick => Ok(()),
     }

@@ -2,16 +2,13 @@
 
 use rpq_io::{Gate, MemoryFiles, MemorySink, OpenGate};
 use rpq_run::run;
-use std::alloc::{AllocError, Global};
+use std::alloc::Global;
 use std::random::RandomSource;
 use std::test::Fail;
 use std::thread::Threads;
 
 /// A query for two labels in sequence, with a wide window.
 pub const SEQUENCE: &str = "query q window 100 slide 10 arbitrary: a/b\n";
-
-/// A query for one label whose window soon passes.
-pub const SHORT_WINDOW: &str = "query q window 10 slide 5 arbitrary: a\n";
 
 /// A stream that holds the one path of [`SEQUENCE`].
 pub const PATH: &str = "1 x a y\n2 y b z\n";
@@ -75,27 +72,6 @@ pub fn all_hold<R: Threads + RandomSource + Sync>(
     Ok(true)
 }
 
-/// Whether the runs of all the cases answer what they are to, in whatever pieces the files are
-/// read.
-pub fn hold_in_pieces<R: Threads + RandomSource + Sync>(
-    rt: &R,
-    alloc: Global,
-    cases: &[Case],
-) -> Result<bool, Fail> {
-    for case in cases {
-        for read_piece in [4096usize, 1, 2, 3, 7] {
-            let case = Case {
-                read_piece,
-                ..*case
-            };
-            if !holds(rt, alloc, &case)? {
-                return Ok(false);
-            }
-        }
-    }
-    Ok(true)
-}
-
 /// Whether the run of the case answers what it is to.
 pub fn holds<R: Threads + RandomSource + Sync>(
     rt: &R,
@@ -154,19 +130,4 @@ fn files_of(alloc: Global, case: &Case) -> Result<MemoryFiles, Fail> {
     let stream = case.stream.as_bytes();
     files.add("s", stream, piece, case.failing_stream_reads)?;
     Ok(files)
-}
-
-/// These texts, with so many copies of the one in the middle.
-pub fn text_with(
-    alloc: Global,
-    before: &str,
-    middle: &str,
-    count: usize,
-    after: &str,
-) -> Result<String, AllocError> {
-    let copies = middle.repeat(alloc, count)?;
-    let mut text = String::from_str(alloc, before)?;
-    text.push_str(&copies)?;
-    text.push_str(after)?;
-    Ok(text)
 }

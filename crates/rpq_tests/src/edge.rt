@@ -109,7 +109,8 @@ fn files_of_the_host_are_written_and_read(rt: HostRuntime) -> Result<(), Fail> {
     Ok(())
 }
 
-/// Gives an `a`, then fails, then is at its end. Takes no bytes.
+/// Gives an `a`, then fails, then is at its end. The first write fails, and each later one takes
+/// all bytes.
 #[derive(Drop)]
 struct Flaky {
     calls: u8,
@@ -130,6 +131,24 @@ impl Read for Flaky {
 }
 
 impl io::Write for Flaky {
+    fn write(&mut self, buf: &[u8]) -> io::Result<usize> {
+        self.calls = self.calls.saturating_add(1);
+        match self.calls {
+            1 => Err(io::Error::from(ErrorKind::Other)),
+            _ => Ok(buf.len()),
+        }
+    }
+
+    fn flush(&mut self) -> io::Result<()> {
+        Ok(())
+    }
+}
+
+/// Takes no bytes.
+#[derive(Drop)]
+struct Full;
+
+impl io::Write for Full {
     fn write(&mut self, _buf: &[u8]) -> io::Result<usize> {
         Ok(0)
     }
@@ -144,7 +163,11 @@ fn faults_of_the_host_are_answered(rt: HostRuntime) -> Result<(), Fail> {
     let mut source = HostSource::new(Flaky { calls: 0 });
     assert!(rt; fails_and_then_gives(rt.alloc(), &mut source, b""));
     let mut sink = HostSink::new(Flaky { calls: 0 });
-    assert!(rt; put_all(&mut sink, b"abc").is_err());
+    assert!(rt;
+        put_all(&mut sink, b"abc").is_err(),
+        "a failed write isn't made again"
+    );
+    assert!(rt; put_all(&mut HostSink::new(Full), b"abc").is_err());
     Ok(())
 }
 

@@ -2,9 +2,9 @@
 //! nothing but tests.
 //!
 //! The runs show by worked examples what no clause of `run` says: that a run with memory enough
-//! answers no want of it, and which bytes known examples give, in whatever pieces the files are
-//! read and the events written, and whichever call of a file or a sink fails. Each is a row of a
-//! table: what the run is given, and what it is to answer.
+//! never answers that memory ran out, and which bytes it writes, whichever call of a file or a sink
+//! fails. Each is a row of a table: what the run is given, and what it is to answer. Runs in which
+//! no call fails are requests of `rpq_cases`.
 #![tactic(auto)]
 
 #[cfg(test)]
@@ -14,12 +14,6 @@ mod edge;
 #[cfg(test)]
 mod faults;
 #[cfg(test)]
-mod queries;
-#[cfg(test)]
-mod streams;
-#[cfg(test)]
 mod turns;
-#[cfg(test)]
-mod words;
 #[cfg(test)]
 mod workers;

@@ -72,14 +72,16 @@ impl Read for Watching {
     }
 }
 
-/// The files `q` and `s`, which are watched.
+/// The files `q` and `s`, which are watched, and the names that were opened.
 #[derive(Drop)]
 struct WatchedFiles {
+    alloc: Global,
     written: Arc<AtomicU64>,
+    opened: Vec<String>,
 }
 
 impl Files for WatchedFiles {
-    ghost use Rattle.std.specs.Prelude.{[], None};
+    ghost use Rattle.std.specs.Prelude.{[], None, map, string_bytes};
 
     type Source = HostSource<Watching>;
 
@@ -87,16 +89,21 @@ impl Files for WatchedFiles {
 
     ghost holds = { λ _ _. None };
 
+    ghost opened = { λ files. map (λ name. string_bytes name) files.opened.items };
+
+    ghost made = { λ _. [] };
+
     ghost unread = { λ _ _. 0 };
 
     ghost unmade = { λ _ _. 0 };
-
-    ghost made = { λ _. [] };
 
     fn source(&mut self, name: &str) -> Result<HostSource<Watching>, OpenFault> {
         let Ok(written) = Arc::try_clone(&self.written) else {
             return Err(OpenFault::Memory);
         };
+        self.opened.reserve(1)?;
+        let noted = String::from_str(self.alloc, name)?;
+        self.opened.push_reserved(noted);
         let (first, second, wanted) = if name == "q" {
             (QUERIES, "", 0)
         } else {
@@ -131,7 +138,9 @@ fn is_done<R: Threads + RandomSource + Sync>(rt: &R, alloc: Global) -> Result<bo
     let written = Arc::new(alloc, AtomicU64::new(0))?;
     let told = Arc::new(alloc, AtomicU64::new(0))?;
     let mut files = WatchedFiles {
+        alloc,
         written: Arc::try_clone(&written)?,
+        opened: Vec::new(alloc),
     };
     let mut events = counting_sink(&written)?;
     let mut errors = counting_sink(&told)?;

@@ -1,6 +1,6 @@
-//! Workers on trees: two at the same time, and the same bytes from any number of them.
+//! Workers on trees: two at the same time, with the bytes of one.
 
-use crate::case::{Case, all_hold, holds_behind, path};
+use crate::case::{Case, holds_behind, path};
 use rpq_io::{Gate, Who};
 use std::alloc::Global;
 use std::hint::spin_loop;
@@ -70,7 +70,10 @@ fn one_worker<'a>() -> Case<'a> {
         words: &["--workers", "1", "q", "s"],
         queries: "query q window 100 slide 10 arbitrary: a+\n",
         stream: "1 r a x\n1 x a y\n1 y a x\n1 r a x -\n",
-        events: "@1 1 1 r a x +\n+ q r x\n@2 1 1 x a y +\n+ q r y\n+ q x y\n@3 1 1 y a x +\n+ q x x\n+ q y x\n+ q y y\n@4 1 1 r a x -\n- q r x\n- q r y\n",
+        events: "@1 1 1 r a x +\n+ q r x\n\
+            @2 1 1 x a y +\n+ q r y\n+ q x y\n\
+            @3 1 1 y a x +\n+ q x x\n+ q y x\n+ q y y\n\
+            @4 1 1 r a x -\n- q r x\n- q r y\n",
         ..path()
     }
 }
@@ -101,19 +104,5 @@ fn holds_and_meets<R: Threads + RandomSource + Sync>(
 fn two_workers_at_the_same_time(rt: HostRuntime) -> Result<(), Fail> {
     assert!(rt; holds_and_meets(&rt, rt.alloc(), &one_worker(), false)?);
     assert!(rt; holds_and_meets(&rt, rt.alloc(), &two_workers(), true)?);
-    Ok(())
-}
-
-#[test]
-fn any_number_of_workers(rt: HostRuntime) -> Result<(), Fail> {
-    let cases = [
-        one_worker(),
-        two_workers(),
-        Case {
-            words: &["--workers", "64", "q", "s"],
-            ..one_worker()
-        },
-    ];
-    assert!(rt; all_hold(&rt, rt.alloc(), &cases)?);
     Ok(())
 }
