@@ -163,7 +163,7 @@ def same_by_workers(program):
 
 
 def with_a_tail(kind):
-    """A stream of 20,000 tuples, then of 1,000 between 50 other vertices, each in its own window."""
+    """A stream of 20,000 tuples, then of 1,000 between 50 others, each in its own window."""
     _, window, _, _ = workloads.KINDS[kind]
     with open(files(kind, 20000, "all")[1]) as stream:
         lines = stream.read().splitlines()
@@ -186,7 +186,8 @@ def memory_in_use(program, kind):
     lines = with_a_tail(kind)
     note = os.path.join(tempfile.gettempdir(), f"rpq-massif-{os.getpid()}")
     massif = ["valgrind", "-q", "--tool=massif", "--max-snapshots=1000"]
-    words = [*massif, f"--massif-out-file={note}", program, files(kind, 20000, "all")[0], "/dev/stdin"]
+    queries = files(kind, 20000, "all")[0]
+    words = [*massif, f"--massif-out-file={note}", program, queries, "/dev/stdin"]
     process = subprocess.Popen(words, stdin=subprocess.PIPE, stdout=subprocess.PIPE)
     feeder = threading.Thread(target=feed, args=(process.stdin, lines))
     feeder.start()

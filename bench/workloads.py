@@ -6,21 +6,22 @@
 KIND is one of these, each with eleven queries over a window of its own:
 
   uniform   three labels over vertices that are drawn evenly, one tuple in sixteen a removal
+  ends      the same tuples, of which every other insert has an end of its own within the window
   so        answers and comments among the users of a forum, few of whom write most of them
   social    messages, their authors, replies, likes and friendships
   yago      a hundred labels of very different frequency over many resources
   netflow   flows between addresses, in bursts from one address, most of them seen before
 
-In each, one tuple in fifty comes late, by up to half of the window. The files are DIR/KIND-TUPLES.txt,
-DIR/KIND.queries with all queries, and DIR/KIND.qN.queries with one of them.
+In each, one tuple in fifty comes late, by up to half of the window. The files are
+DIR/KIND-TUPLES.txt, DIR/KIND.queries with all queries, and DIR/KIND.qN.queries with one of them.
 """
 
 import argparse
 import os
 import random
 
-# The shapes of the queries: those that Pacaci, Bonifati and Oezsu (SIGMOD 2020) took from the query
-# logs of Wikidata.
+# The shapes of the queries: those that the paper which the README names took from the query logs of
+# Wikidata.
 SHAPES = [
     "A*",
     "A/B*",
@@ -39,6 +40,7 @@ SHAPES = [
 # own time, and the number of vertices.
 KINDS = {
     "uniform": (["a", "b", "c", "a"], 1600, 80, 2000),
+    "ends": (["a", "b", "c", "a"], 1600, 80, 2000),
     "so": (["answers", "comments", "questions", "answers"], 129600, 3600, 60000),
     "social": (["replyOf", "hasCreator", "knows", "likes"], 36000, 1800, 3000),
     "yago": (["p3", "p0", "p1", "p2"], 150000, 5000, 120000),
@@ -127,15 +129,23 @@ def netflow(tuples, draw, vertices):
         yield int(time), flow
 
 
-MAKERS = {"uniform": uniform, "so": so, "social": social, "yago": yago, "netflow": netflow}
+MAKERS = {
+    "uniform": uniform,
+    "ends": uniform,
+    "so": so,
+    "social": social,
+    "yago": yago,
+    "netflow": netflow,
+}
 
 
 def stream(kind, tuples, vertices=None, seed=1):
-    """The lines of a stream: one edge in fifty is removed again (in uniform one in sixteen), and
-    one tuple in fifty comes late."""
+    """The lines of a stream: one edge in fifty is removed again (in uniform and ends one in
+    sixteen), one tuple in fifty comes late, and in ends every other insert has an end."""
     _, window, _, usual = KINDS[kind]
-    draw = random.Random(f"{kind} {seed}")
-    removals = 1 / 16 if kind == "uniform" else 1 / 50
+    draw = random.Random(f"{'uniform' if kind == 'ends' else kind} {seed}")
+    draw_end = random.Random(f"ends {seed}")
+    removals = 1 / 16 if kind in ("uniform", "ends") else 1 / 50
     past = []
     for time, edge in MAKERS[kind](tuples, draw, vertices or usual):
         sign = "+"
@@ -147,6 +157,8 @@ def stream(kind, tuples, vertices=None, seed=1):
             past[draw.randrange(2000)] = edge
         if draw.random() < 1 / 50:
             time = max(0, time - int(draw.random() * window / 2))
+        if kind == "ends" and sign == "+" and draw_end.random() < 1 / 2:
+            sign = f"+ until {time + 1 + int(draw_end.random() * window)}"
         yield f"{time} {edge} {sign}"
 
 

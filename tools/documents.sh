@@ -1,0 +1,213 @@
+#!/usr/bin/env bash
+# tools/documents.sh PROGRAM
+#
+# Runs what the documents say, with PROGRAM as `rpq`, and compares what comes out.
+#
+# - Each command of README.md, docs/examples.md, docs/your-data.md and docs/formats.md, which is an
+#   indented line behind `$ `. What follows it, up to a blank line or the next command, is what it
+#   writes; a line `...` there is any further lines.
+# - The example of the README's first screen, and the files *-events.txt of examples/.
+# - Whether docs/architecture.md has each crate, and docs/proved.md each law.
+# - What `main` makes of words that aren't UTF-8, of too many words, and of a closed output: no
+#   contract says it.
+#
+# The commands of a document run one after another in a copy of examples/, those of the README in
+# the folder above it. Small stand-ins are there for the packages of the machine, a collector, the
+# clock and `rt`. The last line is `N passed, M failed`; the status is 0 where none failed.
+set -u
+export LC_ALL=C
+[ $# -eq 1 ] || { echo "usage: tools/documents.sh PROGRAM" >&2; exit 1; }
+program="$(realpath "$1")"
+[ -x "$program" ] || { echo "documents: no program $1" >&2; exit 1; }
+top="$(cd "$(dirname "$0")/.." && pwd)"
+place="$(mktemp -d)" || exit 1
+trap 'rm -rf "$place"' EXIT
+exec < /dev/null
+passed=0
+failed=0
+
+# says whether a check passed, by the status before
+count() {
+    if [ "$1" -eq 0 ]; then
+        passed=$((passed + 1))
+    else
+        failed=$((failed + 1))
+        echo "FAILED: $2"
+    fi
+}
+
+# What stands for the world: the program, and commands that the documents name.
+mkdir "$place/bin"
+ln -s "$program" "$place/bin/rpq"
+cat > "$place/bin/rt" <<'END'
+#!/bin/sh
+case "$1 $2" in "try --" | "run --") shift 2; exec rpq "$@" ;; *) exit 1 ;; esac
+END
+cat > "$place/bin/collector" <<'END'
+#!/bin/sh
+exec cat live.txt
+END
+cat > "$place/bin/date" <<'END'
+#!/bin/sh
+echo 1764205500
+END
+# The first sleep lasts until the guard has passed all lines on, and the second ends the loop.
+cat > "$place/bin/perl" <<END
+#!/bin/sh
+"$(command -v perl)" "\$@" && : > guarded
+END
+cat > "$place/bin/sleep" <<'END'
+#!/bin/sh
+[ -e slept ] && exit 1
+: > slept
+until [ -e guarded ]; do /bin/sleep 0.1; done
+END
+chmod +x "$place/bin/rt" "$place/bin/collector" "$place/bin/date" "$place/bin/perl" \
+    "$place/bin/sleep"
+PATH="$place/bin:$PATH"
+
+# whether a text is as wanted, where a line `...` stands for any further lines
+is_as_wanted() {
+    if [ "$(tail -n 1 "$2")" = "..." ]; then
+        local lines
+        lines=$(($(wc -l < "$2") - 1))
+        cmp -s <(head -n "$lines" "$1") <(head -n "$lines" "$2")
+    else
+        cmp -s "$1" "$2"
+    fi
+}
+
+# runs one command of a document, and compares what it writes with what stands below it
+run_command() {
+    local document="$1" work="$2" number="$3" command="$4"
+    (cd "$place/$work" && timeout 30 bash -c "$command") < /dev/null > "$place/actual" 2>&1
+    local status=$?
+    if [ $status -ne 0 ]; then
+        count 1 "$document line $number: status $status"
+        head -n 20 "$place/actual"
+    elif is_as_wanted "$place/actual" "$place/wanted"; then
+        count 0
+    else
+        count 1 "$document line $number: it writes another text"
+        diff "$place/wanted" "$place/actual" | head -n 20
+    fi
+}
+
+# runs the commands of a document
+run_document() {
+    local document="$1" work="$2" number=0 first=0 command="" is_open=no line
+    rm -rf "$place/top"
+    mkdir -p "$place/top/crates/rpq"
+    cp -r "$top/examples" "$place/top/"
+    cp -r "$top/crates/rpq/data" "$place/top/crates/rpq/"
+    : > "$place/wanted"
+    while IFS= read -r line || [ -n "$line" ]; do
+        number=$((number + 1))
+        if [ "$is_open" = yes ]; then
+            command="$command"$'\n'"${line#    }"
+        elif [ "${line#    }" = "$line" ] || [ "${line#    \$ }" != "$line" ]; then
+            [ -z "$command" ] || run_command "$document" "$work" "$first" "$command"
+            command=""
+            : > "$place/wanted"
+            [ "${line#    \$ }" = "$line" ] && continue
+            command="${line#    \$ }"
+            first=$number
+        else
+            [ -z "$command" ] || printf '%s\n' "${line#    }" >> "$place/wanted"
+            continue
+        fi
+        # A command that isn't whole goes on in the next line.
+        is_open=no
+        if [ "${command%\\}" != "$command" ] || ! bash -n -c "$command" 2> /dev/null; then
+            is_open=yes
+        fi
+    done < <(sed 's|/var/lib/dpkg/status|dpkg-status|' "$top/$document"; echo)
+}
+
+run_document README.md top
+for document in docs/examples.md docs/your-data.md docs/formats.md; do
+    run_document "$document" top/examples
+done
+
+# The first screen has the stream on the left, what it gives on the right, and the command.
+cd "$top" || exit 1
+screen="$(sed '/^## /q' README.md)"
+cmp -s crates/rpq/data/stream.txt \
+    <(grep -oE '^    [0-9]+( [a-z:0-9]+){3}  ' <<< "$screen" | sed 's/^ *//; s/ *$//')
+count $? "README.md: the stream of the first screen isn't crates/rpq/data/stream.txt"
+cmp -s crates/rpq/data/queries.txt <(grep -E '^    query' <<< "$screen" | sed 's/^ *//')
+count $? "README.md: the query of the first screen isn't crates/rpq/data/queries.txt"
+cmp -s <(bash -c "$(grep '^    cd ' <<< "$screen")") \
+    <(grep -oE '  (@[0-9]+ 1 [0-9]+ .*|[+-] through .*)$' <<< "$screen" | sed 's/^ *//')
+count $? "README.md: the command of the first screen gives another output"
+
+cd "$top/examples" || exit 1
+for events in *-events.txt; do
+    kind="${events%-events.txt}"
+    cmp -s "$events" <(rpq "$kind-queries.txt" "$kind-stream.txt" 2>&1)
+    count $? "examples/$events: rpq writes another text"
+done
+
+# the words that a page doesn't have, each between these two texts
+missing_in() {
+    local page="$1" before="$2" behind="$3" word
+    while read -r word; do
+        grep -qF -- "$before$word$behind" "$page" || echo "$word"
+    done
+}
+
+cd "$top" || exit 1
+missing="$(sed -n 's/^\([a-z_0-9]*\):.*/\1/p' crates.txt |
+    missing_in docs/architecture.md '| `' '` |' | tr '\n' ' ')"
+[ -z "$missing" ]
+count $? "docs/architecture.md: it doesn't say what is in $missing"
+missing="$(cat crates/*/src/*laws.rt | sed -n 's/^pub fn \([a-z_0-9]*\).*/\1/p' |
+    missing_in docs/proved.md '`' '`' | tr '\n' ' ')"
+[ -z "$missing" ]
+count $? "docs/proved.md: it doesn't name the laws $missing"
+
+cd "$top/examples" || exit 1
+# whether the program, with these words and outputs, ends with a status and says a line
+ends_with() {
+    local status="$1" line="$2" name="$3"
+    shift 3
+    "$@" 2> "$place/errors"
+    [ $? -eq "$status" ] && grep -qxF -- "$line" "$place/errors"
+    count $? "$name: no status $status, or no line \`$line\`"
+}
+
+queries=ring-queries.txt
+stream=ring-stream.txt
+to_closed() { rpq "$@" >&-; }
+to_full() { rpq "$@" > /dev/full; }
+from_closed() { rpq "$@" <&-; }
+# The reader of the pipe is gone once a write fails.
+to_nobody() {
+    (
+        trap '' PIPE
+        while printf '\n' 2> /dev/null; do /bin/sleep 0.1; done
+        trap - PIPE
+        rpq "$@"
+        echo $? > "$place/status"
+    ) | true
+    return "$(cat "$place/status")"
+}
+mapfile -t many < <(for number in $(seq 65); do echo "$stream"; done)
+mapfile -t very_many < <(seq 20000)
+ends_with 1 "rpq: words" "no words" rpq
+ends_with 1 "rpq: words" "a word that isn't UTF-8" rpq $'\xff' "$stream"
+ends_with 1 "rpq: words" "a last word that isn't UTF-8" rpq "$queries" $'a\xc3'
+ends_with 1 "rpq: words" "a further word that isn't UTF-8" rpq "$queries" "$stream" $'\xff'
+ends_with 1 "rpq: words" "65 streams" rpq "$queries" "${many[@]}"
+ends_with 1 "rpq: words" "20,000 words" rpq "$queries" "${very_many[@]}"
+ends_with 1 "rpq: words" "an option behind the files" rpq "$queries" "$stream" --workers=65
+ends_with 6 "rpq: write failed: events" "a closed output" to_closed "$queries" "$stream"
+ends_with 6 "rpq: write failed: events" "a closed output of a check" to_closed --check "$queries"
+ends_with 6 "rpq: write failed: events" "a full device" to_full "$queries" "$stream"
+ends_with 6 "rpq: write failed: events" "a pipe that nobody reads" to_nobody "$queries" "$stream"
+ends_with 5 "rpq: read failed: stream 1" "a closed input" from_closed "$queries" /dev/stdin
+rpq "$queries" "$stream" > /dev/null 2>&-
+count $? "closed errors: the status isn't 0"
+
+echo "$passed passed, $failed failed"
+[ "$failed" -eq 0 ]
