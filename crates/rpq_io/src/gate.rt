@@ -7,6 +7,8 @@ pub enum Who {
     Stream(u32),
     /// The worker on trees with this number. They are numbered from 1 in each call.
     Trees(u32),
+    /// The worker on queries with this number. They are numbered from 1 in each front of entries.
+    Queries(u32),
 }
 
 /// What is told of a run's workers, each before its first piece of work, and of its readers'
@@ -17,6 +19,13 @@ pub enum Who {
 pub trait Gate: Sync {
     /// A worker is about to begin.
     fn pass(&self, who: Who);
+
+    /// The number of trees from which on a change is shared out among workers, where it may touch
+    /// so many. A thread costs more than a few trees do; a test of workers side by side asks for
+    /// fewer.
+    fn least_shared(&self) -> usize {
+        1000
+    }
 
     /// An ask of this session, from 1, was answered at this position of the history.
     fn replied(&self, session: u32, position: u64);
