@@ -1,3 +1,4 @@
+mod Bounds
 mod Halves
 mod Noted
 mod Outcomes

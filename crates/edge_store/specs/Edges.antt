@@ -1,6 +1,6 @@
 -- A store of edges as contracts see it: a finite map from edges to values, and the order in which
 -- a walk gives the edges of a vertex.
-use Rattle.std.specs.Prelude.{◌≡◌, ℕ, Bool, ◌&&◌, ◌==◌, cond, max, nat_lt, List, [], Option, None, Some, ◌↔◌, Contains, slice_index_or}
+use Rattle.std.specs.Prelude.{◌≡◌, ℕ, ◌≤◌, Bool, ◌&&◌, ◌==◌, cond, max, nat_lt, List, [], All, Option, None, Some, ◌↔◌, Contains, slice_index_or}
 use Rattle.std.specs.List.{IsDistinct}
 use Rattle.std.specs.Map.{lookup, keys_of}
 use Rattle.edge_store.specs.declared.edge.EdgeId.{EdgeId}
@@ -96,6 +96,10 @@ out_entry out = (record { label = out.label; far = out.to }, out.value)
 
 abbrev pub in_entry : In → HalfEdge × ℕ
 in_entry edge = (record { label = edge.label; far = edge.from }, edge.value)
+
+-- no edge of a walk has a value above the bound
+abbrev pub AreAtMost : ℕ → List (HalfEdge × ℕ) → Type 0
+AreAtMost most entries = All (λ (entry : HalfEdge × ℕ). entry.1 ≤ most) entries
 
 -- the walk gives exactly the edges that leave the vertex, with their values, each at one place
 pub record GivesOuts (store : Edges) (vertex : ℕ) : Type 0 where

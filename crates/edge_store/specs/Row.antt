@@ -1,6 +1,8 @@
 -- The edges of one vertex, on one side.
-use Rattle.std.specs.Prelude.{◌≡◌, ℕ, ◌-◌, ◌<◌, ◌⊎◌, true, cond, is_some, nat_lt, List, length}
-use Rattle.std.specs.Map.{lookup}
+use Rattle.std.specs.Prelude.{◌≡◌, ℕ, ◌-◌, ◌<◌, ◌≤◌, ◌⊎◌, true, cond, is_some, nat_lt, List, [], length, Option, None, Some}
+use Rattle.std.specs.Borrow.{Bor}
+use Rattle.std.specs.List.{IsDistinct}
+use Rattle.std.specs.Map.{keys_of, lookup}
 use Rattle.edge_store.specs.declared.edge.HalfEdge.{HalfEdge}
 use Rattle.edge_store.specs.Edges.{same_half}
 
@@ -8,6 +10,17 @@ use Rattle.edge_store.specs.Edges.{same_half}
 pub record RowValue : Type 0 where
   pub entries : List (HalfEdge × ℕ)
   pub room : ℕ
+
+-- the edges of a row that may be there
+abbrev pub walk_of : Option (Bor RowValue) → List (HalfEdge × ℕ)
+walk_of None = []
+walk_of (Some row) = row.now.entries
+
+-- no edge stands at two places, and none has a value above the bound
+pub record IsRow (entries : List (HalfEdge × ℕ)) (most : ℕ) : Type 0 where
+  pub once : IsDistinct same_half (keys_of entries)
+  pub below : (half : HalfEdge) (value : ℕ) →
+      lookup (same_half half) entries ≡ Some value → value ≤ most
 
 -- the room of a row: that of its list until this has 16 edges, and then that of its map
 abbrev pub room_of : List (HalfEdge × ℕ) → ℕ → ℕ → ℕ

@@ -6,6 +6,10 @@
 //! and one over those that end at it give the same edges, each once. The calls by which a walk goes
 //! count their steps, for whoever bounds them.
 //!
+//! A walk looks its vertex up once, and then costs a step in a slice or in a map for each edge. It
+//! also answers a bound on the values of its edges without a step, so that a walk can be left out
+//! which would find no value above another. The bound takes eight bytes for each vertex with edges.
+//!
 //! A raise and a removal cost a look-up at each of the two vertices: through a short list, and by
 //! hash at a vertex of many edges. `expire` costs one comparison where no edge goes, and else a
 //! step in a heap for each edge that goes and for each raise that a later one outdid. Memory that
@@ -19,7 +23,9 @@ mod row;
 mod rows;
 mod steps;
 mod store;
+mod walk;
 
 pub use edge::{EdgeId, HalfEdge, In, Out, Raised};
 pub use steps::Steps;
 pub use store::EdgeStore;
+pub use walk::{Ins, Outs};

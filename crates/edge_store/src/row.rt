@@ -4,7 +4,7 @@ ghost use Rattle.std.specs.Prelude.{◌≡◌, ◌<◌, [], length, cond, IfSome
 ghost use Rattle.std.specs.List.{IsDistinct, position};
 ghost use Rattle.std.specs.Map.{keys_of, lookup};
 ghost use Rattle.edge_store.specs.declared.edge.HalfEdge.{HalfEdge};
-ghost use Rattle.edge_store.specs.Edges.{same_half};
+ghost use Rattle.edge_store.specs.Edges.{AreAtMost, same_half};
 ghost use Rattle.edge_store.specs.Row.{Takes};
 
 use crate::edge::HalfEdge;
@@ -29,6 +29,8 @@ const FIRST: usize = 2;
 pub(crate) struct Row {
     few: Vec<(HalfEdge, u64)>,
     more: EdgeMap,
+    /// The greatest value that was put since the row had no edge.
+    most: u64,
 }
 
 impl Model for Row {
@@ -37,10 +39,7 @@ impl Model for Row {
     ghost Value = { RowValue };
 
     ghost use Rattle.std.specs.Prelude.{◌++◌};
-    ghost use Rattle.std.specs.List.{IsDistinct};
-    ghost use Rattle.std.specs.Map.{keys_of};
-    ghost use Rattle.edge_store.specs.Edges.{same_half};
-    ghost use Rattle.edge_store.specs.Row.{room_of};
+    ghost use Rattle.edge_store.specs.Row.{IsRow, room_of};
     ghost use Rattle.std.specs.Vec.{vec_capacity};
 
     ghost view = { λ row. record {
@@ -48,7 +47,7 @@ impl Model for Row {
       room = room_of row.few.items (vec_capacity row.few) row.more.room;
     } };
 
-    ghost invariant = { λ row. IsDistinct same_half (keys_of (row.few.items ++ row.more.entries)) };
+    ghost invariant = { λ row. IsRow (row.few.items ++ row.more.entries) row.most };
 }
 
 /// The place of an edge among those of a list.
@@ -79,6 +78,7 @@ impl Row {
         Row {
             few: Vec::new(alloc),
             more: EdgeMap::new(),
+            most: 0,
         }
     }
 
@@ -94,10 +94,23 @@ impl Row {
 
     /// The number of edges.
     pub(crate) fn len(&self) -> usize
-        ensures count { result ≡ length self.now.entries }
-        ensures once { IsDistinct same_half (keys_of self.now.entries) }
+        ensures { result ≡ length self.now.entries }
     {
         self.few.len() + self.more.len()
+    }
+
+    /// No edge stands at two places. This is for contracts alone, and does nothing.
+    pub(crate) fn once(&self)
+        ensures { IsDistinct same_half (keys_of self.now.entries) }
+    {
+        let _ = &self.few;
+    }
+
+    /// A number that no edge has a value above.
+    pub(crate) fn most(&self) -> u64
+        ensures { AreAtMost result self.now.entries }
+    {
+        self.most
     }
 
     /// The edge at this place.
@@ -131,6 +144,7 @@ impl Row {
         ensures { (other : HalfEdge) → lookup (same_half other) self.new.entries
             ≡ cond (same_half half other) (Some value) (lookup (same_half other) self.old.entries) }
     {
+        self.most = self.most.max(value);
         if let Some(at) = place(&self.few, half) {
             self.few[at].1 = value;
             return;
@@ -151,6 +165,7 @@ impl Row {
             ≡ cond (same_half half other) None (lookup (same_half other) self.old.entries) }
     {
         let value = self.take_out(half);
+        self.lower_most();
         self.give_back();
         value
     }
@@ -164,6 +179,15 @@ impl Row {
         match place(&self.few, half) {
             Some(at) => Some(self.few.swap_remove(at).1),
             None => self.more.take(half),
+        }
+    }
+
+    /// A row without edges has no value, so its bound is as low as can be.
+    fn lower_most(&mut self)
+        ensures { self.new.entries ≡ self.old.entries }
+    {
+        if self.len() == 0 {
+            self.most = 0;
         }
     }
 

@@ -5,6 +5,7 @@ ghost use Rattle.std.specs.Prelude.{slice_get, vec_len};
 ghost use Rattle.std.specs.List.{IsDistinct};
 ghost use Rattle.std.specs.Map.{keys_of};
 ghost use Rattle.edge_store.specs.Edges.{row, value_at, same_half};
+ghost use Rattle.edge_store.specs.Row.{walk_of};
 ghost use Rattle.edge_store.specs.Rows.{rows_of, place_of};
 ghost use Rattle.edge_store.specs.Rows.{IsSide, IsBareAt, GivesRow, HasRoom, HasSameRows, KeepsRows};
 ghost use Rattle.edge_store.specs.Rows.{TakesAt, Writes};
@@ -235,25 +236,18 @@ impl Rows {
         }
     }
 
-    /// The number of edges of the vertex.
-    pub(crate) fn count(&self, vertex: u32) -> usize
-        ensures count { result ≡ length (row (rows_of self.now) vertex) }
-        ensures once { IsDistinct same_half (keys_of (row (rows_of self.now) vertex)) }
+    /// The row of the vertex, where it has one.
+    pub(crate) fn get(&self, vertex: u32) -> Option<&Row>
+        ensures row { walk_of result ≡ row (rows_of self.now) vertex }
+        ensures once { IsDistinct same_half (keys_of (walk_of result)) }
     {
         match locate(&self.slots, vertex) {
-            Some(at) => self.rows[at].len(),
-            None => 0,
-        }
-    }
-
-    /// The edge of the vertex at this place.
-    pub(crate) fn entry_at(&self, vertex: u32, place: usize) -> (HalfEdge, u64)
-        requires { place < length (row (rows_of self.now) vertex) }
-        ensures { slice_get (row (rows_of self.now) vertex) place ≡ Some result }
-    {
-        match locate(&self.slots, vertex) {
-            Some(at) => self.rows[at].at(place),
-            None => unreachable!(),
+            Some(at) => {
+                let row = &self.rows[at];
+                row.once();
+                Some(row)
+            }
+            None => None,
         }
     }
 

@@ -9,6 +9,7 @@ ghost use Rattle.edge_store.specs.Rows.{rows_of, sides, Agree, HasSameRows, Take
 use crate::edge::{EdgeId, In, Out, Raised};
 use crate::rows::Rows;
 use crate::steps::Steps;
+use crate::walk::{Ins, Outs};
 use due_queue::DueQueue;
 use rpq_base::Memory;
 use std::alloc::Global;
@@ -137,12 +138,28 @@ impl EdgeStore {
         self.dues.give_back();
     }
 
+    /// The edges that leave the vertex, by one look-up for a whole walk.
+    pub fn outs(&self, v: u32) -> Outs<'_>
+        ensures edges { result ≡ outs_of self.now v }
+        ensures walk { GivesOuts self.now v }
+    {
+        Outs::new(self.outs.get(v))
+    }
+
+    /// The edges that end at the vertex, by one look-up for a whole walk.
+    pub fn ins(&self, v: u32) -> Ins<'_>
+        ensures edges { result ≡ ins_of self.now v }
+        ensures walk { GivesIns self.now v }
+    {
+        Ins::new(self.ins.get(v))
+    }
+
     /// The number of edges that leave the vertex. A walk over them goes from place 0 to below it.
     pub fn out_len(&self, v: u32) -> usize
         ensures count { result ≡ length (outs_of self.now v) }
         ensures walk { GivesOuts self.now v }
     {
-        self.outs.count(v)
+        self.outs(v).len()
     }
 
     /// The number of edges that end at the vertex. A walk over them goes from place 0 to below it.
@@ -150,37 +167,27 @@ impl EdgeStore {
         ensures count { result ≡ length (ins_of self.now v) }
         ensures walk { GivesIns self.now v }
     {
-        self.ins.count(v)
+        self.ins(v).len()
     }
 
-    /// The edge at this place among those that leave the vertex. It counts one step.
+    /// The edge at this place among those that leave the vertex. It counts one step, and looks the
+    /// vertex up; a walk goes faster by [`EdgeStore::outs`].
     pub fn out_at<L: Ledger>(&self, v: u32, k: usize, steps: &mut Steps<L>) -> Out
         requires { k < length (outs_of self.now v) }
         ensures there { slice_get (outs_of self.now v) k ≡ Some (out_entry result) }
         ensures counted { steps.new ≡ steps.old + 1 }
     {
-        steps.tick();
-        let (half, value) = self.outs.entry_at(v, k);
-        Out {
-            label: half.label,
-            to: half.far,
-            value,
-        }
+        self.outs(v).at(k, steps)
     }
 
-    /// The edge at this place among those that end at the vertex. It counts one step.
+    /// The edge at this place among those that end at the vertex. It counts one step, and looks the
+    /// vertex up; a walk goes faster by [`EdgeStore::ins`].
     pub fn in_at<L: Ledger>(&self, v: u32, k: usize, steps: &mut Steps<L>) -> In
         requires { k < length (ins_of self.now v) }
         ensures there { slice_get (ins_of self.now v) k ≡ Some (in_entry result) }
         ensures counted { steps.new ≡ steps.old + 1 }
     {
-        steps.tick();
-        let (half, value) = self.ins.entry_at(v, k);
-        In {
-            label: half.label,
-            from: half.far,
-            value,
-        }
+        self.ins(v).at(k, steps)
     }
 }
 

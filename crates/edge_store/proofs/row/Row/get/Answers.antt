@@ -11,7 +11,7 @@ pub returns-in-Some : goal.returns-in-Some
 returns-in-Some c =
     let found = ap (position (λ (each : HalfEdge × ℕ). same_half c.args.half each.0)) (sym c.deref.ensures.value)
     ∙ sym c.place.ensures.place ∙ c.in-Some.is in
-    sym (place_value c.self.inside.few.items c.self.inside.more.entries c.args.half c.in-Some.at c.index.result.now c.self.invariant found c.index.ensures)
+    sym (place_value c.self.inside.few.items c.self.inside.more.entries c.args.half c.in-Some.at c.index.result.now c.self.invariant.once found c.index.ensures)
     ∙ ap (λ row. lookup (same_half c.args.half) row.entries) c.self.view_is
 
 pub returns-in-None : goal.returns-in-None

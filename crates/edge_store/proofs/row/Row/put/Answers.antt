@@ -1,9 +1,10 @@
-use Rattle.std.proofs.Common.{◌≡◌, ◌<◌, ◌≤◌, ◌++◌, ◌∷◌, [], length, sym, ap, subst, ◌∙◌, ℕ, cond, Some, None, inl, if◌then◌else◌, vec_len, vec_capacity, arith}
+use Rattle.std.proofs.Common.{slice_set, ◌≡◌, ◌<◌, ◌≤◌, ◌++◌, ◌∷◌, [], length, sym, ap, subst, ◌∙◌, ℕ, cond, Some, None, inl, if◌then◌else◌, vec_len, vec_capacity, arith}
 use Rattle.std.specs.List.{position, IsDistinct}
 use Rattle.std.specs.Map.{keys_of, lookup}
 use Rattle.edge_store.specs.declared.edge.HalfEdge.{HalfEdge}
 use Rattle.edge_store.specs.Edges.{same_half}
 use Rattle.edge_store.specs.Row.{room_of, Takes}
+use Rattle.edge_store.proofs.Bounds.{below_put}
 use Rattle.edge_store.proofs.RowEntries.{few_changed, more_changed, pushed}
 use Rattle.edge_store.proofs.RowPlaces.{place_key, place_none, set_value, set_distinct, push_distinct, insert_distinct, few_room, new_room, map_takes, none_from_test}
 use Rattle.edge_store.proofs.row.Row.put.Goals as goal
@@ -14,14 +15,22 @@ invariant_of-self c =
     let found = ap (position (λ (each : HalfEdge × ℕ). same_half c.args.half each.0)) (sym c.deref.ensures.value)
     ∙ sym c.place.ensures.place ∙ c.in-Some.is in
     let within = (place_key c.self.inside.few.items c.args.half c.in-Some.at c.index_mut.result.now found c.index_mut.ensures.value).0 in
-    set_distinct c.self.inside.few.items c.self.inside.more.entries c.in-Some.at c.index_mut.result.now c.args.value c.self.invariant within
-    c.index_mut.ensures.value
+    record {
+      once = set_distinct c.self.inside.few.items c.self.inside.more.entries c.in-Some.at
+          c.index_mut.result.now c.args.value c.self.invariant.once within c.index_mut.ensures.value;
+      below = below_put (c.self.inside.few.items ++ c.self.inside.more.entries)
+          (slice_set c.self.inside.few.items c.in-Some.at (c.index_mut.result.now.0, c.args.value)
+          ++ c.self.inside.more.entries) c.args.half c.args.value c.self.inside.most c.max-self-inside.result
+          c.self.invariant.below c.max-self-inside.ensures
+          (set_value c.self.inside.few.items c.self.inside.more.entries c.args.half c.in-Some.at
+          c.index_mut.result.now c.args.value c.self.invariant.once found c.index_mut.ensures.value);
+    }
 
 pub returns-in-Some : goal.returns-in-Some
 returns-in-Some c other =
     let found = ap (position (λ (each : HalfEdge × ℕ). same_half c.args.half each.0)) (sym c.deref.ensures.value)
     ∙ sym c.place.ensures.place ∙ c.in-Some.is in
-    set_value c.self.inside.few.items c.self.inside.more.entries c.args.half c.in-Some.at c.index_mut.result.now c.args.value c.self.invariant
+    set_value c.self.inside.few.items c.self.inside.more.entries c.args.half c.in-Some.at c.index_mut.result.now c.args.value c.self.invariant.once
     found c.index_mut.ensures.value other
     ∙ ap (λ row. cond (same_half c.args.half other) (Some c.args.value) (lookup (same_half other) row.entries)) c.self.view_is
 
@@ -49,16 +58,32 @@ few_items c =
     ∙ ap (λ b. if b then c.self.inside.few.items ++ (c.args.half, c.args.value) ∷ [] else c.self.inside.few.items)
     (c.push.ensures.succeeds fits)
 
+-- so this edge alone is new
+few_more : (c : goal.After-push) (other : HalfEdge) →
+    lookup (same_half other) (c.push.new.self.items ++ c.self.inside.more.entries)
+    ≡ cond (same_half c.args.half other) (Some c.args.value)
+    (lookup (same_half other) (c.self.inside.few.items ++ c.self.inside.more.entries))
+few_more c other =
+    ap (λ few. lookup (same_half other) (few ++ c.self.inside.more.entries)) (few_items c)
+    ∙ few_changed c.self.inside.few.items
+    (c.self.inside.few.items ++ (c.args.half, c.args.value) ∷ []) c.self.inside.more.entries
+    c.args.half (Some c.args.value) (λ _. more_none c)
+    (pushed c.self.inside.few.items c.args.half c.args.value (few_none c)) other
+
 pub invariant_of-self-then-not-contains : goal.invariant_of-self-then-not-contains
-invariant_of-self-then-not-contains c =
-    subst (λ few. IsDistinct same_half (keys_of (few ++ c.self.inside.more.entries))) (sym (few_items c))
-    (push_distinct c.self.inside.few.items c.self.inside.more.entries c.args.half c.args.value c.self.invariant (few_none c) (more_none c))
+invariant_of-self-then-not-contains c = record {
+  once = subst (λ few. IsDistinct same_half (keys_of (few ++ c.self.inside.more.entries)))
+      (sym (few_items c))
+      (push_distinct c.self.inside.few.items c.self.inside.more.entries c.args.half c.args.value
+      c.self.invariant.once (few_none c) (more_none c));
+  below = below_put (c.self.inside.few.items ++ c.self.inside.more.entries)
+      (c.push.new.self.items ++ c.self.inside.more.entries) c.args.half c.args.value
+      c.self.inside.most c.max-self-inside.result c.self.invariant.below c.max-self-inside.ensures (few_more c);
+}
 
 pub returns-then-not-contains : goal.returns-then-not-contains
 returns-then-not-contains c other =
-    ap (λ few. lookup (same_half other) (few ++ c.self.inside.more.entries)) (few_items c)
-    ∙ few_changed c.self.inside.few.items (c.self.inside.few.items ++ (c.args.half, c.args.value) ∷ []) c.self.inside.more.entries c.args.half
-    (Some c.args.value) (λ _. more_none c) (pushed c.self.inside.few.items c.args.half c.args.value (few_none c)) other
+    few_more c other
     ∙ ap (λ row. cond (same_half c.args.half other) (Some c.args.value) (lookup (same_half other) row.entries)) c.self.view_is
 
 -- the list hasn't got the edge
@@ -84,9 +109,17 @@ put-requires c =
 
 pub invariant_of-self-2 : goal.invariant_of-self-2
 invariant_of-self-2 c =
-    subst (λ more. IsDistinct same_half (keys_of (c.self.inside.few.items ++ more)))
-    (sym c.put.ensures.entries)
-    (insert_distinct c.self.inside.few.items c.self.inside.more.entries c.args.half c.args.value c.self.invariant (list_none c))
+    record {
+      once = subst (λ more. IsDistinct same_half (keys_of (c.self.inside.few.items ++ more)))
+          (sym c.put.ensures.entries)
+          (insert_distinct c.self.inside.few.items c.self.inside.more.entries c.args.half
+          c.args.value c.self.invariant.once (list_none c));
+      below = below_put (c.self.inside.few.items ++ c.self.inside.more.entries)
+          (c.self.inside.few.items ++ c.put.new.self.entries) c.args.half c.args.value
+          c.self.inside.most c.max-self-inside.result c.self.invariant.below c.max-self-inside.ensures
+          (more_changed c.self.inside.few.items c.self.inside.more.entries c.put.new.self.entries
+          c.args.half (Some c.args.value) (list_none c) c.put.ensures.update);
+    }
 
 pub returns : goal.returns
 returns c other =
