@@ -423,7 +423,7 @@ all_cut old new edge ids below taken = record {
     by id free false none = refl
 
 -- the places of the losses
-ids_of_losses : (nodes : List (NodeId × Node)) (ids : List NodeId) →
+pub ids_of_losses : (nodes : List (NodeId × Node)) (ids : List NodeId) →
     shift_ids (losses nodes ids) ≡ ids
 ids_of_losses nodes [] = refl
 ids_of_losses nodes (id ∷ ids) = ap (λ rest. id ∷ rest) (ids_of_losses nodes ids)
@@ -443,13 +443,7 @@ lost_values old new (id ∷ ids) gone =
     (lost_values old new ids
     (λ each has. gone each (Contains-append_right (id ∷ []) ids each has)))
 
--- the losses of the nodes below the edge
-pub losses_below : (tree : TreeValue) (edge : EdgeId) (ids : List NodeId) →
-    AreBelow tree edge ids → AreBelow tree edge (shift_ids (losses tree.nodes ids))
-losses_below tree edge ids below =
-    subst (AreBelow tree edge) (sym (ids_of_losses tree.nodes ids)) below
-
--- are all that a cut changes
+-- the losses of the nodes below the edge are all that a cut changes
 pub cut_shifts : (old new : TreeValue) (edge : EdgeId) (ids : List NodeId) →
     AreBelow old edge ids → Cuts old new edge → AreShifts old new (losses old.nodes ids)
 cut_shifts old new edge ids below cuts = record {

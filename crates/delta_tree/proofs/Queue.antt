@@ -1,14 +1,16 @@
 -- The queue of the nodes that leave a tree.
-use Rattle.std.proofs.Common.{◌≡◌, ◌+◌, ◌≤◌, ◌<◌, ℕ, Bool, true, false, cond, nat_lt, List, [], ◌∷◌, refl, sym, ap, subst, ◌∙◌, Option, None, Some, IfSome, IfNone, is_some, Contains, IsPermutation, filter, arith}
-use Rattle.std.proofs.lemmas.Bool.{lt-ltb, ltb-true}
+use Rattle.std.proofs.Common.{◌≡◌, ◌+◌, ◌≤◌, ◌<◌, ℕ, Bool, true, false, cond, nat_lt, List, [], ◌∷◌, refl, sym, ap, subst, ◌∙◌, Option, None, Some, IfSome, IfNone, Contains, length, slice_get, ⊎_elim, arith}
+use Rattle.std.proofs.lemmas.Bool.{cases_eq, lt-ltb, ltb-true}
+use Rattle.std.proofs.lemmas.Map.Views.{Contains-from_lookup}
+use Rattle.std.proofs.lemmas.Option.{slice_get-get_or}
 use Rattle.std.proofs.lemmas.List.Sorted.{sum_by_pushed, sum_by_popped}
 use Rattle.due_queue.specs.declared.due.Due.{Due}
 use Rattle.due_queue.specs.Queue.{due, AllFrom, Notes, TakesNext}
-use Rattle.due_queue.proofs.Items.{kept_noted, kept_passes, now_noted, still_noted}
+use Rattle.due_queue.proofs.Items.{now_noted, still_noted}
 use Rattle.delta_tree.specs.declared.node.NodeId.{NodeId}
 use Rattle.delta_tree.specs.Nodes.{Node, TreeValue, same_node, node_in}
 use Rattle.delta_tree.specs.Changes.{IsFloor}
-use Rattle.delta_tree.specs.Dues.{AreStanding, IsNoted, pending}
+use Rattle.delta_tree.specs.Dues.{IsNoted, pending}
 use Rattle.delta_tree.proofs.Ids.{same_node_is, same_node_laws, some_is_one}
 
 -- ---- how many are pending
@@ -90,28 +92,46 @@ noted_raised nodes new dues id node old noted update stood raised each found is 
     by false other = noted each found
         (sym (ap (λ b. cond b (Some node) (node_in nodes each)) other) ∙ sym (update each) ∙ is)
 
--- ---- nodes that are kept
+-- ---- nodes that are noted anew
 
--- whether a node stands at the place of a due
-abbrev pub stands : List (NodeId × Node) → Due NodeId → Bool
-stands nodes each = is_some (node_in nodes each.item)
+-- the first of the nodes are noted with their values
+abbrev pub AreNotedFirst : List (NodeId × Node) → List (Due NodeId) → ℕ → Type 0
+AreNotedFirst nodes dues bound =
+    (k : ℕ) (id : NodeId) (node : Node) → k < bound → slice_get nodes k ≡ Some (id, node) →
+    Contains dues (due id node.value)
 
--- the dues of the nodes that are there are enough
-pub noted_retained : (nodes : List (NodeId × Node)) (dues kept new : List (Due NodeId)) →
-    IsNoted nodes dues → kept ≡ filter (stands nodes) dues →
-    IsPermutation kept new → IsNoted nodes new
-noted_retained nodes dues kept new noted is moved id node there =
-    let (value, enough, was) = noted id node there in (
-      value,
-      enough,
-      kept_noted (stands nodes) dues kept new (due id value) is moved was (ap is_some there),
+-- none at first
+pub first_noted_none : (nodes : List (NodeId × Node)) (dues : List (Due NodeId)) →
+    AreNotedFirst nodes dues 0
+first_noted_none nodes dues k id node below is = absurd (omega (arith, below))
+
+-- one node more
+pub first_noted_more : (nodes : List (NodeId × Node)) (dues more : List (Due NodeId)) (bound : ℕ)
+    (each : NodeId × Node) → AreNotedFirst nodes dues bound →
+    slice_get nodes bound ≡ Some each → Notes dues more (due each.0 each.1.value) →
+    AreNotedFirst nodes more (bound + 1)
+first_noted_more nodes dues more bound each noted here moved k id node below is =
+    ⊎_elim
+    (λ (same : k ≡ bound).
+    let one : each ≡ (id, node) =
+    some_is_one each (id, node) (sym here ∙ ap (slice_get nodes) (sym same) ∙ is) in
+    subst (λ (x : NodeId × Node). Contains more (due x.0 x.1.value)) one
+    (now_noted dues more (due each.0 each.1.value) moved))
+    (λ (apart : k ≡ bound → ⊥).
+    still_noted dues more (due each.0 each.1.value) (due id node.value) moved
+    (noted k id node (omega (arith, below, apart)) is))
+    (cases_eq k bound)
+
+-- all of them
+pub all_noted : (nodes : List (NodeId × Node)) (dues : List (Due NodeId)) (bound : ℕ) →
+    length nodes ≤ bound → AreNotedFirst nodes dues bound → IsNoted nodes dues
+all_noted nodes dues bound all noted id node there =
+    let (k, within, is) = Contains-from_lookup same_node_is id node nodes there in (
+      node.value,
+      omega arith,
+      noted k id node (omega (arith, within, all))
+          (slice_get-get_or nodes k (id, node) within ∙ ap Some is),
     )
-
--- and no others are left
-pub standing_retained : (nodes : List (NodeId × Node)) (dues kept new : List (Due NodeId)) →
-    kept ≡ filter (stands nodes) dues → IsPermutation kept new → AreStanding nodes new
-standing_retained nodes dues kept new is moved each there =
-    kept_passes (stands nodes) dues kept new each is moved there
 
 -- ---- the least value
 

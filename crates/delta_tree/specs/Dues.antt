@@ -1,5 +1,5 @@
 -- The nodes of a tree in the order in which they leave it.
-use Rattle.std.specs.Prelude.{◌≡◌, ℕ, ◌≤◌, nat_lt, cond, List, Some, Contains, IsSome, sum_by}
+use Rattle.std.specs.Prelude.{◌≡◌, ℕ, ◌≤◌, ◌+◌, ◌*◌, nat_lt, cond, List, length, Some, Contains, sum_by}
 use Rattle.std.specs.declared.cmp.Ordering.{Ordering}
 use Rattle.std.specs.Ordering.{nat_cmp, ordering_then}
 use Rattle.due_queue.specs.declared.due.Due.{Due}
@@ -17,9 +17,14 @@ abbrev pub IsNoted : List (NodeId × Node) → List (Due NodeId) → Type 0
 IsNoted nodes dues = (id : NodeId) (node : Node) → node_in nodes id ≡ Some node →
     (value : ℕ) × (value ≤ node.value) × Contains dues (due id value)
 
--- nothing is noted but nodes that stand
-abbrev pub AreStanding : List (NodeId × Node) → List (Due NodeId) → Type 0
-AreStanding nodes dues = (each : Due NodeId) → Contains dues each → IsSome (node_in nodes each.item)
+-- as many are noted as there are nodes
+abbrev pub IsOneEach : List (NodeId × Node) → List (Due NodeId) → Type 0
+IsOneEach nodes dues = length dues ≡ length nodes
+
+-- the dues are as they were, and not too many for so many nodes
+pub record IsLeftAlone (nodes : List (NodeId × Node)) (old new : List (Due NodeId)) : Type 0 where
+  pub same : new ≡ old
+  pub few : length new ≤ 4 * length nodes + 67
 
 -- a node stands there whose value is at most the clock
 abbrev pub IsDueIn : List (NodeId × Node) → ℕ → NodeId → Type 0

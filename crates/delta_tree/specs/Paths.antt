@@ -25,6 +25,11 @@ abbrev pub HangsBy : TreeValue → EdgeId → NodeId → Type 0
 HangsBy tree edge id =
     (node : Node) × (node_of tree id ≡ Some node) × (node.edge ≡ edge)
 
+-- a node stands there and hangs below this place by this edge
+abbrev pub HangsBelow : TreeValue → NodeId → EdgeId → NodeId → Type 0
+HangsBelow tree parent edge id =
+    (node : Node) × (node_of tree id ≡ Some node) × (node.parent ≡ parent) × (node.edge ≡ edge)
+
 -- a node hangs by this edge, at the end of which it stands
 abbrev pub hangs_by : EdgeId → NodeId × Node → Bool
 hangs_by edge each = (each.0.vertex == edge.to) && same_edge each.1.edge edge

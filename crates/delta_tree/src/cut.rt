@@ -1,10 +1,10 @@
 //! The nodes that hang below an edge.
 
-ghost use Rattle.std.specs.Prelude.{◌≡◌, ◌+◌, ◌*◌, ◌≤◌, ◌⊎◌, ◌↔◌, cond, length, None, Contains, IsTrue};
+ghost use Rattle.std.specs.Prelude.{◌≡◌, ◌≤◌, ◌⊎◌, ◌↔◌, cond, length, None, Contains, IsTrue};
 ghost use Rattle.std.specs.List.{list_any};
 ghost use Rattle.delta_tree.specs.declared.node.NodeId.{NodeId};
 ghost use Rattle.delta_tree.specs.Nodes.{same_node, node_in};
-ghost use Rattle.delta_tree.specs.Dues.{AreStanding, IsNoted};
+ghost use Rattle.delta_tree.specs.Dues.{IsNoted, IsOneEach, IsLeftAlone};
 ghost use Rattle.delta_tree.specs.Paths.{Hangs};
 
 use crate::node::NodeId;
@@ -33,25 +33,30 @@ pub(crate) fn take_out(nodes: &mut NodeMap, ids: &[NodeId])
     }
 }
 
-/// Forgets the dues of nodes that were cut, where most of the dues may be such, and gives memory
-/// back. So it costs no more than the nodes that came since the last time.
+/// Gives the memory back that dues of nodes need no more. Where the dues are more than four times
+/// as many as the nodes, it notes each node anew, and nothing else. A look at all dues so leaves at
+/// most a quarter of them, and all looks together cost no more than the notes of the nodes did.
 pub(crate) fn forget_cut(dues: &mut DueQueue<NodeId>, nodes: &NodeMap)
     requires { IsNoted nodes.now dues.old.items }
     ensures noted { IsNoted nodes.now dues.new.items }
-    ensures few { AreStanding nodes.now dues.new.items
-        ⊎ (length dues.new.items ≤ 4 * length nodes.now + 67) }
+    ensures few { IsOneEach nodes.now dues.new.items ⊎ IsLeftAlone nodes.now dues.old.items
+        dues.new.items }
 {
     if dues.has_outgrown(nodes.len()) {
-        retain_standing(dues, nodes);
+        note_anew(dues, nodes);
     }
     dues.give_back();
 }
 
-/// Keeps the dues of these nodes alone.
-fn retain_standing(dues: &mut DueQueue<NodeId>, nodes: &NodeMap)
-    requires { IsNoted nodes.now dues.old.items }
+/// Notes each node with its value, once, in the room of the dues that were noted before.
+fn note_anew(dues: &mut DueQueue<NodeId>, nodes: &NodeMap)
+    requires { length nodes.now ≤ length dues.old.items }
     ensures noted { IsNoted nodes.now dues.new.items }
-    ensures standing { AreStanding nodes.now dues.new.items }
+    ensures each { length dues.new.items ≡ length nodes.now }
 {
-    dues.retain(|due| nodes.contains(due.item));
+    dues.forget_all();
+    for place in 0..nodes.len() {
+        let (id, node) = nodes.at(place);
+        dues.note_in_room(id, node.value);
+    }
 }

@@ -17,8 +17,10 @@
 //! by one look-up. An expiry costs one comparison where no node goes, and else a step in a heap for
 //! each node that goes and for each one that was raised or cut since it was last looked at; by
 //! [`Tree::least`] a caller knows before when none goes, and [`Tree::cut_due`] answers those that
-//! went. A cut goes over all nodes, and sorts them where a node hangs by its edge. A tree that
-//! loses most of its nodes gives their memory back.
+//! went. [`Tree::cut_nodes`] costs a look-up for each node that it takes out, of which its caller
+//! knows that they are all below an edge; by [`Tree::hangs_below`] these are found from one another,
+//! as `tree_delete` does along the edges that leave them. [`Tree::cut_below`] asks for no such
+//! knowledge, and goes over all nodes. A tree that loses most of its nodes gives their memory back.
 #![tactic(auto)]
 
 mod cut;

@@ -6,7 +6,7 @@ ghost use Rattle.std.specs.Prelude.{IfOk, IfNone, IfSome, IsSome, IsTrue, OnErr,
 ghost use Rattle.std.specs.Option.{MatchOption};
 ghost use Rattle.delta_tree.specs.Nodes.{IsTree, GivesNodes};
 ghost use Rattle.delta_tree.specs.Nodes.{node_id, node_of, value_of, ids_of};
-ghost use Rattle.delta_tree.specs.Paths.{IsPathTo, LeadsUp, IsBelow, HangsBy};
+ghost use Rattle.delta_tree.specs.Paths.{IsPathTo, LeadsUp, IsBelow, HangsBy, HangsBelow};
 ghost use Rattle.delta_tree.specs.declared.node.NodeId.{NodeId};
 ghost use Rattle.delta_tree.specs.Changes.{CanHang, Raises, Puts, put_node, Expires};
 ghost use Rattle.delta_tree.specs.Changes.{IsSameBeside, Cuts, AreBelow, AreDue, IsFloor};
@@ -234,6 +234,16 @@ impl Tree {
         }
     }
 
+    /// Whether the node of this place hangs below the parent by the edge, by one look-up.
+    pub fn hangs_below(&self, id: NodeId, parent: NodeId, edge: EdgeId) -> bool
+        ensures { IsTrue result ↔ HangsBelow self.now parent edge id }
+    {
+        match self.nodes.get(id) {
+            Some(node) => node.edge == edge && node.parent == parent,
+            None => false,
+        }
+    }
+
     /// The edges of the path from the root to the node of this vertex with this state, or none
     /// where there is no such node. This costs a look-up for each edge.
     pub fn path_to(&self, v: u32, s: u32) -> Result<Option<Vec<EdgeId>>, Memory>
@@ -270,7 +280,8 @@ impl Tree {
 
     /// Takes exactly the nodes out on whose path from the root the edge stands, and answers them.
     /// The only error is [`Memory`], after which nothing has changed. This costs a step for each
-    /// node of the tree, and sorts them where a node hangs by this edge.
+    /// node of the tree, and sorts them where a node hangs by this edge; whoever knows which nodes
+    /// these are calls [`Tree::cut_nodes`].
     pub fn cut_below(&mut self, edge: EdgeId) -> Result<Vec<NodeId>, Memory>
         ensures cut { IfOk result (λ cut. AreBelow self.old edge cut.items) }
         ensures gone { OnOk result (Cuts self.old self.new edge) }
@@ -282,19 +293,20 @@ impl Tree {
         Ok(ids)
     }
 
-    /// Takes exactly the nodes out on whose path from the root the edge stands, as
-    /// [`Tree::cut_below`] does, and answers their places with the values that they had. The only
-    /// error is [`Memory`], after which nothing has changed.
-    pub fn cut_edge(&mut self, edge: EdgeId) -> Result<Vec<Shift>, Memory>
-        ensures cut { IfOk result (λ shifts. AreBelow self.old edge (shift_ids shifts.items)) }
+    /// Takes these nodes out, which are exactly those on whose path from the root the edge stands,
+    /// and answers their places with the values that they had. This costs a look-up for each of
+    /// them, however many others there are. The only error is [`Memory`], after which nothing has
+    /// changed.
+    pub fn cut_nodes(&mut self, edge: EdgeId, ids: &[NodeId]) -> Result<Vec<Shift>, Memory>
+        requires { AreBelow self.old edge ids.now }
+        ensures places { IfOk result (λ shifts. shift_ids shifts.items ≡ ids.now) }
         ensures shifts { IfOk result (λ shifts. AreShifts self.old self.new shifts.items) }
         ensures gone { OnOk result (Cuts self.old self.new edge) }
         ensures beside { IsSameBeside self.old self.new }
         ensures unchanged { OnErr result (self.new ≡ self.old) }
     {
-        let ids = self.below(edge)?;
-        let shifts = self.losses(&ids)?;
-        self.take(edge, &ids);
+        let shifts = self.losses(ids)?;
+        self.take(edge, ids);
         Ok(shifts)
     }
 

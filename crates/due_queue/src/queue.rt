@@ -71,6 +71,16 @@ impl<T: Copy> DueQueue<T> {
         requires { 0 < self.old.room }
         ensures { Notes self.old.items self.new.items (due item number) }
     {
+        self.note_in_room(item, number);
+    }
+
+    /// Notes the item with this number, as [`DueQueue::note_reserved`] does, and takes the room of
+    /// one alone: for whoever notes many into room that was made before.
+    pub fn note_in_room(&mut self, item: T, number: u64)
+        requires { 0 < self.old.room }
+        ensures noted { Notes self.old.items self.new.items (due item number) }
+        ensures room { self.old.room ≤ self.new.room + 1 }
+    {
         let _ = self.heap.push(Due { item, number });
     }
 
@@ -138,6 +148,14 @@ impl<T: Copy> DueQueue<T> {
     /// Forgets all.
     pub fn clear(&mut self)
         ensures { self.new.items ≡ [] }
+    {
+        self.forget_all();
+    }
+
+    /// Forgets all, as [`DueQueue::clear`] does, and keeps the room of what was noted.
+    pub fn forget_all(&mut self)
+        ensures forgotten { self.new.items ≡ [] }
+        ensures room { length self.old.items ≤ self.new.room }
     {
         self.heap.clear();
     }
