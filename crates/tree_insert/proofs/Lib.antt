@@ -10,3 +10,4 @@ pub mod Paths
 pub mod SameEdges
 pub mod Optimal
 pub mod Expiry
+mod States

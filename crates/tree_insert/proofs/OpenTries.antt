@@ -5,13 +5,14 @@ use Rattle.std.proofs.lemmas.Option.{same_Some, none-some, slice_get_read}
 use Rattle.std.proofs.lemmas.List.{get_or_past}
 use Rattle.edge_store.specs.declared.edge.EdgeId.{EdgeId}
 use Rattle.dfa_table.specs.DfaValue.{DfaValue, step_of}
+use Rattle.delta_tree.specs.declared.node.Node.{Node}
+use Rattle.delta_tree.specs.declared.node.NodeId.{NodeId}
 use Rattle.delta_tree.specs.declared.node.Try.{Try}
-use Rattle.delta_tree.specs.Nodes.{TreeValue, node_id}
-use Rattle.delta_tree.specs.Changes.{Carries}
+use Rattle.delta_tree.specs.Nodes.{TreeValue, node_id, node_of, root_id}
 use Rattle.tree_insert.specs.declared.waiting.Waiting.{Waiting}
 use Rattle.tree_insert.specs.Best.{IsAtLeast}
-use Rattle.tree_insert.specs.Trees.{Gives, IsValid}
-use Rattle.tree_insert.specs.UnderWay.{IsBetween, IsBy, IsOfTry, IsOpen, IsServed, IsStep}
+use Rattle.tree_insert.specs.Trees.{CoversStates, Gives, IsValid}
+use Rattle.tree_insert.specs.UnderWay.{IsBetween, IsBy, IsOfTry, IsOpen, IsServed, IsServedBy, IsStep}
 use Rattle.tree_insert.proofs.Bests.{at_least}
 use Rattle.tree_insert.proofs.UnderWay.{served_more}
 
@@ -85,29 +86,61 @@ step_within dfa state label next leads = ⊎_elim (λ (below : state < length df
     (get_or_past dfa.rows state [] past)) ∙ leads)))
     (cases_lt state (length dfa.rows))
 
--- what the edge could give from the first states is there, or waits
-abbrev pub AreServedBelow : DfaValue → TreeValue → List Waiting → EdgeId → ℕ → ℕ → Type 0
-AreServedBelow dfa tree waits edge value bound =
-    (before number state : ℕ) → before < bound → number ≤ value →
-    Carries tree (node_id edge.from before) number →
-    step_of dfa before edge.label ≡ Some state →
-    IsServed tree waits (node_id edge.to state) number
+-- what the edge could give from the first states of a list is there, or waits
+abbrev pub AreServedFromFirst : DfaValue → TreeValue → List Waiting → EdgeId → ℕ → List ℕ → ℕ →
+    Type 0
+AreServedFromFirst dfa tree waits edge value states bound =
+    (place before : ℕ) → place < bound → slice_get states place ≡ Some before →
+    IsServedBy dfa tree waits edge value before
 
-pub below_one_more : (dfa : DfaValue) (tree : TreeValue) (waits more : List Waiting) (edge : EdgeId)
-    (value bound : ℕ) → AreServedBelow dfa tree waits edge value bound →
+pub served_by_more : (dfa : DfaValue) (tree : TreeValue) (waits more : List Waiting) (edge : EdgeId)
+    (value before : ℕ) → ((each : Waiting) → Contains waits each → Contains more each) →
+    IsServedBy dfa tree waits edge value before → IsServedBy dfa tree more edge value before
+served_by_more dfa tree waits more edge value before kept served number state low carries leads =
+    served_more tree waits more (node_id edge.to state) number kept
+    (served number state low carries leads)
+
+pub state_one_more : (dfa : DfaValue) (tree : TreeValue) (waits more : List Waiting) (edge : EdgeId)
+    (value : ℕ) (states : List ℕ) (bound item : ℕ) →
+    AreServedFromFirst dfa tree waits edge value states bound →
     ((each : Waiting) → Contains waits each → Contains more each) →
-    ((number state : ℕ) → number ≤ value → Carries tree (node_id edge.from bound) number →
-    step_of dfa bound edge.label ≡ Some state →
-    IsServed tree more (node_id edge.to state) number) →
-    AreServedBelow dfa tree more edge value (bound + 1)
-below_one_more dfa tree waits more edge value bound served kept one before number state below low
-    carries leads = ⊎_elim
-    (λ (same : before ≡ bound).
-    one number state low (subst (λ (s : ℕ). Carries tree (node_id edge.from s) number) same carries)
-    (ap (λ (s : ℕ). step_of dfa s edge.label) (sym same) ∙ leads))
-    (λ (apart : before ≡ bound → ⊥). served_more tree waits more (node_id edge.to state) number kept
-    (served before number state (omega (arith, apart)) low carries leads))
-    (cases_eq before bound)
+    slice_get states bound ≡ Some item → IsServedBy dfa tree more edge value item →
+    AreServedFromFirst dfa tree more edge value states (bound + 1)
+state_one_more dfa tree waits more edge value states bound item served kept is one place before
+    below there = ⊎_elim
+    (λ (same : place ≡ bound).
+    let it : item ≡ before =
+    same_Some item before (sym is ∙ (ap (slice_get states) (sym same) ∙ there)) in
+    subst (IsServedBy dfa tree more edge value) it one)
+    (λ (apart : place ≡ bound → ⊥).
+    served_by_more dfa tree waits more edge value before kept
+    (served place before (omega (arith, apart)) there))
+    (cases_eq place bound)
+
+pub state_all : (dfa : DfaValue) (tree : TreeValue) (waits : List Waiting) (edge : EdgeId)
+    (value : ℕ) (states : List ℕ) (bound : ℕ) → length states ≤ bound →
+    AreServedFromFirst dfa tree waits edge value states bound → (before : ℕ) →
+    Contains states before → IsServedBy dfa tree waits edge value before
+state_all dfa tree waits edge value states bound all served before has =
+    served has.0 before (omega (arith, has.1, all))
+    (slice_get_read states (length states) has.0 before refl has.1 (sym has.2))
+
+-- a place at the edge's source is the root's, or a node of one of the states
+pub served_by_all : (dfa : DfaValue) (tree : TreeValue) (waits : List Waiting) (edge : EdgeId)
+    (value : ℕ) (states : List ℕ) → CoversStates tree edge.from states →
+    (edge.from ≡ tree.root → IsServedBy dfa tree waits edge value 0) →
+    ((before : ℕ) → Contains states before → IsServedBy dfa tree waits edge value before) →
+    (before : ℕ) → IsServedBy dfa tree waits edge value before
+served_by_all dfa tree waits edge value states covers root listed before number state low carries
+    leads = ⊎_elim
+    (λ (here : node_id edge.from before ≡ root_id tree).
+    let start : 0 ≡ before = sym (ap (λ (id : NodeId). id.state) here) in
+    subst (IsServedBy dfa tree waits edge value) start
+    (root (ap (λ (id : NodeId). id.vertex) here)) number state low carries leads)
+    (λ (has : (node : Node) × (node_of tree (node_id edge.from before) ≡ Some node) ×
+    (number ≤ node.value)).
+    listed before (covers before has.0 has.1) number state low carries leads)
+    carries
 
 -- ---- all of a list
 

@@ -1,18 +1,19 @@
 -- The tries by the edges that leave a node.
 use Rattle.std.proofs.Common.{◌≡◌, ℕ, ◌≤◌, ◌<◌, ◌+◌, ⊎_elim, List, length, Option, Some, refl, sym, ap, subst, ◌∙◌, arith, Contains, slice_get}
 use Rattle.std.proofs.lemmas.Bool.{cases_eq}
+use Rattle.std.proofs.lemmas.List.Elements.{All-contains}
 use Rattle.std.proofs.lemmas.Option.{same_Some, slice_get_read, slice_get_within, get_or_from_slice_get}
 use Rattle.edge_store.specs.declared.edge.EdgeId.{EdgeId}
 use Rattle.edge_store.specs.declared.edge.HalfEdge.{HalfEdge}
 use Rattle.edge_store.specs.declared.edge.Out.{Out}
-use Rattle.edge_store.specs.Edges.{Edges, outs_of, out_entry, out_half, leaving, value_of, GivesOuts}
+use Rattle.edge_store.specs.Edges.{AreAtMost, Edges, outs_of, out_entry, out_half, leaving, value_of, GivesOuts}
 use Rattle.dfa_table.specs.DfaValue.{DfaValue, step_of}
 use Rattle.delta_tree.specs.declared.node.NodeId.{NodeId}
 use Rattle.delta_tree.specs.Nodes.{TreeValue, node_id}
 use Rattle.tree_insert.specs.declared.waiting.Waiting.{Waiting}
 use Rattle.tree_insert.specs.Best.{IsAtLeast}
 use Rattle.tree_insert.specs.UnderWay.{IsOut, IsServed, IsServedFrom, Leaves}
-use Rattle.tree_insert.proofs.Bests.{at_least}
+use Rattle.tree_insert.proofs.Bests.{at_least, weaker}
 use Rattle.tree_insert.proofs.Bests as bests
 use Rattle.tree_insert.proofs.UnderWay.{served_more}
 
@@ -65,6 +66,22 @@ module _ (store : Edges) (dfa : DfaValue) (id : NodeId) (value : ℕ)
       let at = slice_get_read (outs_of store id.vertex) (length (outs_of store id.vertex)) has.0
       (half, there.0) refl has.1 (sym has.2) in
       served has.0 half there.0 number state has.1 at below there.2 new leads
+
+  -- where no edge has a value above the one before, the node could give as much with that one
+  pub served_before : (tree : TreeValue) (waits : List Waiting) (before : Option ℕ) (most : ℕ) →
+      AreAtMost most (outs_of store id.vertex) → IsAtLeast most before →
+      IsServedFrom (value_of store) (step_of dfa) tree waits id value before
+  served_before tree waits before most bound kept edge number state from below new reached leads =
+      let there = bests.value_of (value_of store edge) number reached in
+      let half = out_half edge in
+      let same : leaving id.vertex half ≡ edge =
+      λ i. record { from = sym from i; label = edge.label; to = edge.to } in
+      let has : Contains (outs_of store id.vertex) (half, there.0) =
+      (gives.exact half there.0).1 (ap (value_of store) same ∙ there.1) in
+      let low : there.0 ≤ most =
+      All-contains (λ (entry : HalfEdge × ℕ). entry.1 ≤ most) (outs_of store id.vertex)
+      (half, there.0) bound has in
+      absurd (new (weaker before most number kept (omega (arith, there.2, low))))
 
   pub leaves_of_out : (k : ℕ) (out : Out) (waiting : Waiting) →
       slice_get (outs_of store id.vertex) k ≡ Some (out_entry out) →

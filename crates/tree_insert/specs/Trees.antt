@@ -6,7 +6,7 @@ use Rattle.edge_store.specs.Edges.{Edges, outs_of}
 use Rattle.delta_tree.specs.declared.node.NodeId.{NodeId}
 use Rattle.delta_tree.specs.declared.node.Try.{Try}
 use Rattle.delta_tree.specs.declared.node.Node.{Node}
-use Rattle.delta_tree.specs.Nodes.{TreeValue, Joins, node_of, value_of, root_id}
+use Rattle.delta_tree.specs.Nodes.{TreeValue, Joins, node_id, node_of, value_of, root_id}
 use Rattle.delta_tree.specs.Paths.{LeadsUp}
 use Rattle.delta_tree.specs.Changes.{Carries, Raises}
 use Rattle.tree_insert.specs.Best.{IsAtLeast, IsWay, IsBest, IsLeast}
@@ -79,6 +79,12 @@ pub record IsRaised (old new : EdgeId → Option ℕ) (edge : EdgeId) : Type 0 w
 abbrev pub WasOptimal : (EdgeId → Option ℕ) → (ℕ → ℕ → Option ℕ) → TreeValue → EdgeId → Type 0
 WasOptimal values step tree edge =
     (before : EdgeId → Option ℕ) × IsOptimal before step tree × IsRaised before values edge
+
+-- each node of the tree at the vertex has its state among these
+abbrev pub CoversStates : TreeValue → ℕ → List ℕ → Type 0
+CoversStates tree vertex states =
+    (state : ℕ) (node : Node) → node_of tree (node_id vertex state) ≡ Some node →
+    Contains states state
 
 -- the edge leaves the vertex of the root or of a node, and the automaton has a step by its label
 -- from the state there

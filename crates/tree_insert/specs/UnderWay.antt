@@ -57,6 +57,12 @@ AreServed values step tree waits =
     step before edge.label ≡ Some state →
     IsServed tree waits (node_id edge.to state) number
 
+-- what a place of this state could give by an edge of this value is there, or waits
+abbrev pub IsServedBy : DfaValue → TreeValue → List Waiting → EdgeId → ℕ → ℕ → Type 0
+IsServedBy dfa tree waits edge value before =
+    (number state : ℕ) → number ≤ value → Carries tree (node_id edge.from before) number →
+    step_of dfa before edge.label ≡ Some state → IsServed tree waits (node_id edge.to state) number
+
 -- the try by an edge of at least this value from the one state to the other
 pub record IsBetween (tree : TreeValue) (before : ℕ) (edge : EdgeId) (value state : ℕ)
     (waiting : Waiting) : Type 0 where

@@ -1,10 +1,10 @@
 //! The calls: from a list of tries, and after the raise of an edge.
 
-ghost use Rattle.std.specs.Prelude.{◌≡◌, ◌^◌, ◌<◌, All, OnOk};
+ghost use Rattle.std.specs.Prelude.{◌≡◌, ℕ, ◌^◌, ◌<◌, All, Contains, IfOk, OnOk, Some};
 ghost use Rattle.edge_store.specs.Edges.{value_of};
 ghost use Rattle.dfa_table.specs.DfaValue.{step_of};
-ghost use Rattle.tree_insert.specs.Trees.{HasAll, HasBest, HasOwnWays, IsOptimal, IsValid};
-ghost use Rattle.tree_insert.specs.Trees.{WasOptimal};
+ghost use Rattle.tree_insert.specs.Trees.{CoversStates, HasAll, HasBest, HasOwnWays, IsOptimal};
+ghost use Rattle.tree_insert.specs.Trees.{IsValid, WasOptimal};
 ghost use Rattle.tree_insert.specs.Calls.{Relaxes, ReportsRises};
 
 use crate::offers::{offer_edge, offer_tries};
@@ -43,25 +43,28 @@ impl Search {
         settle(self, tree, store, dfa, steps)
     }
 
-    /// Makes a tree optimal that was so before the edge was raised. Errors are as in
-    /// [`Search::relax`].
+    /// Makes a tree optimal that was so before the edge was raised. The states are those with which
+    /// a node of the tree may stand at the vertex that the edge leaves: each costs a look-up. Errors
+    /// are as in [`Search::relax`].
     pub fn raise<L: Ledger>(
         &mut self,
         tree: &mut Tree,
         store: &EdgeStore,
         dfa: &Dfa,
         edge: EdgeId,
+        states: &[u32],
         steps: &mut Steps<L>,
     ) -> Result<(), Memory>
         requires puts { tree.old.puts < 2 ^ 126 }
         requires before { WasOptimal (value_of store.now) (step_of dfa.now) tree.old edge }
+        requires covers { CoversStates tree.old edge.from states.now }
         ensures optimal { OnOk result
             (IsOptimal (value_of store.now) (step_of dfa.now) tree.new) }
         ensures relaxes { Relaxes store.now dfa.now tree.old tree.new steps.old steps.new }
         ensures rises { OnOk result (ReportsRises tree.old tree.new self.new.shifts) }
     {
         self.clear();
-        offer_edge(self, tree, store, dfa, edge)?;
+        offer_edge(self, tree, store, dfa, edge, states)?;
         settle(self, tree, store, dfa, steps)
     }
 }
@@ -89,8 +92,21 @@ pub fn relax<L: Ledger>(
     Search::new(alloc).relax(tree, store, dfa, &pending.tries, steps)
 }
 
+/// The states of the automaton in their order, and so all to which a step leads.
+fn all_states(alloc: Global, dfa: &Dfa) -> Result<Vec<u32>, Memory>
+    ensures { IfOk result (λ states. (before label state : ℕ) →
+        step_of dfa.now before label ≡ Some state → Contains states.items state) }
+{
+    let mut states = Vec::new(alloc);
+    for state in 0..dfa.states() {
+        states.push(state)?;
+    }
+    Ok(states)
+}
+
 /// Makes a tree optimal that was so before the edge was raised, as [`Search::raise`] does, for a
-/// caller that keeps no room of a search.
+/// caller that keeps no room of a search and no list of states: it tries all that the automaton
+/// has.
 pub fn tree_raise<L: Ledger>(
     alloc: Global,
     tree: &mut Tree,
@@ -104,5 +120,6 @@ pub fn tree_raise<L: Ledger>(
     ensures optimal { OnOk result (IsOptimal (value_of store.now) (step_of dfa.now) tree.new) }
     ensures relaxes { Relaxes store.now dfa.now tree.old tree.new steps.old steps.new }
 {
-    Search::new(alloc).raise(tree, store, dfa, edge, steps)
+    let states = all_states(alloc, dfa)?;
+    Search::new(alloc).raise(tree, store, dfa, edge, &states, steps)
 }

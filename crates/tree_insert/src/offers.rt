@@ -9,9 +9,10 @@ ghost use Rattle.delta_tree.specs.declared.node.Try.{Try};
 ghost use Rattle.delta_tree.specs.Nodes.{IsTree, Joins, node_id, root_id};
 ghost use Rattle.delta_tree.specs.Changes.{Carries};
 ghost use Rattle.tree_insert.specs.Best.{IsAtLeast};
-ghost use Rattle.tree_insert.specs.Trees.{Gives, IsValid};
+ghost use Rattle.tree_insert.specs.Trees.{CoversStates, Gives, IsValid};
 ghost use Rattle.tree_insert.specs.Waiting.{Gains, target_of};
 ghost use Rattle.tree_insert.specs.UnderWay.{IsBetween, IsBy, IsOfTry, IsOpen, IsOut, IsServed};
+ghost use Rattle.tree_insert.specs.UnderWay.{IsServedBy};
 
 use crate::search::Search;
 use crate::waiting::{Rise, Waiting};
@@ -145,7 +146,8 @@ pub(crate) fn offer_tries(
     Ok(())
 }
 
-/// Offers the try by an edge of this value from the state, where the automaton has a step.
+/// Offers the try by an edge of this value from the state, where the automaton has the state and a
+/// step from it.
 fn offer_step(
     search: &mut Search,
     tree: &Tree,
@@ -157,28 +159,74 @@ fn offer_step(
 ) -> Result<(), Memory>
     requires root { root ≡ root_id tree.now }
     requires level { search.old.level ≡ 2 ^ 64 - 1 }
-    requires state { before < length dfa.now.rows }
     ensures gains { Gains search.old search.new (IsBy dfa.now tree.now edge value) }
-    ensures served { OnOk result ((number state : ℕ) → number ≤ value →
-        Carries tree.now (node_id edge.from before) number →
-        step_of dfa.now before edge.label ≡ Some state →
-        IsServed tree.now search.new.waiting (node_id edge.to state) number) }
+    ensures served { OnOk result
+        (IsServedBy dfa.now tree.now search.new.waiting edge value before) }
 {
+    if before >= dfa.states() {
+        return Ok(());
+    }
     let Some(state) = dfa.step(before, edge.label) else {
         return Ok(());
     };
     offer_between(search, tree, root, before, edge, value, state)
 }
 
-/// Offers the tries by the edge from all states.
+/// Offers the try by an edge of this value from the root, where the edge leaves it.
+fn offer_from_root(
+    search: &mut Search,
+    tree: &Tree,
+    dfa: &Dfa,
+    root: NodeId,
+    edge: EdgeId,
+    value: u64,
+) -> Result<(), Memory>
+    requires root { root ≡ root_id tree.now }
+    requires level { search.old.level ≡ 2 ^ 64 - 1 }
+    ensures gains { Gains search.old search.new (IsBy dfa.now tree.now edge value) }
+    ensures served { OnOk result (edge.from ≡ tree.now.root →
+        IsServedBy dfa.now tree.now search.new.waiting edge value 0) }
+{
+    if edge.from != root.vertex {
+        return Ok(());
+    }
+    offer_step(search, tree, dfa, root, 0, edge, value)
+}
+
+/// Offers the tries by an edge of this value from these states.
+fn offer_from_states(
+    search: &mut Search,
+    tree: &Tree,
+    dfa: &Dfa,
+    root: NodeId,
+    states: &[u32],
+    edge: EdgeId,
+    value: u64,
+) -> Result<(), Memory>
+    requires root { root ≡ root_id tree.now }
+    requires level { search.old.level ≡ 2 ^ 64 - 1 }
+    ensures gains { Gains search.old search.new (IsBy dfa.now tree.now edge value) }
+    ensures served { OnOk result ((before : ℕ) → Contains states.now before →
+        IsServedBy dfa.now tree.now search.new.waiting edge value before) }
+{
+    for before in states {
+        offer_step(search, tree, dfa, root, *before, edge, value)?;
+    }
+    Ok(())
+}
+
+/// Offers the tries by the edge from the root and from these states, among which are those of all
+/// nodes that stand where the edge leaves.
 pub(crate) fn offer_edge(
     search: &mut Search,
     tree: &Tree,
     store: &EdgeStore,
     dfa: &Dfa,
     edge: EdgeId,
+    states: &[u32],
 ) -> Result<(), Memory>
-    requires { search.old.level ≡ 2 ^ 64 - 1 }
+    requires level { search.old.level ≡ 2 ^ 64 - 1 }
+    requires covers { CoversStates tree.now edge.from states.now }
     ensures tree { IsTree tree.now }
     ensures gains { Gains search.old search.new (IsOpen (value_of store.now) dfa.now tree.now) }
     ensures served { OnOk result ((before number state : ℕ) →
@@ -194,10 +242,8 @@ pub(crate) fn offer_edge(
     let Some(value) = store.value(edge) else {
         return Ok(());
     };
-    for before in 0..dfa.states() {
-        offer_step(search, tree, dfa, root, before, edge, value)?;
-    }
-    Ok(())
+    offer_from_root(search, tree, dfa, root, edge, value)?;
+    offer_from_states(search, tree, dfa, root, states, edge, value)
 }
 
 /// Offers the try by an edge that leaves a node that rose. An edge whose value isn't above the one

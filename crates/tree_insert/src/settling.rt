@@ -10,7 +10,7 @@ ghost use Rattle.tree_insert.specs.Waiting.{Gains, target_of};
 ghost use Rattle.tree_insert.specs.UnderWay.{AreFirm, AreServed, CanBegin, IsCounted, IsReady};
 ghost use Rattle.tree_insert.specs.UnderWay.{IsServedFrom, IsTaken, IsUnderWay, Leaves, Rises};
 
-use crate::offers::offer_out;
+use crate::offers::{is_below, offer_out};
 use crate::search::Search;
 use crate::waiting::{Rise, Waiting};
 use delta_tree::Tree;
@@ -19,7 +19,9 @@ use edge_store::{EdgeStore, Steps};
 use rpq_base::Memory;
 use std::sync::ledger::Ledger;
 
-/// Offers the tries by the edges that leave a node that rose, and counts a step for each edge.
+/// Offers the tries by the edges that leave a node that rose, and counts a step for each edge. Where
+/// no edge has a value above the one that the node had before, each could give as much then
+/// already, and none is looked at.
 fn offer_outs<L: Ledger>(
     search: &mut Search,
     tree: &Tree,
@@ -37,9 +39,12 @@ fn offer_outs<L: Ledger>(
         rise.value rise.before) }
     ensures counted { steps.new ≤ steps.old + length (outs_of store.now rise.id.vertex) }
 {
-    let vertex = rise.id.vertex;
-    for k in 0..store.out_len(vertex) {
-        let out = store.out_at(vertex, k, steps);
+    let outs = store.outs(rise.id.vertex);
+    if !is_below(rise.before, outs.most()) {
+        return Ok(());
+    }
+    for k in 0..outs.len() {
+        let out = outs.at(k, steps);
         offer_out(search, tree, dfa, rise, out)?;
     }
     Ok(())
