@@ -30,11 +30,10 @@ fn spell(alloc: Global, dfa: &Dfa, numbers: &[u32]) -> Result<Word, Memory>
 /// a part may be left out, if what stays isn't empty. Where it hasn't, the least three words that
 /// show it. The only error is [`Memory`].
 ///
-/// It goes once through the pairs of states and the labels for each length of a least word that
-/// tells two states apart, and once through the states and the labels for each length of a least
-/// word to a state. Source: the containment property of A. O. Mendelzon and P. T. Wood, Finding
-/// regular simple paths in graph databases, SIAM Journal on Computing, 1995; that it is said of
-/// words, and leaves the empty word out, is this project's own.
+/// It makes a table of the pairs of states, in time and memory in proportion to the pairs and the
+/// labels, and goes once through the states and the labels. Source: the containment property of A.
+/// O. Mendelzon and P. T. Wood, Finding regular simple paths in graph databases, SIAM Journal on
+/// Computing, 1995; that it is said of words, and leaves the empty word out, is this project's own.
 pub fn contained(alloc: Global, dfa: &Dfa) -> Result<Verdict, Memory>
     ensures { IfOk result (λ verdict. IsVerdict (Accepts dfa.now) verdict) }
 {

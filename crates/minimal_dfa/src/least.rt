@@ -36,9 +36,9 @@ fn finals_of(alloc: Global, dfa: &Dfa, nodes: &[u64]) -> Result<Vec<bool>, Memor
 /// are told apart by a word. The start stays a state of its own and is counted. The labels are
 /// kept, and the states are numbered in the order of discovery. The only error is [`Memory`].
 ///
-/// It goes once through the pairs of states and the labels for each length of a least word that
-/// tells two states apart, and looks up the state of each step among those before it. Source: E.
-/// F. Moore, Gedanken-experiments on sequential machines, 1956.
+/// It makes a table of the pairs of states, in time and memory in proportion to the pairs and the
+/// labels, and looks up the state of each step among those before it. Source: E. F. Moore,
+/// Gedanken-experiments on sequential machines, 1956.
 pub fn minimize(alloc: Global, dfa: &Dfa) -> Result<Dfa, Memory>
     requires { (word : List Label) × Accepts dfa.now word }
     ensures words { IfOk result (λ least.

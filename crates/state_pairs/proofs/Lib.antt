@@ -1,7 +1,9 @@
 pub mod Counts
-pub mod Equal
 pub mod Extra
 pub mod Least
+pub mod Marks
 pub mod Paired
 pub mod Rounds
+pub mod Stepped
 pub mod Unique
+pub mod Zeros

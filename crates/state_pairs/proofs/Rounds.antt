@@ -1,10 +1,13 @@
 -- Levels from one round to the next, and at the end.
-use Rattle.std.proofs.Common.{◌≡◌, ℕ, zero, suc, ◌<◌, ◌≤◌, List, [], ◌∷◌, ◌++◌, ◌+◌, length, Option, Some, None, refl, sym, ap, ◌∙◌, subst, ⊎_elim, inl, inr, arith}
-use Rattle.std.proofs.lemmas.Bool.{cases_lt, cases_eq}
-use Rattle.std.proofs.lemmas.List.{get_or_append_left, get_or_push}
+use Rattle.std.proofs.Common.{◌≡◌, ℕ, zero, suc, ◌<◌, ◌≤◌, List, [], ◌∷◌, ◌++◌, get_or, length, take, drop, Option, Some, None, refl, sym, ap, ◌∙◌, ⊎_elim, inr, arith, Contains}
+use Rattle.std.proofs.lemmas.Bool.{cases_lt}
+use Rattle.std.proofs.lemmas.List.{ext_get_or, append-nil, drop_all, take_all}
+use Rattle.std.proofs.lemmas.List.Elements.{Contains-get_or}
 use Rattle.std.proofs.lemmas.Option.{none-some, same_Some}
 use Rattle.state_pairs.specs.Goals.{GoalGraph, StaysWithin, ReachesGoal, level_at, HasLevelUpTo, AreLevels}
-use Rattle.state_pairs.specs.Rounds.{AreLevelsUpTo, IsNear, IsNextRound}
+use Rattle.state_pairs.specs.Rounds.{AreLevelsUpTo, AreOfLevel, IsNear, IsNextRound, IsRound}
+use Rattle.state_pairs.specs.Sources.{AreSources}
+use Rattle.state_pairs.proofs.Counts.{lacking, fewer}
 
 -- a node with a step to one of a lower level has a level
 lower : (graph : GoalGraph) (depth : ℕ) (levels : List (Option ℕ)) (node label next level : ℕ) → AreLevelsUpTo graph depth levels → node < graph.node_count →
@@ -115,18 +118,70 @@ at_last graph depth levels are stays round = record {
   least = λ node word below reaches. least_at_last word graph depth levels node are stays round below reaches;
 }
 
--- ---- a round, node by node
+-- ---- a round, by the steps backwards
 
-pub each_more : (P : ℕ → Option ℕ → Type 0) (levels after : List (Option ℕ)) (level : Option ℕ) (index : ℕ) → length levels ≡ index → after ≡ levels ++ level ∷ [] →
-    ((node : ℕ) → node < index → P node (level_at levels node)) → P index level → (node : ℕ) → node < index + 1 → P node (level_at after node)
-each_more P levels after level index as_many pushed before here node below =
-    let Q : List (Option ℕ) → Type 0 = λ all. P node (level_at all node) in
-    subst Q (sym pushed) (elim (cases_eq node index) [
-      | inl is ↦
-          let last : level_at (levels ++ level ∷ []) node ≡ level = get_or_push levels level None node (as_many ∙ sym is) in
-          subst (P node) (sym last) (subst (λ (n : ℕ). P n level) (sym is) here)
-      | inr other ↦
-          let earlier : node < length levels = omega arith in
-          let same : level_at (levels ++ level ∷ []) node ≡ level_at levels node = get_or_append_left levels (level ∷ []) None node earlier in
-          subst (P node) (sym same) (before node (omega arith))
-    ])
+-- the nodes that get the level are near the last ones
+pub round_is : (graph : GoalGraph) (lists : List (List ℕ)) (latest : List ℕ) (depth : ℕ) (before after : List (Option ℕ)) (found : List ℕ) → AreSources graph graph.node_count lists →
+    AreOfLevel before depth latest → length before ≡ graph.node_count → IsRound lists latest (suc depth) before after found → IsNextRound graph depth before after
+round_is graph lists latest depth before after found sources of_level as_many round = record {
+  as_many = round.as_many;
+  each = λ node below. record {
+    kept = λ level is. round.kept node level is;
+    near = λ none near.
+        let fits : node < graph.node_count = omega (arith, below, as_many) in
+        let listed = (sources.each near.next node).1 (fits, (near.label, near.within, near.leads)) in
+        round.meant node (near.next, (of_level near.next).1 near.level, listed) none;
+    new = λ level none is.
+        let has = round.new node level none is in
+        let step = ((sources.each has.1.0 node).0 has.1.2).1 in
+        let there = (of_level has.1.0).0 has.1.1 in
+        (has.0, record { label = step.0; next = has.1.0; within = step.1; leads = step.2; level = there });
+  };
+}
+
+-- those found are the nodes of the next level
+pub of_next_level : (graph : GoalGraph) (lists : List (List ℕ)) (latest : List ℕ) (depth : ℕ) (before after : List (Option ℕ)) (found : List ℕ) → AreLevelsUpTo graph depth before →
+    IsRound lists latest (suc depth) before after found → AreOfLevel after (suc depth) found
+of_next_level graph lists latest depth before after found are round node = (
+  (λ there. ⊎_elim (λ old. absurd (omega (arith, old.1))) (λ both. both.1) ((round.listed node).0 there)),
+  (λ is. by_cases (level_at before node) refl is),
+)
+  where
+    by_cases : (o : Option ℕ) → level_at before node ≡ o → level_at after node ≡ Some (suc depth) → Contains found node
+    by_cases None none is = (round.listed node).1 (inr (none, is))
+    by_cases (Some old) there is =
+        let low = are.low node old there in
+        let same = same_Some (suc depth) old (sym is ∙ round.kept node old there) in
+        absurd (omega (arith, low, same))
+
+-- where none is found, nothing changed
+pub unchanged : (lists : List (List ℕ)) (latest : List ℕ) (level : ℕ) (before after : List (Option ℕ)) (found : List ℕ) → IsRound lists latest level before after found → length found ≡ 0 → after ≡ before
+unchanged lists latest level before after found round none = ext_get_or None after before round.as_many (λ node below. by_cases node (level_at before node) (level_at after node) refl refl)
+  where
+    by_cases : (node : ℕ) (old now : Option ℕ) → level_at before node ≡ old → level_at after node ≡ now → level_at after node ≡ level_at before node
+    by_cases node (Some old) now is there = round.kept node old is ∙ sym is
+    by_cases node None None is there = there ∙ sym is
+    by_cases node None (Some now) is there =
+        let new = round.new node now is there in
+        let listed = (round.listed node).1 (inr (is, there ∙ ap (λ (n : ℕ). Some n) new.0)) in
+        absurd (omega (arith, listed.1, none))
+
+-- where some are found, fewer nodes lack a level
+pub fewer_lack : (lists : List (List ℕ)) (latest : List ℕ) (level : ℕ) (before after : List (Option ℕ)) (found : List ℕ) → IsRound lists latest level before after found → 0 < length found → lacking after < lacking before
+fewer_lack lists latest level before after found round some = ⊎_elim
+    (λ less. less)
+    (λ same.
+    let node = get_or found 0 0 in
+    ⊎_elim
+    (λ old. absurd (omega (arith, old.1)))
+    (λ both. absurd (none-some level (sym both.0 ∙ (sym (ap (λ (levels : List (Option ℕ)). level_at levels node) same) ∙ both.1))))
+    ((round.listed node).0 (Contains-get_or found 0 0 some)))
+    (fewer before after round.as_many (λ node old is. round.kept node old is))
+
+-- ---- memory
+
+-- a list that is lent and comes back as long as before
+pub written_back : {X : Type 0} → (new old : List X) (size : ℕ) → length new ≡ length old → length old ≡ size → take size (new ++ drop (length new) old) ≡ new
+written_back new old size as_many is =
+    ap (λ (rest : List _). take size (new ++ rest)) (drop_all (length new) old (omega (arith, as_many)))
+    ∙ (ap (take size) (append-nil new) ∙ take_all size new (omega (arith, as_many, is)))

@@ -1,4 +1,5 @@
 pub mod Goals
+pub mod Sources
 pub mod Rounds
 pub mod Pairs
 pub mod PairGraph

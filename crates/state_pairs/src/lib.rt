@@ -5,14 +5,14 @@
 //! two states of an automaton whether one accepts a word that the other doesn't, and the least
 //! such word. The contracts speak of words alone: `specs/Goals` defines those that lead to a goal,
 //! and `specs/Pairs` those that one state accepts beside another. A table holds a level for each
-//! pair of states; to make it takes time in proportion to the pairs, the labels and the greatest
-//! level.
+//! pair of states; to make it takes time and memory in proportion to the pairs and the labels.
 #![tactic(auto)]
 
 mod goals;
 mod laws;
 mod pairs;
 mod search;
+mod sources;
 
 pub use goals::Graph;
 pub use laws::{one_least_extra, one_list_of_levels};

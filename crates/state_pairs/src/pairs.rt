@@ -99,8 +99,9 @@ impl<'a> Model for PairTable<'a> {
 }
 
 impl<'a> PairTable<'a> {
-    /// The table of the automaton. It goes once through the pairs of states and the labels for
-    /// each length of a least word. The only error is [`Memory`].
+    /// The table of the automaton. It goes once through the pairs of states and the labels, and
+    /// once back through the steps of pairs, which it keeps meanwhile: a number of 32 bits for
+    /// each two pairs with a step from the one to the other. The only error is [`Memory`].
     pub fn new(alloc: Global, dfa: &'a Dfa) -> Result<PairTable<'a>, Memory>
         ensures { IfOk result (λ table. table ≡ dfa.now) }
     {

@@ -1,11 +1,13 @@
 //! The search by levels: round after round, the nodes with a step to one of the last level get the
-//! next one.
+//! next one. Each round goes back from the nodes of the last level alone.
 
-ghost use Rattle.std.specs.Prelude.{◌≡◌, ◌≢◌, ◌+◌, ◌^◌, ◌<◌, length, IfOk, IfSome, IfNone};
+ghost use Rattle.std.specs.Prelude.{◌≡◌, ◌≢◌, ℕ, ◌+◌, ◌^◌, ◌<◌, length, All, Contains, IfOk, IfSome, IfNone, OnOk};
 ghost use Rattle.state_pairs.specs.Goals.{StaysWithin, AreLevels, level_at, IsLeastWord};
-ghost use Rattle.state_pairs.specs.Rounds.{AreLevelsUpTo, IsNear, IsNextLevel, IsNextRound, IsNearest};
+ghost use Rattle.state_pairs.specs.Rounds.{AreLevelsUpTo, AreOfLevel, IsNear, IsNearest, IsRound, Marks};
+ghost use Rattle.state_pairs.specs.Sources.{sources_at};
 
 use crate::goals::Graph;
+use crate::sources::{Sources, find_sources};
 use rpq_base::Memory;
 use std::alloc::Global;
 
@@ -28,46 +30,61 @@ fn nearest<G: Graph>(graph: &G, levels: &[Option<u32>], node: u32, level: u32) -
     None
 }
 
-/// The level of the node after one round.
-fn next_level<G: Graph>(
-    graph: &G,
-    levels: &[Option<u32>],
+/// Gives the node the level, where it has none, and puts it to those found.
+fn mark(
+    levels: &mut [Option<u32>],
+    found: &mut Vec<u32>,
     node: u32,
-    depth: u32,
-    level: Option<u32>,
-) -> Option<u32>
-    requires node { node < (G.graph graph.now).node_count }
-    requires levels { length levels.now ≡ (G.graph graph.now).node_count }
-    requires within { StaysWithin (G.graph graph.now) }
-    requires depth { depth + 1 < 2 ^ 32 }
-    ensures { IsNextLevel (G.graph graph.now) levels.now depth node level result }
+    level: u32,
+) -> Result<(), Memory>
+    requires { node < length levels.old }
+    ensures { OnOk result
+        (Marks (λ each. each ≡ node) level levels.old levels.new found.old.items found.new.items) }
 {
-    if level.is_none() && nearest(graph, levels, node, depth).is_some() {
-        Some(depth + 1)
-    } else {
-        level
+    if levels[node as usize].is_none() {
+        found.push(node)?;
+        levels[node as usize] = Some(level);
     }
+    Ok(())
 }
 
-/// The levels after one round.
-fn next_round<G: Graph>(
-    alloc: Global,
-    graph: &G,
-    levels: &[Option<u32>],
-    depth: u32,
-) -> Result<Vec<Option<u32>>, Memory>
-    requires levels { length levels.now ≡ (G.graph graph.now).node_count }
-    requires few { length levels.now < 2 ^ 32 }
-    requires within { StaysWithin (G.graph graph.now) }
-    requires depth { depth + 1 < 2 ^ 32 }
-    ensures { IfOk result (λ next.
-        IsNextRound (G.graph graph.now) depth levels.now next.items) }
+/// Gives each of the nodes the level, where it has none, and puts it to those found.
+fn mark_all(
+    levels: &mut [Option<u32>],
+    found: &mut Vec<u32>,
+    nodes: &[u32],
+    level: u32,
+) -> Result<(), Memory>
+    requires { All (λ node. node < length levels.old) nodes.now }
+    ensures { OnOk result
+        (Marks (Contains nodes.now) level levels.old levels.new found.old.items found.new.items) }
 {
-    let mut next = Vec::with_capacity(alloc, levels.len())?;
-    for (node, level) in levels.iter().enumerate() {
-        next.push(next_level(graph, levels, node as u32, depth, *level))?;
+    for node in nodes {
+        mark(levels, found, *node, level)?;
     }
-    Ok(next)
+    Ok(())
+}
+
+/// Gives the level to the nodes without one that have a step to one of the last nodes, and answers
+/// these nodes.
+fn next_round(
+    alloc: Global,
+    sources: &[Sources],
+    last: &[u32],
+    levels: &mut [Option<u32>],
+    level: u32,
+) -> Result<Vec<u32>, Memory>
+    requires last { All (λ node. node < length sources.now) last.now }
+    requires within { (target source : ℕ) → Contains (sources_at sources.now target) source →
+        source < length levels.old }
+    ensures { IfOk result (λ found.
+        IsRound sources.now last.now level levels.old levels.new found.items) }
+{
+    let mut found = Vec::new(alloc);
+    for node in last {
+        mark_all(levels, &mut found, sources[*node as usize].nodes(), level)?;
+    }
+    Ok(found)
 }
 
 /// The goals have level 0, and the others none.
@@ -81,22 +98,39 @@ fn goals<G: Graph>(alloc: Global, graph: &G) -> Result<Vec<Option<u32>>, Memory>
     Ok(levels)
 }
 
+/// The nodes of level 0.
+fn nodes_at_goals(alloc: Global, levels: &[Option<u32>]) -> Result<Vec<u32>, Memory>
+    requires { length levels.now < 2 ^ 32 }
+    ensures { IfOk result (λ nodes. AreOfLevel levels.now 0 nodes.items) }
+{
+    let mut nodes = Vec::new(alloc);
+    for (node, level) in levels.iter().enumerate() {
+        if *level == Some(0) {
+            nodes.push(node as u32)?;
+        }
+    }
+    Ok(nodes)
+}
+
 /// For each node the least length of a word that leads from it to a goal, where there is one.
 ///
-/// It goes once through the nodes and their labels for each length. The only error is [`Memory`].
+/// It goes once through the nodes and their labels, and once backwards through the steps that it
+/// found there, which it keeps meanwhile. The only error is [`Memory`].
 pub fn levels<G: Graph>(alloc: Global, graph: &G) -> Result<Vec<Option<u32>>, Memory>
     requires within { StaysWithin (G.graph graph.now) }
     requires few { (G.graph graph.now).node_count + 1 < 2 ^ 32 }
     ensures { IfOk result (λ levels. AreLevels (G.graph graph.now) levels.items) }
 {
+    let sources = find_sources(alloc, graph)?;
     let mut levels = goals(alloc, graph)?;
+    let mut last = nodes_at_goals(alloc, &levels)?;
     let mut depth = 0;
     loop {
-        let next = next_round(alloc, graph, &levels, depth)?;
-        if next == levels {
+        let found = next_round(alloc, &sources, &last, &mut levels, depth + 1)?;
+        if found.is_empty() {
             return Ok(levels);
         }
-        levels = next;
+        last = found;
         depth += 1;
     }
 }
