@@ -1,5 +1,5 @@
 -- A tree after a cut, and after the search that follows it.
-use Rattle.std.proofs.Common.{◌≡◌, ◌≢◌, ℕ, zero, suc, ◌≤◌, ◌+◌, ◌⊎◌, inl, inr, ⊎_elim, Bool, true, false, cond, List, [], ◌∷◌, length, slice_index_or, remove, Option, Some, None, refl, sym, ap, subst, ◌∙◌, arith, Contains, IsPermutation}
+use Rattle.std.proofs.Common.{◌≡◌, ◌≢◌, ℕ, zero, suc, ◌≤◌, ◌+◌, ◌*◌, ◌⊎◌, inl, inr, ⊎_elim, Bool, true, false, cond, List, [], ◌∷◌, length, slice_index_or, remove, Option, Some, None, refl, sym, ap, subst, ◌∙◌, arith, Contains, IsPermutation}
 use Rattle.std.specs.Prelude.{All, AllPairs, sum_by}
 use Rattle.std.specs.List.{IsDistinct}
 use Rattle.std.proofs.lemmas.Bool.{true≢false}
@@ -27,7 +27,7 @@ use Rattle.tree_insert.proofs.Paths.{path_there, supported_of_ways}
 use Rattle.tree_insert.proofs.Optimal.{optimal_of_served, reached_of_optimal}
 use Rattle.tree_delete.specs.Entries.{HasEntries, count_ins}
 use Rattle.tree_delete.specs.Laws.{NoCutNoStep, RemovalElsewhereKeepsOptimal, RemovalsAreRemovals}
-use Rattle.tree_delete.specs.Removal.{IsRemoved, KeepsApart, CountsCut}
+use Rattle.tree_delete.specs.Removal.{CountsCut, CountsFound, IsRemoved, KeepsApart}
 
 -- ---- lists of places
 
@@ -295,10 +295,10 @@ module _ (before values : EdgeId → Option ℕ) (edge : EdgeId)
               absurd (omega (arith, risen.2 was.0 (cuts.kept id apart ∙ was.1), was.2)))
               (contains_or_not ids id)
 
-          pub cut_counts : (store : Edges) (start between end : ℕ) →
-              between ≤ start + count_ins store ids → CountsOuts store middle new between end →
-              CountsCut store old edge start end
-          cut_counts store start between end first counts = record {
+          pub cut_counts : (store : Edges) (start found between end : ℕ) →
+              CountsFound store ids start found → between ≤ found + count_ins store ids →
+              CountsOuts store middle new between end → CountsCut store old edge start end
+          cut_counts store start found between end first second counts = record {
             nodes = ids;
             apart = distinct_apart ids below.once;
             below = λ k d within. (below.exact (slice_index_or ids k d)).0
@@ -309,7 +309,7 @@ module _ (before values : EdgeId → Option ℕ) (edge : EdgeId)
                 counts.apart
                 (All-weaker (IsRisen middle new) (Contains ids) risen_cut counts.nodes counts.risen)
                 in
-                omega (arith, first, counts.few, outs);
+                omega (arith, first, second, counts.few, outs);
           }
 
 -- ---- an edge by which no node hangs
@@ -371,6 +371,7 @@ pub no_cut_no_step : NoCutNoStep
 no_cut_no_step store old edge start steps counts none = by counts.nodes counts.below counts.few
   where
     by : (nodes : List NodeId) → All (IsBelow old edge) nodes →
-        steps ≤ start + count_ins store nodes + count_outs store nodes → steps ≤ start
+        steps ≤ start + length nodes + count_ins store nodes + 2 * count_outs store nodes →
+        steps ≤ start
     by [] below few = omega (arith, few)
     by (id ∷ nodes) below few = absurd (none id (All-head (IsBelow old edge) id nodes below))

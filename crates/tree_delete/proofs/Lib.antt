@@ -1,3 +1,4 @@
 mod BestEntries
 mod CutTrees
+mod Finding
 mod Told

@@ -1,5 +1,5 @@
 -- What a removal of an edge changes in a tree.
-use Rattle.std.specs.Prelude.{◌≡◌, ◌≢◌, ℕ, ◌+◌, ◌≤◌, List, All, AllPairs, Option, None, Some}
+use Rattle.std.specs.Prelude.{◌≡◌, ◌≢◌, ℕ, ◌+◌, ◌*◌, ◌≤◌, List, length, All, AllPairs, Option, None, Some}
 use Rattle.edge_store.specs.declared.edge.EdgeId.{EdgeId}
 use Rattle.edge_store.specs.Edges.{Edges}
 use Rattle.delta_tree.specs.declared.node.NodeId.{NodeId}
@@ -39,17 +39,21 @@ with_after tree shift = record {
   after = value_of tree shift.id;
 }
 
--- the steps are at most the edges that end at and leave the nodes on whose path the edge stood,
--- each node once
+-- the steps are at most one for each node on whose path the edge stood, one for each edge that ends
+-- at it, and two for each edge that leaves it
 pub record CountsCut (store : Edges) (old : TreeValue) (edge : EdgeId) (start steps : ℕ)
     : Type 0 where
   pub nodes : List NodeId
   pub apart : AllPairs ◌≢◌ nodes
   pub below : All (IsBelow old edge) nodes
-  pub few : steps ≤ start + count_ins store nodes + count_outs store nodes
+  pub few : steps ≤ start + length nodes + count_ins store nodes + 2 * count_outs store nodes
+
+-- one step for each of these nodes, and one for each edge that leaves it
+abbrev pub CountsFound : Edges → List NodeId → ℕ → ℕ → Type 0
+CountsFound store ids start steps = steps ≡ start + length ids + count_outs store ids
 
 -- what a removal that ends keeps: nodes on whose path the edge didn't stand stay as they were, and
--- only the edges at the others are counted
+-- only the others and the edges at them are counted
 pub record Repairs (store : Edges) (old new : TreeValue) (edge : EdgeId) (start total : ℕ)
     : Type 0 where
   pub keeps : KeepsApart old new edge

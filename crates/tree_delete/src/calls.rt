@@ -7,8 +7,10 @@ ghost use Rattle.delta_tree.specs.declared.node.NodeId.{NodeId};
 ghost use Rattle.delta_tree.specs.Nodes.{IsTree, node_of};
 ghost use Rattle.delta_tree.specs.Changes.{AreBelow, AreShifts, Cuts, IsSameBeside, shift_ids};
 ghost use Rattle.tree_insert.specs.Trees.{HasOwnWays, IsLater, IsOptimal};
-ghost use Rattle.tree_delete.specs.Removal.{Repairs, ReportsCut, WasOptimalWith, with_after};
+ghost use Rattle.tree_delete.specs.Removal.{CountsFound, Repairs, ReportsCut};
+ghost use Rattle.tree_delete.specs.Removal.{WasOptimalWith, with_after};
 
+use crate::below::nodes_below;
 use crate::entries::best_entries;
 use delta_tree::{NodeId, Shift, Tree};
 use dfa_table::Dfa;
@@ -18,17 +20,51 @@ use std::alloc::Global;
 use std::sync::ledger::Ledger;
 use tree_insert::Search;
 
-/// Cuts the nodes on whose path the edge stands. Where memory runs out all nodes go, so that none
-/// stays on a path by this edge.
-fn cut(tree: &mut Tree, edge: EdgeId) -> Result<Vec<Shift>, Memory>
-    requires { IsTree tree.old }
+/// Cuts the nodes on whose path the edge stands, with a step for each of them and for each edge that
+/// leaves it. The only error is [`Memory`], after which the tree is as before.
+fn cut_found<L: Ledger>(
+    alloc: Global,
+    tree: &mut Tree,
+    store: &EdgeStore,
+    dfa: &Dfa,
+    edge: EdgeId,
+    steps: &mut Steps<L>,
+) -> Result<Vec<Shift>, Memory>
+    requires tree { IsTree tree.old }
+    requires before { WasOptimalWith (value_of store.now) (step_of dfa.now) tree.old edge }
     ensures below { IfOk result (λ shifts. AreBelow tree.old edge (shift_ids shifts.items)) }
     ensures shifts { IfOk result (λ shifts. AreShifts tree.old tree.new shifts.items) }
     ensures cut { OnOk result (Cuts tree.old tree.new edge) }
     ensures beside { IsSameBeside tree.old tree.new }
+    ensures counted { IfOk result (λ shifts.
+        CountsFound store.now (shift_ids shifts.items) steps.old steps.new) }
+    ensures unchanged { OnErr result (tree.new ≡ tree.old) }
+{
+    let ids = nodes_below(alloc, tree, store, dfa, edge, steps)?;
+    tree.cut_nodes(edge, &ids)
+}
+
+/// Cuts the nodes on whose path the edge stands. Where memory runs out all nodes go, so that none
+/// stays on a path by this edge.
+fn cut<L: Ledger>(
+    alloc: Global,
+    tree: &mut Tree,
+    store: &EdgeStore,
+    dfa: &Dfa,
+    edge: EdgeId,
+    steps: &mut Steps<L>,
+) -> Result<Vec<Shift>, Memory>
+    requires tree { IsTree tree.old }
+    requires before { WasOptimalWith (value_of store.now) (step_of dfa.now) tree.old edge }
+    ensures below { IfOk result (λ shifts. AreBelow tree.old edge (shift_ids shifts.items)) }
+    ensures shifts { IfOk result (λ shifts. AreShifts tree.old tree.new shifts.items) }
+    ensures cut { OnOk result (Cuts tree.old tree.new edge) }
+    ensures beside { IsSameBeside tree.old tree.new }
+    ensures counted { IfOk result (λ shifts.
+        CountsFound store.now (shift_ids shifts.items) steps.old steps.new) }
     ensures empty { OnErr result ((id : NodeId) → node_of tree.new id ≡ None) }
 {
-    match tree.cut_edge(edge) {
+    match cut_found(alloc, tree, store, dfa, edge, steps) {
         Ok(shifts) => Ok(shifts),
         Err(Memory) => {
             tree.expire(u64::MAX);
@@ -48,12 +84,12 @@ fn tell_values(tree: &Tree, shifts: &mut Vec<Shift>)
 
 /// Makes a tree optimal that was so before the edge left the store, in the room of a search.
 ///
-/// The nodes on whose path the edge stood are cut. For each of them the best way from a node that
-/// stayed is sought among the edges that end at its vertex; from there a search puts back those
-/// that other paths reach. Answers the places of the nodes that were cut, with the values before
-/// and after, also of those that came back with the value that they had. The only error is
-/// [`Memory`], after which the paths of the tree are paths of the store, but nodes may be
-/// missing.
+/// The nodes on whose path the edge stood are found from one another, along the edges that leave
+/// them, and cut. For each of them the best way from a node that stayed is sought among the edges
+/// that end at its vertex; from there a search puts back those that other paths reach. Answers the
+/// places of the nodes that were cut, with the values before and after, also of those that came
+/// back with the value that they had. The only error is [`Memory`], after which the paths of the
+/// tree are paths of the store, but nodes may be missing.
 pub fn tree_remove_with<L: Ledger>(
     search: &mut Search,
     alloc: Global,
@@ -76,7 +112,7 @@ pub fn tree_remove_with<L: Ledger>(
         vertex: tree.root(),
         state: 0,
     };
-    let mut shifts = cut(tree, edge)?;
+    let mut shifts = cut(alloc, tree, store, dfa, edge, steps)?;
     let tries = best_entries(alloc, tree, store, dfa, root, &shifts, steps)?;
     search.relax(tree, store, dfa, &tries, steps)?;
     tell_values(tree, &mut shifts);

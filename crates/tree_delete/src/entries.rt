@@ -92,8 +92,9 @@ fn best_entry<L: Ledger>(
     ensures counted { steps.new ≡ steps.old + length (ins_of store.now id.vertex) }
 {
     let mut best = None;
-    for k in 0..store.in_len(id.vertex) {
-        let each = store.in_at(id.vertex, k, steps);
+    let ins = store.ins(id.vertex);
+    for k in 0..ins.len() {
+        let each = ins.at(k, steps);
         let edge = EdgeId {
             from: each.from,
             label: each.label,

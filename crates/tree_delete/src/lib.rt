@@ -2,14 +2,17 @@
 //!
 //! The contract for the layers above: a tree that was optimal before an edge left its store is so
 //! again after [`tree_remove`], and the nodes on whose path the edge didn't stand keep their place
-//! and their stamp. The nodes on whose path it stood are cut; for each of them the best way back
-//! from a node that stayed is sought among the edges that end at its vertex, and a search from
-//! these puts back what other paths reach. It costs a step for each edge that ends at or leaves a
-//! node that was cut, and none where the edge stood on no path. [`tree_remove_with`] reports the
-//! places of the nodes that were cut, with their values before and after, and no call is needed
+//! and their stamp. The nodes on whose path it stood are cut: first those that hang by the edge,
+//! then, along the edges that leave a node that is cut, its children. For each of them the best way
+//! back from a node that stayed is sought among the edges that end at its vertex, and a search from
+//! these puts back what other paths reach. So a removal costs what it cuts, however many other
+//! nodes there are: a step for each node that is cut and for each edge that ends at it, two for
+//! each edge that leaves it, and none where the edge stood on no path. [`tree_remove_with`] reports
+//! the places of the nodes that were cut, with their values before and after, and no call is needed
 //! where no node hangs by the edge ([`removal_elsewhere_keeps_optimal`]).
 #![tactic(auto)]
 
+mod below;
 mod calls;
 mod entries;
 mod entry;

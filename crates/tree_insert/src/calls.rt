@@ -44,8 +44,8 @@ impl Search {
     }
 
     /// Makes a tree optimal that was so before the edge was raised. The states are those with which
-    /// a node of the tree may stand at the vertex that the edge leaves: each costs a look-up. Errors
-    /// are as in [`Search::relax`].
+    /// a node of the tree may stand at the vertex that the edge leaves: each costs a look-up.
+    /// Errors are as in [`Search::relax`].
     pub fn raise<L: Ledger>(
         &mut self,
         tree: &mut Tree,

@@ -14,6 +14,10 @@
 //! A search takes the try of the greatest value first, as Dijkstra's algorithm takes the nearest
 //! vertex, so that a node is raised once at most. It costs a step for each edge that leaves a node
 //! which is new or raised, and a step in a heap for each try of a lower value than the one before.
+//! The edges that leave a raised node cost nothing where none has a value above the one that the
+//! node had before: so an edge into a vertex of many edges is refreshed in constant time. The raise
+//! of an edge costs a look-up for each state from which it is tried; a caller that knows the states
+//! of the nodes at a vertex hands these in.
 //! Source: the trees of Pacaci, Bonifati and Özsu, SIGMOD 2020; that they keep the greatest value
 //! is this project's own.
 #![tactic(auto)]

@@ -19,8 +19,8 @@ use edge_store::{EdgeStore, Steps};
 use rpq_base::Memory;
 use std::sync::ledger::Ledger;
 
-/// Offers the tries by the edges that leave a node that rose, and counts a step for each edge. Where
-/// no edge has a value above the one that the node had before, each could give as much then
+/// Offers the tries by the edges that leave a node that rose, and counts a step for each edge.
+/// Where no edge has a value above the one that the node had before, each could give as much then
 /// already, and none is looked at.
 fn offer_outs<L: Ledger>(
     search: &mut Search,

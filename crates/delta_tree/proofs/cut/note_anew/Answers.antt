@@ -1,6 +1,5 @@
 use Rattle.std.proofs.Common.{length, ap, arith}
 use Rattle.std.proofs.lemmas.List.Sorted.{length_permutation}
-use Rattle.due_queue.specs.Queue.{due}
 use Rattle.delta_tree.proofs.Queue.{first_noted_none, first_noted_more, all_noted}
 use Rattle.delta_tree.proofs.cut.note_anew.Goals as goal
 

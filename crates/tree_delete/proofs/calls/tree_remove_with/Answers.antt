@@ -52,8 +52,9 @@ returns-clause-repairs g c = record {
       c.in_ok-shifts.ensures.cut c.cut.ensures.beside (shift_ids c.in_ok-shifts.shifts.items)
       c.in_ok-shifts.ensures.below
       c.relax.new.tree c.relax.ensures.relaxes.later c.relax.ensures.relaxes.keeps c.in_ok-relax.ensures.optimal
-      c.args.store.now c.args.steps.now c.best_entries.new.steps c.relax.new.steps
-      (subst (λ (cut : List Shift). c.best_entries.new.steps ≤ c.args.steps.now + count_ins
+      c.args.store.now c.args.steps.now c.cut.new.steps c.best_entries.new.steps c.relax.new.steps
+      c.in_ok-shifts.ensures.counted
+      (subst (λ (cut : List Shift). c.best_entries.new.steps ≤ c.cut.new.steps + count_ins
       c.args.store.now (shift_ids cut)) c.deref.ensures.value c.best_entries.ensures.counted)
       c.relax.ensures.relaxes.steps;
 }
