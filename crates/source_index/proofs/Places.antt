@@ -1,5 +1,5 @@
 -- The roots of a place, and of all places, after a change.
-use Rattle.std.proofs.Common.{◌≡◌, ◌⊎◌, inl, inr, ◌↔◌, ℕ, Bool, true, false, cond, List, [], Option, None, Some, Result, Ok, Err, Contains, nat_eq, refl, sym, ap, subst, ◌∙◌, true≢false, arith}
+use Rattle.std.proofs.Common.{◌≡◌, ◌⊎◌, inl, inr, ◌↔◌, ◌==◌, ℕ, eq-eqb, ne_eqb, eqb-true, Bool, true, false, cond, List, [], Option, None, Some, Result, Ok, Err, Contains, nat_eq, refl, sym, ap, subst, ◌∙◌, true≢false, arith}
 use Rattle.std.specs.Cmp.{nat_eq_equiv}
 use Rattle.std.specs.Prelude.{OnOk, OnErr}
 use Rattle.std.specs.List.{list_any}
@@ -7,10 +7,9 @@ use Rattle.std.specs.Map.{lookup}
 use Rattle.std.specs.Option.{UnwrapsOrElse, unwrap_or}
 use Rattle.std.proofs.lemmas.Map.Views.{Contains-from_any, list_any-from_Contains, exact_unsigned_eq}
 use Rattle.delta_tree.specs.declared.node.NodeId.{NodeId}
-use Rattle.delta_tree.specs.Nodes.{same_node}
-use Rattle.delta_tree.proofs.Ids.{same_node_is, same_node_laws}
-use Rattle.source_index.specs.Holders.{HoldersValue, AddsHolder, DropsHolder, HoldsSame, Holds, roots_at}
+use Rattle.source_index.specs.Holders.{HoldersValue, AddsHolder, DropsHolder, HoldsSame, Holds, roots_at, vertex_at}
 use Rattle.source_index.specs.Roots.{AddsRoot, DropsRoot}
+use Rattle.source_index.specs.Vertex.{RootsByState, AddsAt, DropsAt, roots_in}
 
 -- what follows from an outcome
 pub on_ok : {X E : Type 0} {P Q : Type 0} (result : Result X E) → (P → Q) → OnOk result P →
@@ -90,137 +89,166 @@ drops_root old new root update each = (now (nat_eq root each) refl, before)
 
 -- ---- the roots of all places
 
--- the place has these roots now, or none, and each other place those that it had
-abbrev pub SetsAt : HoldersValue → HoldersValue → NodeId → Option (List ℕ) → Type 0
-SetsAt old new id roots = (place : NodeId) → lookup (same_node place) new
-    ≡ cond (same_node id place) roots (lookup (same_node place) old)
+-- the vertex has these roots now, or none, and each other vertex those that it had
+abbrev pub SetsAt : HoldersValue → HoldersValue → ℕ → Option RootsByState → Type 0
+SetsAt old new vertex places = (each : ℕ) → lookup (λ other. each == other) new
+    ≡ cond (vertex == each) places (lookup (λ other. each == other) old)
 
--- what is read at a place
-pub read_at : (old new : HoldersValue) (id : NodeId) (roots : Option (List ℕ)) →
-    SetsAt old new id roots → (place : NodeId) →
-    roots_at new place ≡ cond (same_node id place) (unwrap_or roots []) (roots_at old place)
-read_at old new id roots sets place =
-    ap (λ found. unwrap_or found []) (sets place) ∙ by (same_node id place)
+-- what is read at a vertex
+pub read_at : (old new : HoldersValue) (vertex : ℕ) (places : Option RootsByState) →
+    SetsAt old new vertex places → (each : ℕ) →
+    vertex_at new each ≡ cond (vertex == each) (unwrap_or places []) (vertex_at old each)
+read_at old new vertex places sets each =
+    ap (λ found. unwrap_or found []) (sets each) ∙ by (vertex == each)
   where
-    by : (b : Bool) → unwrap_or (cond b roots (lookup (same_node place) old)) []
-        ≡ cond b (unwrap_or roots []) (roots_at old place)
+    by : (b : Bool) → unwrap_or (cond b places (lookup (λ other. each == other) old)) []
+        ≡ cond b (unwrap_or places []) (vertex_at old each)
     by true = refl
     by false = refl
 
-itself : (id place : NodeId) → place ≡ id → same_node id place ≡ true
-itself id place at = ap (same_node id) at ∙ same_node_laws.refl id
+-- the vertex itself
+here : (old new : HoldersValue) (vertex : ℕ) (places : Option RootsByState) →
+    SetsAt old new vertex places → (each : ℕ) → each ≡ vertex →
+    vertex_at new each ≡ unwrap_or places []
+here old new vertex places sets each is =
+    read_at old new vertex places sets each
+    ∙ ap (λ b. cond b (unwrap_or places []) (vertex_at old each)) (eq-eqb vertex each (sym is))
+
+-- and another
+there : (old new : HoldersValue) (vertex : ℕ) (places : Option RootsByState) →
+    SetsAt old new vertex places → (each : ℕ) → (vertex ≡ each → ⊥) →
+    vertex_at new each ≡ vertex_at old each
+there old new vertex places sets each apart =
+    read_at old new vertex places sets each
+    ∙ ap (λ b. cond b (unwrap_or places []) (vertex_at old each)) (ne_eqb vertex each apart)
+
+-- the place with this vertex and this state
+place_is : (place id : NodeId) → place.vertex ≡ id.vertex → place.state ≡ id.state → place ≡ id
+place_is place id vertex state = λ i. record { vertex = vertex i; state = state i }
 
 -- a root was put into the set of the place
-pub adds_holder : (old new : HoldersValue) (id : NodeId) (root : ℕ) (roots : List ℕ) →
-    SetsAt old new id (Some roots) → AddsRoot (roots_at old id) roots root →
-    AddsHolder old new id root
-adds_holder old new id root roots sets adds place each = by (same_node id place) refl
+pub adds_holder : (old new : HoldersValue) (id : NodeId) (root : ℕ) (places : RootsByState) →
+    SetsAt old new id.vertex (Some places) →
+    AddsAt (vertex_at old id.vertex) places id.state root → AddsHolder old new id root
+adds_holder old new id root places sets adds place each = by (id.vertex == place.vertex) refl
   where
-    read : roots_at new place ≡ cond (same_node id place) roots (roots_at old place)
-    read = read_at old new id (Some roots) sets place
-
-    by : (b : Bool) → same_node id place ≡ b →
+    by : (b : Bool) → (id.vertex == place.vertex) ≡ b →
         Holds new place each ↔ (Holds old place each ⊎ ((place ≡ id) × (each ≡ root)))
     by true same =
-        let at : id ≡ place = same_node_is id place same in
-        let here : roots_at new place ≡ roots =
-        read ∙ ap (λ b. cond b roots (roots_at old place)) same in
-        let was : roots_at old id ≡ roots_at old place = ap (roots_at old) at in (
-          (λ there. elim ((adds each).0 (subst (λ l. Contains l each) here there)) [
-            | inl held ↦ inl (subst (λ l. Contains l each) was held)
-            | inr is ↦ inr (sym at, is)
+        let at : place.vertex ≡ id.vertex = sym (eqb-true id.vertex place.vertex same) in
+        let now : roots_at new place ≡ roots_in places place.state =
+        ap (λ v. roots_in v place.state)
+        (here old new id.vertex (Some places) sets place.vertex at) in
+        let was : roots_in (vertex_at old id.vertex) place.state ≡ roots_at old place =
+        ap (λ v. roots_in (vertex_at old v) place.state) (sym at) in (
+          (λ held. elim ((adds place.state each).0 (subst (λ l. Contains l each) now held)) [
+            | inl before ↦ inl (subst (λ l. Contains l each) was before)
+            | inr both ↦ inr (place_is place id at both.0, both.1)
           ]),
-          (λ which. subst (λ l. Contains l each) (sym here) ((adds each).1 (elim which [
-            | inl held ↦ inl (subst (λ l. Contains l each) (sym was) held)
-            | inr both ↦ inr both.1
+          (λ which. subst (λ l. Contains l each) (sym now) ((adds place.state each).1 (elim which [
+            | inl before ↦ inl (subst (λ l. Contains l each) (sym was) before)
+            | inr both ↦ inr (ap (λ (p : NodeId). p.state) both.0, both.1)
           ]))),
         )
     by false apart =
-        let here : roots_at new place ≡ roots_at old place =
-        read ∙ ap (λ b. cond b roots (roots_at old place)) apart in (
-          (λ there. inl (subst (λ l. Contains l each) here there)),
+        let now : roots_at new place ≡ roots_at old place =
+        ap (λ v. roots_in v place.state)
+        (there old new id.vertex (Some places) sets place.vertex
+        (λ is. true≢false (sym (eq-eqb id.vertex place.vertex is) ∙ apart))) in (
+          (λ held. inl (subst (λ l. Contains l each) now held)),
           (λ which. elim which [
-            | inl held ↦ subst (λ l. Contains l each) (sym here) held
-            | inr both ↦ absurd (true≢false (sym (itself id place both.0) ∙ apart))
+            | inl before ↦ subst (λ l. Contains l each) (sym now) before
+            | inr both ↦ absurd (true≢false
+                (sym (eq-eqb id.vertex place.vertex (sym (ap (λ (p : NodeId). p.vertex) both.0)))
+                ∙ apart))
           ]),
         )
 
 -- a root was taken out of the set of the place
-pub drops_holder : (old new : HoldersValue) (id : NodeId) (root : ℕ) (roots : List ℕ) →
-    SetsAt old new id (Some roots) → DropsRoot (roots_at old id) roots root →
-    DropsHolder old new id root
-drops_holder old new id root roots sets drops place each = by (same_node id place) refl
+pub drops_holder : (old new : HoldersValue) (id : NodeId) (root : ℕ) (places : RootsByState) →
+    SetsAt old new id.vertex (Some places) →
+    DropsAt (vertex_at old id.vertex) places id.state root → DropsHolder old new id root
+drops_holder old new id root places sets drops place each = by (id.vertex == place.vertex) refl
   where
-    read : roots_at new place ≡ cond (same_node id place) roots (roots_at old place)
-    read = read_at old new id (Some roots) sets place
-
-    by : (b : Bool) → same_node id place ≡ b →
+    by : (b : Bool) → (id.vertex == place.vertex) ≡ b →
         Holds new place each ↔ (Holds old place each × ((place ≡ id) × (each ≡ root) → ⊥))
     by true same =
-        let at : id ≡ place = same_node_is id place same in
-        let here : roots_at new place ≡ roots =
-        read ∙ ap (λ b. cond b roots (roots_at old place)) same in
-        let was : roots_at old id ≡ roots_at old place = ap (roots_at old) at in (
-          (λ there.
-              let both = (drops each).0 (subst (λ l. Contains l each) here there) in
-              (subst (λ l. Contains l each) was both.0, (λ gone. both.1 gone.1))),
-          (λ both. subst (λ l. Contains l each) (sym here) ((drops each).1
-              (subst (λ l. Contains l each) (sym was) both.0, (λ is. both.1 (sym at, is))))),
+        let at : place.vertex ≡ id.vertex = sym (eqb-true id.vertex place.vertex same) in
+        let now : roots_at new place ≡ roots_in places place.state =
+        ap (λ v. roots_in v place.state)
+        (here old new id.vertex (Some places) sets place.vertex at) in
+        let was : roots_in (vertex_at old id.vertex) place.state ≡ roots_at old place =
+        ap (λ v. roots_in (vertex_at old v) place.state) (sym at) in (
+          (λ held.
+              let both = (drops place.state each).0 (subst (λ l. Contains l each) now held) in (
+                subst (λ l. Contains l each) was both.0,
+                (λ gone. both.1 (ap (λ (p : NodeId). p.state) gone.0, gone.1)),
+              )),
+          (λ both. subst (λ l. Contains l each) (sym now) ((drops place.state each).1 (
+            subst (λ l. Contains l each) (sym was) both.0,
+            (λ gone. both.1 (place_is place id at gone.0, gone.1)),
+          ))),
         )
     by false apart =
-        let here : roots_at new place ≡ roots_at old place =
-        read ∙ ap (λ b. cond b roots (roots_at old place)) apart in (
-          (λ there. (
-            subst (λ l. Contains l each) here there,
-            (λ gone. true≢false (sym (itself id place gone.0) ∙ apart)),
+        let now : roots_at new place ≡ roots_at old place =
+        ap (λ v. roots_in v place.state)
+        (there old new id.vertex (Some places) sets place.vertex
+        (λ is. true≢false (sym (eq-eqb id.vertex place.vertex is) ∙ apart))) in (
+          (λ held. (
+            subst (λ l. Contains l each) now held,
+            (λ gone. true≢false
+                (sym (eq-eqb id.vertex place.vertex (sym (ap (λ (p : NodeId). p.vertex) gone.0)))
+                ∙ apart)),
           )),
-          (λ both. subst (λ l. Contains l each) (sym here) both.0),
+          (λ both. subst (λ l. Contains l each) (sym now) both.0),
         )
 
 -- no root is held at the place
 pub drops_none : (old : HoldersValue) (id : NodeId) (root : ℕ) → roots_at old id ≡ [] →
     DropsHolder old old id root
 drops_none old id root none place each = (
-  (λ there. (
-    there,
+  (λ held. (
+    held,
     (λ gone. nothing_there each
-        (subst (λ l. Contains l each) (ap (roots_at old) gone.0 ∙ none) there)),
+        (subst (λ l. Contains l each) (ap (roots_at old) gone.0 ∙ none) held)),
   )),
   (λ both. both.0),
 )
 
--- the place has the roots that it had
-pub same_at : (old new : HoldersValue) (id : NodeId) (roots : Option (List ℕ)) →
-    SetsAt old new id roots → unwrap_or roots [] ≡ roots_at old id → (place : NodeId) →
-    roots_at new place ≡ roots_at old place
-same_at old new id roots sets same place =
-    read_at old new id roots sets place ∙ by (same_node id place) refl
+-- the vertex has the roots that it had
+pub same_at : (old new : HoldersValue) (vertex : ℕ) (places : Option RootsByState) →
+    SetsAt old new vertex places → unwrap_or places [] ≡ vertex_at old vertex → (each : ℕ) →
+    vertex_at new each ≡ vertex_at old each
+same_at old new vertex places sets same each =
+    read_at old new vertex places sets each ∙ by (vertex == each) refl
   where
-    by : (b : Bool) → same_node id place ≡ b →
-        cond b (unwrap_or roots []) (roots_at old place) ≡ roots_at old place
-    by true at = same ∙ ap (roots_at old) (same_node_is id place at)
+    by : (b : Bool) → (vertex == each) ≡ b →
+        cond b (unwrap_or places []) (vertex_at old each) ≡ vertex_at old each
+    by true at = same ∙ ap (vertex_at old) (eqb-true vertex each at)
     by false apart = refl
 
 pub holds_same : (old new : HoldersValue) →
-    ((place : NodeId) → roots_at new place ≡ roots_at old place) → HoldsSame old new
+    ((vertex : ℕ) → vertex_at new vertex ≡ vertex_at old vertex) → HoldsSame old new
 holds_same old new same place each = (
-  (λ there. subst (λ l. Contains l each) (same place) there),
-  (λ there. subst (λ l. Contains l each) (sym (same place)) there),
+  (λ held. subst (λ l. Contains (roots_in l place.state) each) (same place.vertex) held),
+  (λ held. subst (λ l. Contains (roots_in l place.state) each) (sym (same place.vertex)) held),
 )
 
--- a place without roots was taken out afterwards
+-- a vertex without places was taken out afterwards
 pub drops_then : (old kept new : HoldersValue) (id : NodeId) (root : ℕ) →
-    DropsHolder old kept id root → roots_at kept id ≡ [] → SetsAt kept new id None →
-    DropsHolder old new id root
+    DropsHolder old kept id root → vertex_at kept id.vertex ≡ [] →
+    SetsAt kept new id.vertex None → DropsHolder old new id root
 drops_then old kept new id root drops bare sets place each =
-    let same = same_at kept new id None sets (sym bare) place in (
-      (λ there. (drops place each).0 (subst (λ l. Contains l each) same there)),
+    let same : roots_at new place ≡ roots_at kept place =
+    ap (λ v. roots_in v place.state)
+    (same_at kept new id.vertex None sets (sym bare) place.vertex) in (
+      (λ held. (drops place each).0 (subst (λ l. Contains l each) same held)),
       (λ both. subst (λ l. Contains l each) (sym same) ((drops place each).1 both)),
     )
 
 -- what was found, or no roots
-pub found_or_bare : (found : Option (List ℕ)) (bare : List ℕ → Type 0) (roots : List ℕ) →
-    UnwrapsOrElse found bare roots → ((each : List ℕ) → bare each → each ≡ []) →
-    roots ≡ unwrap_or found []
-found_or_bare None bare roots is told = told roots is
-found_or_bare (Some x) bare roots is told = is
+pub found_or_bare : (found : Option RootsByState) (bare : RootsByState → Type 0)
+    (places : RootsByState) → UnwrapsOrElse found bare places →
+    ((each : RootsByState) → bare each → each ≡ []) → places ≡ unwrap_or found []
+found_or_bare None bare places is told = told places is
+found_or_bare (Some x) bare places is told = is

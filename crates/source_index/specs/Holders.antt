@@ -1,17 +1,21 @@
--- The roots of the trees that have a node at a place.
-use Rattle.std.specs.Prelude.{◌≡◌, ◌⊎◌, ◌↔◌, ℕ, List, [], Contains}
+-- The roots of the trees that have a node at a place, which is a vertex with a state.
+use Rattle.std.specs.Prelude.{◌≡◌, ◌⊎◌, ◌↔◌, ◌==◌, ℕ, List, [], Contains}
 use Rattle.std.specs.Map.{lookup}
 use Rattle.std.specs.Option.{unwrap_or}
 use Rattle.delta_tree.specs.declared.node.NodeId.{NodeId}
-use Rattle.delta_tree.specs.Nodes.{same_node}
+use Rattle.source_index.specs.Vertex.{RootsByState, roots_in}
 
--- the roots that are held for each place that has some
+-- for each vertex the roots that are held at its states
 abbrev pub HoldersValue : Type 0
-HoldersValue = List (NodeId × List ℕ)
+HoldersValue = List (ℕ × RootsByState)
+
+-- those of a vertex
+abbrev pub vertex_at : HoldersValue → ℕ → RootsByState
+vertex_at holders vertex = unwrap_or (lookup (λ each. vertex == each) holders) []
 
 -- the roots at a place
 abbrev pub roots_at : HoldersValue → NodeId → List ℕ
-roots_at holders id = unwrap_or (lookup (same_node id) holders) []
+roots_at holders id = roots_in (vertex_at holders id.vertex) id.state
 
 -- the root is held at the place
 abbrev pub Holds : HoldersValue → NodeId → ℕ → Type 0

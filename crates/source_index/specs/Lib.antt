@@ -3,3 +3,5 @@ pub mod Holders
 pub mod Kept
 pub mod Queue
 pub mod Roots
+pub mod Vertex
+pub mod VertexKept

@@ -1,22 +1,25 @@
 //! The roots of the trees that have a node at a place.
 
-ghost use Rattle.std.specs.Prelude.{◌≡◌, ℕ, List, [], nat_eq, slice_get, Some, IfSome, OnSome, OnOk, OnErr};
+ghost use Rattle.std.specs.Prelude.{◌≡◌, ◌≢◌, ◌↔◌, ℕ, [], nat_eq, slice_get, Some, Contains, IfSome, OnSome, OnOk, OnErr};
 ghost use Rattle.std.specs.List.{IsDistinct};
-ghost use Rattle.source_index.specs.Holders.{AddsHolder, DropsHolder, HoldsSame, roots_at};
+ghost use Rattle.delta_tree.specs.Nodes.{node_id};
+ghost use Rattle.source_index.specs.Holders.{AddsHolder, DropsHolder, HoldsSame, roots_at, vertex_at};
+ghost use Rattle.source_index.specs.Vertex.{IsRising, RootsByState};
 
 use crate::memory::give_back;
-use crate::roots::Roots;
+use crate::vertex::VertexRoots;
 use delta_tree::NodeId;
 use indexmap::IndexMap;
 use rpq_base::Memory;
 use std::alloc::Global;
 use std::marker::Model;
 
-/// For each vertex with a state the set of the roots whose trees have a node there.
+/// For each vertex with a state the set of the roots whose trees have a node there, by the vertex
+/// and then by the state.
 #[derive(Drop)]
 pub struct Holders {
     alloc: Global,
-    places: IndexMap<NodeId, Roots>,
+    vertices: IndexMap<u32, VertexRoots>,
 }
 
 impl Model for Holders {
@@ -24,21 +27,21 @@ impl Model for Holders {
 
     ghost Value = { HoldersValue };
 
-    ghost view = { λ holders. holders.places.entries };
+    ghost view = { λ holders. holders.vertices.entries };
 }
 
-/// Takes the root out of the set of the place. Answers the index of the place where this has no
+/// Takes the root out of the set of the place. Answers the index of the vertex where this has no
 /// root then.
-fn take_out(places: &mut IndexMap<NodeId, Roots>, id: NodeId, root: u32) -> Option<usize>
-    ensures dropped { DropsHolder places.old.entries places.new.entries id root }
-    ensures bare { OnSome result (roots_at places.new.entries id ≡ []) }
-    ensures at { IfSome result (λ index.
-        (roots : List ℕ) × (slice_get places.new.entries index ≡ Some (id, roots))) }
+fn take_out(vertices: &mut IndexMap<u32, VertexRoots>, id: NodeId, root: u32) -> Option<usize>
+    ensures dropped { DropsHolder vertices.old.entries vertices.new.entries id root }
+    ensures bare { OnSome result (vertex_at vertices.new.entries id.vertex ≡ []) }
+    ensures at { IfSome result (λ index. (places : RootsByState)
+        × (slice_get vertices.new.entries index ≡ Some (id.vertex, places))) }
 {
-    let index = places.get_index_of(&id)?;
-    let roots = places.get_index_mut(index)?;
-    roots.remove(root);
-    if roots.is_empty() {
+    let index = vertices.get_index_of(&id.vertex)?;
+    let places = vertices.get_index_mut(index)?;
+    places.remove(id.state, root);
+    if places.is_empty() {
         return Some(index);
     }
     None
@@ -51,17 +54,30 @@ impl Holders {
     {
         Holders {
             alloc,
-            places: IndexMap::new(alloc),
+            vertices: IndexMap::new(alloc),
         }
     }
 
-    /// The roots that are held at the place, each once, by one look-up.
+    /// The roots that are held at the place, each once, by one look-up of the vertex and a binary
+    /// search among its states.
     pub fn at(&self, id: NodeId) -> &[u32]
         ensures roots { result.now ≡ roots_at self.now id }
         ensures once { IsDistinct nat_eq result.now }
     {
-        match self.places.get(&id) {
-            Some(roots) => roots.as_slice(),
+        match self.vertices.get(&id.vertex) {
+            Some(places) => places.at(id.state),
+            None => &[],
+        }
+    }
+
+    /// The states with which some root is held at the vertex, in rising order, by one look-up.
+    pub fn states_at(&self, vertex: u32) -> &[u32]
+        ensures exact { (state : ℕ) →
+            Contains result.now state ↔ (roots_at self.now (node_id vertex state) ≢ []) }
+        ensures rising { IsRising result.now }
+    {
+        match self.vertices.get(&vertex) {
+            Some(places) => places.states(),
             None => &[],
         }
     }
@@ -73,22 +89,22 @@ impl Holders {
         ensures unchanged { OnErr result (HoldsSame self.old self.new) }
     {
         let alloc = self.alloc;
-        let roots = self.places.entry(id)?.or_insert_with(
+        let places = self.vertices.entry(id.vertex)?.or_insert_with(
             ||
                 ensures { result ≡ [] }
-            { Roots::new(alloc) },
+            { VertexRoots::new(alloc) },
         );
-        roots.add(root)
+        places.add(id.state, root)
     }
 
-    /// Holds the root at the place no more. A place without roots is forgotten, and
-    /// memory is given back where most of it isn't used any more.
+    /// Holds the root at the place no more. A place without roots is forgotten, and a vertex
+    /// without places. Memory is given back where most of it isn't used any more.
     pub fn drop(&mut self, id: NodeId, root: u32)
         ensures { DropsHolder self.old self.new id root }
     {
-        if let Some(index) = take_out(&mut self.places, id, root) {
-            self.places.swap_remove_index(index);
-            give_back(&mut self.places);
+        if let Some(index) = take_out(&mut self.vertices, id, root) {
+            self.vertices.swap_remove_index(index);
+            give_back(&mut self.vertices);
         }
     }
 
@@ -96,6 +112,6 @@ impl Holders {
     pub fn clear(&mut self)
         ensures { self.new ≡ [] }
     {
-        self.places.clear();
+        self.vertices.clear();
     }
 }
