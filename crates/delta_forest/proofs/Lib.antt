@@ -11,6 +11,7 @@ pub mod ChangedEnds
 pub mod KeptTrees
 pub mod Logs
 pub mod Indexed
+pub mod Unchanged
 pub mod Holding
 pub mod Chains
 pub mod Gathering

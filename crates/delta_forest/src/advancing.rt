@@ -1,6 +1,7 @@
 //! A change, taken by the store and then by the trees that it may touch.
 
-ghost use Rattle.std.specs.Prelude.{◌≤◌, ◌<◌, ◌^◌, Bool, OnOk, false};
+ghost use Rattle.std.specs.Prelude.{◌≡◌, ◌≤◌, ◌<◌, ◌^◌, Bool, IfOk, OnOk, Some, false};
+ghost use Rattle.edge_store.specs.Edges.{HasSameValues};
 ghost use Rattle.delta_forest.specs.Changes.{Applies, TakesChange};
 ghost use Rattle.delta_forest.specs.Keeping.{AreFinals, IsKept};
 ghost use Rattle.delta_forest.specs.Settling.{forest_of};
@@ -9,7 +10,7 @@ use crate::candidates::find_candidates;
 use crate::index::State;
 use crate::settling::settle_all;
 use dfa_table::Dfa;
-use edge_store::EdgeStore;
+use edge_store::{EdgeStore, Raised};
 use rpq_base::Memory;
 use rpq_io::{Context, Gate};
 use source_tree::{Change, ProductGraph};
@@ -17,28 +18,49 @@ use std::thread::Threads;
 use tree_delete::removal_elsewhere_keeps_optimal;
 use tree_insert::raise_elsewhere_keeps_optimal;
 
-/// The store takes the change.
-fn change_store(store: &mut EdgeStore, change: Change) -> Result<(), Memory>
-    ensures { OnOk result (TakesChange change store.old store.new) }
+/// Whether the value of the edge is another one now.
+fn has_risen(raised: Raised) -> bool
+    ensures { result ≡ false → raised.before ≡ Some raised.after }
+{
+    match raised.before {
+        Some(before) => before != raised.after,
+        None => true,
+    }
+}
+
+/// The store takes the change. Answers whether the store may have changed: it hasn't where a raise
+/// raised nothing, or where the removed edge wasn't there.
+fn change_store(store: &mut EdgeStore, change: Change) -> Result<bool, Memory>
+    ensures takes { OnOk result (TakesChange change store.old store.new) }
+    ensures same { IfOk result (λ changed. changed ≡ false → HasSameValues store.old store.new) }
 {
     match change {
         Change::Raise { edge, value } => {
-            store.raise(edge, value)?;
-            Ok(())
+            let raised = store.raise(edge, value)?;
+            Ok(has_risen(raised))
         }
-        Change::Remove(edge) => {
-            store.remove(edge);
-            Ok(())
-        }
+        Change::Remove(edge) => Ok(store.remove(edge).is_some()),
         Change::Expire(now) => {
             store.expire(now);
-            Ok(())
+            Ok(true)
         }
     }
 }
 
-/// The store takes the change, and then the trees that it may touch, by so many workers. The only
-/// error is [`Memory`], after which the state is of no use.
+/// The number of workers that take a change with so many candidates: one, and a further one for
+/// each [`trees_per_worker`](Gate::trees_per_worker) of them, while there are any.
+fn workers_for<G: Gate>(gate: &G, candidates: usize, workers: u32) -> u32
+    requires { 1 ≤ workers }
+    ensures some { 1 ≤ result }
+    ensures few { result ≤ workers }
+{
+    let further = candidates / gate.trees_per_worker().max(1);
+    further.min(workers as usize - 1) as u32 + 1
+}
+
+/// The store takes the change, and then the trees that it may touch, by at most so many workers. A
+/// change that leaves the store as it was ends there. The only error is [`Memory`], after which the
+/// state is of no use.
 pub(crate) fn advance<R: Threads + Sync, G: Gate>(
     context: &Context<'_, R, G>,
     dfa: &Dfa,
@@ -61,7 +83,10 @@ pub(crate) fn advance<R: Threads + Sync, G: Gate>(
     removal_elsewhere_keeps_optimal();
     state.found.touched.clear();
     state.found.log.clear();
-    change_store(&mut state.store, change)?;
+    if !change_store(&mut state.store, change)? {
+        state.calls += 1;
+        return Ok(());
+    }
     find_candidates(
         context.alloc,
         &mut state.index,
@@ -75,6 +100,7 @@ pub(crate) fn advance<R: Threads + Sync, G: Gate>(
         finals,
     };
     let roots = &state.roots;
+    let workers = workers_for(context.gate, roots.len(), workers);
     state
         .index
         .sources

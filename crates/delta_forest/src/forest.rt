@@ -132,9 +132,14 @@ impl Forest {
         })
     }
 
-    /// Takes a change: first the store does, then by so many workers the trees that it may touch.
-    /// The trees are cut into at most as many chunks of the same size as there are workers; each
-    /// worker passes the gate before it begins. Where there is no tree, none does.
+    /// Takes a change: first the store does, then the trees that it may touch, its candidates. A
+    /// raise that raises nothing and a removal of an edge that isn't there end at the store, at the
+    /// cost of a look-up.
+    ///
+    /// One worker goes through the candidates, and a further one for each
+    /// [`trees_per_worker`](Gate::trees_per_worker) of them, up to so many workers. The trees are cut into
+    /// at most as many chunks of the same size as there are workers; each worker passes the gate
+    /// before it begins. Where there is no tree, or the change ends at the store, none does.
     ///
     /// The only error is [`Memory`], after which the forest is broken. It may have taken fewer than
     /// 2^60 changes since it was made or cleared.

@@ -20,11 +20,10 @@ pub trait Gate: Sync {
     /// A worker is about to begin.
     fn pass(&self, who: Who);
 
-    /// The number of trees from which on a change is shared out among workers, where it may touch
-    /// so many. A thread costs more than a few trees do; a test of workers side by side asks for
-    /// fewer.
-    fn least_shared(&self) -> usize {
-        1000
+    /// A change gets one worker, and a further one for each so many trees that it may touch. A
+    /// thread costs more than a few trees do; a test of workers side by side asks for fewer.
+    fn trees_per_worker(&self) -> usize {
+        4000
     }
 
     /// An ask of this session, from 1, was answered at this position of the history.

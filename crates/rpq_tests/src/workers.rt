@@ -1,7 +1,7 @@
 //! Workers on trees: two at the same time, with the bytes of one.
 
 use crate::case::{Case, holds_behind, path};
-use rpq_io::{Gate, Who};
+use rpq_io::{Gate, OpenGate, Who};
 use std::alloc::Global;
 use std::hint::spin_loop;
 use std::random::RandomSource;
@@ -17,6 +17,8 @@ const TURNS: u32 = 10_000_000;
 /// waiting, and none is found by a worker that runs before it or after it.
 #[derive(Drop)]
 struct MeetingGate {
+    /// From how many trees on a change is shared.
+    least: usize,
     /// The number of the worker that waits, or 0 where none does.
     waiting: AtomicU64,
     met: AtomicU64,
@@ -24,8 +26,9 @@ struct MeetingGate {
 
 impl MeetingGate {
     /// No worker has come yet.
-    fn new() -> MeetingGate {
+    fn new(least: usize) -> MeetingGate {
         MeetingGate {
+            least,
             waiting: AtomicU64::new(0),
             met: AtomicU64::new(0),
         }
@@ -60,6 +63,10 @@ impl Gate for MeetingGate {
         }
     }
 
+    fn trees_per_worker(&self) -> usize {
+        self.least
+    }
+
     fn replied(&self, _session: u32, _position: u64) {}
 }
 
@@ -86,15 +93,16 @@ fn two_workers<'a>() -> Case<'a> {
     }
 }
 
-/// Whether the run of the case answers what it is to, and whether a worker was found waiting in it
-/// is as wanted.
+/// Whether the run of the case answers what it is to behind a gate by which a change is shared from
+/// so many trees on, and whether a worker was found waiting in it is as wanted.
 fn holds_and_meets<R: Threads + RandomSource + Sync>(
     rt: &R,
     alloc: Global,
     case: &Case,
+    least: usize,
     wanted: bool,
 ) -> Result<bool, Fail> {
-    let gate = MeetingGate::new();
+    let gate = MeetingGate::new(least);
     let holds = holds_behind(rt, alloc, case, &gate)?;
     let meets = gate.met.load(SeqCst) > 0;
     Ok(holds && meets == wanted)
@@ -102,7 +110,11 @@ fn holds_and_meets<R: Threads + RandomSource + Sync>(
 
 #[test]
 fn two_workers_at_the_same_time(rt: HostRuntime) -> Result<(), Fail> {
-    assert!(rt; holds_and_meets(&rt, rt.alloc(), &one_worker(), false)?);
-    assert!(rt; holds_and_meets(&rt, rt.alloc(), &two_workers(), true)?);
+    let alloc = rt.alloc();
+    assert!(rt; holds_and_meets(&rt, alloc, &one_worker(), 1, false)?);
+    assert!(rt; holds_and_meets(&rt, alloc, &two_workers(), 1, true)?);
+    // few trees aren't shared by the gate of the program
+    let least = OpenGate.trees_per_worker();
+    assert!(rt; holds_and_meets(&rt, alloc, &two_workers(), least, false)?);
     Ok(())
 }

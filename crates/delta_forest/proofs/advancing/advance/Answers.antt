@@ -1,11 +1,13 @@
-use Rattle.std.proofs.Common.{◌+◌, ◌==◌, ℕ, List, false, refl, sym, subst}
+use Rattle.std.proofs.Common.{◌+◌, ◌==◌, ℕ, List, [], false, refl, sym, subst, rules}
 use Rattle.std.specs.Ordering.{nat_cmp}
 use Rattle.std.specs.List.{IsDistinct}
 use Rattle.std.specs.List.Sorted.{IsStrictlySortedBy}
 use Rattle.source_tree.specs.declared.change.EndChange.{EndChange}
 use Rattle.source_tree.specs.Product.{product_of}
 use Rattle.source_table.specs.Sources.{AreReady, HaveTaken}
-use Rattle.delta_forest.specs.Changes.{AreEndChangesOf, AreTouched}
+use Rattle.delta_forest.specs.Forest.{ForestValue}
+use Rattle.delta_forest.specs.Changes.{Applies, AreEndChangesOf, AreTouched}
+use Rattle.delta_forest.specs.Keeping.{forest_with}
 use Rattle.delta_forest.specs.Settling.{AreFound, AreSettled, forest_of}
 use Rattle.delta_forest.specs.declared.index.Index.{Index}
 use Rattle.delta_forest.specs.declared.index.State.{State}
@@ -16,6 +18,7 @@ use Rattle.delta_forest.proofs.Indexed.{indexed}
 use Rattle.delta_forest.proofs.KeptTrees.{keeps_trees}
 use Rattle.delta_forest.proofs.Settled.{kept_after}
 use Rattle.delta_forest.proofs.Touched.{are_touched}
+use Rattle.delta_forest.proofs.Unchanged.{applies_still, kept_still}
 use Rattle.delta_forest.proofs.advancing.advance.Given.{Over}
 use Rattle.delta_forest.proofs.advancing.advance.Goals as goal
 
@@ -37,7 +40,7 @@ change_each-requires-clause-ready g c κs within =
     subst (λ (roots : List ℕ).
     AreReady c.args.change (product_of store dfa finals) roots grown.sources)
     (sym c.deref.ensures.value)
-    (ready c.requires.kept are store finals c.in_ok-change_store.ensures c.requires.calls)
+    (ready c.requires.kept are store finals c.in_ok-change_store.ensures.takes c.requires.calls)
 
 pub settle_all-requires-clause-apart : goal.settle_all-requires-clause-apart
 settle_all-requires-clause-apart g c =
@@ -54,7 +57,7 @@ settle_all-requires-clause-sorted g c =
     are.sorted
 
 -- the index follows the change
-follows : (g : Over) (c : goal.After-state-1 g) →
+follows : (g : Over) (c : goal.After-state-2-1 g) →
     Follows c.args.change c.args.dfa.now c.args.finals.now c.args.state.now.calls
     c.args.state.now.store c.change_store.new.store c.args.state.now.index
     c.find_candidates.new.index c.find_candidates.new.roots.items c.change_each.new.self
@@ -66,7 +69,7 @@ follows g c =
     let changed : Index =
     record { sources = table; holders = grown.holders; dues = grown.dues } in
     record {
-      takes = c.in_ok-change_store.ensures;
+      takes = c.in_ok-change_store.ensures.takes;
       kept = c.requires.kept;
       are = c.in_ok-find_candidates.ensures state.store state.calls c.requires.kept;
       taken = subst (λ (each : List ℕ). HaveTaken c.args.change
@@ -100,7 +103,7 @@ returns-clause-applies g c = λ broken.
       calls = calls;
     } in
     record {
-      store = c.in_ok-change_store.ensures;
+      store = c.in_ok-change_store.ensures.takes;
       indexed = indexed dfa new.store calls calls new.index false found.touched.items
           found.log.items (kept_after (follows g c));
       keeps = keeps_trees (follows g c) state.calls calls broken false
@@ -117,3 +120,26 @@ returns-clause-applies g c = λ broken.
       calls = refl;
       unbroken = refl;
     }
+
+-- the change ended at the store
+
+pub returns-then-not-branch-clause-kept : goal.returns-then-not-branch-clause-kept
+returns-then-not-branch-clause-kept g c =
+    let state = c.args.state.now in
+    kept_still c.args.change c.args.dfa.now state.calls state.store c.change_store.new.store
+    state.index c.in_ok-change_store.ensures.takes
+    (c.in_ok-change_store.ensures.same (search rules)) c.requires.kept
+
+pub returns-then-not-branch-clause-applies : goal.returns-then-not-branch-clause-applies
+returns-then-not-branch-clause-applies g c = λ broken.
+    let state = c.args.state.now in
+    let store = c.change_store.new.store in
+    let stopped : List ℕ → List EndChange → ForestValue = λ touched log.
+    forest_with c.args.dfa.now store state.index.sources (state.calls + 1) false touched log in
+    subst (λ (touched : List ℕ). Applies c.args.change (forest_of c.args.dfa.now broken state)
+    (stopped touched c.clear-2.new.self.items)) (sym c.clear.ensures.items)
+    (subst (λ (log : List EndChange). Applies c.args.change
+    (forest_of c.args.dfa.now broken state) (stopped [] log)) (sym c.clear-2.ensures.items)
+    (applies_still c.args.change c.args.dfa.now state.calls state.store store state.index
+    c.in_ok-change_store.ensures.takes (c.in_ok-change_store.ensures.same (search rules))
+    c.requires.kept broken state.found.touched.items state.found.log.items))
