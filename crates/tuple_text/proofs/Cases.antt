@@ -1,6 +1,6 @@
 -- The tuple of some fields, or their first fault.
-use Rattle.std.proofs.Common.{◌≡◌, ◌≢◌, ℕ, ◌≤◌, Bool, true, false, Some, None, Result, Ok, Err}
-use Rattle.std.proofs.Common.{List, [], ◌∷◌, ◌++◌, length, ◌⊎◌}
+use Rattle.std.proofs.Common.{◌≡◌, ℕ, ◌≤◌, Bool, true, false, Some, None, Result, Ok, Err}
+use Rattle.std.proofs.Common.{List, [], ◌∷◌, length, ◌⊎◌}
 use Rattle.std.proofs.Common.{codes, refl, sym, ap, ap₂, ◌∙◌, arith, inl, inr}
 use Rattle.std.proofs.lemmas.Bool.{false≢true}
 use Rattle.text_parts.specs.Numbers.{number_of}
@@ -14,8 +14,8 @@ use Rattle.tuple_text.specs.declared.read.BadLine.TheVariants.{Fields, Time, Tim
 use Rattle.tuple_text.specs.declared.read.BadLine.TheVariants.{Until, Memory}
 use Rattle.tuple_text.specs.Reading.{◌>>=◌, time_of, edge_of, edge_named, act_of, ending_of, end_of}
 use Rattle.tuple_text.specs.Reading.{done_at, change_of, lasting_of, tuple_at, tuple_of_fields}
-use Rattle.tuple_text.specs.Parts.{IsStreamEdge, edge_fields, IsActOf, IsTimeText, IsTupleOf}
-use Rattle.tuple_text.specs.Parts.{field_at, GivesNoEnd, HasFault, IsFirstFault, rank}
+use Rattle.tuple_text.specs.Parts.{IsStreamEdge, IsActOf, IsTimeText, IsTupleOf}
+use Rattle.tuple_text.specs.Parts.{HasFault, IsFirstFault, rank}
 use Rattle.tuple_text.proofs.Order.{Passes, of_one, of_four, of_five, of_six, of_seven, counted, timed, ranged, named}
 use Rattle.tuple_text.proofs.Order.{signed, ended}
 use Rattle.tuple_text.proofs.Steps.{not_digits, too_large, written, time_cases, time_not_digits}

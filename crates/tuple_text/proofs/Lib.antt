@@ -1,4 +1,5 @@
 mod Cases
+mod Collected
 mod Lines
 mod Order
 mod Steps

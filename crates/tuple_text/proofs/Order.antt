@@ -1,6 +1,6 @@
 -- The first fault of some fields.
 use Rattle.std.proofs.Common.{◌≡◌, ℕ, ◌+◌, ◌-◌, ◌≤◌, cond, eqb, ne_eqb, List, length, refl, sym, ap}
-use Rattle.std.proofs.Common.{◌∙◌, subst, arith, inl, inr, ◌⊎◌}
+use Rattle.std.proofs.Common.{◌∙◌, subst, arith, inl, inr}
 use Rattle.std.proofs.lemmas.Bool.{cases_lt}
 use Rattle.text_parts.specs.Numbers.{IsDigitText, number_of}
 use Rattle.rpq_base.specs.declared.data.TheConstants.{MAX_TIME}

@@ -18,7 +18,6 @@ use Rattle.text_parts.specs.Fields.{fields, IsField, JoinedFieldsAreRead}
 use Rattle.text_parts.specs.Numbers.{IsDigitText, DecimalIsRead}
 use Rattle.rpq_base.specs.Names.{is_name_byte, is_name, IsName}
 use Rattle.rpq_base.specs.OwnEnds.{own_end}
-use Rattle.rpq_base.specs.TupleValue.{IsInRange}
 use Rattle.rpq_base.specs.declared.data.TheConstants.{MAX_TIME}
 use Rattle.rpq_base.specs.declared.data.Edge.{Edge}
 use Rattle.rpq_base.specs.declared.data.Act.{Act}

@@ -5,7 +5,7 @@
 //! gives, a tuple, nothing or the line's first fault, and [`write_tuple`] the written form, which
 //! is read as the same tuple; [`push_tuple`] writes it at the end of a text. The laws say by parts
 //! exactly which lines give what. Each call goes over its line a few times, and takes memory for
-//! the fields and the names.
+//! the names alone; a line of more than seven fields, which gives no tuple, takes some for these.
 #![tactic(auto)]
 
 mod laws;

@@ -3,6 +3,8 @@
 ghost use Rattle.std.specs.Prelude.{ℕ, ◌≡◌, ◌≢◌, ◌+◌, ◌^◌, ◌<◌, ◌≤◌, ◌↔◌, map, length, codes};
 ghost use Rattle.std.specs.Prelude.{Some, IfOk, IfErr, IfSome};
 ghost use Rattle.rpq_base.specs.Plain.{IsPlainLabel, IsPlainAct, IsPlainTuple};
+ghost use Rattle.text_parts.specs.Fields.{fields};
+ghost use Rattle.text_parts.specs.Lines.{is_blank as is_blank_byte};
 ghost use Rattle.tuple_text.specs.declared.read.BadLine.{BadLine};
 ghost use Rattle.tuple_text.specs.FaultTexts.{fault_text};
 ghost use Rattle.tuple_text.specs.Parts.{GivesNothing};
@@ -12,10 +14,11 @@ ghost use Rattle.tuple_text.specs.Reading.{tick_of, change_of, lasting_of, tuple
 ghost use Rattle.tuple_text.specs.Reading.{line_tuple};
 
 use rpq_base::{Act, Edge, Label, MAX_TIME, Memory, Name, NameFault, Tuple};
+use smallvec::SmallVec;
 use std::alloc::{AllocError, Global};
 use std::error::Error;
 use std::fmt;
-use text_parts::{NumberFault, fields, is_blank_line, is_comment, read_number};
+use text_parts::{NumberFault, is_blank_line, is_comment, read_number};
 
 /// Why a line gives no tuple. A line is answered with the first fault in this order that it has; of
 /// several fields that are no names the first counts.
@@ -82,8 +85,24 @@ pub fn read_tuple(alloc: Global, line: &[u8]) -> Result<Option<Tuple>, BadLine>
     if is_blank_line(line) || is_comment(line) {
         return Ok(None);
     }
-    let fields = fields(alloc, line)?;
-    Ok(Some(read_fields(alloc, &fields)?))
+    let fields = fields_of(alloc, line)?;
+    Ok(Some(read_fields(alloc, fields.as_slice())?))
+}
+
+/// The fields of a line. Up to seven, which is as many as a tuple has, take no memory.
+fn fields_of<'a>(alloc: Global, line: &'a [u8]) -> Result<SmallVec<&'a [u8], 7>, AllocError>
+    ensures { IfOk result (λ found. map (λ field. field.now) found.items ≡ fields line.now) }
+{
+    line.split(|byte| is_blank(*byte))
+        .filter(|run| !run.is_empty())
+        .collect(alloc)
+}
+
+/// Whether the byte is a space or a tab.
+fn is_blank(byte: u8) -> bool
+    ensures { result ≡ is_blank_byte byte }
+{
+    matches!(byte, b' ' | b'\t')
 }
 
 /// The tuple that the fields of a line give.

@@ -5,4 +5,4 @@ use Rattle.tuple_text.proofs.read.read_tuple.Goals as goal
 
 pub read_fields-requires : goal.read_fields-requires
 read_fields-requires c =
-    omega (arith, fields_few c.args.line.now, ap length c.in_ok-fields.ensures.ok, length-map c.in_ok-fields.fields.items (λ field. field.now))
+    omega (arith, fields_few c.args.line.now, ap length c.as_slice.ensures, ap length c.in_ok-fields.ensures, length-map c.in_ok-fields.fields.items (λ field. field.now))
