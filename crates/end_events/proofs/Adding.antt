@@ -4,7 +4,7 @@ use Rattle.std.specs.Prelude.{◌↔◌, Contains}
 use Rattle.std.specs.List.Sorted.{IsStrictlySortedBy}
 use Rattle.std.proofs.lemmas.Bool.{both_ways}
 use Rattle.std.proofs.lemmas.List.{map_push}
-use Rattle.std.proofs.lemmas.List.Elements.{All-push}
+use Rattle.std.proofs.lemmas.List.Elements.{All-nil, All-push}
 use Rattle.std.proofs.lemmas.List.Quantifiers.{position-Some}
 use Rattle.rpq_base.specs.Order.{pair_cmp}
 use Rattle.rpq_base.specs.Same.{same_name}
@@ -159,6 +159,10 @@ gathers_one mode outcome names each found more new root vertex numbered gives is
       (none_given mode outcome names (pairs_at names found));
   numbered = λ all. subst (λ (pairs : List NumberedPair). AreNumbered names pairs) (sym is) (All-push (IsNumbered names) found new all numbered);
 }
+
+-- no pairs are numbered
+pub none_numbered : (names : List (List ℕ)) (none : List NumberedPair) → none ≡ [] → AreNumbered names none
+none_numbered names none is = subst (λ (pairs : List NumberedPair). AreNumbered names pairs) (sym is) (All-nil (IsNumbered names))
 
 -- what two lists of changes add to none, in order, each once
 pub are_given : (mode : Mode) (outcome : Outcome) (names : List (List ℕ)) (first second : List EndChange) (none found all ordered : List NumberedPair) →

@@ -21,33 +21,27 @@ use Rattle.rpq_base.specs.declared.data.Pair.{Pair}
 use Rattle.rpq_base.proofs.Equality.{same_tests, pairs as pair_test}
 use Rattle.rpq_base.proofs.Orders.{pair_cmp_total, pair_cmp_exact}
 use Rattle.rpq_model.proofs.Pairs.{has, has_iff, same_pair_equivalence}
-use Rattle.name_table.specs.Keys.{sort_key}
 use Rattle.name_table.specs.Names.{name_at, number_of}
 use Rattle.end_events.specs.declared.pairs.NumberedPair.{NumberedPair}
 use Rattle.end_events.specs.Order.{numbered_cmp}
-use Rattle.end_events.specs.Pairs.{pair_at, pairs_at, AreNumbered, IsKeyed, IsNumbered}
-use Rattle.end_events.proofs.Order.{numbered_total, pair_order_is}
+use Rattle.end_events.specs.Pairs.{pair_at, pairs_at, AreNumbered, IsNamed, IsNumbered}
+use Rattle.end_events.proofs.Order.{numbered_total}
 
 -- ---- one pair
 
--- by all that is kept of a pair
+-- by the numbers
 abbrev pub same_numbered : NumberedPair → NumberedPair → Bool
-same_numbered first second =
-    first.root == second.root && (first.vertex == second.vertex
-    && (first.root_key == second.root_key && first.vertex_key == second.vertex_key))
+same_numbered first second = first.root == second.root && first.vertex == second.vertex
 
--- numbers of one name are one, and so are its keys
-one_number : (names : List (List ℕ)) (first first_key second second_key : ℕ) →
-    IsKeyed names first first_key → IsKeyed names second second_key → name_at names first ≡ name_at names second →
-    (first ≡ second) × (first_key ≡ second_key)
-one_number names first first_key second second_key here there same = (
-  same_Some first second (sym here.found ∙ (ap (number_of names) same ∙ there.found)),
-  here.is ∙ (ap sort_key same ∙ sym there.is),
-)
+-- numbers of one name are one
+one_number : (names : List (List ℕ)) (first second : ℕ) →
+    IsNamed names first → IsNamed names second → name_at names first ≡ name_at names second → first ≡ second
+one_number names first second here there same =
+    same_Some first second (sym here.found ∙ (ap (number_of names) same ∙ there.found))
 
--- four tests hold
-all_four : (a b c d : Bool) → a ≡ true → b ≡ true → c ≡ true → d ≡ true → (a && (b && (c && d))) ≡ true
-all_four a b c d p q r s = rw (p, q, r, s) refl
+-- two tests hold
+both : (a b : Bool) → a ≡ true → b ≡ true → (a && b) ≡ true
+both a b p q = rw (p, q) refl
 
 -- their numbers tell pairs apart
 same_by_numbers : (names : List (List ℕ)) (first second : NumberedPair) → IsNumbered names first → IsNumbered names second →
@@ -55,19 +49,15 @@ same_by_numbers : (names : List (List ℕ)) (first second : NumberedPair) → Is
 same_by_numbers names first second here there =
     same_tests (same_numbered first second) (same_pair (pair_at names first) (pair_at names second)) (
       (λ e.
-          let keys = first.root_key == second.root_key && first.vertex_key == second.vertex_key in
-          let outer = and_parts (first.root == second.root) (first.vertex == second.vertex && keys) e in
-          let inner = and_parts (first.vertex == second.vertex) keys outer.1 in
-          let from = ap (name_at names) (eqb-true first.root second.root outer.0) in
-          let to = ap (name_at names) (eqb-true first.vertex second.vertex inner.0) in
+          let parts = and_parts (first.root == second.root) (first.vertex == second.vertex) e in
+          let from = ap (name_at names) (eqb-true first.root second.root parts.0) in
+          let to = ap (name_at names) (eqb-true first.vertex second.vertex parts.1) in
           (pair_test (pair_at names first) (pair_at names second)).1 (λ i. record { from = from i; to = to i })),
       (λ e.
           let same = (pair_test (pair_at names first) (pair_at names second)).0 e in
-          let from = one_number names first.root first.root_key second.root second.root_key here.from there.from (ap (λ (pair : Pair). pair.from) same) in
-          let to = one_number names first.vertex first.vertex_key second.vertex second.vertex_key here.to there.to (ap (λ (pair : Pair). pair.to) same) in
-          all_four (first.root == second.root) (first.vertex == second.vertex) (first.root_key == second.root_key) (first.vertex_key == second.vertex_key)
-          (eq-eqb first.root second.root from.0) (eq-eqb first.vertex second.vertex to.0)
-          (eq-eqb first.root_key second.root_key from.1) (eq-eqb first.vertex_key second.vertex_key to.1)),
+          both (first.root == second.root) (first.vertex == second.vertex)
+          (eq-eqb first.root second.root (one_number names first.root second.root here.from there.from (ap (λ (pair : Pair). pair.from) same)))
+          (eq-eqb first.vertex second.vertex (one_number names first.vertex second.vertex here.to there.to (ap (λ (pair : Pair). pair.to) same)))),
     )
 
 -- pairs are equal where the order doesn't tell them apart
@@ -80,19 +70,18 @@ same_where_tied first second =
 
 -- any pair of numbers
 abbrev pub no_pair : NumberedPair
-no_pair = record { root = 0; vertex = 0; root_key = 0; vertex_key = 0 }
+no_pair = record { root = 0; vertex = 0 }
 
--- what is in order by keys is so by names
-pairs_sorted : (names : List (List ℕ)) (sorted : List NumberedPair) → AreNumbered names sorted →
+-- pairs are in the order of their numbers
+pairs_sorted : (names : List (List ℕ)) (sorted : List NumberedPair) →
     IsSorted (numbered_cmp names) sorted → IsSorted pair_cmp (pairs_at names sorted)
-pairs_sorted names sorted all in_order = λ k d low high.
+pairs_sorted names sorted in_order = λ k d low high.
     let above : k + 1 < length sorted = omega (arith, high, length-map sorted (pair_at names)) in
     let below : k < length sorted = omega (arith, above) in
     ap₂ (λ (upper lower : Pair). is_lt (pair_cmp upper lower))
     (get_or-map (pair_at names) sorted (k + 1) no_pair d above)
     (get_or-map (pair_at names) sorted k no_pair d below)
-    ∙ (ap is_lt (sym (pair_order_is names (get_or sorted (k + 1) no_pair) (get_or sorted k no_pair) (all (k + 1) no_pair above) (all k no_pair below)))
-    ∙ in_order k no_pair low above)
+    ∙ in_order k no_pair low above
 
 -- the pairs of a list without repeated neighbours have none either
 pairs_from : (names : List (List ℕ)) (first : NumberedPair) (rest : List NumberedPair) → IsNumbered names first → AreNumbered names rest →
@@ -123,7 +112,7 @@ pub distinct_sorted : (names : List (List ℕ)) (sorted distinct : List Numbered
     IsSorted (numbered_cmp names) sorted → distinct ≡ dedup same_numbered sorted → IsStrictlySortedBy pair_cmp (pairs_at names distinct)
 distinct_sorted names sorted distinct all in_order is =
     subst (λ (pairs : List Pair). IsStrictlySortedBy pair_cmp pairs) (sym (ap (pairs_at names) is ∙ pairs_once names sorted all))
-    (IsStrictlySortedBy-dedup pair_cmp_total same_where_tied (pairs_at names sorted) (pairs_sorted names sorted all in_order))
+    (IsStrictlySortedBy-dedup pair_cmp_total same_where_tied (pairs_at names sorted) (pairs_sorted names sorted in_order))
 
 -- the same pairs in order, each once
 pub distinct_same : (names : List (List ℕ)) (old sorted distinct : List NumberedPair) → AreNumbered names sorted →
@@ -144,35 +133,33 @@ distinct_same names old sorted distinct all moved is pair =
 -- ---- a search
 
 -- in strict order no pair is below the one before it
-none_falls : (names : List (List ℕ)) (pairs : List NumberedPair) → AreNumbered names pairs →
+none_falls : (names : List (List ℕ)) (pairs : List NumberedPair) →
     IsStrictlySortedBy pair_cmp (pairs_at names pairs) → IsSorted (numbered_cmp names) pairs
-none_falls names pairs all sorted = λ k d low high.
+none_falls names pairs sorted = λ k d low high.
     let below : k < length pairs = omega (arith, high) in
     let lower = pair_at names (get_or pairs k d) in
     let upper = pair_at names (get_or pairs (k + 1) d) in
     let less = Less-from_sorted pair_cmp (pairs_at names pairs) k (k + 1) (pair_at names d) sorted (omega arith) (omega (arith, high, length-map pairs (pair_at names))) in
     let here = get_or-map (pair_at names) pairs k d (pair_at names d) below in
     let next = get_or-map (pair_at names) pairs (k + 1) d (pair_at names d) high in
-    ap is_lt (pair_order_is names (get_or pairs (k + 1) d) (get_or pairs k d) (all (k + 1) d high) (all k d below)
-    ∙ (pair_cmp_total.antisymm upper lower
-    ∙ ap ordering_reverse (sym (ap₂ pair_cmp here next) ∙ less)))
+    ap is_lt (pair_cmp_total.antisymm upper lower ∙ ap ordering_reverse (sym (ap₂ pair_cmp here next) ∙ less))
 
 -- what a binary search finds is whether the pair is among them
 pub found_by_search : (names : List (List ℕ)) (found : Result ℕ ℕ) (others : List NumberedPair) (one : NumberedPair) →
-    IsNumbered names one → AreNumbered names others → IsStrictlySortedBy pair_cmp (pairs_at names others) →
+    IsStrictlySortedBy pair_cmp (pairs_at names others) →
     IsBinarySearchResult (λ each. numbered_cmp names each one) others found → IsSearchInRange found (length others) →
     is_ok found ≡ has (pairs_at names others) (pair_at names one)
-found_by_search names (Ok place) others one numbered all sorted found within =
+found_by_search names (Ok place) others one sorted found within =
     let each = get_or others place one in
-    let same = pair_cmp_exact (pair_at names each) (pair_at names one) (sym (pair_order_is names each one (all place one within) numbered) ∙ found one) in
+    let same = pair_cmp_exact (pair_at names each) (pair_at names one) (found one) in
     sym ((has_iff (pairs_at names others) (pair_at names one)).1 (
       place,
       omega (arith, within, length-map others (pair_at names)),
       get_or-map (pair_at names) others place one (pair_at names one) within ∙ same,
     ))
-found_by_search names (Err gap) others one numbered all sorted found within =
+found_by_search names (Err gap) others one sorted found within =
     let pair = pair_at names one in
-    let point = found (searchable_from_sorted (numbered_total names) (λ each. each) others one (none_falls names others all sorted)) in
+    let point = found (searchable_from_sorted (numbered_total names) (λ each. each) others one (none_falls names others sorted)) in
     sym (false_from_ne_true (has (pairs_at names others) pair) (λ e.
     let member = (has_iff (pairs_at names others) pair).0 e in
     let place = member.0 in
@@ -180,8 +167,7 @@ found_by_search names (Err gap) others one numbered all sorted found within =
     let each = get_or others place one in
     let here : pair_at names each ≡ pair = sym (get_or-map (pair_at names) others place one pair below) ∙ member.2 in
     let tied : numbered_cmp names each one ≡ Equal =
-    pair_order_is names each one (all place one below) numbered
-    ∙ (ap (λ (other : Pair). pair_cmp other pair) here ∙ tied_itself pair_cmp_total pair) in
+    ap (λ (other : Pair). pair_cmp other pair) here ∙ tied_itself pair_cmp_total pair in
     ⊎_elim
     (λ before. let less = point.0 place one (omega arith) before in cc)
     (λ after. let greater = point.1 place one after below in cc)

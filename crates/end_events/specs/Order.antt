@@ -1,20 +1,19 @@
--- The order of pairs of numbers, for sorts: by the sort keys of their names first.
+-- The order of pairs of numbers, for sorts: that of their names, which their ranks follow.
 -- No public contract cites this file.
-use Rattle.std.specs.Prelude.{ℕ, List}
+use Rattle.std.specs.Prelude.{ℕ, ◌+◌, ◌*◌, ◌^◌, Bool, nat_lt, ◌&&◌, List, length, slice_index}
 use Rattle.std.specs.declared.cmp.Ordering.{Ordering}
-use Rattle.std.specs.Ordering.{nat_cmp, ordering_then}
-use Rattle.rpq_base.specs.Order.{name_cmp}
-use Rattle.name_table.specs.Names.{name_at}
+use Rattle.rpq_base.specs.Order.{pair_cmp}
 use Rattle.end_events.specs.declared.pairs.NumberedPair.{NumberedPair}
+use Rattle.end_events.specs.Pairs.{pair_at}
 
--- vertices by their keys, and those of one key by their names
-abbrev pub vertex_cmp : List (List ℕ) → ℕ → ℕ → ℕ → ℕ → Ordering
-vertex_cmp names first_key first second_key second =
-    ordering_then (nat_cmp first_key second_key)
-    (name_cmp (name_at names first) (name_at names second))
-
--- pairs by the vertex that they lead from, then by the vertex that they lead to
+-- the order of the pairs of the names that have these numbers
 abbrev pub numbered_cmp : List (List ℕ) → NumberedPair → NumberedPair → Ordering
-numbered_cmp names first second =
-    ordering_then (vertex_cmp names first.root_key first.root second.root_key second.root)
-    (vertex_cmp names first.vertex_key first.vertex second.vertex_key second.vertex)
+numbered_cmp names first second = pair_cmp (pair_at names first) (pair_at names second)
+
+-- whether both names of a pair have ranks
+abbrev pub is_ranked : List ℕ → NumberedPair → Bool
+is_ranked ranks pair = nat_lt pair.root (length ranks) && nat_lt pair.vertex (length ranks)
+
+-- the ranks of both names as one number, that of the first name the more significant
+abbrev pub pair_rank : List ℕ → NumberedPair → ℕ
+pair_rank ranks pair = slice_index ranks pair.root * 2 ^ 32 + slice_index ranks pair.vertex

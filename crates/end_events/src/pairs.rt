@@ -1,13 +1,14 @@
 //! The pairs that lists of changed ends take away or bring.
 
-ghost use Rattle.std.specs.Prelude.{◌≡◌, ◌<◌, ◌↔◌, ◌∷◌, [], length};
-ghost use Rattle.std.specs.Prelude.{Contains, IfOk, OnOk};
-ghost use Rattle.std.specs.List.Sorted.{IsStrictlySortedBy};
+ghost use Rattle.std.specs.Prelude.{◌≡◌, ◌<◌, ◌^◌, ◌↔◌, ◌∷◌, [], ℕ, length};
+ghost use Rattle.std.specs.Prelude.{All, Contains, IfOk, OnOk, slice_index, true};
+ghost use Rattle.std.specs.List.Sorted.{IsPermutation, IsSorted, IsSortedByKey, IsStrictlySortedBy};
+ghost use Rattle.std.specs.Ordering.{nat_cmp};
 ghost use Rattle.rpq_base.specs.declared.data.Pair.{Pair};
 ghost use Rattle.rpq_base.specs.Order.{pair_cmp};
 ghost use Rattle.end_events.specs.Changes.{AreNamed, counts};
 ghost use Rattle.end_events.specs.declared.pairs.Outcome.TheVariants.{Gained, Lost};
-ghost use Rattle.end_events.specs.Order.{vertex_cmp, numbered_cmp};
+ghost use Rattle.end_events.specs.Order.{is_ranked, numbered_cmp, pair_rank};
 ghost use Rattle.end_events.specs.Pairs.{gives_event, is_gain, is_loss, pair_at, pairs_at};
 ghost use Rattle.end_events.specs.Pairs.{AreGiven, AreNumbered, Gathers, IsNumbered};
 
@@ -18,14 +19,14 @@ use source_tree::EndChange;
 use std::alloc::Global;
 use std::cmp::Ordering;
 
-/// A pair of vertices by the numbers of their names, beside the names' sort keys, so that most
-/// comparisons look at nothing else.
+/// More than any number of names.
+const NAMES: u64 = 0x1_0000_0000;
+
+/// A pair of vertices by the numbers of their names.
 #[derive(Clone, Copy, PartialEq, Eq)]
 pub(crate) struct NumberedPair {
     pub root: u32,
     pub vertex: u32,
-    root_key: u128,
-    vertex_key: u128,
 }
 
 /// What a change does to a pair that counts.
@@ -56,49 +57,46 @@ pub(crate) struct LostAndGained {
     pub gained: Vec<NumberedPair>,
 }
 
-/// The order of two vertices: by their keys, and where they share one by their names, which aren't
-/// read where both are one vertex.
-fn vertex_order(
-    names: &Names,
-    first_key: u128,
-    first: u32,
-    second_key: u128,
-    second: u32,
-) -> Ordering
-    ensures { result ≡ vertex_cmp names.now first_key first second_key second }
+/// The order of two pairs, which is that of their names.
+pub(crate) fn pair_order(names: &Names, first: &NumberedPair, second: &NumberedPair) -> Ordering
+    ensures { result ≡ numbered_cmp names.now first.now second.now }
 {
-    if first_key != second_key {
-        first_key.cmp(&second_key)
-    } else if first == second {
-        Ordering::Equal
-    } else {
-        names.compare(first, second)
+    match names.compare(first.root, second.root) {
+        Ordering::Equal => names.compare(first.vertex, second.vertex),
+        other => other,
     }
 }
 
-/// The order of two pairs, which is that of their names.
-pub(crate) fn pair_order(names: &Names, first: &NumberedPair, second: &NumberedPair) -> Ordering
-    ensures keys { result ≡ numbered_cmp names.now first.now second.now }
-    ensures names { IsNumbered names.now first.now → IsNumbered names.now second.now →
-        result ≡ pair_cmp (pair_at names.now first.now) (pair_at names.now second.now) }
+/// The rank of the name of this number, or 0 where it has none.
+fn rank_at(ranks: &[u32], number: u32) -> u32
+    ensures { result ≡ slice_index ranks.now number }
 {
-    let roots = vertex_order(
-        names,
-        first.root_key,
-        first.root,
-        second.root_key,
-        second.root,
-    );
-    match roots {
-        Ordering::Equal => vertex_order(
-            names,
-            first.vertex_key,
-            first.vertex,
-            second.vertex_key,
-            second.vertex,
-        ),
-        other => other,
+    match ranks.get(number as usize) {
+        Some(rank) => *rank,
+        None => 0,
     }
+}
+
+/// The ranks of a pair's names as one number, that of the vertex that it leads from the more
+/// significant.
+fn pair_rank(ranks: &[u32], pair: &NumberedPair) -> u64
+    ensures { result ≡ pair_rank ranks.now pair.now }
+{
+    rank_at(ranks, pair.root) as u64 * NAMES + rank_at(ranks, pair.vertex) as u64
+}
+
+/// Whether both names of the pair have ranks.
+fn is_ranked(ranks: &[u32], pair: &NumberedPair) -> bool
+    ensures { result ≡ is_ranked ranks.now pair.now }
+{
+    (pair.root as usize) < ranks.len() && (pair.vertex as usize) < ranks.len()
+}
+
+/// Whether all names of the pairs have ranks.
+fn are_ranked(ranks: &[u32], pairs: &[NumberedPair]) -> bool
+    ensures { result ≡ true → All (λ pair. is_ranked ranks.now pair ≡ true) pairs.now }
+{
+    pairs.iter().all(|pair| is_ranked(ranks, pair))
 }
 
 /// Whether a pair of these vertices counts in a query of this mode: no simple path ends where it
@@ -137,11 +135,10 @@ fn pair_of(names: &Names, each: &EndChange) -> NumberedPair
     ensures vertex { result.vertex ≡ each.now.vertex }
     ensures numbered { IsNumbered names.now result }
 {
+    names.keeps_names_apart();
     NumberedPair {
         root: each.root,
         vertex: each.vertex,
-        root_key: names.key_of(each.root),
-        vertex_key: names.key_of(each.vertex),
     }
 }
 
@@ -185,6 +182,29 @@ fn add_given(
     Ok(())
 }
 
+/// Puts the pairs in order by the ranks of their names alone.
+fn sort_by_ranks(ranks: &[u32], pairs: &mut Vec<NumberedPair>)
+    ensures sorted { IsSortedByKey (pair_rank ranks.now) nat_cmp pairs.new.items }
+    ensures permutation { IsPermutation pairs.old.items pairs.new.items }
+    ensures small { (number : ℕ) → slice_index ranks.now number < 2 ^ 32 }
+{
+    pairs.sort_unstable_by_key(|pair| pair_rank(ranks, pair));
+}
+
+/// Puts the pairs in order: by the ranks of their names alone where all have ranks, else by their
+/// names.
+fn sort_pairs(names: &Names, pairs: &mut Vec<NumberedPair>)
+    ensures sorted { IsSorted (numbered_cmp names.now) pairs.new.items }
+    ensures permutation { IsPermutation pairs.old.items pairs.new.items }
+{
+    let ranks = names.ranks();
+    if are_ranked(ranks, pairs) {
+        sort_by_ranks(ranks, pairs);
+    } else {
+        pairs.sort_unstable_by(|first, second| pair_order(names, first, second));
+    }
+}
+
 /// Puts the pairs in order, and leaves out those that stand there twice, which their numbers tell.
 fn put_in_order(names: &Names, pairs: &mut Vec<NumberedPair>)
     requires { AreNumbered names.now pairs.old.items }
@@ -193,7 +213,7 @@ fn put_in_order(names: &Names, pairs: &mut Vec<NumberedPair>)
         ↔ Contains (pairs_at names.now pairs.old.items) pair }
     ensures numbered { AreNumbered names.now pairs.new.items }
 {
-    pairs.sort_unstable_by(|first, second| pair_order(names, first, second));
+    sort_pairs(names, pairs);
     pairs.dedup();
 }
 

@@ -80,6 +80,22 @@ pub key_less : (first second : List ℕ) → AreBytes first → AreBytes second 
 unfolding sort_key
 key_less first second bytes others less = leading_less 16 first second bytes others less
 
+-- names whose keys differ are in the order of these
+pub key_decides : (first second : List ℕ) (key other : ℕ) → AreBytes first → AreBytes second →
+    key ≡ sort_key first → other ≡ sort_key second → key ≢ other → nat_cmp key other ≡ name_cmp first second
+key_decides first second key other bytes others is also differ =
+    by_ranked (key < other) (key ≡ other) (other < key) (nat_cmp key other) (ranked key other (nat_cmp key other) refl)
+    (λ order before. order ∙ sym (key_less first second bytes others (omega (arith, is, also, before))))
+    (λ order equal. absurd (differ equal))
+    (λ order after. order
+    ∙ sym (nat_list_cmp_total.antisymm first second
+    ∙ ap ordering_reverse (key_less second first others bytes (omega (arith, is, also, after)))))
+
+-- no bytes have the key 0
+pub no_key : (name : List ℕ) → [] ≡ name → 0 ≡ sort_key name
+unfolding sort_key
+no_key name is = sym (none_leading 16) ∙ ap (leading 16) is
+
 -- ---- by many bytes at once
 
 -- a digit more

@@ -1,2 +1,3 @@
-pub mod Keys
+mod Keys
 mod Numbers
+mod Ranking

@@ -1,5 +1,5 @@
 -- The numbers of names.
-use Rattle.std.proofs.Common.{◌≡◌, ◌<◌, ◌≤◌, ◌+◌, ◌^◌, ℕ, suc, Bool, true, false, not, cond, ◌||◌, nat_lt, List, [], ◌∷◌, ◌++◌, length, get_or, slice_get, None, Some, refl, sym, ap, ap₂, subst, ◌∙◌, true≢false, arith}
+use Rattle.std.proofs.Common.{◌≡◌, ◌<◌, ◌≤◌, ◌+◌, ◌^◌, ℕ, zero, suc, Bool, true, false, not, cond, ◌||◌, nat_lt, List, [], ◌∷◌, ◌++◌, length, get_or, slice_get, None, Some, refl, sym, ap, ap₂, subst, ◌∙◌, true≢false, arith}
 use Rattle.std.specs.Cmp.{IsEquivalence}
 use Rattle.std.specs.Cmp.Lexicographic.{nat_list_eq_equiv}
 use Rattle.std.specs.List.{IsDistinct, position, position_or_len, list_any}
@@ -16,7 +16,7 @@ use Rattle.rpq_base.specs.Same.{same_name}
 use Rattle.rpq_base.proofs.Equality.{name_again}
 use Rattle.indexmap.specs.IndexMap.{IndexMap, insert_entry}
 use Rattle.indexmap.proofs.CallerLemmas.{insert_entry-new}
-use Rattle.name_table.specs.Names.{KeepsNumbers, number_of}
+use Rattle.name_table.specs.Names.{KeepsNumbers, name_at, number_of}
 use Rattle.name_table.specs.Table.{names_of, IsKeyed, IsTable}
 
 -- the equality of names is one
@@ -89,6 +89,12 @@ apart_more names name distinct none =
     IsDistinct-push same_name_laws names name distinct (none_passes (same_name name) names (past_end (same_name name) names none))
 
 -- ---- the table
+
+-- past the last entry there is no name
+pub no_name : (entries : List (Vec ℕ Global × List ℕ)) (number : ℕ) → slice_get entries number ≡ None → [] ≡ name_at (names_of entries) number
+no_name [] number none = refl
+no_name (entry ∷ entries) zero none = cc
+no_name (entry ∷ entries) (suc number) none = no_name entries number none
 
 -- what a look-up by bytes finds
 pub found_by_bytes : (entries : List (Vec ℕ Global × List ℕ)) (name : List ℕ) → IsKeyed entries →

@@ -1,13 +1,16 @@
 //! The table of names.
 
-ghost use Rattle.std.specs.Prelude.{◌≡◌, ◌<◌, ◌-◌, ◌^◌, ◌∷◌, ◌++◌, [], length, IfOk, OnOk, OnErr, Some, None, slice_get};
+ghost use Rattle.std.specs.Prelude.{◌≡◌, ◌<◌, ◌-◌, ◌^◌, ◌∷◌, ◌++◌, [], ℕ, length};
+ghost use Rattle.std.specs.Prelude.{IfOk, OnOk, OnErr, Some, None, slice_get};
 ghost use Rattle.rpq_base.specs.Order.{name_cmp};
 ghost use Rattle.name_table.specs.Keys.{sort_key, AreBytes};
 ghost use Rattle.name_table.specs.Names.{name_at, number_of, with_name, KeepsNumbers};
+ghost use Rattle.name_table.specs.Ranks.{AreRanks};
 
 use crate::bytes_order::bytes_compared;
 use crate::name_hash::NameHash;
 use crate::named::Named;
+use crate::ranks::{numbers_by_rank, places_in};
 use indexmap::IndexMap;
 use rpq_base::{Memory, Name};
 use std::alloc::Global;
@@ -24,6 +27,10 @@ pub struct Names {
     alloc: Global,
     /// The names in their order, by their bytes.
     names: IndexMap<Vec<u8>, Named, NameHash>,
+    /// The ranks of the names that had numbers when they were last made, by these numbers.
+    ranks: Vec<u32>,
+    /// How many events were told since then.
+    told: usize,
 }
 
 impl Model for Names {
@@ -32,10 +39,12 @@ impl Model for Names {
     ghost Value = { List (List ℕ) };
 
     ghost use Rattle.name_table.specs.Table.{names_of, IsTable};
+    ghost use Rattle.name_table.specs.Ranks.{AreRanks};
 
     ghost view = { λ table. names_of table.names.entries };
 
-    ghost invariant = { λ table. IsTable table.names.entries };
+    ghost invariant = { λ table. IsTable table.names.entries
+        × AreRanks (names_of table.names.entries) table.ranks.items };
 }
 
 impl Names {
@@ -47,6 +56,8 @@ impl Names {
         Ok(Names {
             alloc,
             names: IndexMap::with_hasher(alloc, NameHash::new(rt)),
+            ranks: Vec::new(alloc),
+            told: 0,
         })
     }
 
@@ -99,25 +110,98 @@ impl Names {
         self.names[number as usize].name()
     }
 
-    /// The sort key of the name of this number, by one index: its first 16 bytes as one number, the
-    /// first byte the most significant, and 0 where the name is shorter. A name whose key is below
-    /// that of another is before it, which [`crate::keys_follow_names`] says; names with one key
-    /// are compared by [`Names::compare`].
-    pub fn key_of(&self, number: u32) -> u128
-        requires { number < length self.now }
-        ensures key { result ≡ sort_key (name_at self.now number) }
-        ensures bytes { AreBytes (name_at self.now number) }
-        ensures number { number_of self.now (name_at self.now number) ≡ Some number }
+    /// Each name stands once in the table, so the name of a number has that number. Does nothing.
+    pub fn keeps_names_apart(&self)
+        ensures { (number : ℕ) → number < length self.now →
+            number_of self.now (name_at self.now number) ≡ Some number }
     {
-        self.names[number as usize].key()
+        let _ = &self.names;
+    }
+
+    /// The ranks of the names with the first numbers, by these numbers: of two of them, the one
+    /// with the lower rank is before the other in the order of names. A name that is new since the
+    /// ranks were last made has none; [`Names::note_told`] makes them.
+    pub fn ranks(&self) -> &[u32]
+        ensures { AreRanks self.now result.now }
+    {
+        &self.ranks
+    }
+
+    /// Counts events that were told, and makes the ranks of all names anew where some name has none
+    /// and, since they were last made, as many events were told as there are names. So the ranks
+    /// cost each event O(log n) steps, amortized. Where memory for them is lacking, those that
+    /// there are stay.
+    pub fn note_told(&mut self, events: usize)
+        ensures { self.new ≡ self.old }
+    {
+        self.told = self.told.saturating_add(events);
+        if self.ranks.len() < self.names.len() && self.told >= self.names.len() {
+            self.told = 0;
+            self.renew_ranks();
+        }
+    }
+
+    /// Makes the ranks anew, where there is memory for it.
+    fn renew_ranks(&mut self)
+        ensures { self.new ≡ self.old }
+    {
+        if let Ok(ranks) = self.new_ranks() {
+            self.ranks = ranks;
+        }
+    }
+
+    /// The ranks of all names.
+    fn new_ranks(&self) -> Result<Vec<u32>, Memory>
+        ensures { IfOk result (λ ranks. AreRanks self.now ranks.items) }
+    {
+        let mut order = numbers_by_rank(self.alloc, &self.ranks, self.names.len() as u32)?;
+        order.sort_by(|first, second| self.compare(*first, *second))?;
+        places_in(self.alloc, &order)
     }
 
     /// The order of the names of these numbers, by their bytes. A number that no name has is before
-    /// all names.
+    /// all names. Where both have ranks, these are all that is looked at; else the names' first 16
+    /// bytes mostly are.
+    #[inline]
     pub fn compare(&self, first: u32, second: u32) -> Ordering
         ensures { result ≡ name_cmp (name_at self.now first) (name_at self.now second) }
     {
-        bytes_compared(self.bytes_of(first), self.bytes_of(second))
+        match (
+            self.ranks.get(first as usize),
+            self.ranks.get(second as usize),
+        ) {
+            (Some(rank), Some(other)) => rank.cmp(other),
+            _ => self.compare_bytes(first, second),
+        }
+    }
+
+    /// The order of the names of these numbers, by their keys, and where they share one by all
+    /// their bytes, which aren't read where both are one name.
+    #[inline(never)]
+    fn compare_bytes(&self, first: u32, second: u32) -> Ordering
+        ensures { result ≡ name_cmp (name_at self.now first) (name_at self.now second) }
+    {
+        let key = self.key_of(first);
+        let other = self.key_of(second);
+        if key != other {
+            key.cmp(&other)
+        } else if first == second {
+            Ordering::Equal
+        } else {
+            bytes_compared(self.bytes_of(first), self.bytes_of(second))
+        }
+    }
+
+    /// The sort key of the name of this number, by one index: its first 16 bytes as one number, the
+    /// first byte the most significant, and 0 where the name is shorter or where there is none.
+    fn key_of(&self, number: u32) -> u128
+        ensures key { result ≡ sort_key (name_at self.now number) }
+        ensures bytes { AreBytes (name_at self.now number) }
+    {
+        match self.names.get_index(number as usize) {
+            Some((_, named)) => named.key(),
+            None => 0,
+        }
     }
 
     /// The bytes of the name of this number, or none where there is no name.

@@ -1,6 +1,14 @@
 use Rattle.end_events.specs.declared.pairs.Outcome.TheVariants.{Lost, Gained}
-use Rattle.end_events.proofs.Adding.{are_given}
+use Rattle.end_events.proofs.Adding.{are_given, none_numbered}
 use Rattle.end_events.proofs.pairs.given_pairs.Goals as goal
+
+pub put_in_order-requires : goal.put_in_order-requires
+put_in_order-requires c =
+    c.in_ok-add_given-2.ensures.lost.numbered (c.in_ok-add_given.ensures.lost.numbered (none_numbered c.args.names.now _ c.new-lost.ensures.items))
+
+pub put_in_order-requires-2 : goal.put_in_order-requires-2
+put_in_order-requires-2 c =
+    c.in_ok-add_given-2.ensures.gained.numbered (c.in_ok-add_given.ensures.gained.numbered (none_numbered c.args.names.now _ c.new-gained.ensures.items))
 
 pub returns-clause-lost : goal.returns-clause-lost
 returns-clause-lost c =

@@ -13,31 +13,25 @@ use Rattle.end_events.proofs.Order.{numbered_total}
 use Rattle.end_events.proofs.pairs.put_in_order.Goals as goal
 
 -- the sorted pairs are numbered
-all_sorted : (c : goal.After-dedup) → AreNumbered c.args.names.now c.sort_unstable_by.new.self.items
+all_sorted : (c : goal.After-dedup) → AreNumbered c.args.names.now c.sort_pairs.new.pairs.items
 all_sorted c =
-    All-permutation (IsNumbered c.args.names.now) c.args.pairs.now.items c.sort_unstable_by.new.self.items
-    c.sort_unstable_by.ensures.permutation c.requires
+    All-permutation (IsNumbered c.args.names.now) c.args.pairs.now.items c.sort_pairs.new.pairs.items
+    c.sort_pairs.ensures.permutation c.requires
 
 -- each stands once
-once : (c : goal.After-dedup) → c.dedup.new.self.items ≡ dedup same_numbered c.sort_unstable_by.new.self.items
-once c = dedup_is same_numbered c.sort_unstable_by.new.self.items c.dedup.new.self.items c.dedup.ensures.filtered
+once : (c : goal.After-dedup) → c.dedup.new.self.items ≡ dedup same_numbered c.sort_pairs.new.pairs.items
+once c = dedup_is same_numbered c.sort_pairs.new.pairs.items c.dedup.new.self.items c.dedup.ensures.filtered
 
 pub returns-clause-sorted : goal.returns-clause-sorted
 returns-clause-sorted c =
-    let names = c.args.names.now in
-    let sorted = c.sort_unstable_by.new.self.items in
-    let in_order : IsSorted (numbered_cmp names) sorted =
-    c.sort_unstable_by.ensures.sorted (λ first second. is_lt (numbered_cmp names first second))
-    (ranks_by (numbered_total names) (λ (each : NumberedPair). each))
-    (always_returns_same _ _ _ (λ a r f' k. search rules)) in
-    distinct_sorted names sorted c.dedup.new.self.items (all_sorted c) in_order (once c)
+    distinct_sorted c.args.names.now c.sort_pairs.new.pairs.items c.dedup.new.self.items (all_sorted c) c.sort_pairs.ensures.sorted (once c)
 
 pub returns-clause-same : goal.returns-clause-same
 returns-clause-same c =
-    distinct_same c.args.names.now c.args.pairs.now.items c.sort_unstable_by.new.self.items c.dedup.new.self.items
-    (all_sorted c) c.sort_unstable_by.ensures.permutation (once c)
+    distinct_same c.args.names.now c.args.pairs.now.items c.sort_pairs.new.pairs.items c.dedup.new.self.items
+    (all_sorted c) c.sort_pairs.ensures.permutation (once c)
 
 pub returns-clause-numbered : goal.returns-clause-numbered
 returns-clause-numbered c =
     subst (λ (pairs : List NumberedPair). AreNumbered c.args.names.now pairs) (sym (once c))
-    (All-dedup same_numbered (IsNumbered c.args.names.now) c.sort_unstable_by.new.self.items (all_sorted c))
+    (All-dedup same_numbered (IsNumbered c.args.names.now) c.sort_pairs.new.pairs.items (all_sorted c))
