@@ -16,7 +16,7 @@ use Rattle.delta_tree.specs.Nodes.{TreeValue, node_id, node_of, root_id}
 use Rattle.delta_tree.specs.Changes.{Carries}
 use Rattle.tree_insert.specs.Best.{IsAtLeast}
 use Rattle.tree_insert.specs.Trees.{Gives, IsValid}
-use Rattle.tree_insert.proofs.Bests.{at_least, below_some}
+use Rattle.tree_insert.proofs.Bests.{at_least}
 use Rattle.tree_insert.proofs.Bests as bests
 use Rattle.tree_insert.proofs.Nodes.{carries_lower}
 use Rattle.tree_delete.specs.declared.entry.Entry.{Entry}
