@@ -10,12 +10,12 @@ use Rattle.dfa_table.specs.DfaValue.{DfaValue, step_of}
 use Rattle.source_tree.specs.declared.change.Change.{Change}
 use Rattle.source_tree.specs.declared.change.EndChange.{EndChange}
 use Rattle.source_tree.specs.Ends.{SourceValue, end_change, end_in}
-use Rattle.source_tree.specs.Product.{product_of}
+use Rattle.source_tree.specs.Product.{AreFinals, product_of}
 use Rattle.source_tree.specs.Taking.{HasTaken}
 use Rattle.source_table.specs.Sources.{source_in}
 use Rattle.delta_forest.specs.Forest.{ForestValue, IsEnd, IsFinalValue}
 use Rattle.delta_forest.specs.Changes.{AreEndChangesOf}
-use Rattle.delta_forest.specs.Keeping.{AreFinals, forest_with}
+use Rattle.delta_forest.specs.Keeping.{forest_with}
 use Rattle.delta_forest.specs.Settling.{log_at, log_of, touched_at}
 use Rattle.delta_forest.specs.declared.index.Index.{Index}
 use Rattle.delta_forest.proofs.Ends.{end_from, ends_are_one, greatest_like}
@@ -104,12 +104,12 @@ module _ {change : Change} {dfa : DfaValue} {finals : List ℕ} {calls : ℕ} {o
 
   took_listed : (root : ℕ) (source : SourceValue)
       (found : source_in table root ≡ Some source) → Contains roots root →
-      HasTaken change (product_of new dfa finals)
+      HasTaken change (product_of new dfa finals grown.holders)
       (after follows root source found).before source
   took_listed root source found listed =
       let was = after follows root source found in ⊎_elim
       (λ (both : Contains roots root
-      × HasTaken change (product_of new dfa finals) was.before source). both.1)
+      × HasTaken change (product_of new dfa finals grown.holders) was.before source). both.1)
       (λ (both : (Contains roots root → ⊥) × (was.before ≡ source)).
       absurd (both.0 listed))
       was.cases

@@ -12,7 +12,7 @@ use Rattle.delta_tree.specs.Nodes.{TreeValue, node_id, value_of, IsTree}
 use Rattle.source_tree.specs.Ends.{end_in, greatest, later}
 use Rattle.delta_forest.specs.Forest.{ForestValue, IsEnd, IsFinalValue, kept}
 use Rattle.delta_forest.specs.Laws.{EachHasAnEnd, EndsAreOne}
-use Rattle.delta_forest.specs.Keeping.{AreFinals}
+use Rattle.source_tree.specs.Product.{AreFinals}
 
 -- ---- the greatest number of a kind
 

@@ -28,7 +28,7 @@ pub record Follows (change : Change) (dfa : DfaValue) (finals : List ℕ) (calls
   pub takes : TakesChange change old new
   pub kept : IsKept dfa old calls index
   pub are : AreCandidates change (step_of dfa) index grown roots
-  pub taken : HaveTaken change (product_of new dfa finals) roots grown.sources table
+  pub taken : HaveTaken change (product_of new dfa finals grown.holders) roots grown.sources table
   pub same : roots_of table ≡ roots_of grown.sources
   pub settles : AreSettled change
       (record { sources = table; holders = grown.holders; dues = grown.dues }) settled roots
@@ -43,7 +43,7 @@ module _ {change : Change} {dfa : DfaValue} {finals : List ℕ} {calls : ℕ} {o
     pub before : SourceValue
     pub found : source_in grown.sources root ≡ Some before
     pub cases : (Contains roots root
-        × HasTaken change (product_of new dfa finals) before source)
+        × HasTaken change (product_of new dfa finals grown.holders) before source)
         ⊎ ((Contains roots root → ⊥) × (before ≡ source))
 
   pub after : (root : ℕ) (source : SourceValue) → source_in table root ≡ Some source →
@@ -92,7 +92,8 @@ module _ {change : Change} {dfa : DfaValue} {finals : List ℕ} {calls : ℕ} {o
   after_optimal root source found =
       let was = after root source found in ⊎_elim
       (λ (both : Contains roots root
-      × HasTaken change (product_of new dfa finals) was.before source). both.1.optimal)
+      × HasTaken change (product_of new dfa finals grown.holders) was.before source).
+      both.1.optimal)
       (λ (both : (Contains roots root → ⊥) × (was.before ≡ source)).
       subst (λ (each : SourceValue). IsOptimal (value_in new) (step_of dfa) each.tree) both.1
       (still_optimal change old new (step_of dfa) was.before.tree follows.raises follows.removes

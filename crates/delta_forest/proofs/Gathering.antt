@@ -1,5 +1,5 @@
 -- The roots that a change may touch, gathered place by place.
-use Rattle.std.proofs.Common.{◌≡◌, ◌≢◌, ℕ, ◌+◌, ◌<◌, ◌≤◌, max, Bool, true, false, cond, ◌==◌, ◌||◌, List, [], ◌∷◌, ◌++◌, length, Option, Some, None, refl, sym, ap, subst, ◌∙◌, ◌⊎◌, inl, inr, ⊎_elim, Contains, arith}
+use Rattle.std.proofs.Common.{◌≡◌, ◌≢◌, ℕ, ◌+◌, ◌<◌, ◌≤◌, Bool, true, false, cond, ◌==◌, ◌||◌, List, [], ◌∷◌, ◌++◌, length, Option, Some, None, refl, sym, ap, subst, ◌∙◌, ◌⊎◌, inl, inr, ⊎_elim, Contains, arith}
 use Rattle.std.specs.Prelude.{◌↔◌, IsSome, is_some, option_map}
 use Rattle.std.specs.Option.{option_or}
 use Rattle.std.specs.List.{IsDistinct, list_any}
@@ -12,24 +12,18 @@ use Rattle.std.proofs.lemmas.List.Folds.{find-append}
 use Rattle.std.proofs.lemmas.Map.Keys.{IsDistinct-push, sorted_from_strictly_increasing}
 use Rattle.rpq_base.proofs.Members.{HasOneMore, none_in}
 use Rattle.edge_store.specs.declared.edge.EdgeId.{EdgeId}
-use Rattle.edge_store.specs.Edges.{Edges, value_of as value_in}
-use Rattle.dfa_table.specs.DfaValue.{DfaValue, IsDfa, step_of}
+use Rattle.edge_store.specs.Edges.{Edges}
+use Rattle.dfa_table.specs.DfaValue.{DfaValue, step_of}
 use Rattle.delta_tree.specs.declared.node.NodeId.{NodeId}
-use Rattle.delta_tree.specs.declared.node.Node.{Node}
-use Rattle.delta_tree.specs.Nodes.{TreeValue, node_id, node_of, root_id, value_of}
+use Rattle.delta_tree.specs.Nodes.{node_id, node_of, root_id}
 use Rattle.delta_tree.specs.Paths.{HangsBy}
-use Rattle.tree_insert.specs.Best.{IsRoute, IsWay}
-use Rattle.tree_insert.specs.Trees.{IsOptimal}
-use Rattle.tree_insert.proofs.Bests.{greatest_is}
-use Rattle.tree_insert.proofs.Nodes.{value_is}
-use Rattle.tree_insert.proofs.OpenTries.{step_within}
 use Rattle.source_tree.specs.declared.change.Change.TheVariants.{Raise, Remove, Expire}
 use Rattle.source_tree.specs.Ends.{SourceValue}
 use Rattle.source_index.specs.Dues.{DuesValue}
-use Rattle.source_index.specs.Holders.{HoldersValue, Holds}
+use Rattle.source_index.specs.Holders.{HoldersValue, Holds, roots_at}
 use Rattle.source_table.specs.Sources.{AreApart, roots_of, source_in}
 use Rattle.delta_forest.specs.Keeping.{IsKept}
-use Rattle.delta_forest.specs.Candidates.{Adds, AddsSource, AreCandidates, AreInOrder, AreRaised, AreTaken, IsBareAt, IsHeldBy, IsHeldBySome, IsRaisedAt, IsRemovedAt, StartsBy}
+use Rattle.delta_forest.specs.Candidates.{Adds, AddsSource, AreCandidates, AreInOrder, AreRaised, AreTaken, IsBareAt, IsHeldBySome, IsRaisedAt, IsRemovedAt, StartsBy}
 use Rattle.delta_forest.specs.declared.index.Index.{Index}
 use Rattle.delta_forest.proofs.Sources.{found_or_not, found_root, some_found}
 
@@ -75,23 +69,6 @@ adds_like old new kind other adds alike = λ root. (
   (λ either. (adds root).1 (⊎_elim (λ was. inl was) (λ is. inr ((alike root).1 is)) either)),
 )
 
--- a state more
-pub next_state : (kind : ℕ → ℕ → Type 0) (bound root : ℕ) →
-    (((at : ℕ) × (at < bound) × kind at root) ⊎ kind bound root)
-    ↔ ((at : ℕ) × (at < bound + 1) × kind at root)
-next_state kind bound root = (
-  (λ either. ⊎_elim
-      (λ (has : (at : ℕ) × (at < bound) × kind at root). (has.0, omega (arith, has.1), has.2))
-      (λ here. (bound, omega arith, here)) either),
-  (λ has. ⊎_elim
-      (λ (here : has.0 ≡ bound). inr (subst (λ (at : ℕ). kind at root) here has.2))
-      (λ differ. inl (has.0, below has.0 has.1 differ, has.2))
-      (cases_eq has.0 bound)),
-)
-  where
-    below : (at : ℕ) → at < bound + 1 → (at ≡ bound → ⊥) → at < bound
-    below at less differ = grind (arith, less, differ)
-
 -- one root more of those at a place
 pub next_hung : (done more : List ℕ) (one : ℕ) (kind : ℕ → Type 0) → HasOneMore done one more →
     (root : ℕ) → ((Contains done root × kind root) ⊎ ((root ≡ one) × kind root))
@@ -104,26 +81,37 @@ next_hung done more one kind has root = (
       (has.cases root both.0)),
 )
 
--- all states with a step
-pub all_held : (holders : HoldersValue) (dfa : DfaValue) (edge : EdgeId) (bound root : ℕ) →
-    length dfa.rows ≤ bound →
-    ((at : ℕ) × (at < bound) × ((0 < at) × IsHeldBy holders (step_of dfa) edge at root))
-    ↔ IsHeldBySome holders (step_of dfa) edge root
-all_held holders dfa edge bound root many = (
-  (λ has. (has.0, has.2)),
-  (λ has.
-      let next = some_found (step_of dfa has.0 edge.label) has.1.1.0 in
-      let within = step_within dfa has.0 edge.label next.0 next.1 in
-      (has.0, omega (arith, many, within), has.1)),
+-- one state more
+pub next_state : (done more : List ℕ) (one : ℕ) (kind : ℕ → ℕ → Type 0) →
+    HasOneMore done one more → (root : ℕ) →
+    (((state : ℕ) × Contains done state × kind state root) ⊎ kind one root)
+    ↔ ((state : ℕ) × Contains more state × kind state root)
+next_state done more one kind has root = (
+  (λ either. ⊎_elim
+      (λ (before : (state : ℕ) × Contains done state × kind state root).
+      (before.0, has.still before.0 before.1, before.2))
+      (λ here. (one, has.here, here)) either),
+  (λ there. ⊎_elim (λ before. inl (there.0, before, there.2))
+      (λ (here : one ≡ there.0). inr (subst (λ (state : ℕ). kind state root) (sym here) there.2))
+      (has.cases there.0 there.1)),
 )
 
--- all states of an automaton, though it may have none
-pub all_removed : (sources : List SourceValue) (holders : HoldersValue) (edge : EdgeId)
-    (states bound root : ℕ) → states ≤ bound → bound ≤ max 1 states →
-    IsRemovedAt sources holders bound edge root ↔ IsRemovedAt sources holders states edge root
-all_removed sources holders edge states bound root many few = (
-  (λ has. (has.0, omega (arith, few, has.1, has.2.0), has.2)),
-  (λ has. (has.0, omega (arith, many, has.1), has.2)),
+-- a root is held at a vertex with one of the states that stand there
+pub at_some_state : (holders : HoldersValue) (vertex : ℕ) (states : List ℕ)
+    (kind : ℕ → ℕ → Type 0) →
+    ((state : ℕ) → Contains states state ↔ (roots_at holders (node_id vertex state) ≢ [])) →
+    ((state root : ℕ) → kind state root → Holds holders (node_id vertex state) root) →
+    (root : ℕ) → ((state : ℕ) × Contains states state × kind state root)
+    ↔ ((state : ℕ) × kind state root)
+at_some_state holders vertex states kind stand held root = (
+  (λ there. (there.0, there.2)),
+  (λ there. (
+    there.0,
+    (stand there.0).1 (λ none.
+        none_in root (subst (λ (roots : List ℕ). Contains roots root) none
+        (held there.0 root there.1))),
+    there.1,
+  )),
 )
 
 -- ---- a new source
@@ -314,46 +302,26 @@ module _ (dfa : DfaValue) (store : Edges) (calls : ℕ) (index : Index)
             (exact root).1 (inr (
               goes.id.state,
               (
-                ((kept.sound root source found).tree goes.id node.0 node.1).state,
-                (
-                  ap is_some goes.leads,
-                  subst (λ (vertex : ℕ). Holds index.holders (node_id vertex goes.id.state) root)
-                      goes.leaves holds,
-                ),
+                ap is_some goes.leads,
+                subst (λ (vertex : ℕ). Holds index.holders (node_id vertex goes.id.state) root)
+                    goes.leaves holds,
               ),
             )))
             goes.place);
         reason = λ root member. ⊎_elim
             (λ (both : IsSome (step_of dfa 0 edge.label) × (root ≡ edge.from)). inl both.1)
             (λ (has : IsHeldBySome index.holders (step_of dfa) edge root).
-            inr (has.0, (kept.held root (node_id edge.from has.0)).0 has.1.1.1))
+            inr (has.0, (kept.held root (node_id edge.from has.0)).0 has.1.1))
             ((exact root).0 member);
         holders = refl;
         dues = λ root unlisted. refl;
         still = refl;
       }
 
-  -- a node of an optimal tree has one of the automaton's states
-  state_within : IsDfa dfa → (tree : TreeValue) (id : NodeId) (node : Node) →
-      IsOptimal (value_in store) (step_of dfa) tree → node_of tree id ≡ Some node →
-      id.state < length dfa.rows
-  state_within valid tree id node optimal there =
-      let kind = λ (number : ℕ). (path : List EdgeId)
-      × IsWay (value_in store) (step_of dfa) tree.root id.vertex id.state number path in
-      let way = greatest_is (value_of tree id) kind node.value (optimal.best id)
-      (value_is tree id node there) in
-      last way.0 way.1.some way.1.leads
-    where
-      last : (path : List EdgeId) → path ≢ [] →
-          IsRoute (step_of dfa) tree.root path id.vertex id.state → id.state < length dfa.rows
-      last [] some route = absurd (some refl)
-      last (edge ∷ path) some route =
-          (valid.targets route.1.0 edge.label id.state route.1.2).1
-
-  pub remove_candidates : (edge : EdgeId) (roots : List ℕ) → IsDfa dfa →
-      AreInOrder (IsRemovedAt index.sources index.holders (length dfa.rows) edge) roots →
+  pub remove_candidates : (edge : EdgeId) (roots : List ℕ) →
+      AreInOrder (IsRemovedAt index.sources index.holders edge) roots →
       AreCandidates (Remove edge) (step_of dfa) index index roots
-  remove_candidates edge roots valid are = record {
+  remove_candidates edge roots are = record {
     sorted = are.sorted;
     apart = kept.apart;
     stays = λ root source found. found;
@@ -369,18 +337,14 @@ module _ (dfa : DfaValue) (store : Edges) (calls : ℕ) (index : Index)
         (record { source = source; node = hangs.0; found = found; there = hangs.1 }) in
         unlisted ((are.exact root).1 (
           id.state,
-          state_within valid source.tree id hangs.0 sound.optimal hangs.1,
           (
-            stands.state,
-            (
-              subst (λ (each : NodeId). Holds index.holders each root) at holds,
-              (source, found, subst (HangsBy source.tree edge) at hangs),
-            ),
+            subst (λ (each : NodeId). Holds index.holders each root) at holds,
+            (source, found, subst (HangsBy source.tree edge) at hangs),
           ),
         ));
     reason = λ root member.
         let has = (are.exact root).0 member in
-        let source = has.2.1.1 in
+        let source = has.1.1 in
         record {
           source = source.0;
           id = node_id edge.to has.0;

@@ -1,6 +1,7 @@
 -- The sources that a change may touch, before they take it: those that were kept, and new ones.
-use Rattle.std.proofs.Common.{◌≡◌, ℕ, ◌*◌, ◌^◌, ◌<◌, ◌≤◌, List, Some, None, sym, ap, ◌∙◌, ⊎_elim, Contains, arith}
+use Rattle.std.proofs.Common.{◌≡◌, ℕ, ◌*◌, ◌^◌, ◌<◌, ◌≤◌, List, Some, None, sym, ap, subst, ◌∙◌, ⊎_elim, Contains, arith}
 use Rattle.std.proofs.lemmas.Option.{none-some}
+use Rattle.rpq_base.proofs.Members.{none_in}
 use Rattle.edge_store.specs.declared.edge.EdgeId.{EdgeId}
 use Rattle.edge_store.specs.Edges.{Edges, value_of as value_in}
 use Rattle.dfa_table.specs.DfaValue.{DfaValue, step_of}
@@ -9,7 +10,8 @@ use Rattle.tree_insert.specs.Trees.{IsOptimal}
 use Rattle.tree_insert.proofs.Expiry.{bare_is_optimal}
 use Rattle.source_tree.specs.declared.change.Change.{Change}
 use Rattle.source_tree.specs.Ends.{SourceValue}
-use Rattle.source_tree.specs.Product.{product_of}
+use Rattle.source_tree.specs.Product.{AreFinals, AreHeld, product_of}
+use Rattle.source_index.specs.Holders.{HoldersValue, roots_at}
 use Rattle.source_table.specs.Sources.{AreReady, source_in}
 use Rattle.delta_forest.specs.Changes.{TakesChange}
 use Rattle.delta_forest.specs.Keeping.{IsKept}
@@ -55,13 +57,29 @@ module _ {change : Change} {dfa : DfaValue} {calls : ℕ} {old : Edges}
       (λ (fresh : IsFresh roots index.sources root source). omega (arith, fresh.puts))
       (are.only root source found)
 
+  -- each node is held
+  grown_held : (root : ℕ) (source : SourceValue) → source_in grown.sources root ≡ Some source →
+      AreHeld grown.holders source.tree
+  grown_held root source found id node there none = ⊎_elim
+      (λ (was : source_in index.sources root ≡ Some source).
+      none_in root (subst (λ (roots : List ℕ). Contains roots root)
+      (sym (ap (λ (holders : HoldersValue). roots_at holders id) are.holders) ∙ none)
+      ((kept.held root id).1
+      (record { source = source; node = node; found = was; there = there }))))
+      (λ (fresh : IsFresh roots index.sources root source).
+      none-some node (sym (no_node source.tree id fresh.bare) ∙ there))
+      (are.only root source found)
+
   -- each source is ready
-  pub ready : (new : Edges) (finals : List ℕ) → TakesChange change old new → calls < 2 ^ 60 →
-      AreReady change (product_of new dfa finals) roots grown.sources
-  ready new finals takes few root source listed found = record {
+  pub ready : (new : Edges) (finals : List ℕ) → AreFinals dfa finals → TakesChange change old new →
+      calls < 2 ^ 60 →
+      AreReady change (product_of new dfa finals grown.holders) roots grown.sources
+  ready new finals exact takes few root source listed found = record {
     puts = let puts = grown_puts root source found in omega (arith, puts, few);
-    before = was_optimal change old (product_of new dfa finals) source.tree takes
+    before = was_optimal change old (product_of new dfa finals grown.holders) source.tree takes
         (grown_optimal root source found);
+    finals = exact;
+    held = grown_held root source found;
   }
 
   -- the sources of the roots that aren't listed were there

@@ -18,7 +18,8 @@ use Rattle.source_index.specs.Holders.{HoldersValue, Holds}
 use Rattle.source_table.specs.Sources.{AreApart, source_in}
 use Rattle.delta_forest.specs.Forest.{ForestValue, IsEnd, IsIndexed, tree_in}
 use Rattle.delta_forest.specs.Changes.{AreReachedFrom}
-use Rattle.delta_forest.specs.Keeping.{AreFinals, IsKept, forest_with, trees_of}
+use Rattle.source_tree.specs.Product.{AreFinals}
+use Rattle.delta_forest.specs.Keeping.{IsKept, forest_with, trees_of}
 use Rattle.delta_forest.specs.declared.index.Index.{Index}
 use Rattle.delta_forest.proofs.Ends.{end_from, ends_are_one}
 use Rattle.delta_forest.proofs.Sources.{all_sources, found_kept, found_some, none_kept, some_found, tree_found}

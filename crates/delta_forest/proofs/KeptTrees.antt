@@ -32,7 +32,7 @@ module _ {change : Change} {dfa : DfaValue} {finals : List ℕ} {calls : ℕ} {o
   -- a tree before and after, of one source
   trees : (root : ℕ) (first second : TreeValue) (kind : TreeValue → TreeValue → Type 0) →
       ((before source : SourceValue) →
-      HasTaken change (product_of new dfa finals) before source →
+      HasTaken change (product_of new dfa finals grown.holders) before source →
       kind before.tree source.tree) →
       ((source : SourceValue) → IsElsewhere change (step_of dfa) source.tree →
       kind source.tree source.tree) →
@@ -48,7 +48,7 @@ module _ {change : Change} {dfa : DfaValue} {finals : List ℕ} {calls : ℕ} {o
       (subst (λ (tree : TreeValue). kind tree other.0.tree) one.2
       (subst (λ (each : SourceValue). kind each.tree other.0.tree) here (⊎_elim
       (λ (both : Contains roots root
-      × HasTaken change (product_of new dfa finals) at.before other.0).
+      × HasTaken change (product_of new dfa finals grown.holders) at.before other.0).
       taking at.before other.0 both.1)
       (λ (both : (Contains roots root → ⊥) × (at.before ≡ other.0)).
       subst (λ (each : SourceValue). kind at.before.tree each.tree) both.1

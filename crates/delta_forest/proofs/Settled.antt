@@ -87,7 +87,7 @@ module _ {change : Change} {dfa : DfaValue} {finals : List ℕ} {calls : ℕ} {o
       let was = after follows root source found in
       let puts = grown_puts follows.kept follows.are root was.before was.found in ⊎_elim
       (λ (both : Contains roots root
-      × HasTaken change (product_of new dfa finals) was.before source).
+      × HasTaken change (product_of new dfa finals grown.holders) was.before source).
       let few = both.1.later.few in omega (arith, few, puts))
       (λ (both : (Contains roots root → ⊥) × (was.before ≡ source)).
       let is = ap (λ (each : SourceValue). each.tree.puts) both.1 in
@@ -99,7 +99,7 @@ module _ {change : Change} {dfa : DfaValue} {finals : List ℕ} {calls : ℕ} {o
   settled_tree root source found =
       let was = after follows root source found in ⊎_elim
       (λ (both : Contains roots root
-      × HasTaken change (product_of new dfa finals) was.before source).
+      × HasTaken change (product_of new dfa finals grown.holders) was.before source).
       (follows.settles.followed root source both.0 found).tree)
       (λ (both : (Contains roots root → ⊥) × (was.before ≡ source)).
       subst (λ (each : SourceValue). IsTree each.tree) both.1
@@ -249,7 +249,7 @@ module _ {change : Change} {dfa : DfaValue} {finals : List ℕ} {calls : ℕ} {o
   held_in_table root id source found =
       let was = after follows root source found in ⊎_elim
       (λ (both : Contains roots root
-      × HasTaken change (product_of new dfa finals) was.before source).
+      × HasTaken change (product_of new dfa finals grown.holders) was.before source).
       let followed = follows.settles.followed root source both.0 found in ⊎_elim
       (λ (listed : Contains (moved_of source) id).
       let held = followed.listed id listed in
@@ -306,7 +306,7 @@ module _ {change : Change} {dfa : DfaValue} {finals : List ℕ} {calls : ℕ} {o
 
   -- it still is where nothing may be due sooner
   still_due : (root : ℕ) (source : SourceValue) (found : source_in table root ≡ Some source) →
-      HasTaken change (product_of new dfa finals)
+      HasTaken change (product_of new dfa finals grown.holders)
       (after follows root source found).before source →
       is_sooner change source ≡ false → IsDueFor grown.dues root source.tree
   still_due root source found took late =
@@ -373,7 +373,7 @@ module _ {change : Change} {dfa : DfaValue} {finals : List ℕ} {calls : ℕ} {o
           let was = after follows root source found in
           let followed = follows.settles.followed root source listed found in ⊎_elim
           (λ (both : Contains roots root
-          × HasTaken change (product_of new dfa finals) was.before source).
+          × HasTaken change (product_of new dfa finals grown.holders) was.before source).
           sooner_or_not (is_sooner change source) (IsDueFor settled.dues root source.tree)
           followed.due (λ late id node is.
           let number = still_due root source found both.1 late id node is in

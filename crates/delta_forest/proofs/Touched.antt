@@ -127,7 +127,7 @@ module _ {change : Change} {dfa : DfaValue} {finals : List ℕ} {calls : ℕ} {o
       let id = node_id vertex state in
       let same : value_of source.tree id ≡ value_of was.before.tree id = ⊎_elim
       (λ (both : Contains roots root
-      × HasTaken change (product_of new dfa finals) was.before source).
+      × HasTaken change (product_of new dfa finals grown.holders) was.before source).
       ap (λ (node : Option Node). option_map (λ (each : Node). each.value) node)
       (both.1.touched.none (untouched root source there.1 both.0 none) id))
       (λ (both : (Contains roots root → ⊥) × (was.before ≡ source)).
@@ -141,12 +141,12 @@ module _ {change : Change} {dfa : DfaValue} {finals : List ℕ} {calls : ℕ} {o
       (found_or_not (source_in table root))
 
   pub took : (root : ℕ) (at : IsTouchedAt root) →
-      HasTaken change (product_of new dfa finals)
+      HasTaken change (product_of new dfa finals grown.holders)
       (after follows root at.source at.found).before at.source
   took root at =
       let was = after follows root at.source at.found in ⊎_elim
       (λ (both : Contains roots root
-      × HasTaken change (product_of new dfa finals) was.before at.source). both.1)
+      × HasTaken change (product_of new dfa finals grown.holders) was.before at.source). both.1)
       (λ (both : (Contains roots root → ⊥) × (was.before ≡ at.source)).
       absurd (both.0 at.listed))
       was.cases

@@ -73,10 +73,9 @@ abbrev pub IsHeldBy : HoldersValue → (ℕ → ℕ → Option ℕ) → EdgeId �
 IsHeldBy holders step edge state root =
     IsSome (step state edge.label) × Holds holders (node_id edge.from state) root
 
--- so it is with some state but 0, with which no node stands
+-- so it is with some state
 abbrev pub IsHeldBySome : HoldersValue → (ℕ → ℕ → Option ℕ) → EdgeId → ℕ → Type 0
-IsHeldBySome holders step edge root =
-    (state : ℕ) × ((0 < state) × IsHeldBy holders step edge state root)
+IsHeldBySome holders step edge root = (state : ℕ) × IsHeldBy holders step edge state root
 
 -- the tree of the root hangs there by the edge
 abbrev pub IsHungAt : List SourceValue → EdgeId → NodeId → ℕ → Type 0
@@ -120,10 +119,9 @@ pub record AreRaised (old new : List SourceValue) (holders : HoldersValue)
   pub order : AreInOrder (IsRaisedAt holders step edge) roots
 
 -- those that its removal may touch
-abbrev pub IsRemovedAt : List SourceValue → HoldersValue → ℕ → EdgeId → ℕ → Type 0
-IsRemovedAt sources holders states edge root =
-    (state : ℕ) × (state < states)
-    × ((0 < state) × IsHungBy sources holders edge (node_id edge.to state) root)
+abbrev pub IsRemovedAt : List SourceValue → HoldersValue → EdgeId → ℕ → Type 0
+IsRemovedAt sources holders edge root =
+    (state : ℕ) × IsHungBy sources holders edge (node_id edge.to state) root
 
 -- the roots are those whose numbers were at most the clock, in order
 pub record AreTaken (old new : DuesValue) (now : ℕ) (roots : List ℕ) : Type 0 where

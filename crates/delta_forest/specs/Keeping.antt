@@ -1,8 +1,8 @@
 -- What a forest keeps between its changes. No public contract cites this file.
-use Rattle.std.specs.Prelude.{◌≡◌, ◌≢◌, ◌↔◌, ℕ, ◌*◌, ◌^◌, ◌<◌, ◌≤◌, Bool, List, [], map, Contains, Option, Some, IsSome, IsTrue}
+use Rattle.std.specs.Prelude.{◌≡◌, ◌≢◌, ◌↔◌, ℕ, ◌*◌, ◌^◌, ◌≤◌, Bool, List, [], map, Option, Some, IsSome}
 use Rattle.edge_store.specs.declared.edge.EdgeId.{EdgeId}
 use Rattle.edge_store.specs.Edges.{Edges, value_of as value_in}
-use Rattle.dfa_table.specs.DfaValue.{DfaValue, is_final, step_of}
+use Rattle.dfa_table.specs.DfaValue.{DfaValue, step_of}
 use Rattle.delta_tree.specs.declared.node.NodeId.{NodeId}
 use Rattle.delta_tree.specs.declared.node.Node.{Node}
 use Rattle.delta_tree.specs.Nodes.{TreeValue, node_of, IsTree}
@@ -14,11 +14,6 @@ use Rattle.source_index.specs.Dues.{DuesValue, due_of}
 use Rattle.source_table.specs.Sources.{AreApart, source_in}
 use Rattle.delta_forest.specs.Forest.{ForestValue}
 use Rattle.delta_forest.specs.declared.index.Index.{Index}
-
--- these are exactly the final states with which a node can stand
-abbrev pub AreFinals : DfaValue → List ℕ → Type 0
-AreFinals dfa finals = (state : ℕ) →
-    Contains finals state ↔ ((0 < state) × IsTrue (is_final dfa state))
 
 -- the tree of the root has this node
 pub record HasNode (sources : List SourceValue) (root : ℕ) (id : NodeId) : Type 0 where

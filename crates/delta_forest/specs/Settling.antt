@@ -14,7 +14,8 @@ use Rattle.source_index.specs.Dues.{due_of}
 use Rattle.source_index.specs.Holders.{HoldersValue, Holds}
 use Rattle.source_table.specs.Sources.{AreApart, source_in}
 use Rattle.delta_forest.specs.Forest.{ForestValue}
-use Rattle.delta_forest.specs.Keeping.{AreFinals, IsDueFor, IsKept, forest_with}
+use Rattle.source_tree.specs.Product.{AreFinals}
+use Rattle.delta_forest.specs.Keeping.{IsDueFor, IsKept, forest_with}
 use Rattle.delta_forest.specs.declared.index.Index.{Index}
 use Rattle.delta_forest.specs.declared.index.Findings.{Findings}
 use Rattle.delta_forest.specs.declared.index.State.{State}

@@ -3,7 +3,8 @@
 ghost use Rattle.std.specs.Prelude.{◌≡◌, ◌≤◌, ◌<◌, ◌^◌, Bool, IfOk, OnOk, Some, false};
 ghost use Rattle.edge_store.specs.Edges.{HasSameValues};
 ghost use Rattle.delta_forest.specs.Changes.{Applies, TakesChange};
-ghost use Rattle.delta_forest.specs.Keeping.{AreFinals, IsKept};
+ghost use Rattle.source_tree.specs.Product.{AreFinals};
+ghost use Rattle.delta_forest.specs.Keeping.{IsKept};
 ghost use Rattle.delta_forest.specs.Settling.{forest_of};
 
 use crate::candidates::find_candidates;
@@ -98,6 +99,7 @@ pub(crate) fn advance<R: Threads + Sync, G: Gate>(
         store: &state.store,
         dfa,
         finals,
+        holders: &state.index.holders,
     };
     let roots = &state.roots;
     let workers = workers_for(context.gate, roots.len(), workers);

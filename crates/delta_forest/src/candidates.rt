@@ -1,9 +1,8 @@
 //! The roots whose trees a change may touch.
 
-ghost use Rattle.std.specs.Prelude.{◌≡◌, ◌<◌, ◌↔◌, ℕ, [], length, List, Contains, IsSome, IsTrue, OnOk, Some};
+ghost use Rattle.std.specs.Prelude.{◌≡◌, ◌↔◌, ℕ, [], List, Contains, IsSome, IsTrue, OnOk, Some};
 ghost use Rattle.edge_store.specs.Edges.{Edges};
-ghost use Rattle.dfa_table.specs.DfaValue.{IsDfa, step_of};
-ghost use Rattle.delta_tree.specs.Nodes.{node_id};
+ghost use Rattle.dfa_table.specs.DfaValue.{step_of};
 ghost use Rattle.delta_forest.specs.Keeping.{IsKept};
 ghost use Rattle.delta_forest.specs.Candidates.{Adds, AddsSource, AreCandidates, AreInOrder, AreRaised, AreTaken, IsHeldBy, IsHeldBySome, IsHungAt, IsHungBy, IsRemovedAt, StartsBy};
 
@@ -40,11 +39,15 @@ fn add_source(alloc: Global, sources: &mut SourceTable, root: u32) -> Result<(),
     Ok(())
 }
 
-/// Whether the automaton has a step by the label from its start.
-fn starts_by(dfa: &Dfa, label: u32) -> bool
-    ensures { IsTrue result ↔ IsSome (step_of dfa.now 0 label) }
+/// Whether the automaton has a step by the label from the state. It has none from a state that it
+/// hasn't got.
+fn has_step(dfa: &Dfa, state: u32, label: u32) -> bool
+    ensures { IsTrue result ↔ IsSome (step_of dfa.now state label) }
 {
-    dfa.states() > 0 && dfa.step(0, label).is_some()
+    if state >= dfa.states() {
+        return false;
+    }
+    dfa.step(state, label).is_some()
 }
 
 /// Adds the roots that are held where the edge leaves, with this state, if there is a step by it.
@@ -55,11 +58,10 @@ fn add_held_at(
     state: u32,
     roots: &mut Vec<u32>,
 ) -> Result<(), Memory>
-    requires { state < length dfa.now.rows }
     ensures { OnOk result (Adds roots.old.items roots.new.items
         (IsHeldBy holders.now (step_of dfa.now) edge state)) }
 {
-    if dfa.step(state, edge.label).is_some() {
+    if has_step(dfa, state, edge.label) {
         let place = NodeId {
             vertex: edge.from,
             state,
@@ -69,14 +71,14 @@ fn add_held_at(
     Ok(())
 }
 
-/// Adds the roots that are held where the edge leaves, with a state with a step by it. No node
-/// stands with the state 0.
+/// Adds the roots that are held where the edge leaves, with a state with a step by it. This goes
+/// through the states with which a node stands there.
 fn add_held(holders: &Holders, dfa: &Dfa, edge: EdgeId, roots: &mut Vec<u32>) -> Result<(), Memory>
     ensures { OnOk result (Adds roots.old.items roots.new.items
         (IsHeldBySome holders.now (step_of dfa.now) edge)) }
 {
-    for state in 1..dfa.states() {
-        add_held_at(holders, dfa, edge, state, roots)?;
+    for state in holders.states_at(edge.from) {
+        add_held_at(holders, dfa, edge, *state, roots)?;
     }
     Ok(())
 }
@@ -93,7 +95,7 @@ fn add_start(
     ensures { OnOk result (StartsBy sources.old sources.new (step_of dfa.now) edge
         roots.old.items roots.new.items) }
 {
-    if starts_by(dfa, edge.label) {
+    if has_step(dfa, 0, edge.label) {
         add_source(alloc, sources, edge.from)?;
         roots.push(edge.from)?;
         return Ok(());
@@ -165,23 +167,22 @@ fn add_raised(
     Ok(())
 }
 
-/// Adds those that its removal may touch. No node stands with the state 0.
+/// Adds those that its removal may touch: with each state with which a node stands where the edge
+/// ends, those whose trees hang there by it.
 fn add_removed(
     sources: &SourceTable,
     holders: &Holders,
-    dfa: &Dfa,
     edge: EdgeId,
     roots: &mut Vec<u32>,
 ) -> Result<(), Memory>
     requires { roots.old.items ≡ [] }
-    ensures valid { IsDfa dfa.now }
-    ensures roots { OnOk result (AreInOrder
-        (IsRemovedAt sources.now holders.now (length dfa.now.rows) edge) roots.new.items) }
+    ensures { OnOk result
+        (AreInOrder (IsRemovedAt sources.now holders.now edge) roots.new.items) }
 {
-    for state in 1..dfa.states() {
+    for state in holders.states_at(edge.to) {
         let place = NodeId {
             vertex: edge.to,
-            state,
+            state: *state,
         };
         add_hung(sources, holders, edge, place, roots)?;
     }
@@ -217,7 +218,7 @@ pub(crate) fn find_candidates(
         Change::Raise { edge, .. } => {
             add_raised(alloc, &mut index.sources, &index.holders, dfa, edge, roots)
         }
-        Change::Remove(edge) => add_removed(&index.sources, &index.holders, dfa, edge, roots),
+        Change::Remove(edge) => add_removed(&index.sources, &index.holders, edge, roots),
         Change::Expire(now) => add_expired(&mut index.dues, now, roots),
     }
 }

@@ -6,7 +6,7 @@ ghost use Rattle.delta_forest.specs.Forest.{IsIndexed, kept};
 ghost use Rattle.delta_forest.specs.Changes.{Applies, AreReachedFrom};
 ghost use Rattle.dfa_table.specs.DfaValue.{is_final};
 ghost use Rattle.delta_forest.specs.Candidates.{Adds};
-ghost use Rattle.delta_forest.specs.Keeping.{AreFinals};
+ghost use Rattle.source_tree.specs.Product.{AreFinals};
 ghost use Rattle.delta_forest.specs.Settling.{IsNewState};
 
 use crate::advancing::advance;

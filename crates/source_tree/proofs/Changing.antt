@@ -1,5 +1,5 @@
 -- What a change does to a tree, and its shifts in another order.
-use Rattle.std.proofs.Common.{◌≡◌, ◌==◌, ℕ, ◌+◌, ◌≤◌, Bool, true, false, cond, nat_lt, List, get_or, Option, Some, Result, Ok, Err, refl, sym, ap, ◌∙◌, IsPermutation, true≢false, arith}
+use Rattle.std.proofs.Common.{◌≡◌, ◌==◌, ℕ, ◌+◌, ◌≤◌, Bool, true, false, cond, nat_lt, List, get_or, Some, Result, Ok, Err, refl, sym, ap, ◌∙◌, IsPermutation, true≢false, arith}
 use Rattle.std.specs.Prelude.{IfOk, OnOk}
 use Rattle.std.specs.Ordering.{is_lt, nat_cmp, ordering_then}
 use Rattle.std.specs.List.Sorted.{IsSorted}

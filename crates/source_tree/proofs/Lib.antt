@@ -1,5 +1,7 @@
 pub mod Telling
 pub mod Shifts
 pub mod Moves
+pub mod Covering
 pub mod Listing
 pub mod Changing
+pub mod Finals

@@ -1,9 +1,9 @@
 -- Lists of shifts, and the ends that they change.
-use Rattle.std.proofs.Common.{◌≡◌, ◌≢◌, ◌==◌, ◌⊎◌, inl, inr, ℕ, ◌+◌, ◌<◌, ◌≤◌, Bool, true, false, List, [], ◌∷◌, ◌++◌, length, drop, get_or, max, Option, None, Some, option_map, refl, sym, ap, ap₂, subst, ◌∙◌, Contains, true≢false, eq-eqb, slice_get, arith}
+use Rattle.std.proofs.Common.{◌≡◌, ◌≢◌, ◌==◌, ◌⊎◌, inl, inr, ℕ, ◌+◌, ◌<◌, ◌≤◌, Bool, true, false, List, [], ◌∷◌, ◌++◌, length, drop, get_or, Option, None, Some, option_map, refl, sym, ap, ap₂, subst, ◌∙◌, Contains, true≢false, eq-eqb, slice_get, arith}
 use Rattle.std.specs.Prelude.{◌↔◌, All}
 use Rattle.std.specs.List.{IsDistinct}
 use Rattle.std.proofs.lemmas.Bool.{eqb-true}
-use Rattle.std.proofs.lemmas.List.{drop_more, get_or-drop, get_or_default, length-drop, map-append}
+use Rattle.std.proofs.lemmas.List.{get_or-drop, get_or_default, length-drop, map-append}
 use Rattle.std.proofs.lemmas.List.Elements.{All-contains, All-from_recursion, All-head, All-tail, Contains-append_cases, Contains-append_right}
 use Rattle.std.proofs.lemmas.Map.Keys.{IsDistinct-head, IsDistinct-tail}
 use Rattle.std.proofs.lemmas.Option.{slice_get-get_or, slice_get_within}
@@ -78,29 +78,6 @@ same_end (state ∷ rest) old new vertex same =
 later_none : (end : Option ℕ) → later end None ≡ end
 later_none None = refl
 later_none (Some end) = refl
-
-later_later : (first second third : Option ℕ) →
-    later (later first second) third ≡ later first (later second third)
-later_later None second third = refl
-later_later (Some first) None third = refl
-later_later (Some first) (Some second) None = refl
-later_later (Some first) (Some second) (Some third) =
-    ap Some more
-  where
-    more : max (max first second) third ≡ max first (max second third)
-    more = omega arith
-
--- the end so far, and one state more
-pub end_more : (finals : List ℕ) (tree : TreeValue) (vertex : ℕ) (end whole : Option ℕ) (i d : ℕ) →
-    i < length finals → later end (end_in (drop i finals) tree vertex) ≡ whole →
-    later (later end (value_of tree (node_id vertex (get_or finals i d))))
-    (end_in (drop (i + 1) finals) tree vertex) ≡ whole
-end_more finals tree vertex end whole i d within so_far =
-    later_later end (value_of tree (node_id vertex (get_or finals i d)))
-    (end_in (drop (i + 1) finals) tree vertex)
-    ∙ ap (λ (rest : List ℕ). later end (end_in rest tree vertex))
-    (sym (drop_more finals i d within))
-    ∙ so_far
 
 -- the values at a place that isn't listed
 pub same_value : (old new : TreeValue) (shifts : List Shift) → AreShifts old new shifts →
@@ -270,6 +247,7 @@ module _ (root : ℕ) (finals : List ℕ) (old new : TreeValue) where
     -- the run has all that the vertex needs
     pub is_run : All (IsShift old new) run → IsRun old new vertex run
     is_run values = record {
+      those = those;
       values = values;
       others = λ state apart. tells.whole vertex waits state
           (λ there. elim (listed_cases run rest (node_id vertex state) there) [

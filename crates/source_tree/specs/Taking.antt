@@ -9,7 +9,7 @@ use Rattle.delta_tree.specs.Changes.{IsDueAt}
 use Rattle.tree_insert.specs.Trees.{IsLater, IsOptimal, IsRisen, Keeps, WasOptimal}
 use Rattle.tree_delete.specs.Removal.{KeepsApart, WasOptimalWith}
 use Rattle.source_tree.specs.Ends.{SourceValue, AreEndChanges, end_in}
-use Rattle.source_tree.specs.Product.{ProductValue, IsOptimalOn, steps_of, values_of}
+use Rattle.source_tree.specs.Product.{ProductValue, AreFinals, AreHeld, IsOptimalOn, steps_of, values_of}
 use Rattle.source_tree.specs.declared.change.Change.{Change}
 use Rattle.source_tree.specs.declared.change.Change.TheVariants.{Raise, Remove, Expire}
 
@@ -59,11 +59,14 @@ KeepsNodes (Remove edge) old new = KeepsApart old new edge
 KeepsNodes (Expire now) old new = Keeps old new
 
 -- a source can take the change: fewer than 2^126 puts were made on its tree, which was optimal
--- before it
+-- before it; the product has the final states of its automaton, and its holders have each node that
+-- stood before
 pub record IsReady (change : Change) (product : ProductValue) (source : SourceValue)
     : Type 0 where
   pub puts : source.tree.puts < 2 ^ 126
   pub before : WasOptimalBefore change product source.tree
+  pub finals : AreFinals product.dfa product.finals
+  pub held : AreHeld product.holders source.tree
 
 -- a source took the change: its tree is optimal and keeps what the change doesn't touch; it reports
 -- whether the change touched it, the places where nodes came or went, and exactly the changed ends

@@ -1,11 +1,12 @@
 -- How a source tells what a change did to its tree. No contract outside the crate cites this file.
-use Rattle.std.specs.Prelude.{◌≡◌, ◌≢◌, ◌⊎◌, ℕ, Bool, true, false, List, [], ◌∷◌, ◌++◌, length, filter, All, Contains, Option, None, Some}
+use Rattle.std.specs.Prelude.{◌≡◌, ◌≢◌, ◌⊎◌, ◌≤◌, ⊤, ℕ, Bool, true, false, List, [], ◌∷◌, ◌++◌, length, filter, All, Contains, Option, None, Some}
 use Rattle.std.specs.List.Sorted.{IsNonDecreasingBy}
 use Rattle.delta_tree.specs.declared.node.NodeId.{NodeId}
 use Rattle.delta_tree.specs.declared.node.Shift.{Shift}
 use Rattle.delta_tree.specs.Nodes.{TreeValue, node_id, value_of}
 use Rattle.delta_tree.specs.Changes.{AreShifts, IsShift, shift_ids}
-use Rattle.source_tree.specs.Ends.{AreEndChanges, end_in}
+use Rattle.source_index.specs.Holders.{HoldersValue, roots_at}
+use Rattle.source_tree.specs.Ends.{AreEndChanges, end_in, later}
 use Rattle.source_tree.specs.Product.{ProductValue, IsOptimalOn}
 use Rattle.source_tree.specs.Taking.{AreMoved, IsTouched, KeepsNodes, TellsTouched}
 use Rattle.source_tree.specs.declared.change.Change.{Change}
@@ -57,9 +58,45 @@ IsInOrder finals shifts = length finals ≢ 1 → IsByVertex shifts
 
 -- the shifts have the values of the vertex, before and after, wherever these differ
 pub record IsRun (old new : TreeValue) (vertex : ℕ) (run : List Shift) : Type 0 where
+  pub those : All (λ (each : Shift). each.id.vertex ≡ vertex) run
   pub values : All (IsShift old new) run
   pub others : (state : ℕ) → (Contains (shift_ids run) (node_id vertex state) → ⊥) →
       value_of new (node_id vertex state) ≡ value_of old (node_id vertex state)
+
+-- the two ends, and with them two values of this state, where it is final
+abbrev pub Widens : List ℕ → ℕ → Option ℕ × Option ℕ → Option ℕ × Option ℕ →
+    Option ℕ × Option ℕ → Type 0
+Widens finals state ends values new =
+    (Contains finals state → new ≡ (later ends.0 values.0, later ends.1 values.1))
+    × ((Contains finals state → ⊥) → new ≡ ends)
+
+-- the one number is at most the other, where it is there
+abbrev pub IsAtMost : Option ℕ → Option ℕ → Type 0
+IsAtMost None end = ⊤
+IsAtMost (Some value) None = ⊥
+IsAtMost (Some value) (Some end) = value ≤ end
+
+-- the end is the value of a final state, where it is there, and at least that of each final state
+-- that was seen
+pub record Covers (finals : List ℕ) (values : ℕ → Option ℕ) (Seen : ℕ → Type 0)
+    (end : Option ℕ) : Type 0 where
+  pub from : (value : ℕ) → end ≡ Some value →
+      (state : ℕ) × Contains finals state × (values state ≡ Some value)
+  pub most : (state : ℕ) → Contains finals state → Seen state → IsAtMost (values state) end
+
+-- the values of a vertex by its states
+abbrev pub values_at : TreeValue → ℕ → ℕ → Option ℕ
+values_at tree vertex state = value_of tree (node_id vertex state)
+
+-- so the ends before and after do
+pub record CoverBoth (finals : List ℕ) (old new : TreeValue) (vertex : ℕ) (Seen : ℕ → Type 0)
+    (ends : Option ℕ × Option ℕ) : Type 0 where
+  pub before : Covers finals (values_at old vertex) Seen ends.0
+  pub after : Covers finals (values_at new vertex) Seen ends.1
+
+-- some root is held at the vertex with the state
+abbrev pub IsHeldAt : HoldersValue → ℕ → ℕ → Type 0
+IsHeldAt holders vertex state = roots_at holders (node_id vertex state) ≢ []
 
 -- the log has the change of an end more, if it is one
 abbrev pub Logs : List EndChange → List EndChange → EndChange → Type 0

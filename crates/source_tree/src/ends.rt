@@ -5,20 +5,14 @@ ghost use Rattle.delta_tree.specs.Nodes.{TreeValue, value_of};
 ghost use Rattle.delta_tree.specs.Changes.{AreShifts};
 ghost use Rattle.delta_tree.specs.declared.node.Shift.{Shift};
 ghost use Rattle.source_tree.specs.Ends.{AreEndChanges, end_change, end_in, later};
-ghost use Rattle.source_tree.specs.Telling.{IsByVertex, IsInOrder, IsRun, Logs};
+ghost use Rattle.source_tree.specs.Product.{AreFinals, AreHeld};
+ghost use Rattle.source_tree.specs.Telling.{CoverBoth, IsByVertex, IsHeldAt, IsInOrder, IsRun, Logs, Widens};
 
 use crate::change::EndChange;
+use crate::product::ProductGraph;
 use crate::room::add;
 use delta_tree::{NodeId, Shift, Tree};
 use rpq_base::Memory;
-
-/// Whether the state is one of these.
-pub(crate) fn is_final(finals: &[u32], state: u32) -> bool
-    ensures { IsTrue result ↔ Contains finals.now state }
-{
-    // There are few of them, for which a plain pass is faster than `contains`.
-    finals.iter().any(|each| *each == state)
-}
 
 /// The greater of two numbers that may be there.
 fn later(first: Option<u64>, second: Option<u64>) -> Option<u64>
@@ -53,31 +47,84 @@ fn values_at(tree: &Tree, run: &[Shift], id: NodeId) -> (Option<u64>, Option<u64
     (value, value)
 }
 
-/// The ends of the vertex before and after, where these are its shifts. A look-up is made for each
-/// final state of which there is none.
-fn ends_of(tree: &Tree, finals: &[u32], vertex: u32, run: &[Shift]) -> (Option<u64>, Option<u64>)
-    ensures { (old : TreeValue) → IsRun old tree.now vertex run.now →
-        result ≡ (end_in finals.now old vertex, end_in finals.now tree.now vertex) }
+/// The ends with the values of one state more, where it is final. Then a look-up is made, if there
+/// is no shift.
+fn with_state(
+    tree: &Tree,
+    product: &ProductGraph<'_>,
+    run: &[Shift],
+    id: NodeId,
+    ends: (Option<u64>, Option<u64>),
+) -> (Option<u64>, Option<u64>)
+    requires finals { AreFinals product.now.dfa product.now.finals }
+    ensures { (old : TreeValue) → IsRun old tree.now id.vertex run.now →
+        Widens product.now.finals id.state ends (value_of old id, value_of tree.now id) result }
 {
-    let mut before = None;
-    let mut after = None;
-    for state in finals {
+    if !product.is_final(id.state) {
+        return ends;
+    }
+    let values = values_at(tree, run, id);
+    (later(ends.0, values.0), later(ends.1, values.1))
+}
+
+/// The ends with the values of a shift, where its state is final.
+fn with_shift(
+    product: &ProductGraph<'_>,
+    shift: Shift,
+    ends: (Option<u64>, Option<u64>),
+) -> (Option<u64>, Option<u64>)
+    requires finals { AreFinals product.now.dfa product.now.finals }
+    ensures { Widens product.now.finals shift.id.state ends (shift.before, shift.after) result }
+{
+    if !product.is_final(shift.id.state) {
+        return ends;
+    }
+    (later(ends.0, shift.before), later(ends.1, shift.after))
+}
+
+/// The greatest values before and after of the vertex's final states with which some tree had a
+/// node before. These are the shifts of the vertex.
+fn held_ends(
+    tree: &Tree,
+    product: &ProductGraph<'_>,
+    vertex: u32,
+    run: &[Shift],
+) -> (Option<u64>, Option<u64>)
+    requires finals { AreFinals product.now.dfa product.now.finals }
+    ensures { (old : TreeValue) → IsRun old tree.now vertex run.now →
+        CoverBoth product.now.finals old tree.now vertex
+        (IsHeldAt product.now.holders vertex) result }
+{
+    let states = product.states_at(vertex);
+    let mut ends = (None, None);
+    for state in states {
         let id = NodeId {
             vertex,
             state: *state,
         };
-        let values = values_at(tree, run, id);
-        before = later(before, values.0);
-        after = later(after, values.1);
+        ends = with_state(tree, product, run, id, ends);
     }
-    (before, after)
+    ends
 }
 
-/// The greatest value of the vertex's nodes with a final state.
-pub(crate) fn end_of(tree: &Tree, finals: &[u32], vertex: u32) -> Option<u64>
-    ensures { result ≡ end_in finals.now tree.now vertex }
+/// The ends of the vertex before and after, where these are its shifts. A node that stands now
+/// stood before, so that its state is held, or it has a shift.
+fn ends_of(
+    tree: &Tree,
+    product: &ProductGraph<'_>,
+    vertex: u32,
+    run: &[Shift],
+) -> (Option<u64>, Option<u64>)
+    requires finals { AreFinals product.now.dfa product.now.finals }
+    ensures { (old : TreeValue) → IsRun old tree.now vertex run.now →
+        AreHeld product.now.holders old →
+        result ≡ (end_in product.now.finals old vertex, end_in product.now.finals tree.now vertex) }
 {
-    ends_of(tree, finals, vertex, &[]).1
+    let mut ends = held_ends(tree, product, vertex, run);
+    for shift in run {
+        ends = with_shift(product, *shift, ends);
+    }
+    ends
 }
 
 /// Logs the change of an end, where it is another than before.
@@ -139,20 +186,21 @@ fn run_len(vertex: u32, shifts: &[Shift]) -> usize
 /// Logs the changed ends, where the shifts of a vertex stand side by side.
 fn log_by_runs(
     tree: &Tree,
-    finals: &[u32],
+    product: &ProductGraph<'_>,
     shifts: &[Shift],
     log: &mut Vec<EndChange>,
 ) -> Result<(), Memory>
+    requires finals { AreFinals product.now.dfa product.now.finals }
     ensures { OnOk result ((old : TreeValue) → AreShifts old tree.now shifts.now →
-        IsByVertex shifts.now → log.old.items ≡ [] →
-        AreEndChanges tree.now.root (end_in finals.now old)
-        (end_in finals.now tree.now) log.new.items) }
+        AreHeld product.now.holders old → IsByVertex shifts.now → log.old.items ≡ [] →
+        AreEndChanges tree.now.root (end_in product.now.finals old)
+        (end_in product.now.finals tree.now) log.new.items) }
 {
     let mut rest = shifts;
     while let Some(first) = rest.first() {
         let vertex = first.id.vertex;
         let (run, after) = rest.split_at(run_len(vertex, rest));
-        let ends = ends_of(tree, finals, vertex, run);
+        let ends = ends_of(tree, product, vertex, run);
         log_end(log, tree.root(), vertex, ends.0, ends.1)?;
         rest = after;
     }
@@ -162,18 +210,20 @@ fn log_by_runs(
 /// Logs the changed ends into an empty list. Where one state is final, this takes no look-up.
 pub(crate) fn log_ends(
     tree: &Tree,
-    finals: &[u32],
+    product: &ProductGraph<'_>,
     shifts: &[Shift],
     log: &mut Vec<EndChange>,
 ) -> Result<(), Memory>
+    requires finals { AreFinals product.now.dfa product.now.finals }
     ensures { OnOk result ((old : TreeValue) → AreShifts old tree.now shifts.now →
-        IsInOrder finals.now shifts.now → log.old.items ≡ [] →
-        AreEndChanges tree.now.root (end_in finals.now old)
-        (end_in finals.now tree.now) log.new.items) }
+        AreHeld product.now.holders old → IsInOrder product.now.finals shifts.now →
+        log.old.items ≡ [] → AreEndChanges tree.now.root (end_in product.now.finals old)
+        (end_in product.now.finals tree.now) log.new.items) }
 {
+    let finals = product.final_states();
     if finals.len() == 1 {
         log_by_one(tree.root(), finals[0], shifts, log)
     } else {
-        log_by_runs(tree, finals, shifts, log)
+        log_by_runs(tree, product, shifts, log)
     }
 }

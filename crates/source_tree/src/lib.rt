@@ -8,10 +8,14 @@
 //!
 //! A change costs what it costs the tree, and a pass over the places that it touched, whose values
 //! before and after are known. Where one state is final, the changed ends follow from these with
-//! no look-up. Where there are more, the places are put in the order of their vertices, and each
-//! vertex takes a look-up for each final state at which its value stayed. No ends are kept. The
-//! lists of the last change are kept with their memory where this is for a few places, so that a
-//! small change takes none for them.
+//! no look-up. Where there are more, the places are put in the order of their vertices. Each vertex
+//! then takes one look-up of the states with which some tree had a node there before the change,
+//! and a look-up in the tree for each of these that is final and isn't among the places. Whatever
+//! other states the automaton has, they cost nothing. No ends are kept. The lists of the last
+//! change are kept with their memory where this is for a few places, so that a small change takes
+//! none for them.
+//!
+//! The list of all ends goes through the nodes once and sorts those with a final state.
 #![tactic(auto)]
 
 mod change;

@@ -1,51 +1,81 @@
 //! The list of the vertices that have an end.
 
-ghost use Rattle.std.specs.Prelude.{ℕ, List, IfOk, OnOk};
+ghost use Rattle.std.specs.Prelude.{◌≡◌, ◌↔◌, ◌^◌, ◌<◌, ℕ, List, nat_eq, Contains, IsTrue, IfOk, OnOk};
+ghost use Rattle.indexmap.specs.IndexSet.{IsFromIterResult};
 ghost use Rattle.delta_tree.specs.Nodes.{TreeValue};
 ghost use Rattle.source_tree.specs.Ends.{AreReached};
-ghost use Rattle.source_tree.specs.Listing.{AddsEnd, HaveEnds};
+ghost use Rattle.source_tree.specs.Listing.{AddsValue, HaveValues, order_of};
 
 use crate::change::Reached;
-use crate::ends::{end_of, is_final};
-use delta_tree::Tree;
+use delta_tree::{NodeId, Tree};
+use indexmap::IndexSet;
 use rpq_base::Memory;
-use std::alloc::Global;
+use std::alloc::{AllocError, Global};
 
-/// Adds the vertex with its end, where it has one.
-fn add_end(
-    tree: &Tree,
-    finals: &[u32],
-    vertex: u32,
-    reached: &mut Vec<Reached>,
-) -> Result<(), Memory>
-    ensures { OnOk result (AddsEnd finals.now tree.now vertex
-        reached.old.items reached.new.items) }
+/// The set of the final states.
+fn set_of(alloc: Global, finals: &[u32]) -> Result<IndexSet<u32>, AllocError>
+    ensures { IfOk result (IsFromIterResult nat_eq finals.now) }
 {
-    if let Some(value) = end_of(tree, finals, vertex) {
-        reached.push(Reached { vertex, value })?;
+    finals.iter().copied().collect(alloc)
+}
+
+/// Whether the state is one of the final ones.
+fn is_among(set: &IndexSet<u32>, state: u32) -> bool
+    ensures { (finals : List ℕ) → IsFromIterResult nat_eq finals set.now →
+        IsTrue result ↔ Contains finals state }
+{
+    set.contains(&state)
+}
+
+/// A vertex with a value.
+fn with_value(vertex: u32, value: u64) -> Reached
+    ensures made { result ≡ record { vertex = vertex; value = value } }
+    ensures fits { value < 2 ^ 64 }
+{
+    Reached { vertex, value }
+}
+
+/// Adds the value of the place, where there is one.
+fn add_value(tree: &Tree, id: NodeId, reached: &mut Vec<Reached>) -> Result<(), Memory>
+    ensures { OnOk result (AddsValue tree.now id reached.old.items reached.new.items) }
+{
+    if let Some(value) = tree.value_of(id.vertex, id.state) {
+        reached.push(with_value(id.vertex, value))?;
     }
     Ok(())
 }
 
-/// The vertices that have an end, each with it, once for each of its nodes with a final state.
-pub(crate) fn list_ends(alloc: Global, tree: &Tree, finals: &[u32]) -> Result<Vec<Reached>, Memory>
-    ensures { IfOk result (λ reached. HaveEnds finals.now tree.now reached.items) }
+/// The values of the nodes with a final state, each with its vertex.
+pub(crate) fn list_values(
+    alloc: Global,
+    tree: &Tree,
+    finals: &[u32],
+) -> Result<Vec<Reached>, Memory>
+    ensures { IfOk result (λ reached. HaveValues finals.now tree.now reached.items) }
 {
+    let set = set_of(alloc, finals)?;
     let mut reached = Vec::new(alloc);
     for k in 0..tree.len() {
         let id = tree.node_at(k);
-        if is_final(finals, id.state) {
-            add_end(tree, finals, id.vertex, &mut reached)?;
+        if is_among(&set, id.state) {
+            add_value(tree, id, &mut reached)?;
         }
     }
     Ok(reached)
 }
 
-/// Puts the vertices in order, each once.
-pub(crate) fn put_in_order(reached: &mut Vec<Reached>)
-    ensures { (finals : List ℕ) (tree : TreeValue) → HaveEnds finals tree reached.old.items →
+/// A number that rises with the vertex, and for one vertex as the value falls.
+fn order_of(each: &Reached) -> u128
+    ensures { result ≡ order_of each.now }
+{
+    u128::from(each.vertex) * (1 << 64) + u128::from(u64::MAX - each.value)
+}
+
+/// Keeps the greatest value of each vertex, and puts the vertices in order.
+pub(crate) fn keep_greatest(reached: &mut Vec<Reached>)
+    ensures { (finals : List ℕ) (tree : TreeValue) → HaveValues finals tree reached.old.items →
         AreReached finals tree reached.new.items }
 {
-    reached.sort_unstable_by_key(|each| each.vertex);
+    reached.sort_unstable_by_key(|each| order_of(each));
     reached.dedup_by_key(|each| each.vertex);
 }

@@ -2,11 +2,13 @@
 
 ghost use Rattle.std.specs.Prelude.{◌≡◌, [], OnOk};
 ghost use Rattle.delta_tree.specs.Nodes.{TreeValue};
+ghost use Rattle.source_tree.specs.Product.{AreFinals, AreHeld};
 ghost use Rattle.source_tree.specs.Telling.{IsInOrder, Tells, Touches, moved_ids, moves};
 ghost use Rattle.source_tree.specs.declared.change.Change.{Change};
 
 use crate::change::EndChange;
 use crate::ends::log_ends;
+use crate::product::ProductGraph;
 use crate::room::{add, empty_for};
 use delta_tree::{NodeId, Shift, Tree};
 use rpq_base::Memory;
@@ -53,52 +55,61 @@ fn list_moved(shifts: &[Shift], moved: &mut Vec<NodeId>) -> Result<(), Memory>
 }
 
 /// Reports what the change did that these shifts are of.
-fn fill(tree: &Tree, finals: &[u32], shifts: &[Shift], report: &mut Report) -> Result<(), Memory>
+fn fill(
+    tree: &Tree,
+    product: &ProductGraph<'_>,
+    shifts: &[Shift],
+    report: &mut Report,
+) -> Result<(), Memory>
+    requires finals { AreFinals product.now.dfa product.now.finals }
     ensures { OnOk result ((change : Change) (old : TreeValue) →
-        Touches change old tree.now shifts.now → IsInOrder finals.now shifts.now →
-        Tells change finals.now old tree.now
+        Touches change old tree.now shifts.now → AreHeld product.now.holders old →
+        IsInOrder product.now.finals shifts.now →
+        Tells change product.now.finals old tree.now
         report.new.moved.items report.new.log.items report.new.touched) }
 {
     report.touched = !shifts.is_empty();
     empty_for(&mut report.moved, shifts.len());
     list_moved(shifts, &mut report.moved)?;
     empty_for(&mut report.log, shifts.len());
-    log_ends(tree, finals, shifts, &mut report.log)
+    log_ends(tree, product, shifts, &mut report.log)
 }
 
 /// Reports what the change did that the search made.
 pub(crate) fn report_search(
     tree: &Tree,
-    finals: &[u32],
+    product: &ProductGraph<'_>,
     search: &mut Search,
     report: &mut Report,
 ) -> Result<(), Memory>
+    requires finals { AreFinals product.now.dfa product.now.finals }
     ensures { OnOk result ((change : Change) (old : TreeValue) →
-        Touches change old tree.now search.old.shifts →
-        Tells change finals.now old tree.now
+        Touches change old tree.now search.old.shifts → AreHeld product.now.holders old →
+        Tells change product.now.finals old tree.now
         report.new.moved.items report.new.log.items report.new.touched) }
 {
     // Where one state is final, no order is needed.
-    if finals.len() != 1 {
+    if product.final_states().len() != 1 {
         search.sort_shifts();
     }
-    fill(tree, finals, search.shifts(), report)
+    fill(tree, product, search.shifts(), report)
 }
 
 /// Reports what the change did that these shifts are of, in whatever order.
 pub(crate) fn report_shifts(
     tree: &Tree,
-    finals: &[u32],
+    product: &ProductGraph<'_>,
     shifts: &mut Vec<Shift>,
     report: &mut Report,
 ) -> Result<(), Memory>
+    requires finals { AreFinals product.now.dfa product.now.finals }
     ensures { OnOk result ((change : Change) (old : TreeValue) →
-        Touches change old tree.now shifts.old.items →
-        Tells change finals.now old tree.now
+        Touches change old tree.now shifts.old.items → AreHeld product.now.holders old →
+        Tells change product.now.finals old tree.now
         report.new.moved.items report.new.log.items report.new.touched) }
 {
-    if finals.len() != 1 {
+    if product.final_states().len() != 1 {
         shifts.sort_unstable_by_key(|each| each.id.vertex);
     }
-    fill(tree, finals, shifts, report)
+    fill(tree, product, shifts, report)
 }

@@ -10,7 +10,7 @@ ghost use Rattle.source_tree.specs.Taking.{HasTaken, IsReady};
 
 use crate::change::{Change, EndChange, Reached};
 use crate::product::ProductGraph;
-use crate::reached::{list_ends, put_in_order};
+use crate::reached::{keep_greatest, list_values};
 use crate::report::{Report, empty_report};
 use crate::steps::change_tree;
 use delta_tree::{NodeId, Tree};
@@ -102,12 +102,13 @@ impl SourceTree {
     }
 
     /// The vertices that have an end, where these are the final states, in rising order, each with
-    /// it. The only error is [`Memory`]. It goes through all nodes.
+    /// it. The only error is [`Memory`]. This goes through all nodes, and sorts those with a final
+    /// state.
     pub fn reached(&self, finals: &[u32]) -> Result<Vec<Reached>, Memory>
         ensures { IfOk result (λ reached. AreReached finals.now self.now.tree reached.items) }
     {
-        let mut reached = list_ends(self.alloc, &self.tree, finals)?;
-        put_in_order(&mut reached);
+        let mut reached = list_values(self.alloc, &self.tree, finals)?;
+        keep_greatest(&mut reached);
         Ok(reached)
     }
 

@@ -4,7 +4,7 @@ ghost use Rattle.std.specs.Prelude.{◌≡◌, ◌^◌, ◌<◌, ℕ, All, IfOk,
 ghost use Rattle.delta_tree.specs.Changes.{AreBelow, AreShifts, shift_ids};
 ghost use Rattle.tree_insert.specs.Trees.{IsLater, IsRisen, Keeps, WasOptimal};
 ghost use Rattle.tree_delete.specs.Removal.{KeepsApart, WasOptimalWith};
-ghost use Rattle.source_tree.specs.Product.{ProductValue, IsOptimalOn, steps_of, values_of};
+ghost use Rattle.source_tree.specs.Product.{ProductValue, AreFinals, AreHeld, IsOptimalOn, steps_of, values_of};
 ghost use Rattle.source_tree.specs.Searching.{IsBlankFor};
 ghost use Rattle.source_tree.specs.Taking.{KeepsNodes, WasOptimalBefore};
 ghost use Rattle.source_tree.specs.Telling.{HasChanged, Tells};
@@ -33,6 +33,7 @@ fn search_raised<L: Ledger>(
     requires blank { IsBlankFor blank.name blank.parts L.name L.parts }
     requires puts { tree.old.puts < 2 ^ 126 }
     requires before { WasOptimal (values_of product.now) (steps_of product.now) tree.old edge }
+    requires held { AreHeld product.now.holders tree.old }
     ensures optimal { OnOk result (IsOptimalOn product.now tree.new) }
     ensures keeps { Keeps tree.old tree.new }
     ensures later { IsLater tree.old tree.new }
@@ -40,7 +41,8 @@ fn search_raised<L: Ledger>(
     ensures shifts { OnOk result (AreShifts tree.old tree.new search.new.shifts) }
 {
     let mut steps: Steps<L> = Steps::new(blank);
-    search.raise(tree, product.store, product.dfa, edge, &mut steps)
+    let states = product.states_at(edge.from);
+    search.raise(tree, product.store, product.dfa, edge, states, &mut steps)
 }
 
 /// Makes the tree optimal after the raise of an edge. The search has the shifts.
@@ -52,6 +54,7 @@ fn raise_edge(
 ) -> Result<(), Memory>
     requires puts { tree.old.puts < 2 ^ 126 }
     requires before { WasOptimal (values_of product.now) (steps_of product.now) tree.old edge }
+    requires held { AreHeld product.now.holders tree.old }
     ensures changed { OnOk result ((value : ℕ) → HasChanged (Raise edge value) product.now
         tree.old tree.new search.new.shifts) }
     ensures later { IsLater tree.old tree.new }
@@ -127,6 +130,8 @@ pub(crate) fn change_tree(
 ) -> Result<(), Memory>
     requires puts { tree.old.puts < 2 ^ 126 }
     requires before { WasOptimalBefore change product.now tree.old }
+    requires finals { AreFinals product.now.dfa product.now.finals }
+    requires held { AreHeld product.now.holders tree.old }
     ensures optimal { OnOk result (IsOptimalOn product.now tree.new) }
     ensures keeps { OnOk result (KeepsNodes change tree.old tree.new) }
     ensures tells { OnOk result (Tells change product.now.finals tree.old tree.new
@@ -136,15 +141,15 @@ pub(crate) fn change_tree(
     match change {
         Change::Raise { edge, .. } => {
             raise_edge(search, tree, product, edge)?;
-            report_search(tree, product.finals, search, report)
+            report_search(tree, product, search, report)
         }
         Change::Remove(edge) => {
             let mut shifts = remove_edge(alloc, search, tree, product, edge)?;
-            report_shifts(tree, product.finals, &mut shifts, report)
+            report_shifts(tree, product, &mut shifts, report)
         }
         Change::Expire(now) => {
             expire(search, tree, now)?;
-            report_search(tree, product.finals, search, report)
+            report_search(tree, product, search, report)
         }
     }
 }

@@ -38,9 +38,10 @@ change_each-requires-clause-ready g c κs within =
     let store = c.change_store.new.store in
     let are = c.in_ok-find_candidates.ensures state.store state.calls c.requires.kept in
     subst (λ (roots : List ℕ).
-    AreReady c.args.change (product_of store dfa finals) roots grown.sources)
+    AreReady c.args.change (product_of store dfa finals grown.holders) roots grown.sources)
     (sym c.deref.ensures.value)
-    (ready c.requires.kept are store finals c.in_ok-change_store.ensures.takes c.requires.calls)
+    (ready c.requires.kept are store finals c.requires.finals
+    c.in_ok-change_store.ensures.takes c.requires.calls)
 
 pub settle_all-requires-clause-apart : goal.settle_all-requires-clause-apart
 settle_all-requires-clause-apart g c =
@@ -73,7 +74,8 @@ follows g c =
       kept = c.requires.kept;
       are = c.in_ok-find_candidates.ensures state.store state.calls c.requires.kept;
       taken = subst (λ (each : List ℕ). HaveTaken c.args.change
-          (product_of c.change_store.new.store c.args.dfa.now c.args.finals.now) each
+          (product_of c.change_store.new.store c.args.dfa.now c.args.finals.now
+          grown.holders) each
           grown.sources table) c.deref.ensures.value c.in_ok-change_each.ensures.taken;
       same = c.change_each.ensures.roots;
       settles = subst (λ (each : List ℕ).

@@ -1,37 +1,38 @@
-use Rattle.std.proofs.Common.{ℕ, ◌+◌, ◌<◌, ◌≤◌, arith, length}
+use Rattle.std.proofs.Common.{◌≡◌, ℕ, ◌+◌, ◌<◌, List, length, take, get_or, subst, Contains, arith}
+use Rattle.std.proofs.lemmas.List.{get_or_default, take_all}
+use Rattle.rpq_base.proofs.Members.{next_one}
 use Rattle.dfa_table.specs.DfaValue.{step_of}
-use Rattle.delta_forest.specs.Candidates.{IsHeldBy, IsHeldBySome}
-use Rattle.delta_forest.proofs.Gathering.{adds_both, adds_like, all_held, next_state}
+use Rattle.delta_forest.specs.Candidates.{Adds, IsHeldBy, IsHeldBySome}
+use Rattle.delta_forest.proofs.Gathering.{adds_both, adds_like, at_some_state, next_state}
 use Rattle.delta_forest.proofs.candidates.add_held.Goals as goal
 
 pub loop-state-preserved : goal.loop-state-preserved
 loop-state-preserved c =
-    let bound = c.loop-state.state in
-    let above : 0 < bound = c.loop-state.invariant.0 in
-    let held : ℕ → Type 0 =
-    IsHeldBy c.args.holders.now (step_of c.args.dfa.now) c.args.edge bound in
-    let kind : ℕ → ℕ → Type 0 = λ at root.
-    (0 < at) × IsHeldBy c.args.holders.now (step_of c.args.dfa.now) c.args.edge at root in (
-      omega arith,
-      adds_both c.args.roots.now.items c.loop-state.roots.items c.add_held_at.new.roots.items
-          (λ root. (at : ℕ) × (at < bound) × kind at root) (kind bound)
-          (λ root. (at : ℕ) × (at < bound + 1) × kind at root)
-          c.loop-state.invariant.1
-          (adds_like c.loop-state.roots.items c.add_held_at.new.roots.items held (kind bound)
-          c.in_ok-add_held_at.ensures
-          (λ root. ((λ is. (above, is)), (λ both. both.1))))
-          (next_state kind bound),
-    )
+    let items = c.states_at-state-items.result.now in
+    let place = c.loop-state.state-index in
+    let state : ℕ = get_or items place 0 in
+    let within : place < length items = omega (arith, c.loop-state-test.true) in
+    let is : state ≡ get_or items place state = get_or_default items place 0 state within in
+    let kind : ℕ → ℕ → Type 0 =
+    IsHeldBy c.args.holders.now (step_of c.args.dfa.now) c.args.edge in
+    adds_both c.args.roots.now.items c.loop-state.roots.items c.add_held_at.new.roots.items
+    (λ root. (at : ℕ) × Contains (take place items) at × kind at root) (kind state)
+    (λ root. (at : ℕ) × Contains (take (place + 1) items) at × kind at root)
+    c.loop-state.invariant c.in_ok-add_held_at.ensures
+    (next_state (take place items) (take (place + 1) items) state kind
+    (next_one items place state within is))
 
 pub returns : goal.returns
 returns c =
-    let bound = c.loop-state.state in
+    let items = c.states_at-state-items.result.now in
     let step = step_of c.args.dfa.now in
-    let many : length c.args.dfa.now.rows ≤ bound =
-    omega (arith, c.loop-state-test.false, c.states-state-end.ensures.number) in
+    let kind : ℕ → ℕ → Type 0 = IsHeldBy c.args.holders.now step c.args.edge in
     adds_like c.args.roots.now.items c.loop-state.roots.items
-    (λ root. (at : ℕ) × (at < bound)
-    × ((0 < at) × IsHeldBy c.args.holders.now step c.args.edge at root))
+    (λ root. (at : ℕ) × Contains items at × kind at root)
     (IsHeldBySome c.args.holders.now step c.args.edge)
-    c.loop-state.invariant.1
-    (λ root. all_held c.args.holders.now c.args.dfa.now c.args.edge bound root many)
+    (subst (λ (states : List ℕ). Adds c.args.roots.now.items c.loop-state.roots.items
+    (λ root. (at : ℕ) × Contains states at × kind at root))
+    (take_all c.loop-state.state-index items (omega (arith, c.loop-state-test.false)))
+    c.loop-state.invariant)
+    (at_some_state c.args.holders.now c.args.edge.from items kind
+    c.states_at-state-items.ensures.exact (λ state root held. held.1))

@@ -1,42 +1,40 @@
-use Rattle.std.proofs.Common.{ℕ, ◌+◌, ◌<◌, ◌≤◌, [], length, arith}
+use Rattle.std.proofs.Common.{◌≡◌, ℕ, ◌+◌, ◌<◌, List, [], length, take, get_or, subst, Contains, arith}
+use Rattle.std.proofs.lemmas.List.{get_or_default, take_all}
+use Rattle.rpq_base.proofs.Members.{next_one}
 use Rattle.delta_tree.specs.Nodes.{node_id}
-use Rattle.delta_forest.specs.Candidates.{IsHungBy, IsRemovedAt}
-use Rattle.delta_forest.proofs.Gathering.{adds_both, adds_like, all_removed, next_state, ordered_like}
+use Rattle.delta_forest.specs.Candidates.{Adds, IsHungBy, IsRemovedAt}
+use Rattle.delta_forest.proofs.Gathering.{adds_both, adds_like, at_some_state, next_state, ordered_like}
 use Rattle.delta_forest.proofs.candidates.add_removed.Goals as goal
 
 pub loop-state-preserved : goal.loop-state-preserved
 loop-state-preserved c =
-    let bound = c.loop-state.state in
-    let above : 0 < bound = c.loop-state.invariant.0 in
-    let hung : ℕ → ℕ → Type 0 = λ state root.
-    IsHungBy c.args.sources.now c.args.holders.now c.args.edge (node_id c.args.edge.to state) root
-    in
-    let kind : ℕ → ℕ → Type 0 = λ state root. (0 < state) × hung state root in (
-      omega arith,
-      (
-        omega (arith, c.loop-state-test.true, c.states-state-end.ensures.number),
-        adds_both [] c.loop-state.roots.items c.add_hung.new.roots.items
-            (λ root. (at : ℕ) × (at < bound) × kind at root) (kind bound)
-            (λ root. (at : ℕ) × (at < bound + 1) × kind at root)
-            c.loop-state.invariant.1.1
-            (adds_like c.loop-state.roots.items c.add_hung.new.roots.items (hung bound) (kind bound)
-            c.in_ok-add_hung.ensures
-            (λ root. ((λ is. (above, is)), (λ both. both.1))))
-            (next_state kind bound),
-      ),
-    )
+    let items = c.states_at-state-items.result.now in
+    let place = c.loop-state.state-index in
+    let state : ℕ = get_or items place 0 in
+    let within : place < length items = omega (arith, c.loop-state-test.true) in
+    let is : state ≡ get_or items place state = get_or_default items place 0 state within in
+    let kind : ℕ → ℕ → Type 0 = λ at.
+    IsHungBy c.args.sources.now c.args.holders.now c.args.edge (node_id c.args.edge.to at) in
+    adds_both [] c.loop-state.roots.items c.add_hung.new.roots.items
+    (λ root. (at : ℕ) × Contains (take place items) at × kind at root) (kind state)
+    (λ root. (at : ℕ) × Contains (take (place + 1) items) at × kind at root)
+    c.loop-state.invariant c.in_ok-add_hung.ensures
+    (next_state (take place items) (take (place + 1) items) state kind
+    (next_one items place state within is))
 
-pub returns-clause-roots : goal.returns-clause-roots
-returns-clause-roots c =
-    let bound = c.loop-state.state in
-    let states = length c.args.dfa.now.rows in
-    let many : states ≤ bound =
-    omega (arith, c.loop-state-test.false, c.states-state-end.ensures.number) in
+pub returns : goal.returns
+returns c =
+    let items = c.states_at-state-items.result.now in
+    let kind : ℕ → ℕ → Type 0 = λ at.
+    IsHungBy c.args.sources.now c.args.holders.now c.args.edge (node_id c.args.edge.to at) in
     ordered_like c.put_in_order.new.roots.items c.loop-state.roots.items
-    (IsRemovedAt c.args.sources.now c.args.holders.now states c.args.edge) c.put_in_order.ensures
+    (IsRemovedAt c.args.sources.now c.args.holders.now c.args.edge) c.put_in_order.ensures
     (adds_like [] c.loop-state.roots.items
-    (IsRemovedAt c.args.sources.now c.args.holders.now bound c.args.edge)
-    (IsRemovedAt c.args.sources.now c.args.holders.now states c.args.edge)
-    c.loop-state.invariant.1.1
-    (λ root. all_removed c.args.sources.now c.args.holders.now c.args.edge states bound root many
-    c.loop-state.invariant.1.0))
+    (λ root. (at : ℕ) × Contains items at × kind at root)
+    (IsRemovedAt c.args.sources.now c.args.holders.now c.args.edge)
+    (subst (λ (states : List ℕ). Adds [] c.loop-state.roots.items
+    (λ root. (at : ℕ) × Contains states at × kind at root))
+    (take_all c.loop-state.state-index items (omega (arith, c.loop-state-test.false)))
+    c.loop-state.invariant)
+    (at_some_state c.args.holders.now c.args.edge.to items kind
+    c.states_at-state-items.ensures.exact (λ state root hung. hung.0)))

@@ -1,8 +1,10 @@
-use Rattle.std.proofs.Common.{◌<◌, ◌≤◌, max, [], length}
-use Rattle.delta_forest.specs.Candidates.{Adds, IsRemovedAt}
+use Rattle.std.proofs.Common.{ℕ, [], take, Contains}
+use Rattle.delta_tree.specs.Nodes.{node_id}
+use Rattle.delta_forest.specs.Candidates.{Adds, IsHungBy}
 use Rattle.delta_forest.proofs.candidates.add_removed.Given as goal
 
 -- the roots of the states so far are there
 abbrev pub invariant-loop-state : goal.invariant-loop-state
-invariant-loop-state l = (0 < l.state) × ((l.state ≤ max 1 (length l.dfa.rows))
-    × Adds [] l.roots.items (IsRemovedAt l.sources l.holders l.state l.edge))
+invariant-loop-state l = Adds [] l.roots.items
+    (λ root. (state : ℕ) × Contains (take l.state-index l.state-items) state
+    × IsHungBy l.sources l.holders l.edge (node_id l.edge.to state) root)

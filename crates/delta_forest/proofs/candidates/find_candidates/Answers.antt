@@ -33,9 +33,8 @@ returns-in-Remove c = λ store calls kept.
     (AreCandidates change (step_of c.args.dfa.now) index index roots))
     (sym c.in-Remove.is)
     (on_ok_weaker c.add_removed.result
-    (remove_candidates c.args.dfa.now store calls index kept c.in-Remove.edge roots
-    c.add_removed.ensures.valid)
-    c.add_removed.ensures.roots)
+    (remove_candidates c.args.dfa.now store calls index kept c.in-Remove.edge roots)
+    c.add_removed.ensures)
 
 pub returns-in-Expire : goal.returns-in-Expire
 returns-in-Expire c = λ store calls kept.

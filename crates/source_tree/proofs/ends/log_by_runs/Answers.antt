@@ -11,18 +11,18 @@ use Rattle.source_tree.proofs.Shifts.{TellsRuns, WaitsAny, first_is, has_first, 
 use Rattle.source_tree.proofs.ends.log_by_runs.Goals as goal
 
 pub loop-first-init : goal.loop-first-init
-loop-first-init c old are order empty =
+loop-first-init c old are held order empty =
     let root = c.args.tree.now.root in
-    let finals = c.args.finals.now in
+    let finals = c.args.product.now.finals in
     let tree = c.args.tree.now in
     let shifts = c.args.shifts.now in
     subst (λ (log : List EndChange). TellsRuns root finals old tree shifts log)
     (sym empty) (runs_start root finals old tree shifts are order)
 
 pub loop-first-preserved : goal.loop-first-preserved
-loop-first-preserved c old are order empty =
+loop-first-preserved c old are held order empty =
     let root = c.args.tree.now.root in
-    let finals = c.args.finals.now in
+    let finals = c.args.product.now.finals in
     let tree = c.args.tree.now in
     let left = c.loop-first.rest.now in
     let first = c.in-Some.first.now in
@@ -30,7 +30,7 @@ loop-first-preserved c old are order empty =
     let len = c.run_len.result in
     let log = c.loop-first.log.items in
     let next = c.log_end.new.log.items in
-    let tells = c.loop-first.invariant old are order empty in
+    let tells = c.loop-first.invariant old are held order empty in
     let seam = take-append-drop len left in
     let whole = subst (λ (shifts : List Shift). TellsRuns root finals old tree shifts log)
     (sym seam) tells in
@@ -43,7 +43,7 @@ loop-first-preserved c old are order empty =
     let run = is_run root finals old tree vertex (take len left) (drop len left) log those none
     waits whole (All-take (IsShift old tree) len left tells.values) in
     let ends = c.ends_of-ends.ensures old
-    (subst (IsRun old tree vertex) (sym c.split_at.ensures.front) run) in
+    (subst (IsRun old tree vertex) (sym c.split_at.ensures.front) run) held in
     let logs = subst (λ (change : EndChange). Logs log next change)
     (λ i. end_change (c.root.ensures.root i) vertex ((ends i).0) ((ends i).1))
     c.in_ok-log_end.ensures in
@@ -54,12 +54,12 @@ loop-first-preserved c old are order empty =
     (IsNonDecreasingBy-drop (λ (each : Shift). each.id.vertex) len left tells.order))
 
 pub returns : goal.returns
-returns c old are order empty =
+returns c old are held order empty =
     let root = c.args.tree.now.root in
-    let finals = c.args.finals.now in
+    let finals = c.args.product.now.finals in
     let tree = c.args.tree.now in
     let log = c.loop-first.log.items in
     runs_end root finals old tree log
     (subst (λ (left : List Shift). TellsRuns root finals old tree left log)
     (none_first c.loop-first.rest.now c.in_default.ensures.value)
-    (c.loop-first.invariant old are order empty))
+    (c.loop-first.invariant old are held order empty))

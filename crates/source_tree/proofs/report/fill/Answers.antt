@@ -9,11 +9,11 @@ returns c =
     let tree = c.args.tree.now in
     let shifts = c.args.shifts.now in
     on_ok_weaker c.log_ends.result
-    (λ logs change old touches order. record {
+    (λ logs change old touches held order. record {
       touched = tells_touched change old tree shifts c.is_empty.result c.is_empty.ensures touches;
       moved = subst (AreMoved change old tree)
           (sym (c.in_ok-list_moved.ensures c.empty_for.ensures))
           (are_moved change old tree shifts touches);
-      log = logs old touches.values order c.empty_for-2.ensures;
+      log = logs old touches.values held order c.empty_for-2.ensures;
     })
     c.log_ends.ensures

@@ -1,7 +1,6 @@
-use Rattle.std.proofs.Common.{ℕ, List, ap, sym, subst}
+use Rattle.std.proofs.Common.{sym, subst}
 use Rattle.std.proofs.lemmas.Result.{on_ok_weaker}
 use Rattle.rpq_base.proofs.Outcomes.{on_ok}
-use Rattle.source_tree.specs.Product.{ProductValue}
 use Rattle.source_tree.specs.Taking.{KeepsNodes, WasOptimalBefore}
 use Rattle.source_tree.specs.Telling.{HasChanged, Tells}
 use Rattle.source_tree.specs.declared.change.Change.{Change}
@@ -34,16 +33,14 @@ returns-in_ok-raise_edge-in-Raise-clause-tells c =
     on_ok_weaker c.report_search.result
     (λ tells. subst (λ (change : Change). Tells change c.args.product.now.finals old new
     report.moved.items report.log.items report.touched) (sym c.in-Raise.is)
-    (subst (λ (finals : List ℕ). Tells raise finals old new
-    report.moved.items report.log.items report.touched)
-    (ap (λ (product : ProductValue). product.finals) c.product.view_is)
-    (tells raise old (c.in_ok-raise_edge-in-Raise.ensures.changed c.in-Raise.value).touches)))
+    (tells raise old (c.in_ok-raise_edge-in-Raise.ensures.changed c.in-Raise.value).touches
+    c.requires.held))
     c.report_search.ensures
 
 -- ---- an expiry
 
-expired : (c : goal.After-report_search-in-Expire) → HasChanged (Expire c.in-Expire.now) c.args.product.now
-    c.args.tree.now c.expire.new.tree c.expire.new.search.shifts
+expired : (c : goal.After-report_search-in-Expire) →
+    HasChanged (Expire c.in-Expire.now) c.args.product.now c.args.tree.now c.expire.new.tree c.expire.new.search.shifts
 expired c = c.in_ok-expire-in-Expire.ensures.changed c.args.product.now
     (subst (λ (change : Change). WasOptimalBefore change c.args.product.now c.args.tree.now)
     c.in-Expire.is c.requires.before)
@@ -70,8 +67,5 @@ returns-in_ok-expire-in-Expire-clause-tells c =
     on_ok_weaker c.report_search-in-Expire.result
     (λ tells. subst (λ (change : Change). Tells change c.args.product.now.finals old new
     report.moved.items report.log.items report.touched) (sym c.in-Expire.is)
-    (subst (λ (finals : List ℕ). Tells expire finals old new
-    report.moved.items report.log.items report.touched)
-    (ap (λ (product : ProductValue). product.finals) c.product.view_is)
-    (tells expire old (expired c).touches)))
+    (tells expire old (expired c).touches c.requires.held))
     c.report_search-in-Expire.ensures

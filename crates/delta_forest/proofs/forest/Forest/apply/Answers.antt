@@ -1,7 +1,7 @@
 use Rattle.std.proofs.Common.{false, sym, subst}
 use Rattle.delta_forest.specs.Forest.{ForestValue}
 use Rattle.delta_forest.specs.Changes.{Applies}
-use Rattle.delta_forest.specs.Keeping.{AreFinals}
+use Rattle.source_tree.specs.Product.{AreFinals}
 use Rattle.delta_forest.specs.Settling.{forest_of}
 use Rattle.delta_forest.proofs.forest.Forest.apply.Goals as goal
 

@@ -5,6 +5,6 @@ use Rattle.source_tree.proofs.source.SourceTree.reached.Goals as goal
 pub returns : goal.returns
 returns c =
     let finals = c.args.finals.now in
-    let reached = c.put_in_order.new.reached.items in
+    let reached = c.keep_greatest.new.reached.items in
     subst (λ (source : SourceValue). AreReached finals source.tree reached) c.self.view_is
-    (c.put_in_order.ensures finals c.self.inside.tree c.in_ok-reached.ensures)
+    (c.keep_greatest.ensures finals c.self.inside.tree c.in_ok-reached.ensures)

@@ -5,8 +5,8 @@ use Rattle.delta_tree.specs.declared.node.NodeId.{NodeId}
 use Rattle.delta_tree.specs.Nodes.{ids_of}
 use Rattle.source_tree.specs.declared.change.Reached.{Reached}
 use Rattle.source_tree.proofs.Listing.{IsListing, listing_ends, listing_more, listing_other, walked_more}
-use Rattle.source_tree.proofs.reached.list_ends.Goals.{then-is_final+in_ok-add_end, else-is_final}
-use Rattle.source_tree.proofs.reached.list_ends.Goals as goal
+use Rattle.source_tree.proofs.reached.list_values.Goals.{then-is_among+in_ok-add_value, else-is_among}
+use Rattle.source_tree.proofs.reached.list_values.Goals as goal
 
 pub loop-k-preserved : goal.loop-k-preserved
 loop-k-preserved c =
@@ -16,19 +16,20 @@ loop-k-preserved c =
     let id = c.node_at-id.result in
     let walked = take k (ids_of tree) in
     let old = c.loop-k.reached.items in
-    subst (λ (all : List NodeId). IsListing finals tree all c.if-is_final.reached.items)
+    let among = c.is_among.ensures finals c.in_ok-set.ensures in
+    subst (λ (all : List NodeId). IsListing finals tree all c.if-is_among.reached.items)
     (sym (walked_more (ids_of tree) k id c.node_at-id.ensures))
-    (elim c.if-is_final.branch [
-      | then-is_final+in_ok-add_end w ↦
+    (elim c.if-is_among.branch [
+      | then-is_among+in_ok-add_value w ↦
           subst (λ (now : Vec Reached Global). IsListing finals tree (walked ++ id ∷ []) now.items)
           (sym w.reached-is)
           (listing_more finals tree walked id old c.loop-k.invariant
-          w.add_end.new.reached.items w.in_ok-add_end.ensures)
-      | else-is_final w ↦
+          w.add_value.new.reached.items (among.0 w.if-is_among.true) w.in_ok-add_value.ensures)
+      | else-is_among w ↦
           subst (λ (now : Vec Reached Global). IsListing finals tree (walked ++ id ∷ []) now.items)
           (sym w.reached-is)
           (listing_other finals tree walked id old c.loop-k.invariant
-          (λ there. true≢false (sym (c.is_final.ensures.1 there) ∙ w.if-is_final.false)))
+          (λ there. true≢false (sym (among.1 there) ∙ w.if-is_among.false)))
     ])
 
 pub returns : goal.returns
