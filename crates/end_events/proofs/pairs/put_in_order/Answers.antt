@@ -1,15 +1,10 @@
-use Rattle.std.proofs.Common.{◌≡◌, List, rules, sym, subst}
+use Rattle.std.proofs.Common.{◌≡◌, List, sym, subst}
 use Rattle.std.specs.List.{dedup}
-use Rattle.std.specs.List.Sorted.{IsSorted}
-use Rattle.std.specs.Ordering.{is_lt}
-use Rattle.std.proofs.lemmas.Fn.{always_returns_same}
 use Rattle.std.proofs.lemmas.List.Filters.{dedup_is, All-dedup}
-use Rattle.std.proofs.lemmas.List.Sorted.{All-permutation, ranks_by}
+use Rattle.std.proofs.lemmas.List.Sorted.{All-permutation}
 use Rattle.end_events.specs.declared.pairs.NumberedPair.{NumberedPair}
-use Rattle.end_events.specs.Order.{numbered_cmp}
 use Rattle.end_events.specs.Pairs.{AreNumbered, IsNumbered}
 use Rattle.end_events.proofs.Numbered.{same_numbered, distinct_sorted, distinct_same}
-use Rattle.end_events.proofs.Order.{numbered_total}
 use Rattle.end_events.proofs.pairs.put_in_order.Goals as goal
 
 -- the sorted pairs are numbered
