@@ -239,9 +239,9 @@ answered_long names entry number (query ∷ queries) (old ∷ olds) (new ∷ new
     ap suc (answered_long names entry (number + 1) queries olds news answered.1 answered.3)
 
 -- what a vector is whose elements were all written
-pub written_back : (xs items : List Index) (len : ℕ) → length xs ≡ length items →
+pub written_back : {A : Type 0} (xs items : List A) (len : ℕ) → length xs ≡ length items →
     len ≡ length items → take len (xs ++ drop (length xs) items) ≡ xs
-written_back xs items len same len_is =
-    ap (λ (rest : List Index). take len (xs ++ rest))
+written_back {A} xs items len same len_is =
+    ap (λ (rest : List A). take len (xs ++ rest))
     (drop_all (length xs) items (omega (arith, same)))
     ∙ (ap (take len) (append-nil xs) ∙ take_all len xs (omega (arith, same, len_is)))

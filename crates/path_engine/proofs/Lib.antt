@@ -7,3 +7,4 @@ pub mod Choosing
 pub mod Shown
 pub mod Starting
 pub mod Feeding
+pub mod Fronts

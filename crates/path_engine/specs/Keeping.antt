@@ -1,5 +1,5 @@
 -- What an entry leaves as it was.
-use Rattle.std.specs.Prelude.{◌≡◌, ℕ, List, All, None, Some}
+use Rattle.std.specs.Prelude.{◌≡◌, ℕ, List, [], ◌∷◌, All, None, Some}
 use Rattle.std.specs.List.{AllZip}
 use Rattle.rpq_base.specs.declared.data.Edge.{Edge}
 use Rattle.rpq_base.specs.declared.data.Act.{Act}
@@ -52,3 +52,15 @@ BringsNoName Tick queries = Unit {0}
 pub record KeepsPlaces (act : Act) (old new : EngineValue) : Type 0 where
   pub names : KeepsNumbers old.names new.names
   pub forests : AllZip (KeepsForest act new.names) (forests old) (forests new)
+
+-- a forest takes these acts one after another, and at each keeps what it has
+abbrev pub KeepsForestAll : List Act → List (List ℕ) → ForestValue → ForestValue → Type 0
+KeepsForestAll [] names old new = new ≡ old
+KeepsForestAll (act ∷ acts) names old new =
+    (middle : ForestValue) × KeepsForest act names old middle
+    × KeepsForestAll acts names middle new
+
+-- each name keeps its number, and the forest of each query keeps what it has at each of the acts
+pub record KeepsPlacesAll (acts : List Act) (old new : EngineValue) : Type 0 where
+  pub names : KeepsNumbers old.names new.names
+  pub forests : AllZip (KeepsForestAll acts new.names) (forests old) (forests new)

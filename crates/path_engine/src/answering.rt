@@ -29,13 +29,12 @@ use std::alloc::Global;
 use std::thread::Threads;
 use window_clock::WindowClock;
 
-/// What makes the changes of an entry. A change gets all of these workers in a young run, and else
-/// all of them where the change before touched many trees, and one where it didn't.
+/// What makes the changes of an entry: at most this many workers, among whom a forest shares out a
+/// change of many trees.
 #[derive(Drop)]
 pub(crate) struct Crew<'a, R, G> {
     pub context: &'a Context<'a, R, G>,
     pub workers: u32,
-    pub young: bool,
 }
 
 /// Answers the entry for each query, and gives the events of the first, then those of the next.
@@ -68,7 +67,7 @@ pub(crate) fn answer_each<R: Threads + Sync, G: Gate>(
 }
 
 /// Puts more events at the end of the events. Where there were none, the list is taken as it is.
-fn push_all(events: &mut Vec<Event>, mut more: Vec<Event>) -> Result<(), Memory>
+pub(crate) fn push_all(events: &mut Vec<Event>, mut more: Vec<Event>) -> Result<(), Memory>
     ensures { OnOk result (events.new.items ≡ events.old.items ++ more.items) }
 {
     if events.is_empty() {
@@ -79,7 +78,7 @@ fn push_all(events: &mut Vec<Event>, mut more: Vec<Event>) -> Result<(), Memory>
 }
 
 /// Answers the entry for a query, under its number.
-fn answer<R: Threads + Sync, G: Gate>(
+pub(crate) fn answer<R: Threads + Sync, G: Gate>(
     crew: &Crew<'_, R, G>,
     query: &Compiled,
     number: u32,
@@ -188,8 +187,7 @@ fn apply<R: Threads + Sync, G: Gate>(
     requires calls { forest.old.calls < 2 ^ 60 }
     ensures { OnOk result (HasApplied change forest.old forest.new forest.new.log) }
 {
-    let workers = workers_for(crew, forest);
-    forest.apply(crew.context, change, workers)
+    forest.apply(crew.context, change, crew.workers)
 }
 
 /// The ends that the last change of a forest changed, by a copy.
@@ -197,20 +195,6 @@ fn log_of(alloc: Global, forest: &Forest) -> Result<Vec<EndChange>, Memory>
     ensures { IfOk result (λ log. log.items ≡ forest.now.log) }
 {
     Ok(Vec::from_slice(alloc, forest.log())?)
-}
-
-/// How many workers a change gets.
-fn workers_for<R, G>(crew: &Crew<'_, R, G>, forest: &Forest) -> u32
-    requires some { 1 ≤ crew.now.workers }
-    requires few { crew.now.workers ≤ 64 }
-    ensures some { 1 ≤ result }
-    ensures few { result ≤ 64 }
-{
-    if crew.young || forest.touched().len() >= 1000 {
-        crew.workers
-    } else {
-        1
-    }
 }
 
 /// The change that the entry makes at the clock, if it makes one.

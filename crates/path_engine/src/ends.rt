@@ -1,15 +1,18 @@
 //! The numbers of an edge's vertices.
 
-ghost use Rattle.std.specs.Prelude.{◌≡◌, ◌+◌, ◌-◌, ◌^◌, ◌<◌, ◌≤◌, length, All, None, Some, false};
-ghost use Rattle.std.specs.Prelude.{◌↔◌, IfOk, IfNone, IfSome, OnOk};
-ghost use Rattle.dfa_table.specs.DfaValue.{place_of};
+ghost use Rattle.std.specs.Prelude.{◌≡◌, ◌+◌, ◌-◌, ◌*◌, ◌^◌, ◌<◌, ◌≤◌, length, All, None, Some};
+ghost use Rattle.std.specs.Prelude.{◌↔◌, IfOk, IfNone, IfSome, OnOk, false};
+ghost use Rattle.rpq_base.specs.declared.data.Entry.{Entry as EntryTaken};
+ghost use Rattle.dfa_table.specs.DfaValue.{DfaValue, place_of};
 ghost use Rattle.name_table.specs.Names.{KeepsNumbers, number_of};
 ghost use Rattle.path_engine.specs.Answering.{AreEndsFor, AreEndsOf};
+ghost use Rattle.path_engine.specs.Front.{AreAllEndsFor, AreAllFirstEnds, AreFirstEnds};
 ghost use Rattle.path_engine.specs.Keeping.{BringsNoName};
 
 use name_table::Names;
 use query_file::Compiled;
-use rpq_base::{Act, Edge, Label, Memory, Name};
+use rpq_base::{Act, Edge, Entry, Label, Memory, Name};
+use std::alloc::Global;
 
 /// The numbers of the two vertices of an edge.
 #[derive(Clone, Copy, Debug, PartialEq, Eq)]
@@ -45,6 +48,87 @@ pub(crate) fn ends_for(
         }
         Act::Delete(edge) => Ok(find_ends(names, edge)),
         Act::Tick => Ok(None),
+    }
+}
+
+/// The numbers of the vertices of each entry's edge, by the names that have numbers once all
+/// inserts among the entries have theirs. Keeps count of the names.
+pub(crate) fn ends_for_all(
+    alloc: Global,
+    names: &mut Names,
+    named: &mut u32,
+    queries: &[Compiled],
+    entries: &[Entry],
+) -> Result<Vec<Option<Ends>>, Memory>
+    requires few { length names.old + 2 * length entries.now < 2 ^ 32 - 3 }
+    requires named { named.old ≡ length names.old }
+    ensures ends { IfOk result (λ ends.
+        AreAllEndsFor names.new queries.now entries.now ends.items) }
+    ensures kept { OnOk result (KeepsNumbers names.old names.new) }
+    ensures same { OnOk result (All (λ (entry : EntryTaken).
+        BringsNoName entry.tuple.act queries.now) entries.now → names.new ≡ names.old) }
+    ensures grown { OnOk result (length names.new ≤ length names.old + 2 * length entries.now) }
+    ensures named { named.new ≡ length names.new }
+{
+    let first = first_ends(alloc, names, named, queries, entries)?;
+    last_ends(alloc, names, queries, entries, &first)
+}
+
+/// The numbers of the vertices of each entry's edge as they are found one after another, where
+/// inserts number theirs.
+fn first_ends(
+    alloc: Global,
+    names: &mut Names,
+    named: &mut u32,
+    queries: &[Compiled],
+    entries: &[Entry],
+) -> Result<Vec<Option<Ends>>, Memory>
+    requires few { length names.old + 2 * length entries.now < 2 ^ 32 - 3 }
+    requires named { named.old ≡ length names.old }
+    ensures ends { IfOk result (λ ends.
+        AreAllFirstEnds names.new queries.now entries.now ends.items) }
+    ensures kept { OnOk result (KeepsNumbers names.old names.new) }
+    ensures same { OnOk result (All (λ (entry : EntryTaken).
+        BringsNoName entry.tuple.act queries.now) entries.now → names.new ≡ names.old) }
+    ensures grown { OnOk result (length names.new ≤ length names.old + 2 * length entries.now) }
+    ensures named { named.new ≡ length names.new }
+{
+    let mut found = Vec::new(alloc);
+    for entry in entries {
+        let ends = ends_for(names, named, queries, &entry.tuple.act)?;
+        found.push(ends)?;
+    }
+    Ok(found)
+}
+
+/// The same, by the names that have numbers now.
+fn last_ends(
+    alloc: Global,
+    names: &Names,
+    queries: &[Compiled],
+    entries: &[Entry],
+    first: &[Option<Ends>],
+) -> Result<Vec<Option<Ends>>, Memory>
+    requires { AreAllFirstEnds names.now queries.now entries.now first.now }
+    ensures { IfOk result (λ ends. AreAllEndsFor names.now queries.now entries.now ends.items) }
+{
+    let mut found = Vec::new(alloc);
+    for (place, entry) in entries.iter().enumerate() {
+        found.push(last_of(names, &entry.tuple.act, first[place]))?;
+    }
+    Ok(found)
+}
+
+/// The numbers of the vertices of the act's edge, by the names that have numbers now: those found
+/// first stand, and a delete without any looks again.
+fn last_of(names: &Names, act: &Act, first: Option<Ends>) -> Option<Ends>
+    ensures { (dfa : DfaValue) → AreFirstEnds names.now dfa act.now first →
+        AreEndsFor names.now dfa act.now result }
+{
+    match act {
+        Act::Delete(edge) => find_ends(names, edge),
+        Act::Insert { .. } => first,
+        Act::Tick => first,
     }
 }
 

@@ -1,17 +1,18 @@
 //! The engine.
 
-ghost use Rattle.std.specs.Prelude.{◌≡◌, ◌≤◌, ◌<◌, ◌^◌, ◌↔◌, [], List, true, false};
-ghost use Rattle.std.specs.Prelude.{length, Err, IfOk, Some, slice_get};
+ghost use Rattle.std.specs.Prelude.{◌≡◌, ◌≤◌, ◌<◌, ◌+◌, ◌^◌, ◌↔◌, [], List, true, false};
+ghost use Rattle.std.specs.Prelude.{length, map, Err, IfOk, Some, slice_get};
 ghost use Rattle.rpq_base.specs.declared.data.Entry.{Entry as EntryTaken};
 ghost use Rattle.answer_view.specs.View.{IsViewOf};
 ghost use Rattle.query_file.specs.Compiled.{CompiledValue};
 ghost use Rattle.path_engine.specs.Engine.{StandsFor, IsForestFor, definitions, forests};
-ghost use Rattle.path_engine.specs.Feeding.{Feeds, Spends};
+ghost use Rattle.path_engine.specs.Feeding.{Feeds, FeedsFront, Spends};
 ghost use Rattle.path_engine.specs.declared.fault.FeedFault.{FeedFault as WhyNot};
 
 use crate::answering::{Crew, answer_each, mode_of};
-use crate::ends::ends_for;
+use crate::ends::{ends_for, ends_for_all};
 use crate::fault::FeedFault;
+use crate::front::{answer_front, told_in};
 use crate::index::{Index, indexes_of};
 use crate::showing::rows_of_each;
 use answer_view::View;
@@ -106,9 +107,31 @@ impl Engine {
     ///
     /// The errors are [`FeedFault::Memory`], after which the engine is spent, and
     /// [`FeedFault::Spent`] at each call after it, which changes nothing. It costs what the entry
-    /// changes in the forest of each query; the workers share large changes alone, and those of the
-    /// first entries.
+    /// changes in the forest of each query; the workers share large changes alone.
     pub fn feed<R: Threads + Sync, G: Gate>(
+        &mut self,
+        rt: &R,
+        entry: &Entry,
+        workers: u32,
+        gate: &G,
+    ) -> Result<Vec<Event>, FeedFault>
+        requires short { self.old.position < 2 ^ 30 }
+        requires some { 1 ≤ workers }
+        requires few { workers ≤ 64 }
+        ensures feeds { IfOk result (λ events.
+            Feeds self.old entry.now self.new events.items) }
+        ensures queries { self.new.queries ≡ self.old.queries }
+        ensures memory { result ≡ Err WhyNot.Memory → Spends self.old self.new }
+        ensures spent { (result ≡ Err WhyNot.Spent) ↔ (self.old.spent ≡ true) }
+        ensures unchanged { result ≡ Err WhyNot.Spent → self.new ≡ self.old }
+    {
+        let events = self.answer_entry(rt, entry, workers, gate)?;
+        self.note_told(events.len());
+        Ok(events)
+    }
+
+    /// [`Engine::feed`], but for the count of the events that were told.
+    fn answer_entry<R: Threads + Sync, G: Gate>(
         &mut self,
         rt: &R,
         entry: &Entry,
@@ -129,8 +152,7 @@ impl Engine {
             return Err(FeedFault::Spent);
         }
         stores_follow(); // called for its clauses
-        // until the entry is answered to its end
-        self.spent = true;
+        self.spent = true; // until the entry is answered to its end
         let act = &entry.tuple.act;
         let ends = ends_for(&mut self.names, &mut self.named, &self.queries, act)?;
         let alloc = self.alloc;
@@ -138,7 +160,6 @@ impl Engine {
         let crew = Crew {
             context: &context,
             workers,
-            young: self.position < 16,
         };
         let events = answer_each(
             &crew,
@@ -151,6 +172,92 @@ impl Engine {
         self.position += 1;
         self.spent = false;
         Ok(events)
+    }
+
+    /// Answers some more entries, a front, as [`Engine::feed`] would one after another: the events
+    /// that each entry brings, by at most this many workers, which pass the gate.
+    ///
+    /// The errors are those of [`Engine::feed`], and after [`FeedFault::Memory`] no entry of the
+    /// front counts as answered. It costs what the entries change in the forest of each query.
+    /// Where there is more than one of queries, entries and workers, each worker has as many
+    /// queries as the others, next to each other, and takes the whole front into them. It passes
+    /// the gate first. Else the workers share large changes, as in [`Engine::feed`].
+    pub fn feed_front<R: Threads + Sync, G: Gate>(
+        &mut self,
+        rt: &R,
+        entries: &[Entry],
+        workers: u32,
+        gate: &G,
+    ) -> Result<Vec<Vec<Event>>, FeedFault>
+        requires short { self.old.position + length entries.now ≤ 2 ^ 30 }
+        requires some { 1 ≤ workers }
+        requires few { workers ≤ 64 }
+        ensures feeds { IfOk result (λ events. FeedsFront self.old entries.now self.new
+            (map (λ own. own.items) events.items)) }
+        ensures queries { self.new.queries ≡ self.old.queries }
+        ensures memory { result ≡ Err WhyNot.Memory → Spends self.old self.new }
+        ensures spent { (result ≡ Err WhyNot.Spent) ↔ (self.old.spent ≡ true) }
+        ensures unchanged { result ≡ Err WhyNot.Spent → self.new ≡ self.old }
+    {
+        let events = self.answer_entries(rt, entries, workers, gate)?;
+        self.note_told(told_in(&events));
+        Ok(events)
+    }
+
+    /// [`Engine::feed_front`], but for the count of the events that were told.
+    fn answer_entries<R: Threads + Sync, G: Gate>(
+        &mut self,
+        rt: &R,
+        entries: &[Entry],
+        workers: u32,
+        gate: &G,
+    ) -> Result<Vec<Vec<Event>>, FeedFault>
+        requires short { self.old.position + length entries.now ≤ 2 ^ 30 }
+        requires some { 1 ≤ workers }
+        requires few { workers ≤ 64 }
+        ensures feeds { IfOk result (λ events. FeedsFront self.old entries.now self.new
+            (map (λ own. own.items) events.items)) }
+        ensures queries { self.new.queries ≡ self.old.queries }
+        ensures memory { result ≡ Err WhyNot.Memory → Spends self.old self.new }
+        ensures spent { (result ≡ Err WhyNot.Spent) ↔ (self.old.spent ≡ true) }
+        ensures unchanged { result ≡ Err WhyNot.Spent → self.new ≡ self.old }
+    {
+        if self.spent {
+            return Err(FeedFault::Spent);
+        }
+        stores_follow(); // called for its clauses
+        self.spent = true; // until all entries are answered to their end
+        let alloc = self.alloc;
+        let ends = ends_for_all(
+            alloc,
+            &mut self.names,
+            &mut self.named,
+            &self.queries,
+            entries,
+        )?;
+        let context = Context { rt, alloc, gate };
+        let crew = Crew {
+            context: &context,
+            workers,
+        };
+        let events = answer_front(
+            &crew,
+            &self.queries,
+            &mut self.indexes,
+            &self.names,
+            &ends,
+            entries,
+        )?;
+        self.position += entries.len() as u64;
+        self.spent = false;
+        Ok(events)
+    }
+
+    /// Counts the events that were told, for the ranks of the names.
+    fn note_told(&mut self, events: usize)
+        ensures { self.new ≡ self.old }
+    {
+        self.names.note_told(events);
     }
 
     /// The queries, in the order of their numbers.

@@ -2,15 +2,22 @@
 //!
 //! An [`Engine`] stands for a history (`specs/Engine`): a new one for the empty history, and one
 //! that was fed an entry for the history with this entry behind. [`Engine::feed`] answers the
-//! events that an entry brings, [`Engine::view`] all answers with their ends. The layer above rests
-//! on that contract alone, and never on how the answers are found. Where memory runs out, the
-//! engine is spent: it answers no entry any more.
+//! events that an entry brings, [`Engine::feed_front`] those of some entries at once, and
+//! [`Engine::view`] all answers with their ends. The layer above rests on that contract alone, and
+//! never on how the answers are found. Where memory runs out, the engine is spent: it answers no
+//! entry any more.
 //!
 //! Each query has an index: the clock of its window, and a forest of best paths over the edges that
 //! its window holds, by the numbers of the names. An entry first takes away what the clock reaches,
 //! and then raises or removes its edge; the ends that both change are the events. A query that
 //! takes simple paths is taken only where its language has the property of containment, and then
 //! its answers are those of all paths, without the pairs of one vertex.
+//!
+//! The queries depend on each other by the names alone. So a front first gives numbers to all names
+//! that its entries bring, and then each query takes the whole front before the next query does, or
+//! beside it by another worker. An index then stays in its processor's cache for a whole front, and
+//! threads are started once a front and not once an entry. In the end the events are put together
+//! entry by entry.
 #![tactic(auto)]
 
 mod answering;
@@ -18,6 +25,7 @@ mod automaton;
 mod ends;
 mod engine;
 mod fault;
+mod front;
 mod index;
 mod showing;
 

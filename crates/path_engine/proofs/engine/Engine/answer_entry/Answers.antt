@@ -10,8 +10,8 @@ use Rattle.path_engine.specs.Feeding.{Feeds}
 use Rattle.path_engine.specs.Keeping.{BringsNoName}
 use Rattle.path_engine.proofs.Each.{HaveHistories, answered_long, written_back}
 use Rattle.path_engine.proofs.Feeding.{fed, fed_stands, histories}
-use Rattle.path_engine.proofs.engine.Engine.feed.Given.{Over}
-use Rattle.path_engine.proofs.engine.Engine.feed.Goals as goal
+use Rattle.path_engine.proofs.engine.Engine.answer_entry.Given.{Over}
+use Rattle.path_engine.proofs.engine.Engine.answer_entry.Goals as goal
 
 -- the queries have their indexes before they answer
 have : (g : Over) (c : goal.After-answer_each-arg-1 g) →

@@ -1,0 +1,612 @@
+-- A front of entries, answered for each query.
+use Rattle.std.proofs.Common.{◌≡◌, ℕ, zero, suc, ◌+◌, ◌*◌, ◌<◌, ◌≤◌, ◌^◌, false, List, [], ◌∷◌, ◌++◌, length, map, get_or, take, drop, max}
+use Rattle.std.proofs.Common.{set, refl, sym, ap, ap₂, subst, ◌∙◌, append_assoc, arith, length-append, length-take-le, Option, Some, None}
+use Rattle.std.specs.List.{All, AllZip}
+use Rattle.std.specs.Prelude.{IfSome, OnOk, Result, Ok, Err}
+use Rattle.std.proofs.Common.{⊎_elim, get_or-set_other, get_or-set_same}
+use Rattle.std.proofs.lemmas.Bool.{cases_order}
+use Rattle.std.proofs.Common.{Vec, Global}
+use Rattle.std.proofs.lemmas.List.{length-map, map-append}
+use Rattle.std.proofs.lemmas.Slice.Zip.{AllZip-long}
+use Rattle.std.proofs.lemmas.List.{append-nil}
+use Rattle.rpq_base.specs.declared.data.Act.{Act}
+use Rattle.rpq_base.specs.declared.data.Act.TheVariants.{Insert, Delete, Tick}
+use Rattle.rpq_base.specs.declared.data.Entry.{Entry}
+use Rattle.rpq_base.specs.declared.data.Event.{Event}
+use Rattle.rpq_model.specs.QueryEvents.{AreAllEventsFrom}
+use Rattle.dfa_table.specs.DfaValue.{DfaValue}
+use Rattle.name_table.specs.Names.{KeepsNumbers}
+use Rattle.delta_forest.specs.Forest.{ForestValue}
+use Rattle.index_laws.specs.LawsOfIndexes.{StoresFollow}
+use Rattle.query_file.specs.Compiled.{CompiledValue}
+use Rattle.path_engine.specs.declared.index.Index.{Index}
+use Rattle.path_engine.specs.declared.ends.Ends.{Ends}
+use Rattle.path_engine.specs.declared.front.Share.{Share}
+use Rattle.path_engine.specs.Engine.{EngineValue, IsIndexFor, StandsFor, definitions}
+use Rattle.path_engine.specs.Answering.{AreEndsFor, AreEndsOf, HasAnswered, HasHistory, HaveAnswered}
+use Rattle.path_engine.specs.Front.{AreFirstEnds, AreAllFirstEnds, AreAllEndsFor}
+use Rattle.path_engine.specs.Front.{AreGathered, AreReady, HasAnsweredAll, HasFed, HasHistoryFor}
+use Rattle.path_engine.specs.Front.{HaveAnsweredAll, HaveFed, joined, put_at}
+use Rattle.path_engine.specs.Feeding.{FeedsFront}
+use Rattle.path_engine.specs.Keeping.{BringsNoName, KeepsForest, KeepsForestAll}
+use Rattle.path_engine.specs.Keeping.{KeepsPlacesAll}
+use Rattle.path_engine.proofs.Each.{AreIndexes, each_events, each_keeps}
+use Rattle.path_engine.proofs.Each.{each_numbers, each_stands, more_named}
+
+pub on_ok : {T E : Type 0} (P Q : Type 0) → (P → Q) → (result : Result T E) → OnOk result P →
+    OnOk result Q
+on_ok P Q gives (Ok x) given = gives given
+on_ok P Q gives (Err e) given = tt
+
+-- ---- joined lists
+
+pub joined_nothing : (owns : List (List Event)) → joined owns [] ≡ owns
+joined_nothing [] = refl
+joined_nothing (own ∷ owns) = refl
+
+pub joined_assoc : (xs ys zs : List (List Event)) →
+    joined (joined xs ys) zs ≡ joined xs (joined ys zs)
+joined_assoc [] ys zs = refl
+joined_assoc (x ∷ xs) [] zs = refl
+joined_assoc (x ∷ xs) (y ∷ ys) [] = refl
+joined_assoc (x ∷ xs) (y ∷ ys) (z ∷ zs) =
+    ap₂ (λ (own : List Event) (owns : List (List Event)). own ∷ owns) (append_assoc x y z)
+    (joined_assoc xs ys zs)
+
+-- at least as long as the other
+joined_covers : (xs ys : List (List Event)) → length ys ≤ length (joined xs ys)
+joined_covers [] ys = omega arith
+joined_covers (x ∷ xs) [] = omega arith
+joined_covers (x ∷ xs) (y ∷ ys) = omega (arith, joined_covers xs ys)
+
+-- ---- more events at a place
+
+pub put_last : (xs : List (List Event)) (own : List Event) →
+    put_at (length xs) xs own ≡ xs ++ own ∷ []
+put_last [] own = refl
+put_last (x ∷ xs) own = ap (λ (rest : List (List Event)). x ∷ rest) (put_last xs own)
+
+pub put_past : (place : ℕ) (xs : List (List Event)) (own : List Event) → length xs ≤ place →
+    put_at place xs own ≡ xs ++ own ∷ []
+put_past place [] own past = refl
+put_past zero (x ∷ xs) own past = absurd (omega (arith, past))
+put_past (suc place) (x ∷ xs) own past =
+    ap (λ (rest : List (List Event)). x ∷ rest) (put_past place xs own (omega (arith, past)))
+
+pub joined_more : (xs ys : List (List Event)) (own : List Event) →
+    joined xs (ys ++ own ∷ []) ≡ put_at (length ys) (joined xs ys) own
+joined_more [] ys own = sym (put_last ys own)
+joined_more (x ∷ xs) [] own =
+    ap (λ (rest : List (List Event)). (x ++ own) ∷ rest) (joined_nothing xs)
+joined_more (x ∷ xs) (y ∷ ys) own =
+    ap (λ (rest : List (List Event)). (x ++ y) ∷ rest) (joined_more xs ys own)
+
+abbrev pub items_of : List (Vec Event Global) → List (List Event)
+items_of owns = map (λ (own : Vec Event Global). own.items) owns
+
+pub put_inside : (place : ℕ) (xs : List (Vec Event Global)) (x new : Vec Event Global)
+    (own : List Event) → place < length xs → x ≡ get_or xs place x →
+    new.items ≡ x.items ++ own → items_of (set xs place new) ≡ put_at place (items_of xs) own
+put_inside place [] x new own inside is grew = absurd (omega (arith, inside))
+put_inside zero (first ∷ xs) x new own inside is grew =
+    ap (λ (one : List Event). one ∷ items_of xs)
+    (grew ∙ ap (λ (each : Vec Event Global). each.items ++ own) is)
+put_inside (suc place) (first ∷ xs) x new own inside is grew =
+    ap (λ (rest : List (List Event)). first.items ∷ rest)
+    (put_inside place xs x new own (omega (arith, inside)) is grew)
+
+pub items_push : (xs all : List (Vec Event Global)) (x : Vec Event Global) →
+    all ≡ xs ++ x ∷ [] → items_of all ≡ items_of xs ++ x.items ∷ []
+items_push xs all x is =
+    ap items_of is ∙ map-append (λ (own : Vec Event Global). own.items) xs (x ∷ [])
+
+pub yielded_more : (yielded rest old all : List (Vec Event Global)) (x : Vec Event Global) →
+    yielded ++ old ≡ all → old ≡ x ∷ rest → (yielded ++ x ∷ []) ++ rest ≡ all
+yielded_more yielded rest old all x whole is =
+    append_assoc yielded (x ∷ []) rest
+    ∙ (ap (λ (xs : List (Vec Event Global)). yielded ++ xs) (sym is) ∙ whole)
+
+pub yielded_all : (yielded rest all : List (Vec Event Global)) →
+    yielded ++ rest ≡ all → length rest ≡ 0 → yielded ≡ all
+yielded_all yielded [] all whole none = sym (append-nil yielded) ∙ whole
+yielded_all yielded (x ∷ rest) all whole none = absurd (omega (arith, none))
+
+pub nothing_left : {A : Type 0} (rest : List A) → length rest ≡ 0 → rest ≡ []
+nothing_left [] none = refl
+nothing_left (x ∷ rest) none = absurd (omega (arith, none))
+
+-- ---- lists in step
+
+pub zip_both : {A B : Type 0} (R : A → B → Type 0) (xs : List A) (ys : List B) (place : ℕ) (x : A)
+    (y : B) → AllZip R xs ys → place < length xs → R (get_or xs place x) (get_or ys place y)
+zip_both R [] ys place x y all inside = absurd (omega (arith, inside))
+zip_both R (first ∷ xs) [] place x y all inside = absurd all
+zip_both R (first ∷ xs) (second ∷ ys) zero x y all inside = all.0
+zip_both R (first ∷ xs) (second ∷ ys) (suc place) x y all inside =
+    zip_both R xs ys place x y all.1 (omega (arith, inside))
+
+pub zip_each : {A B C : Type 0} (R : C → A → B → Type 0) (cs : List C) (xs : List A) (ys : List B)
+    (place : ℕ) (c : C) → place < length cs → c ≡ get_or cs place c →
+    AllZip (λ x y. All (λ each. R each x y) cs) xs ys → AllZip (R c) xs ys
+zip_each R cs [] [] place c inside is all = tt
+zip_each R cs [] (y ∷ ys) place c inside is all = absurd all
+zip_each R cs (x ∷ xs) [] place c inside is all = absurd all
+zip_each {A} {B} {C} R cs (x ∷ xs) (y ∷ ys) place c inside is all = (
+  subst (λ (each : C). R each x y) (sym is) (all.0 place c inside),
+  zip_each R cs xs ys place c inside is all.1,
+)
+
+-- ---- one query, entry after entry
+
+pub answered_all_long : (names : List (List ℕ)) (entries : List Entry) (number : ℕ)
+    (query : CompiledValue) (old new : Index) (owns : List (List Event)) →
+    HasAnsweredAll names entries number query old new owns → length owns ≡ length entries
+answered_all_long names [] number query old new [] answered = refl
+answered_all_long names [] number query old new (own ∷ owns) answered = absurd answered
+answered_all_long names (entry ∷ entries) number query old new [] answered = absurd answered
+answered_all_long names (entry ∷ entries) number query old new (own ∷ owns) answered =
+    ap suc (answered_all_long names entries number query answered.0 new owns answered.2)
+
+-- one entry more
+pub one_more : (names : List (List ℕ)) (entries : List Entry) (entry : Entry) (number : ℕ)
+    (query : CompiledValue) (old middle new : Index) (owns : List (List Event)) (own : List Event) →
+    HasAnsweredAll names entries number query old middle owns →
+    HasAnswered names entry number query middle new own →
+    HasAnsweredAll names (entries ++ entry ∷ []) number query old new (owns ++ own ∷ [])
+one_more names [] entry number query old middle new [] own answered has = (
+  new,
+  subst (λ (index : Index). HasAnswered names entry number query index new own)
+      {x = middle} {y = old} answered has,
+  refl,
+)
+one_more names [] entry number query old middle new (first ∷ owns) own answered has =
+    absurd answered
+one_more names (first ∷ entries) entry number query old middle new [] own answered has =
+    absurd answered
+one_more names (first ∷ entries) entry number query old middle new (one ∷ owns) own answered has = (
+  answered.0,
+  answered.1,
+  one_more names entries entry number query answered.0 middle new owns own answered.2 has,
+)
+
+-- the index is that of the history with the entries behind
+pub all_stands : (names : List (List ℕ)) (entries : List Entry) (number : ℕ)
+    (query : CompiledValue) (old new : Index) (owns : List (List Event)) (history : List Entry) →
+    HasAnsweredAll names entries number query old new owns →
+    IsIndexFor query history names old → IsIndexFor query (history ++ entries) names new
+all_stands names [] number query old new [] history answered is =
+    subst (λ (h : List Entry). IsIndexFor query h names new) (sym (append-nil history))
+    (subst (IsIndexFor query history names) (sym {A = Index} answered) is)
+all_stands names [] number query old new (own ∷ owns) history answered is = absurd answered
+all_stands names (entry ∷ entries) number query old new [] history answered is = absurd answered
+all_stands names (entry ∷ entries) number query old new (own ∷ owns) history answered is =
+    subst (λ (h : List Entry). IsIndexFor query h names new)
+    (append_assoc history (entry ∷ []) entries)
+    (all_stands names entries number query answered.0 new owns (history ++ entry ∷ []) answered.2
+    (answered.1.stands history is))
+
+-- before the entry at this place the index is that of a history
+pub history_at : (names : List (List ℕ)) (entries : List Entry) (place number : ℕ)
+    (query : CompiledValue) (old new : Index) (owns : List (List Event)) →
+    HasHistoryFor (length entries) query names old → place < length entries →
+    HasAnsweredAll names (take place entries) number query old new owns →
+    HasHistory query names new
+history_at names entries place number query old new owns has inside answered = record {
+  history = has.history ++ take place entries;
+  short = omega (
+    arith,
+    has.short,
+    inside,
+    length-append has.history (take place entries),
+    length-take-le place entries (omega (arith, inside)),
+  );
+  is = all_stands names (take place entries) number query old new owns has.history answered has.is;
+}
+
+-- ---- a query beside others
+
+pub beside : (names : List (List ℕ)) (entries : List Entry) (number : ℕ) (query : CompiledValue)
+    (old new : Index) (queries : List CompiledValue) (olds news : List Index)
+    (owns others : List (List Event)) →
+    HasAnsweredAll names entries number query old new owns →
+    HaveAnsweredAll names entries (number + 1) queries olds news others →
+    HaveAnsweredAll names entries number (query ∷ queries) (old ∷ olds) (new ∷ news)
+    (joined owns others)
+beside names [] number query old new queries olds news [] [] has have =
+    ap₂ (λ (index : Index) (indexes : List Index). index ∷ indexes) has have
+beside names [] number query old new queries olds news (own ∷ owns) others has have = absurd has
+beside names [] number query old new queries olds news [] (other ∷ others) has have = absurd have
+beside names (entry ∷ entries) number query old new queries olds news [] others has have =
+    absurd has
+beside names (entry ∷ entries) number query old new queries olds news (own ∷ owns) [] has have =
+    absurd have
+beside names (entry ∷ entries) number query old new queries olds news (own ∷ owns)
+    (other ∷ others) has have = (
+      has.0 ∷ have.0,
+      (own, other, has.1, have.1, refl),
+      beside names entries number query has.0 new queries have.0 news owns others has.2 have.2,
+    )
+
+-- no query has no events
+abbrev pub nothing_for : List Entry → List (List Event)
+nothing_for entries = map (λ _. []) entries
+
+pub no_query : (names : List (List ℕ)) (entries : List Entry) (number : ℕ) →
+    HaveAnsweredAll names entries number [] [] [] (nothing_for entries)
+no_query names [] number = refl
+no_query names (entry ∷ entries) number = ([], refl, no_query names entries number)
+
+pub joined_with_nothing : (entries : List Entry) (events : List (List Event)) →
+    length entries ≤ length events → joined events (nothing_for entries) ≡ events
+joined_with_nothing [] events less = joined_nothing events
+joined_with_nothing (entry ∷ entries) [] less = absurd (omega (arith, less))
+joined_with_nothing (entry ∷ entries) (own ∷ owns) less =
+    ap₂ (λ (one : List Event) (more : List (List Event)). one ∷ more) (append-nil own)
+    (joined_with_nothing entries owns (omega (arith, less)))
+
+-- ---- shares
+
+abbrev pub index_of : Share → Index
+index_of share = share.index
+
+ready_at : (more : ℕ) (names : List (List ℕ)) (queries : List CompiledValue)
+    (shares : List Share) (place : ℕ) (query : CompiledValue) (d : Share) →
+    AllZip (λ (each : CompiledValue) (index : Index). HasHistoryFor more each names index)
+    queries (map index_of shares) → place < length shares → query ≡ get_or queries place query →
+    HasHistoryFor more query names (get_or shares place d).index
+ready_at more names [] [] place query d have below is = absurd (omega (arith, below))
+ready_at more names [] (share ∷ shares) place query d have below is = absurd have
+ready_at more names (first ∷ queries) [] place query d have below is = absurd have
+ready_at more names (first ∷ queries) (share ∷ shares) zero query d have below is =
+    subst (λ (each : CompiledValue). HasHistoryFor more each names share.index) (sym is) have.0
+ready_at more names (first ∷ queries) (share ∷ shares) (suc place) query d have below is =
+    ready_at more names queries shares place query d have.1 (omega (arith, below)) is
+
+-- each share is ready for the query in its place
+pub are_ready : (more : ℕ) (names : List (List ℕ)) (queries : List CompiledValue)
+    (shares : List Share) →
+    AllZip (λ (query : CompiledValue) (index : Index). HasHistoryFor more query names index)
+    queries (map index_of shares) → AreReady more queries names 0 shares
+are_ready more names queries shares have offset query d below is =
+    let at : 0 + offset ≡ offset = omega arith in
+    ready_at more names queries shares offset query d have below
+    (subst (λ (place : ℕ). query ≡ get_or queries place query) at is)
+
+-- there are as many shares as queries
+pub as_many_shares : (more : ℕ) (names : List (List ℕ)) (queries : List CompiledValue)
+    (indexes : List Index) (shares : List Share) →
+    AllZip (λ (query : CompiledValue) (index : Index). HasHistoryFor more query names index)
+    queries indexes → map index_of shares ≡ indexes → length shares ≡ length queries
+as_many_shares more names queries indexes shares have is =
+    sym (length-map shares index_of)
+    ∙ (ap (λ (all : List Index). length all) is
+    ∙ AllZip-long
+    (λ (query : CompiledValue) (index : Index). HasHistoryFor more query names index) queries
+    indexes have)
+
+-- one more element of a list was written
+pub each_more : {A : Type 0} (R : ℕ → A → A → Type 0) (olds news : List A) (place : ℕ) (new : A) →
+    place < length news → ((d : A) → R place (get_or olds place d) new) →
+    ((k : ℕ) (d : A) → k < place → R k (get_or olds k d) (get_or news k d)) → (k : ℕ) (d : A) →
+    k < place + 1 → R k (get_or olds k d) (get_or (set news place new) k d)
+each_more {A} R olds news place new inside here before k d below =
+    ⊎_elim
+    (λ (same : k ≡ place).
+    subst (λ (at : ℕ). R at (get_or olds at d) (get_or (set news place new) at d)) (sym same)
+    (subst (R place (get_or olds place d)) (sym (get_or-set_same news place new d inside)) (here d)))
+    (λ other.
+    subst (R k (get_or olds k d))
+    (sym (get_or-set_other news place k new d
+    (λ same. ⊎_elim (λ less. omega (arith, same, less)) (λ more. omega (arith, same, more)) other)))
+    (before k d
+    (⊎_elim (λ less. less) (λ more. absurd (omega (arith, below, more))) other)))
+    (cases_order k place)
+
+-- where an option is there
+pub if_some_is : {A : Type 0} (P : A → Type 0) (option : Option A) (x : A) → option ≡ Some x →
+    IfSome option P → P x
+if_some_is {A} P option x is given =
+    subst (λ (each : Option A). IfSome each P) {x = option} {y = Some x} is given
+
+-- the queries from this number on took the entries into their shares
+abbrev pub Fed : List (List ℕ) → List Entry → ℕ → List CompiledValue → List Share → List Share →
+    Type 0
+Fed names entries number queries olds news = (k : ℕ) (query : CompiledValue) (d : Share) →
+    k < length olds → query ≡ get_or queries k query →
+    HasFed names entries (number + k) query (get_or olds k d) (get_or news k d)
+
+fed_first : (names : List (List ℕ)) (entries : List Entry) (number : ℕ) (query : CompiledValue)
+    (queries : List CompiledValue) (old new : Share) (olds news : List Share)
+    (owns : Vec (Vec Event Global) Global) →
+    Fed names entries number (query ∷ queries) (old ∷ olds) (new ∷ news) → new.owns ≡ Some owns →
+    HasAnsweredAll names entries number query old.index new.index (items_of owns.items)
+fed_first names entries number query queries old new olds news owns fed is =
+    let here : number + 0 ≡ number = omega arith in
+    if_some_is (λ (each : Vec (Vec Event Global) Global).
+    HasAnsweredAll names entries number query old.index new.index (items_of each.items)) new.owns
+    owns is
+    (subst (λ (at : ℕ). HasFed names entries at query old new) here
+    (fed 0 query old (omega arith) refl))
+
+fed_rest : (names : List (List ℕ)) (entries : List Entry) (number : ℕ) (query : CompiledValue)
+    (queries : List CompiledValue) (old new : Share) (olds news : List Share) →
+    Fed names entries number (query ∷ queries) (old ∷ olds) (new ∷ news) →
+    Fed names entries (number + 1) queries olds news
+fed_rest names entries number query queries old new olds news fed k each d below is =
+    let next : number + suc k ≡ number + 1 + k = omega arith in
+    subst (λ (at : ℕ). HasFed names entries at each (get_or olds k d) (get_or news k d)) next
+    (fed (suc k) each d (omega (arith, below)) is)
+
+fed_all : (names : List (List ℕ)) (entries : List Entry) (queries : List CompiledValue)
+    (olds news : List Share) → HaveFed queries names entries 0 olds news →
+    Fed names entries 0 queries olds news
+fed_all names entries queries olds news fed k query d below is =
+    let at : k ≡ 0 + k = omega arith in
+    fed k query d below (subst (λ (place : ℕ). query ≡ get_or queries place query) at is)
+
+gathered_rest : (names : List (List ℕ)) (entries : List Entry) (number : ℕ)
+    (queries : List CompiledValue) (olds news : List Share) (before events : List (List Event)) →
+    length entries ≤ length before → length queries ≡ length olds → length news ≡ length olds →
+    Fed names entries number queries olds news → AreGathered before news events →
+    (later : List (List Event)) × HaveAnsweredAll names entries number queries
+    (map index_of olds) (map index_of news) later × (events ≡ joined before later)
+gathered_rest names entries number [] [] [] before events covers many as_many fed are = (
+  nothing_for entries,
+  no_query names entries number,
+  are ∙ sym {A = List (List Event)} (joined_with_nothing entries before covers),
+)
+gathered_rest names entries number [] [] (new ∷ news) before events covers many as_many fed are =
+    absurd (omega (arith, as_many))
+gathered_rest names entries number [] (old ∷ olds) news before events covers many as_many fed are =
+    absurd (omega (arith, many))
+gathered_rest names entries number (query ∷ queries) [] news before events covers many as_many fed
+    are = absurd (omega (arith, many))
+gathered_rest names entries number (query ∷ queries) (old ∷ olds) [] before events covers many
+    as_many fed are = absurd (omega (arith, as_many))
+gathered_rest names entries number (query ∷ queries) (old ∷ olds) (new ∷ news) before events covers
+    many as_many fed are =
+    let owns : List (List Event) = items_of are.0.items in
+    let has = fed_first names entries number query queries old new olds news are.0 fed are.1 in
+    let long = answered_all_long names entries number query old.index new.index owns has in
+    let rest = gathered_rest names entries (number + 1) queries olds news (joined before owns)
+    events (omega (arith, long, joined_covers before owns)) (omega (arith, many))
+    (omega (arith, as_many))
+    (fed_rest names entries number query queries old new olds news fed) are.2 in (
+      joined owns rest.0,
+      beside names entries number query old.index new.index queries (map index_of olds)
+          (map index_of news) owns rest.0 has rest.1,
+      rest.2 ∙ joined_assoc before owns rest.0,
+    )
+
+-- the events of all shares are those of the queries
+pub gathered : (names : List (List ℕ)) (entries : List Entry) (queries : List CompiledValue)
+    (olds news : List Share) (events : List (List Event)) → 1 ≤ length queries →
+    length queries ≡ length olds → length news ≡ length olds →
+    HaveFed queries names entries 0 olds news → AreGathered [] news events →
+    HaveAnsweredAll names entries 0 queries (map index_of olds) (map index_of news) events
+gathered names entries [] olds news events some many as_many have are = absurd (omega (arith, some))
+gathered names entries (query ∷ queries) [] news events some many as_many have are =
+    absurd (omega (arith, many))
+gathered names entries (query ∷ queries) (old ∷ olds) [] events some many as_many have are =
+    absurd (omega (arith, as_many))
+gathered names entries (query ∷ queries) (old ∷ olds) (new ∷ news) events some many as_many have
+    are =
+    let fed = fed_all names entries (query ∷ queries) (old ∷ olds) (new ∷ news) have in
+    let owns : List (List Event) = items_of are.0.items in
+    let has = fed_first names entries 0 query queries old new olds news are.0 fed are.1 in
+    let long = answered_all_long names entries 0 query old.index new.index owns has in
+    let rest = gathered_rest names entries (0 + 1) queries olds news owns events (omega (arith, long))
+    (omega (arith, many)) (omega (arith, as_many))
+    (fed_rest names entries 0 query queries old new olds news fed) are.2 in
+    subst (HaveAnsweredAll names entries 0 (query ∷ queries) (map index_of (old ∷ olds))
+    (map index_of (new ∷ news))) (sym {A = List (List Event)} rest.2)
+    (beside names entries 0 query old.index new.index queries (map index_of olds)
+    (map index_of news) owns rest.0 has rest.1)
+
+-- ---- what was answered
+
+pub front_stands : (names : List (List ℕ)) (entries : List Entry) (history : List Entry)
+    (queries : List CompiledValue) (olds news : List Index) (events : List (List Event)) →
+    AreIndexes history names queries olds →
+    HaveAnsweredAll names entries 0 queries olds news events →
+    AreIndexes (history ++ entries) names queries news
+front_stands names [] history queries olds news [] are answered =
+    subst (λ (h : List Entry). AreIndexes h names queries news) (sym (append-nil history))
+    (subst (AreIndexes history names queries) (sym {A = List Index} answered) are)
+front_stands names [] history queries olds news (own ∷ events) are answered = absurd answered
+front_stands names (entry ∷ entries) history queries olds news [] are answered = absurd answered
+front_stands names (entry ∷ entries) history queries olds news (own ∷ events) are answered =
+    subst (λ (h : List Entry). AreIndexes h names queries news)
+    (append_assoc history (entry ∷ []) entries)
+    (front_stands names entries (history ++ entry ∷ []) queries answered.0 news events
+    (each_stands names entry history 0 queries olds answered.0 own are answered.1) answered.2)
+
+pub front_events : (names : List (List ℕ)) (entries : List Entry) (history : List Entry)
+    (queries : List CompiledValue) (olds news : List Index) (events : List (List Event)) →
+    AreIndexes history names queries olds →
+    HaveAnsweredAll names entries 0 queries olds news events →
+    AreAllEventsFrom (map (λ (each : CompiledValue). each.def) queries) history entries events
+front_events names [] history queries olds news [] are answered = tt
+front_events names [] history queries olds news (own ∷ events) are answered = absurd answered
+front_events names (entry ∷ entries) history queries olds news [] are answered = absurd answered
+front_events names (entry ∷ entries) history queries olds news (own ∷ events) are answered = (
+  each_events names entry history 0 queries olds answered.0 own are answered.1,
+  front_events names entries (history ++ entry ∷ []) queries answered.0 news events
+      (each_stands names entry history 0 queries olds answered.0 own are answered.1) answered.2,
+)
+
+abbrev forest_of : Index → ForestValue
+forest_of index = index.forest
+
+abbrev pub act_of : Entry → Act
+act_of entry = entry.tuple.act
+
+keeps_none : (names : List (List ℕ)) (forests : List ForestValue) →
+    AllZip (KeepsForestAll [] names) forests forests
+keeps_none names [] = tt
+keeps_none names (forest ∷ forests) = (refl, keeps_none names forests)
+
+keeps_more : (names : List (List ℕ)) (act : Act) (acts : List Act)
+    (olds middles news : List ForestValue) → AllZip (KeepsForest act names) olds middles →
+    AllZip (KeepsForestAll acts names) middles news →
+    AllZip (KeepsForestAll (act ∷ acts) names) olds news
+keeps_more names act acts [] [] [] one more = tt
+keeps_more names act acts [] [] (new ∷ news) one more = absurd more
+keeps_more names act acts [] (middle ∷ middles) news one more = absurd one
+keeps_more names act acts (old ∷ olds) [] news one more = absurd one
+keeps_more names act acts (old ∷ olds) (middle ∷ middles) [] one more = absurd more
+keeps_more names act acts (old ∷ olds) (middle ∷ middles) (new ∷ news) one more =
+    ((middle, one.0, more.0), keeps_more names act acts olds middles news one.1 more.1)
+
+pub front_keeps : (names : List (List ℕ)) (entries : List Entry)
+    (queries : List CompiledValue) (olds news : List Index) (events : List (List Event)) →
+    HaveAnsweredAll names entries 0 queries olds news events →
+    AllZip (KeepsForestAll (map act_of entries) names) (map forest_of olds) (map forest_of news)
+front_keeps names [] queries olds news [] answered =
+    subst (λ (all : List Index). AllZip (KeepsForestAll [] names) (map forest_of olds) (map forest_of all))
+    (sym {A = List Index} answered) (keeps_none names (map forest_of olds))
+front_keeps names [] queries olds news (own ∷ events) answered = absurd answered
+front_keeps names (entry ∷ entries) queries olds news [] answered = absurd answered
+front_keeps names (entry ∷ entries) queries olds news (own ∷ events) answered =
+    keeps_more names entry.tuple.act (map act_of entries) (map forest_of olds)
+    (map forest_of answered.0) (map forest_of news)
+    (each_keeps names entry 0 queries olds answered.0 own answered.1)
+    (front_keeps names entries queries answered.0 news events answered.2)
+
+pub front_numbers : (names : List (List ℕ)) (entries : List Entry)
+    (queries : List CompiledValue) (olds news : List Index) (events : List (List Event)) →
+    HaveAnsweredAll names entries 0 queries olds news events →
+    All (λ (own : List Event). All (λ (e : Event). e.query < length queries) own) events
+front_numbers names [] queries olds news [] answered = λ k d within. absurd (omega (arith, within))
+front_numbers names [] queries olds news (own ∷ events) answered = absurd answered
+front_numbers names (entry ∷ entries) queries olds news [] answered = absurd answered
+front_numbers names (entry ∷ entries) queries olds news (own ∷ events) answered =
+    let one = each_numbers names entry 0 queries olds answered.0 own answered.1 in
+    let more = front_numbers names entries queries answered.0 news events answered.2 in
+    numbers_more queries own events (λ k d within. omega (arith, one k d within)) more
+  where
+    numbers_more : (queries : List CompiledValue) (own : List Event) (events : List (List Event)) →
+        All (λ (e : Event). e.query < length queries) own →
+        All (λ (each : List Event). All (λ (e : Event). e.query < length queries) each) events →
+        All (λ (each : List Event). All (λ (e : Event). e.query < length queries) each)
+        (own ∷ events)
+    numbers_more queries own events one more zero d within = one
+    numbers_more queries own events one more (suc k) d within = more k d (omega (arith, within))
+
+-- ---- names that grew
+
+pub ends_of_more : (names more : List (List ℕ)) (dfa : DfaValue) (act : Act)
+    (ends : Option Ends) → KeepsNumbers names more → AreFirstEnds names dfa act ends →
+    AreFirstEnds more dfa act ends
+ends_of_more names more dfa (Insert edge until) (Some ends) keeps are = record {
+  from = keeps edge.from ends.from are.from;
+  to = keeps edge.to ends.to are.to;
+}
+ends_of_more names more dfa (Insert edge until) None keeps are = are
+ends_of_more names more dfa (Delete edge) (Some ends) keeps are = record {
+  from = keeps edge.from ends.from are.from;
+  to = keeps edge.to ends.to are.to;
+}
+ends_of_more names more dfa (Delete edge) None keeps are = tt
+ends_of_more names more dfa Tick ends keeps are = tt
+
+pub first_of : (names : List (List ℕ)) (dfa : DfaValue) (act : Act) (ends : Option Ends) →
+    AreEndsFor names dfa act ends → AreFirstEnds names dfa act ends
+first_of names dfa (Insert edge until) (Some ends) are = are
+first_of names dfa (Insert edge until) None are = are
+first_of names dfa (Delete edge) (Some ends) are = are
+first_of names dfa (Delete edge) None are = tt
+first_of names dfa Tick ends are = tt
+
+pub all_ends_more : (names more : List (List ℕ)) (queries : List CompiledValue)
+    (entries : List Entry) (ends : List (Option Ends)) → KeepsNumbers names more →
+    AreAllFirstEnds names queries entries ends → AreAllFirstEnds more queries entries ends
+all_ends_more names more queries [] [] keeps are = tt
+all_ends_more names more queries [] (own ∷ ends) keeps are = absurd are
+all_ends_more names more queries (entry ∷ entries) [] keeps are = absurd are
+all_ends_more names more queries (entry ∷ entries) (own ∷ ends) keeps are = (
+  (λ k d within. ends_of_more names more (get_or queries k d).dfa entry.tuple.act own keeps
+      (are.0 k d within)),
+  all_ends_more names more queries entries ends keeps are.1,
+)
+
+-- ---- the engine
+
+-- the indexes over some short history, by the numbers of more names
+pub histories_for : StoresFollow → (engine : EngineValue) (history : List Entry)
+    (names : List (List ℕ)) (more : ℕ) → StandsFor engine history →
+    engine.position + more ≤ 2 ^ 30 → KeepsNumbers engine.names names →
+    AllZip (λ (query : CompiledValue) (index : Index). HasHistoryFor more query names index)
+    engine.queries engine.indexes
+histories_for follow engine history names more stands short kept =
+    are_for history names more engine.queries engine.indexes
+    (omega (arith, stands.counted, short))
+    (more_named follow history engine.names names engine.queries engine.indexes kept
+    stands.indexes)
+  where
+    are_for : (history : List Entry) (names : List (List ℕ)) (more : ℕ)
+        (queries : List CompiledValue) (indexes : List Index) → length history + more ≤ 2 ^ 30 →
+        AreIndexes history names queries indexes →
+        AllZip (λ (query : CompiledValue) (index : Index). HasHistoryFor more query names index)
+        queries indexes
+    are_for history names more [] [] short are = tt
+    are_for history names more [] (index ∷ indexes) short are = absurd are
+    are_for history names more (query ∷ queries) [] short are = absurd are
+    are_for history names more (query ∷ queries) (index ∷ indexes) short are = (
+      record { history = history; short = short; is = are.0 },
+      are_for history names more queries indexes short are.1,
+    )
+
+module _ (follow : StoresFollow) (old new : EngineValue) (entries : List Entry)
+    (events : List (List Event))
+    (queries : new.queries ≡ old.queries) (position : new.position ≡ old.position + length entries)
+    (unspent : new.spent ≡ false) (kept : KeepsNumbers old.names new.names)
+    (grown : length new.names ≤ length old.names + 2 * length entries)
+    (answered : HaveAnsweredAll new.names entries 0 old.queries old.indexes new.indexes events)
+  where
+    over : (history : List Entry) → StandsFor old history →
+        AreIndexes history new.names old.queries old.indexes
+    over history stands =
+        more_named follow history old.names new.names old.queries old.indexes kept stands.indexes
+
+    pub front_fed_stands : (history : List Entry) → StandsFor old history →
+        StandsFor new (history ++ entries)
+    front_fed_stands history stands = record {
+      unspent = unspent;
+      counted = omega (arith, position, stands.counted, length-append history entries);
+      few_names = omega (arith, grown, stands.few_names, length-append history entries);
+      indexes = subst (λ (each : List CompiledValue).
+          AreIndexes (history ++ entries) new.names each new.indexes) (sym queries)
+          (front_stands new.names entries history old.queries old.indexes new.indexes events
+          (over history stands) answered);
+    }
+
+    front_fed_events : (history : List Entry) → StandsFor old history →
+        AreAllEventsFrom (definitions old) history entries events
+    front_fed_events history stands =
+        front_events new.names entries history old.queries old.indexes new.indexes events
+        (over history stands) answered
+
+    front_fed_keeps : KeepsPlacesAll (map act_of entries) old new
+    front_fed_keeps = record {
+      names = kept;
+      forests = front_keeps new.names entries old.queries old.indexes new.indexes events answered;
+    }
+
+    front_fed_numbers :
+        All (λ (own : List Event). All (λ (e : Event). e.query < length old.queries) own) events
+    front_fed_numbers =
+        front_numbers new.names entries old.queries old.indexes new.indexes events answered
+
+    -- all of it
+    pub front_fed :
+        (All (λ (each : Entry). BringsNoName each.tuple.act old.queries) entries →
+        new.names ≡ old.names) → FeedsFront old entries new events
+    front_fed same = record {
+      stands = front_fed_stands;
+      events = front_fed_events;
+      keeps = front_fed_keeps;
+      names = same;
+      numbers = front_fed_numbers;
+      position = position;
+    }

@@ -1,0 +1,100 @@
+use Rattle.std.proofs.Common.{◌≡◌, ℕ, ◌+◌, ◌<◌, false, List, [], ◌∷◌, ◌++◌, length, map, take, drop}
+use Rattle.std.proofs.Common.{refl, sym, ap, subst, arith}
+use Rattle.std.specs.List.{All, AllZip}
+use Rattle.rpq_base.specs.declared.data.Entry.{Entry}
+use Rattle.query_file.specs.Compiled.{CompiledValue}
+use Rattle.path_engine.specs.declared.index.Index.{Index}
+use Rattle.path_engine.specs.Front.{HasHistoryFor, HaveAnsweredAll}
+use Rattle.path_engine.specs.Engine.{EngineValue}
+use Rattle.path_engine.specs.Feeding.{FeedsFront}
+use Rattle.path_engine.specs.Keeping.{BringsNoName}
+use Rattle.path_engine.proofs.Fronts.{front_fed, front_fed_stands, histories_for, items_of}
+use Rattle.path_engine.proofs.engine.Engine.answer_entries.Given.{Over}
+use Rattle.path_engine.proofs.engine.Engine.answer_entries.Goals as goal
+
+abbrev Have : ℕ → List (List ℕ) → List CompiledValue → List Index → Type 0
+Have more names queries indexes =
+    AllZip (λ (query : CompiledValue) (index : Index). HasHistoryFor more query names index)
+    queries indexes
+
+-- the queries have their indexes before they answer
+pub answer_front-requires-clause-indexes : goal.answer_front-requires-clause-indexes
+answer_front-requires-clause-indexes g c = λ lifetimes within.
+    let inside = c.self.inside in
+    let old : EngineValue = record {
+      queries = inside.queries.items;
+      position = inside.position;
+      spent = inside.spent;
+      names = inside.names;
+      indexes = inside.indexes.items;
+    } in
+    let names = c.ends_for_all.new.names in
+    let found = c.self.invariant.stands c.if-self.false in
+    subst (λ (queries : List CompiledValue). Have (length c.args.entries.now) names queries old.indexes)
+    (sym {A = List CompiledValue} c.deref-2.ensures.value)
+    (histories_for c.stores_follow.ensures old found.0 names (length c.args.entries.now) found.1
+    (omega (arith, ap (λ (engine : EngineValue). engine.position) c.self.view_is, c.requires.short))
+    c.in_ok-ends.ensures.kept)
+
+-- the engine before the call
+abbrev before : (g : Over) → goal.After-drop-ends-2 g → EngineValue
+before g c = record {
+  queries = c.self.inside.queries.items;
+  position = c.self.inside.position;
+  spent = c.self.inside.spent;
+  names = c.self.inside.names;
+  indexes = c.self.inside.indexes.items;
+}
+
+-- the engine after it
+abbrev after : (g : Over) → goal.After-drop-ends-2 g → EngineValue
+after g c = record {
+  queries = c.self.inside.queries.items;
+  position = c.self.inside.position + length c.args.entries.now;
+  spent = false;
+  names = c.ends_for_all.new.names;
+  indexes = c.answer_front.new.indexes.items;
+}
+
+-- the queries have answered the entries
+answered : (g : Over) (c : goal.After-drop-ends-2 g) →
+    HaveAnsweredAll c.ends_for_all.new.names c.args.entries.now 0 c.self.inside.queries.items
+    c.self.inside.indexes.items c.answer_front.new.indexes.items
+    (items_of c.in_ok-events.events.items)
+answered g c =
+    subst (λ (each : List CompiledValue).
+    HaveAnsweredAll c.ends_for_all.new.names c.args.entries.now 0 each
+    c.self.inside.indexes.items c.answer_front.new.indexes.items
+    (items_of c.in_ok-events.events.items)) c.deref-2.ensures.value c.in_ok-events.ensures
+
+pub invariant_of-self-2 : goal.invariant_of-self-2
+invariant_of-self-2 g c =
+    let found = c.self.invariant.stands c.if-self.false in
+    record {
+      some = c.self.invariant.some;
+      few = c.self.invariant.few;
+      named = c.in_ok-ends.ensures.named;
+      short = omega (
+        arith,
+        ap (λ (engine : EngineValue). engine.position) c.self.view_is,
+        c.requires.short,
+      );
+      stands = λ unspent. (
+        found.0 ++ c.args.entries.now,
+        front_fed_stands c.stores_follow.ensures (before g c) (after g c) c.args.entries.now
+            (items_of c.in_ok-events.events.items) refl refl refl c.in_ok-ends.ensures.kept
+            c.in_ok-ends.ensures.grown (answered g c) found.0 found.1,
+      );
+    }
+
+pub returns-clause-feeds : goal.returns-clause-feeds
+returns-clause-feeds g c =
+    let entries = c.args.entries.now in
+    let events = items_of c.in_ok-events.events.items in
+    subst (λ (engine : EngineValue). FeedsFront engine entries (after g c) events) c.self.view_is
+    (front_fed c.stores_follow.ensures (before g c) (after g c) entries events refl refl refl
+    c.in_ok-ends.ensures.kept c.in_ok-ends.ensures.grown (answered g c)
+    (subst (λ (queries : List CompiledValue).
+    All (λ (each : Entry). BringsNoName each.tuple.act queries) entries →
+    c.ends_for_all.new.names ≡ c.self.inside.names)
+    c.deref.ensures.value c.in_ok-ends.ensures.same))

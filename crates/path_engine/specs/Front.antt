@@ -1,0 +1,116 @@
+-- How the entries of a front are answered. No public contract cites this file.
+use Rattle.std.specs.Prelude.{◌≡◌, ℕ, zero, suc, ◌+◌, ◌^◌, ◌<◌, ◌≤◌}
+use Rattle.std.specs.Prelude.{List, [], ◌∷◌, ◌++◌, length, map, slice_index_or}
+use Rattle.std.specs.Prelude.{All, IfSome, Option, Some, None}
+use Rattle.std.specs.Global.{Global}
+use Rattle.std.specs.declared.vec.Vec.{Vec}
+use Rattle.std.specs.List.{AllZip}
+use Rattle.rpq_base.specs.declared.data.Act.{Act}
+use Rattle.rpq_base.specs.declared.data.Act.TheVariants.{Insert, Delete, Tick}
+use Rattle.rpq_base.specs.declared.data.Entry.{Entry}
+use Rattle.rpq_base.specs.declared.data.Event.{Event}
+use Rattle.dfa_table.specs.DfaValue.{DfaValue, place_of}
+use Rattle.query_file.specs.Compiled.{CompiledValue}
+use Rattle.path_engine.specs.declared.index.Index.{Index}
+use Rattle.path_engine.specs.declared.ends.Ends.{Ends}
+use Rattle.path_engine.specs.declared.front.Share.{Share}
+use Rattle.path_engine.specs.Engine.{IsIndexFor}
+use Rattle.path_engine.specs.Answering.{AreEndsFor, AreEndsOf, HasAnswered, HaveAnswered}
+
+-- the numbers of the vertices of the act's edge as they were found when fewer names had one: more
+-- names leave this so
+abbrev pub AreFirstEnds : List (List ℕ) → DfaValue → Act → Option Ends → Type 0
+AreFirstEnds names dfa (Insert edge until) (Some ends) = AreEndsOf names edge ends
+AreFirstEnds names dfa (Insert edge until) None = place_of dfa edge.label ≡ None
+AreFirstEnds names dfa (Delete edge) (Some ends) = AreEndsOf names edge ends
+AreFirstEnds names dfa (Delete edge) None = Unit {0}
+AreFirstEnds names dfa Tick ends = Unit {0}
+
+-- these are so for each entry and query
+abbrev pub AreAllFirstEnds : List (List ℕ) → List CompiledValue → List Entry →
+    List (Option Ends) → Type 0
+AreAllFirstEnds names queries entries ends =
+    AllZip (λ (entry : Entry) (own : Option Ends).
+    All (λ (query : CompiledValue). AreFirstEnds names query.dfa entry.tuple.act own) queries)
+    entries ends
+
+-- the numbers of the vertices of each entry's edge, for each query
+abbrev pub AreAllEndsFor : List (List ℕ) → List CompiledValue → List Entry →
+    List (Option Ends) → Type 0
+AreAllEndsFor names queries entries ends =
+    AllZip (λ (entry : Entry) (own : Option Ends).
+    All (λ (query : CompiledValue). AreEndsFor names query.dfa entry.tuple.act own) queries)
+    entries ends
+
+-- the index is that of the query over some history that is short with so many entries more
+pub record HasHistoryFor (more : ℕ) (query : CompiledValue) (names : List (List ℕ))
+    (index : Index) : Type 0 where
+  pub history : List Entry
+  pub short : length history + more ≤ 2 ^ 30
+  pub is : IsIndexFor query history names index
+
+-- the entries were answered one after another for the query with this number, and these are the
+-- events of each
+abbrev pub HasAnsweredAll : List (List ℕ) → List Entry → ℕ → CompiledValue → Index → Index →
+    List (List Event) → Type 0
+HasAnsweredAll names [] number query old new [] = new ≡ old
+HasAnsweredAll names [] number query old new (own ∷ owns) = ⊥
+HasAnsweredAll names (entry ∷ entries) number query old new [] = ⊥
+HasAnsweredAll names (entry ∷ entries) number query old new (own ∷ owns) =
+    (middle : Index) × HasAnswered names entry number query old middle own
+    × HasAnsweredAll names entries number query middle new owns
+
+-- they were answered one after another for each of these queries, the first of which has this
+-- number, and these are the events of each entry
+abbrev pub HaveAnsweredAll : List (List ℕ) → List Entry → ℕ → List CompiledValue → List Index →
+    List Index → List (List Event) → Type 0
+HaveAnsweredAll names [] number queries olds news [] = news ≡ olds
+HaveAnsweredAll names [] number queries olds news (events ∷ rest) = ⊥
+HaveAnsweredAll names (entry ∷ entries) number queries olds news [] = ⊥
+HaveAnsweredAll names (entry ∷ entries) number queries olds news (events ∷ rest) =
+    (middles : List Index) × HaveAnswered names entry number queries olds middles events
+    × HaveAnsweredAll names entries number queries middles news rest
+
+-- the events of each entry, those of the one list before those of the other; where the one list
+-- ends, the rest of the other
+abbrev pub joined : List (List Event) → List (List Event) → List (List Event)
+joined [] more = more
+joined (own ∷ owns) [] = own ∷ owns
+joined (own ∷ owns) (other ∷ others) = (own ++ other) ∷ joined owns others
+
+-- more events at the end of those at this place, or as the last where there is no such place
+abbrev pub put_at : ℕ → List (List Event) → List Event → List (List Event)
+put_at place [] own = own ∷ []
+put_at zero (first ∷ rest) own = (first ++ own) ∷ rest
+put_at (suc place) (first ∷ rest) own = first ∷ put_at place rest own
+
+-- the share at each place has the index of the query from this place on, which may take so many
+-- entries
+abbrev pub AreReady : ℕ → List CompiledValue → List (List ℕ) → ℕ → List Share → Type 0
+AreReady more queries names start shares = (offset : ℕ) (query : CompiledValue) (d : Share) →
+    offset < length shares → query ≡ slice_index_or queries (start + offset) query →
+    HasHistoryFor more query names (slice_index_or shares offset d).index
+
+-- the query with this number took the entries into the index of the share, and these are the events
+-- of each, where the share has some
+abbrev pub HasFed : List (List ℕ) → List Entry → ℕ → CompiledValue → Share → Share → Type 0
+HasFed names entries number query old new =
+    IfSome new.owns (λ owns. HasAnsweredAll names entries number query old.index new.index
+    (map (λ own. own.items) owns.items))
+
+-- so did each of the queries from this place on
+abbrev pub HaveFed : List CompiledValue → List (List ℕ) → List Entry → ℕ → List Share →
+    List Share → Type 0
+HaveFed queries names entries start olds news =
+    (offset : ℕ) (query : CompiledValue) (d : Share) → offset < length olds →
+    query ≡ slice_index_or queries (start + offset) query →
+    HasFed names entries (start + offset) query (slice_index_or olds offset d)
+    (slice_index_or news offset d)
+
+-- each share has events of each entry, and these are those before with those of the shares behind,
+-- one share after another
+abbrev pub AreGathered : List (List Event) → List Share → List (List Event) → Type 0
+AreGathered before [] events = events ≡ before
+AreGathered before (share ∷ shares) events =
+    (owns : Vec (Vec Event Global) Global) × (share.owns ≡ Some owns)
+    × AreGathered (joined before (map (λ own. own.items) owns.items)) shares events
