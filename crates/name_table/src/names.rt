@@ -128,14 +128,14 @@ impl Names {
     }
 
     /// Counts events that were told, and makes the ranks of all names anew where some name has none
-    /// and, since they were last made, as many events were told as there are names. So the ranks
-    /// cost each event O(log n) steps, amortized. Where memory for them is lacking, those that
-    /// there are stay.
+    /// and, since they were last made, four times as many events were told as there are names. So
+    /// the ranks cost each event O(log n) steps, amortized. Where memory for them is lacking, those
+    /// that there are stay.
     pub fn note_told(&mut self, events: usize)
         ensures { self.new ≡ self.old }
     {
         self.told = self.told.saturating_add(events);
-        if self.ranks.len() < self.names.len() && self.told >= self.names.len() {
+        if self.ranks.len() < self.names.len() && self.told / 4 >= self.names.len() {
             self.told = 0;
             self.renew_ranks();
         }
