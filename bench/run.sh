@@ -1,30 +1,66 @@
 #!/usr/bin/env bash
 # Measures rpq, outside the gate:
-#   bench/run.sh              times on streams of bench/workloads.py, as a table
-#   bench/run.sh --sqlite     against recursive SQL in sqlite, evaluated after each tuple
-#   bench/run.sh --workers    whether any number of workers gives the same bytes
-#   bench/run.sh --memory     the memory in use at most, and when the window has moved on (valgrind)
-#   bench/run.sh NAME         the benchmark NAME.rattle of one crate: edge_store
-# The words of measure.py can follow, as --kinds uniform,so --tuples 10000.
+#   bench/run.sh [--fast]             times on streams of bench/workloads.py, as a table
+#   bench/run.sh [--fast] --FORM ..   a form of bench/measure.py, which says what they are: --beside
+#                                     OTHER, --attacks, --states, --hostile, --sqlite, --workers,
+#                                     --memory
+#   bench/run.sh [--fast] --fronts    fronts of entries, by the program bench/fronts.rattle
+#   bench/run.sh [--fast] NAME ..     the program NAME.rattle with these words: edge_store, fronts
+# Words of measure.py can follow a form, as --kinds uniform,so --tuples 10000.
 #
-# The benchmark of a crate is proved, built and run on a copy of the crates. NAME is the crate that
-# it stands on; other crates that it uses are in its line `//! needs: ..`. Its name doesn't end in
-# .rt, since the gate takes no such files outside of crates.
+# The programs are proved and built by `rt run`, or with --fast built by tools/fast-build.sh, which
+# is faster by far and proves nothing. A program NAME.rattle is built on a copy of the crates, as a
+# crate that stands on those of its line `//! needs: ..`. Its name doesn't end in .rt, since the
+# gate takes no such files outside of crates.
 set -eu
 top="$(cd "$(dirname "$0")/.." && pwd)"
 command -v rt >/dev/null 2>&1 || PATH="$PATH:/opt/rattle/bin"
-name="${1:-}"
-if [ -z "$name" ] || [ "${name#--}" != "$name" ]; then
-    (cd "$top/crates/rpq" && rt run -- data/queries.txt /dev/null >/dev/null)
-    exec python3 "$top/bench/measure.py" "$top/crates/rpq/out/rpq" "$@"
+is_fast=no
+if [ "${1:-}" = --fast ]; then
+    is_fast=yes
+    shift
 fi
 place="$(mktemp -d)"
 trap 'rm -rf "$place"' EXIT
-cp -a "$top/crates" "$top/crates.txt" "$top/HANDLES" "$place/"
-crate="$place/crates/${name}_bench"
-mkdir -p "$crate/src"
-cp "$top/bench/$name.rattle" "$crate/src/main.rt"
-needs="$(sed -n 's|^//! needs: ||p' "$top/bench/$name.rattle")"
-echo "${name}_bench: $name${needs:+ $needs}" >> "$place/crates.txt"
-cd "$crate"
-rt run
+
+# copies the crates, and adds the one of the program with this name
+copy_with() {
+    cp -a "$top/crates" "$top/crates.txt" "$top/HANDLES" "$top/tools" "$place/"
+    mkdir -p "$place/crates/${1}_bench/src"
+    cp "$top/bench/$1.rattle" "$place/crates/${1}_bench/src/main.rt"
+    echo "${1}_bench: $(sed -n 's|^//! needs: ||p' "$top/bench/$1.rattle")" >> "$place/crates.txt"
+}
+
+# builds the program of a crate below a folder, and leaves it at a path; it is run on these words
+build() {
+    local folder="$1" crate="$2" out="$3"
+    shift 3
+    if [ "$is_fast" = yes ]; then
+        "$folder/tools/fast-build.sh" "$out" "$crate"
+    else
+        (cd "$folder/crates/$crate" && rt run -- "$@" > /dev/null)
+        cp "$folder/crates/$crate/out/$crate" "$out"
+    fi
+}
+
+queries="$top/crates/rpq/data/queries.txt"
+case "${1:-}" in
+    "" | --*)
+        build "$top" rpq "$place/rpq" "$queries" /dev/null
+        if [ "${1:-}" = --fronts ]; then
+            shift
+            copy_with fronts
+            build "$place" fronts_bench "$place/fronts" "$queries" /dev/null 1 1
+            set -- --fronts "$place/fronts" "$@"
+        fi
+        python3 "$top/bench/measure.py" "$place/rpq" "$@"
+        ;;
+    *)
+        name="$1"
+        shift
+        copy_with "$name"
+        # edge_store takes no words, and passes these over
+        build "$place" "${name}_bench" "$place/$name" "$queries" /dev/null 1 1
+        "$place/$name" "$@"
+        ;;
+esac

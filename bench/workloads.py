@@ -2,6 +2,7 @@
 """Makes streams and queries for measurements; the same words give the same bytes.
 
     workloads.py KIND TUPLES [--folder DIR] [--vertices V] [--seed S]
+    workloads.py ATTACK SIZE [--folder DIR]
 
 KIND is one of these, each with eleven queries over a window of its own:
 
@@ -14,6 +15,23 @@ KIND is one of these, each with eleven queries over a window of its own:
 
 In each, one tuple in fifty comes late, by up to half of the window. The files are
 DIR/KIND-TUPLES.txt, DIR/KIND.queries with all queries, and DIR/KIND.qN.queries with one of them.
+
+ATTACK is a stream by somebody who wants each tuple to cost more the more there were before, with
+one query over a window that nothing leaves. It has a size:
+
+  leaves-removed    a hub gets so many leaves, and each is removed
+  leaf-toggled      a hub gets so many leaves, and one is removed and inserted, so many times
+  leaves-toggled    a hub gets so many leaves, and each in turn is removed and inserted again
+  path-toggled      one path of so many edges, and its last edge is removed and inserted
+  absent-removed    so many sources reach a vertex, and edges to it that aren't there are removed
+  hub-refreshed     a hub gets so many leaves, and an edge to the hub is inserted again and again
+  hub-grows         the same edge is inserted again behind each new leaf
+  other-label       as hub-refreshed, where the leaves' label leads nowhere from the hub's state
+  names-255         so many sources reach a hub, which gets forty leaves; all names have 255 bytes,
+                    of which the first 249 are the same
+  names-16          the same with names that are the same in the first 16 of 22 bytes
+
+The files are DIR/ATTACK-SIZE.txt and DIR/ATTACK.queries.
 """
 
 import argparse
@@ -162,6 +180,125 @@ def stream(kind, tuples, vertices=None, seed=1):
         yield f"{time} {edge} {sign}"
 
 
+# A window that nothing leaves.
+FOR_EVER = 1 << 40
+
+
+def leaves(size):
+    for number in range(size):
+        yield f"hub a leaf{number} +"
+
+
+def toggled(edge, times):
+    """The lines that remove the edge and insert it again, so many in all."""
+    for number in range(times):
+        yield f"{edge} {'+' if number % 2 else '-'}"
+
+
+def leaves_removed(size):
+    yield from leaves(size)
+    for number in range(size):
+        yield f"hub a leaf{number} -"
+
+
+def leaf_toggled(size):
+    yield from leaves(size)
+    yield from toggled("hub a leaf0", size)
+
+
+def leaves_toggled(size):
+    yield from leaves(size)
+    for number in range(size):
+        yield from toggled(f"hub a leaf{number}", 2)
+
+
+def path_toggled(size):
+    yield "root a v0 +"
+    for number in range(size):
+        yield f"v{number} b v{number + 1} +"
+    yield from toggled(f"v{size - 1} b v{size}", size)
+
+
+def absent_removed(size):
+    for number in range(size):
+        yield f"v{number} a middle +"
+    for number in range(size):
+        yield f"v{number} b middle -"
+
+
+def hub_refreshed(size):
+    yield from leaves(size)
+    for _ in range(size):
+        yield "root a hub +"
+
+
+def hub_grows(size):
+    for leaf in leaves(size):
+        yield leaf
+        yield "root a hub +"
+
+
+def other_label(size):
+    for number in range(size):
+        yield f"hub b leaf{number} +"
+    for _ in range(size):
+        yield "root a hub +"
+
+
+def long_names(before, size):
+    """Sources and leaves of a hub, with names that are the same up to their last six bytes."""
+    for number in range(size):
+        yield f"{before}{100000 + number} a {before}000000 +"
+    for number in range(40):
+        yield f"{before}000000 a {before}{200000 + number} +"
+
+
+def names_255(size):
+    return long_names("n" * 249, size)
+
+
+def names_16(size):
+    return long_names("n" * 16, size)
+
+
+# The streams that attack, each with the expression of its query and what makes its lines but for
+# their times.
+ATTACKS = {
+    "leaves-removed": ("a*", leaves_removed),
+    "leaf-toggled": ("a*", leaf_toggled),
+    "leaves-toggled": ("a*", leaves_toggled),
+    "path-toggled": ("a/b*", path_toggled),
+    "absent-removed": ("(a|b)*", absent_removed),
+    "hub-refreshed": ("a*", hub_refreshed),
+    "hub-grows": ("a*", hub_grows),
+    "other-label": ("a+|b/c", other_label),
+    "names-255": ("(a|b)*", names_255),
+    "names-16": ("(a|b)*", names_16),
+}
+
+
+def repeated(part, times):
+    return "/".join([part] * times)
+
+
+# Two expressions with the same answers over a stream of the label a alone. Their least automata
+# have 10 and 513 states.
+STATES = {
+    10: f"a*/{repeated('a', 9)}",
+    513: f"(a|b)*/a/{repeated('(a|b)', 8)}",
+}
+
+
+def not_divided_by(divisor):
+    """An expression of the words of the label a whose length the divisor doesn't divide."""
+    return f"({repeated('a', divisor)})*/a/{repeated('a?', divisor - 2)}"
+
+
+# An expression of 45 labels whose least automaton has some 500 states, and two of whose states are
+# told apart by no word of fewer than some 500 labels.
+SLOW_TO_COMPILE = "|".join(not_divided_by(divisor) for divisor in (7, 8, 9))
+
+
 def queries(kind):
     """The lines of the eleven queries."""
     labels, window, slide, _ = KINDS[kind]
@@ -176,19 +313,59 @@ def queries(kind):
     return lines
 
 
+def write_lines(path, lines):
+    with open(path, "w") as file:
+        for line in lines:
+            file.write(line + "\n")
+
+
 def write(kind, tuples, folder, vertices=None, seed=1):
     """Writes the stream and the queries; answers the path of the stream."""
     os.makedirs(folder, exist_ok=True)
     path = os.path.join(folder, f"{kind}-{tuples}.txt")
-    with open(path, "w") as file:
-        for line in stream(kind, tuples, vertices, seed):
-            file.write(line + "\n")
+    write_lines(path, stream(kind, tuples, vertices, seed))
     lines = queries(kind)
-    with open(os.path.join(folder, f"{kind}.queries"), "w") as file:
-        file.write("\n".join(lines) + "\n")
+    write_lines(os.path.join(folder, f"{kind}.queries"), lines)
     for number, line in enumerate(lines, 1):
-        with open(os.path.join(folder, f"{kind}.q{number}.queries"), "w") as file:
-            file.write(line + "\n")
+        write_lines(os.path.join(folder, f"{kind}.q{number}.queries"), [line])
+    return path
+
+
+def write_attack(name, size, folder):
+    """Writes the stream and the query of an attack; answers the path of the stream."""
+    os.makedirs(folder, exist_ok=True)
+    expression, maker = ATTACKS[name]
+    query = f"query q window {FOR_EVER} slide 1 arbitrary: {expression}"
+    write_lines(os.path.join(folder, f"{name}.queries"), [query])
+    path = os.path.join(folder, f"{name}-{size}.txt")
+    write_lines(path, (f"{time} {edge}" for time, edge in enumerate(maker(size))))
+    return path
+
+
+def write_states(folder, tuples, seed=1):
+    """Writes a stream of the label a alone and a queries file for each number of states; answers
+    the path of the stream."""
+    os.makedirs(folder, exist_ok=True)
+    for states, expression in STATES.items():
+        query = f"query q window 20 slide 1 arbitrary: {expression}"
+        write_lines(os.path.join(folder, f"states-{states}.queries"), [query])
+    draw = random.Random(f"states {seed}")
+    path = os.path.join(folder, f"states-{tuples}.txt")
+    write_lines(
+        path, (f"{time} v{draw.randrange(10)} a v{draw.randrange(10)}" for time in range(tuples))
+    )
+    return path
+
+
+def write_slow_to_compile(folder, count):
+    """Writes so many queries that are slow to compile; answers the path of the queries file."""
+    os.makedirs(folder, exist_ok=True)
+    path = os.path.join(folder, f"slow-{count}.queries")
+    lines = [
+        f"query q{number} window 10 slide 1 arbitrary: {SLOW_TO_COMPILE}"
+        for number in range(1, count + 1)
+    ]
+    write_lines(path, lines)
     return path
 
 
@@ -196,13 +373,16 @@ def main():
     words = argparse.ArgumentParser(
         description=__doc__, formatter_class=argparse.RawDescriptionHelpFormatter
     )
-    words.add_argument("kind", choices=sorted(KINDS))
+    words.add_argument("kind", choices=[*sorted(KINDS), *ATTACKS])
     words.add_argument("tuples", type=int)
     words.add_argument("--folder", default="data")
     words.add_argument("--vertices", type=int)
     words.add_argument("--seed", type=int, default=1)
     given = words.parse_args()
-    print(write(given.kind, given.tuples, given.folder, given.vertices, given.seed))
+    if given.kind in ATTACKS:
+        print(write_attack(given.kind, given.tuples, given.folder))
+    else:
+        print(write(given.kind, given.tuples, given.folder, given.vertices, given.seed))
 
 
 if __name__ == "__main__":
