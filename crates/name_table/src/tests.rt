@@ -17,16 +17,16 @@ impl RandomSource for NoRandomBytes {
     }
 }
 
-/// Whether three names have the numbers from 0 in the order of their first sight.
+/// Whether two names have the numbers 0 and 1 in the order of their first sight, and a third none.
 fn numbers_names<R: RandomSource>(rt: &R, alloc: Global) -> Result<bool, Fail> {
     let late = Name::new(alloc, b"z")?;
     let early = Name::new(alloc, b"a")?;
     let other = Name::new(alloc, b"zz")?;
     let mut names = Names::new(rt, alloc)?;
-    let first = names.number(&late)? == 0 && names.number(&early)? == 1;
-    let again = names.number(&late)? == 0 && names.find(&other).is_none();
-    let third = names.number(&other)? == 2 && names.find(&early) == Some(1);
-    Ok(first && again && third && is_named(&names, &other))
+    let first = names.number(&late)?;
+    let second = names.number(&early)?;
+    let found = names.find(&late) == Some(0) && names.find(&other).is_none();
+    Ok(first == 0 && second == 1 && found && is_named(&names, &early))
 }
 
 /// Whether the name with the name's number is this name.
