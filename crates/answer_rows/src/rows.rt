@@ -1,10 +1,11 @@
 //! The answers of a query, as rows.
 
-ghost use Rattle.std.specs.Prelude.{◌≡◌, ◌<◌, [], length, IfNone, IfSome, IfOk, OnOk, OnErr};
+ghost use Rattle.std.specs.Prelude.{◌≡◌, ◌<◌, ◌++◌, [], length, map, IfNone, IfSome, IfOk, OnOk, OnErr};
 ghost use Rattle.std.specs.Option.{option_map, unwrap_or};
 ghost use Rattle.answer_rows.specs.Answers.{AreRows, AreTargets, KeepsOtherRows};
 ghost use Rattle.answer_rows.specs.Answers.{pair, row_of, until_of};
-ghost use Rattle.answer_rows.specs.BySource.{by_source, shared_row};
+ghost use Rattle.answer_rows.specs.BySource.{answer, by_source, shared_row};
+ghost use Rattle.answer_rows.specs.Listing.{listed};
 
 use crate::target::{Target, end_of};
 use rpq_base::{Copied, Memory, Name};
@@ -89,6 +90,18 @@ impl Rows {
         end_of(self.targets(from), to)
     }
 
+    /// The pairs, in order, with their ends: each source with each of its targets. Takes memory for
+    /// the list alone.
+    pub fn list(&self) -> Result<Vec<(&Name, &Target)>, Memory>
+        ensures { IfOk result (λ list. listed list.items ≡ self.now) }
+    {
+        let mut list = Vec::new(self.alloc);
+        for (from, row) in &self.rows {
+            push_targets(&mut list, from, row.as_slice())?;
+        }
+        Ok(list)
+    }
+
     /// Equal rows. The sources are copied, and the rows are shared.
     pub fn copy(&self) -> Result<Rows, Memory>
         ensures { IfOk result (λ copy. copy ≡ self.now) }
@@ -142,6 +155,21 @@ impl Rows {
         self.count = self.count - targets_in(&old) + gained as u128;
         Ok(())
     }
+}
+
+/// Adds a source with each of its targets, in order.
+fn push_targets<'a>(
+    list: &mut Vec<(&'a Name, &'a Target)>,
+    from: &'a Name,
+    row: &'a [Target],
+) -> Result<(), Memory>
+    ensures { OnOk result (listed list.new.items
+        ≡ listed list.old.items ++ map (answer from.now) row.now) }
+{
+    for target in row {
+        list.push((from, target))?;
+    }
+    Ok(())
 }
 
 /// The number of targets in a row; 0 without one.
