@@ -4,7 +4,8 @@ use Rattle.std.proofs.Common.{None, length, take, refl, sym, ap, subst, inr, ⊎
 use Rattle.std.specs.Prelude.{Contains}
 use Rattle.std.proofs.lemmas.Bool.{ltb-true}
 use Rattle.std.proofs.lemmas.List.Elements.{Contains-push, Contains-push_cases}
-use Rattle.std.proofs.lemmas.List.Elements.{Contains-append_left}
+use Rattle.std.proofs.lemmas.List.Elements.{Contains-append_left, All-nil}
+use Rattle.rpq_base.specs.Plain.{IsPlain}
 use Rattle.rpq_base.proofs.Members.{none_in}
 use Rattle.rpq_base.specs.declared.data.Entry.{Entry}
 use Rattle.history_model.specs.declared.line.CallAct.TheVariants.{EndStream, Shut}
@@ -49,6 +50,7 @@ pub begins_sound : LegalByLines → FirstView → (terms : Terms) (view : ViewVa
 begins_sound by_lines law terms view are is = record {
   terms = are;
   legal = by_lines.none terms.streams terms.cap;
+  plain = All-nil IsPlain;
   position = ap (λ (each : ViewValue). each.position) is;
   view = subst (λ (front : List Entry). IsViewOf terms.queries front view)
       (sym (ap (λ (count : ℕ). take {A = Entry} count [])

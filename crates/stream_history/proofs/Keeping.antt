@@ -4,8 +4,10 @@ use Rattle.std.proofs.Common.{◌++◌, Option, Some, None, length, take, filter
 use Rattle.std.proofs.Common.{subst, ◌∙◌, ◌⊎◌, inl, inr, ⊎_elim, arith, append-nil, length-take}
 use Rattle.std.specs.Prelude.{Contains}
 use Rattle.std.proofs.lemmas.Bool.{false≢true, eqb-true, eq-eqb}
-use Rattle.std.proofs.lemmas.List.Elements.{Contains-push_cases}
+use Rattle.std.specs.List.{All}
+use Rattle.std.proofs.lemmas.List.Elements.{Contains-push_cases, All-nil, All-cons, All-append}
 use Rattle.std.proofs.lemmas.List.{length_push, take-append-le}
+use Rattle.rpq_base.specs.Plain.{IsPlain, IsPlainTuple}
 use Rattle.rpq_base.specs.declared.data.Tuple.{Tuple}
 use Rattle.rpq_base.specs.declared.data.Entry.{Entry}
 use Rattle.answer_view.specs.View.{ViewValue, IsViewOf}
@@ -141,11 +143,14 @@ grows : LegalByLines → (journal : JournalValue) (line : Line) (view : ViewValu
     view.position ≡ published (journal.lines ++ line ∷ []) →
     view.position ≤ length (entries journal.lines) →
     ShowsFront journal.terms.queries (entries journal.lines) view →
+    All IsPlain (entries (line ∷ [])) →
     IsSound (record { terms = journal.terms; lines = journal.lines ++ line ∷ []; view = view })
-grows law journal line view sound has may position below shows = record {
+grows law journal line view sound has may position below shows plain = record {
   terms = sound.terms;
   legal = (law.next journal.terms.streams journal.terms.cap journal.lines line).1
       (sound.legal, record { tuple = has; call = may });
+  plain = subst (λ (all : List Entry). All IsPlain all) (sym (entries_push journal.lines line))
+      (All-append IsPlain (entries journal.lines) (entries (line ∷ [])) sound.plain plain);
   position = position;
   view = still_shows journal line view below shows;
 }
@@ -166,7 +171,8 @@ no_reason lines (Some why) is going = absurd (going (why, (is why).0 refl))
 pub append_adds : LegalByLines → LinesAreJoined →
     (journal : JournalValue) (calls new_calls : List Call) (told new_told : List Entry)
     (open_streams : List ℕ) (reason : Option Why) (room new_room stream : ℕ) (tuple : Tuple) →
-    IsKept journal calls told open_streams reason room → IsOpen journal stream → reason ≡ None →
+    IsKept journal calls told open_streams reason room → IsOpen journal stream → IsPlainTuple tuple →
+    reason ≡ None →
     length told < journal.terms.cap →
     new_calls ≡ calls ++ record { by = stream; act = Append } ∷ [] →
     new_told ≡ told ++ record { stream = stream; tuple = tuple } ∷ [] →
@@ -174,7 +180,7 @@ pub append_adds : LegalByLines → LinesAreJoined →
     Adds journal (with_line journal (append_line stream tuple)) new_calls new_told open_streams
     reason new_room
 append_adds by_lines joined journal calls new_calls told new_told open_streams reason room new_room
-    stream tuple kept still none short calls_is told_is fits =
+    stream tuple kept still plain none short calls_is told_is fits =
     let line : Line = append_line stream tuple in
     let going = goes_on journal.lines reason kept.shut none in
     let below : length (entries journal.lines) < journal.terms.cap =
@@ -184,7 +190,8 @@ append_adds by_lines joined journal calls new_calls told new_told open_streams r
     (grows by_lines journal line journal.view kept.sound ((λ is. refl), (λ is. refl))
     (still.is, still.goes_on, going, below)
     (kept.sound.position ∙ sym (published_push journal.lines line)) (view_there journal kept.sound)
-    kept.sound.view)
+    kept.sound.view
+    (All-cons IsPlain (record { stream = stream; tuple = tuple }) [] plain (All-nil IsPlain)))
     (still_open journal.terms.streams journal.lines line open_streams (λ is. cc) kept.going)
     (still_reason journal.lines line reason (λ why is. cc) kept.shut)
     (omega (arith, fits, ap length calls_is, length_push calls line.call, ap shuts_left none))
@@ -208,7 +215,7 @@ publish_adds by_lines joined journal calls new_calls told open_streams reason ro
     kept.appended calls_is (sym (append-nil told))
     (grows by_lines journal line view kept.sound (no_tuple 0 (Publish view.position) (λ is. cc))
     (refl, going, rises, below)
-    (sym (published_push journal.lines line)) below shows)
+    (sym (published_push journal.lines line)) below shows (All-nil IsPlain))
     (still_open journal.terms.streams journal.lines line open_streams (λ is. cc) kept.going)
     (still_reason journal.lines line reason (λ why is. cc) kept.shut)
     (omega (
@@ -253,7 +260,7 @@ shut_adds by_lines joined journal calls new_calls told open_streams reason room 
     (grows by_lines journal line journal.view kept.sound (no_tuple 0 (Shut why) (λ is. cc))
     (refl, going)
     (kept.sound.position ∙ sym (published_push journal.lines line)) (view_there journal kept.sound)
-    kept.sound.view)
+    kept.sound.view (All-nil IsPlain))
     (still_open journal.terms.streams journal.lines line open_streams (λ is. cc) kept.going)
     (shut_reason journal.lines why going)
     (omega (
@@ -335,7 +342,7 @@ end_adds by_lines joined journal calls new_calls told open_streams new_open reas
     (grows by_lines journal line journal.view kept.sound (no_tuple stream EndStream (λ is. cc))
     (still.is, still.goes_on)
     (kept.sound.position ∙ sym (published_push journal.lines line)) (view_there journal kept.sound)
-    kept.sound.view)
+    kept.sound.view (All-nil IsPlain))
     (subst (AreOpen journal.terms.streams (journal.lines ++ line ∷ [])) (sym open_is)
     (one_ended journal.terms.streams journal.lines stream open_streams kept.going))
     (still_reason journal.lines line reason (λ why is. cc) kept.shut)

@@ -1,5 +1,7 @@
 -- A journal, as contracts see it, and what each call makes of it.
 use Rattle.std.specs.Prelude.{◌≡◌, ℕ, ◌≤◌, ◌^◌, List, [], ◌∷◌, ◌++◌, length, take, replicate}
+use Rattle.std.specs.List.{All}
+use Rattle.rpq_base.specs.Plain.{IsPlain}
 use Rattle.rpq_base.specs.declared.data.Entry.{Entry}
 use Rattle.rpq_model.specs.Query.{Query}
 use Rattle.answer_view.specs.View.{ViewValue, IsViewOf}
@@ -31,11 +33,12 @@ empty_view queries = record { position = 0; rows = replicate queries [] }
 abbrev pub ShowsFront : List Query → List Entry → ViewValue → Type 0
 ShowsFront queries history view = IsViewOf queries (take view.position history) view
 
--- what is true of every journal: its lines are legal, and its view is that of the entries that were
--- published last
+-- what is true of every journal: its lines are legal, the labels of its entries point forwards, and
+-- its view is that of the entries that were published last
 pub record IsSound (journal : JournalValue) : Type 0 where
   pub terms : AreTerms journal.terms
   pub legal : IsLegal journal.terms.streams journal.terms.cap journal.lines
+  pub plain : All IsPlain (entries journal.lines)
   pub position : journal.view.position ≡ published journal.lines
   pub view : ShowsFront journal.terms.queries (entries journal.lines) journal.view
 

@@ -2,6 +2,7 @@
 
 ghost use Rattle.std.specs.Prelude.{◌≡◌, ℕ, ◌<◌, ◌≤◌, ◌↔◌, Some, Err, length, take, drop};
 ghost use Rattle.std.specs.Prelude.{IsTrue, IfOk, OnOk, OnErr};
+ghost use Rattle.rpq_base.specs.Plain.{IsPlainTuple};
 ghost use Rattle.history_model.specs.declared.line.Why.{Why as Reason};
 ghost use Rattle.history_model.specs.Lines.{append_line, end_line, publish_line, shut_line};
 ghost use Rattle.history_model.specs.Lines.{entries, published, AllEnded, IsShutFor};
@@ -11,6 +12,7 @@ ghost use Rattle.stream_history.specs.History.{HasSeen, HasAdded, AreFull};
 ghost use Rattle.stream_history.specs.declared.fault.AppendFault.{AppendFault as NotAppended};
 ghost use Rattle.stream_history.specs.declared.fault.PublishFault.{PublishFault as NotPublished};
 
+use crate::bell::Heard;
 use crate::fault::{AppendFault, PublishFault};
 use crate::history::{History, Pass};
 use crate::journal::Journal;
@@ -49,7 +51,8 @@ impl History {
     /// [`AppendFault::Full`] where it has as many entries as it takes, and [`AppendFault::Memory`].
     /// It costs a turn.
     pub fn append<R: Wait>(&self, rt: &R, pass: &mut Pass, tuple: Tuple) -> Result<u64, AppendFault>
-        requires { IsOpenPass self.now pass.old }
+        requires open { IsOpenPass self.now pass.old }
+        requires plain { IsPlainTuple tuple }
         ensures line { OnOk result
             (HasAdded self.now pass.old (append_line pass.old.number tuple) pass.new) }
         ensures position { IfOk result (λ position. position ≡ length (entries pass.new.seen)) }
@@ -63,6 +66,7 @@ impl History {
         let mut journal = self.turns.take(rt, pass);
         let answer = journal.append(stream, tuple);
         self.turns.give(pass, journal);
+        self.entry_bell.ring();
         answer
     }
 
@@ -75,6 +79,8 @@ impl History {
         let mut journal = self.turns.take(rt, pass);
         journal.end_stream(stream);
         self.turns.give(pass, journal);
+        self.entry_bell.ring();
+        self.view_bell.ring();
     }
 
     /// Publishes a view over the first entries, as many as its position says.
@@ -101,6 +107,7 @@ impl History {
         let mut journal = self.turns.take(rt, pass);
         let answer = journal.publish(view);
         self.turns.give(pass, journal);
+        self.view_bell.ring();
         answer
     }
 
@@ -113,6 +120,8 @@ impl History {
         let mut journal = self.turns.take(rt, pass);
         journal.shut(why);
         self.turns.give(pass, journal);
+        self.entry_bell.ring();
+        self.view_bell.ring();
     }
 
     /// The entries behind so many first ones, all of them or the first 256.
@@ -161,6 +170,40 @@ impl History {
         let looked = look_at(&journal);
         self.turns.give(pass, journal);
         looked
+    }
+
+    /// How often so far an entry was appended, a stream ended, or the history was shut. It costs
+    /// no turn.
+    ///
+    /// Ask before [`History::after`], and sleep by [`History::sleep_until_entries`] only where that
+    /// found nothing to do.
+    pub fn entries_heard(&self) -> Heard {
+        self.entry_bell.heard()
+    }
+
+    /// Sleeps until an entry is appended, a stream ends, or the history is shut, where none of this
+    /// came since `heard` was asked. It may return earlier, so look again after it.
+    ///
+    /// No clause says that anybody is woken.
+    pub fn sleep_until_entries<R: Wait>(&self, rt: &R, heard: Heard) {
+        self.entry_bell.sleep(rt, heard);
+    }
+
+    /// How often so far a view was published, a stream ended, or the history was shut. It costs no
+    /// turn.
+    ///
+    /// Ask before [`History::look`], and sleep by [`History::sleep_until_views`] only where that
+    /// found nothing to do.
+    pub fn views_heard(&self) -> Heard {
+        self.view_bell.heard()
+    }
+
+    /// Sleeps until a view is published, a stream ends, or the history is shut, where none of this
+    /// came since `heard` was asked. It may return earlier, so look again after it.
+    ///
+    /// No clause says that anybody is woken.
+    pub fn sleep_until_views<R: Wait>(&self, rt: &R, heard: Heard) {
+        self.view_bell.sleep(rt, heard);
     }
 }
 

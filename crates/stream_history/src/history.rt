@@ -6,6 +6,7 @@ ghost use Rattle.turn_lock.specs.Passes.{newcomers, AreAll, Knows};
 ghost use Rattle.stream_history.specs.Journal.{AreTerms, empty_view, IsSound};
 ghost use Rattle.stream_history.specs.History.{passes_for, author, IsPassOf};
 
+use crate::bell::Bell;
 use crate::journal::Journal;
 use answer_view::View;
 use rpq_base::Memory;
@@ -32,6 +33,9 @@ pub struct History {
     pub(crate) turns: Turns<Journal>,
     start: Snapshot<Journal>,
     readers: u32,
+    // The engine sleeps by the one, readers by the other.
+    pub(crate) entry_bell: Bell,
+    pub(crate) view_bell: Bell,
 }
 
 impl Model for History {
@@ -89,6 +93,8 @@ impl History {
                     turns,
                     start,
                     readers,
+                    entry_bell: Bell::new(),
+                    view_bell: Bell::new(),
                 },
                 passes,
             )),
@@ -119,6 +125,8 @@ impl History {
             turns,
             start: _,
             readers: _,
+            entry_bell: _,
+            view_bell: _,
         } = self;
         let journal = turns.close(passes);
         let _length = journal.length();

@@ -2,6 +2,7 @@
 
 ghost use Rattle.std.specs.Prelude.{◌≡◌, ℕ, ◌≤◌, ◌↔◌, Some, Err, length, drop, IsTrue, IfOk};
 ghost use Rattle.std.specs.Prelude.{OnOk, OnErr};
+ghost use Rattle.rpq_base.specs.Plain.{IsPlainTuple};
 ghost use Rattle.history_model.specs.declared.line.Why.{Why as Reason};
 ghost use Rattle.history_model.specs.Lines.{append_line, end_line, shut_line};
 ghost use Rattle.history_model.specs.Lines.{calls, entries, published};
@@ -115,7 +116,8 @@ impl Journal {
     /// [`AppendFault::Full`] where it has as many entries as it takes, and [`AppendFault::Memory`].
     /// After an error it is what it was.
     pub fn append(&mut self, stream: u32, tuple: Tuple) -> Result<u64, AppendFault>
-        requires { IsOpen self.old stream }
+        requires open { IsOpen self.old stream }
+        requires plain { IsPlainTuple tuple }
         ensures line { OnOk result (self.new ≡ with_line self.old (append_line stream tuple)) }
         ensures position { IfOk result (λ position.
             position ≡ length (entries self.new.lines)) }
@@ -253,6 +255,23 @@ impl Journal {
         ensures { result.now ≡ entries self.now.lines }
     {
         self.entries.as_slice()
+    }
+
+    /// The entries, of which nothing is copied.
+    pub fn into_entries(self) -> Vec<Entry>
+        ensures { result.items ≡ entries self.lines }
+    {
+        let Journal {
+            queries: _,
+            streams: _,
+            cap: _,
+            entries,
+            calls: _,
+            view: _,
+            running: _,
+            shut: _,
+        } = self;
+        entries
     }
 
     /// The entries behind so many first ones.

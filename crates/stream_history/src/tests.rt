@@ -1,6 +1,7 @@
 //! A test of a journal: its refusals and its look-ups.
 
 ghost use Rattle.std.specs.Prelude.{◌≡◌, ◌≢◌, ℕ, [], IfOk};
+ghost use Rattle.rpq_base.specs.Plain.{IsPlainTuple};
 ghost use Rattle.history_model.specs.Lines.{entries, IsShut};
 ghost use Rattle.answer_view.specs.View.{IsViewOf};
 ghost use Rattle.stream_history.specs.Journal.{IsSound, IsOpen};
@@ -17,7 +18,9 @@ use std::sync::Arc;
 use std::test::Fail;
 
 /// A tuple that lets time pass.
-pub(crate) fn tick(time: u32) -> Tuple {
+pub(crate) fn tick(time: u32) -> Tuple
+    ensures { IsPlainTuple result }
+{
     Tuple {
         time: u64::from(time),
         act: Act::Tick,

@@ -260,8 +260,8 @@ fn write_and_end<R: Wait>(rt: &R, history: &History, mut pass: Pass, count: u32)
     pass
 }
 
-/// Looks until all streams have ended, and answers whether that came, and no look found less than
-/// the one before.
+/// Looks until all streams have ended, asleep between the looks, and answers whether that came, and
+/// no look found less than the one before.
 fn look_to_the_end<R: Wait>(rt: &R, history: &History, mut pass: Pass) -> (Pass, bool)
     requires { IsPassOf history.now pass × (pass.number ≡ 3) }
     ensures { IsPassOf history.now result.0 × (result.0.number ≡ 3) }
@@ -269,6 +269,7 @@ fn look_to_the_end<R: Wait>(rt: &R, history: &History, mut pass: Pass) -> (Pass,
     let mut rises = true;
     let mut last = (0, 0);
     for _ in 0..LOOKS {
+        let heard = history.views_heard();
         if let Some(found) = look(rt, history, &mut pass) {
             rises &= last.0 <= found.position && last.1 <= found.length;
             last = (found.position, found.length);
@@ -276,6 +277,7 @@ fn look_to_the_end<R: Wait>(rt: &R, history: &History, mut pass: Pass) -> (Pass,
                 return (pass, rises);
             }
         }
+        history.sleep_until_views(rt, heard);
     }
     (pass, false)
 }
@@ -288,7 +290,7 @@ fn have_ended<R: Wait>(rt: &R, history: &History, pass: &mut Pass) -> bool
     look(rt, history, pass).is_some_and(|found| found.all_ended)
 }
 
-/// Publishes until all streams have ended.
+/// Publishes until all streams have ended, asleep while there are no more entries.
 fn publish_to_the_end<R: Wait>(
     rt: &R,
     alloc: Global,
@@ -301,11 +303,13 @@ fn publish_to_the_end<R: Wait>(
     ensures { IsFeedingPass history.now result }
 {
     for _ in 0..LOOKS {
+        let heard = history.entries_heard();
         let last = have_ended(rt, history, &mut pass);
         let _ = publish(rt, alloc, queries, history, &mut pass);
         if last {
             break;
         }
+        history.sleep_until_entries(rt, heard);
     }
     pass
 }
@@ -467,6 +471,106 @@ fn two_streams_append_while_others_look(rt: HostRuntime) -> Result<(), Fail> {
     assert_eq!(rt; journal.published(), 200);
     assert_eq!(rt; in_order(&journal, 1), 100);
     assert_eq!(rt; in_order(&journal, 2), 100);
+    Ok(())
+}
+
+/// Whether so many entries are published.
+fn are_published<R: Wait>(rt: &R, history: &History, pass: &mut Pass, count: u64) -> bool
+    requires { IsOpenPass history.now pass.old }
+    ensures open { IsOpenPass history.now pass.new }
+    ensures number { pass.new.number ≡ pass.old.number }
+{
+    look(rt, history, pass).is_some_and(|found| count <= found.position)
+}
+
+/// Sleeps until so many entries are published.
+fn sleep_until_published<R: Wait>(rt: &R, history: &History, pass: &mut Pass, count: u64)
+    requires { IsOpenPass history.now pass.old }
+    ensures open { IsOpenPass history.now pass.new }
+    ensures number { pass.new.number ≡ pass.old.number }
+{
+    for _ in 0..LOOKS {
+        let heard = history.views_heard();
+        if are_published(rt, history, pass, count) {
+            break;
+        }
+        history.sleep_until_views(rt, heard);
+    }
+}
+
+/// Appends so many tuples, each when all before it are published.
+fn write_in_turn<R: Wait>(rt: &R, history: &History, pass: &mut Pass, count: u32)
+    requires { IsOpenPass history.now pass.old }
+    ensures open { IsOpenPass history.now pass.new }
+    ensures number { pass.new.number ≡ pass.old.number }
+{
+    for time in 0..count {
+        let _ = write(rt, history, pass, time);
+        sleep_until_published(rt, history, pass, u64::from(time) + 1);
+    }
+}
+
+/// A stream and the engine, each in a thread of its own: each sleeps until the other did its part.
+fn share_turns<R: Threads + Wait + Sync>(
+    rt: &R,
+    alloc: Global,
+    queries: &[QueryDef],
+    history: &History,
+    engine: Pass,
+    stream: Pass,
+) -> (Pass, Pass)
+    requires engine { IsFeedingPass history.now engine }
+    requires stream { IsOpenPass history.now stream × (stream.number ≡ 1) }
+    requires queries { (queries.now ≡ history.now.terms.queries) × (length queries.now ≡ 1) }
+    ensures engine { IsFeedingPass history.now result.0 }
+    ensures stream { IsPassOf history.now result.1 × (result.1.number ≡ 1) }
+{
+    join(
+        rt,
+        move || -> Pass
+            requires engine { IsFeedingPass history.now engine }
+            requires queries { (queries.now ≡ history.now.terms.queries)
+                × (length queries.now ≡ 1) }
+            ensures { IsFeedingPass history.entry.now result }
+        { publish_to_the_end(rt, alloc, queries, history, engine) },
+        move || -> Pass
+            requires { IsOpenPass history.now stream × (stream.number ≡ 1) }
+            ensures { IsPassOf history.entry.now result × (result.number ≡ 1) }
+        {
+            let mut pass = stream;
+            write_in_turn(rt, history, &mut pass, 100);
+            end(rt, history, &mut pass);
+            pass
+        },
+    )
+}
+
+/// A journal with a hundred entries, each published before the next was appended.
+fn journal_in_turn<R: Threads + Wait + Sync>(
+    rt: &R,
+    alloc: Global,
+) -> Result<Option<Journal>, Fail> {
+    let (history, passes, queries) = shared_history(alloc, 1, 1, 100)?;
+    let mut given = Vec::with_capacity(alloc, 3)?;
+    let Some((engine, stream, reader)) = three(&history, passes) else {
+        return Ok(None);
+    };
+    let (engine, stream) = share_turns(rt, alloc, &queries, &history, engine, stream);
+    given.push_reserved(engine);
+    given.push_reserved(stream);
+    given.push_reserved(reader);
+    Ok(Some(history.finish(given)))
+}
+
+#[test]
+fn a_stream_and_the_engine_wake_each_other(rt: HostRuntime) -> Result<(), Fail> {
+    let Some(journal) = journal_in_turn(&rt, rt.alloc())? else {
+        panic!(rt; "no memory")
+    };
+    assert_eq!(rt; journal.length(), 100);
+    assert_eq!(rt; journal.published(), 100);
+    // Between two appends there is a publish.
+    assert_eq!(rt; journal.calls().len(), 201);
     Ok(())
 }
 

@@ -100,7 +100,7 @@ added c =
     ) in
     let going : IsOpen (value inside) c.args.stream =
     subst (λ (journal : JournalValue). IsOpen journal c.args.stream) (sym c.self.view_is)
-    c.requires in
+    c.requires.open in
     let below : length inside.entries.items ≤ inside.cap =
     omega (arith, c.self.invariant.sound.legal.capped, ap length c.self.invariant.appended) in
     let short : length inside.entries.items < inside.cap =
@@ -109,7 +109,7 @@ added c =
     (value inside) inside.calls.items c.push_reserved.new.self.items inside.entries.items
     c.push.new.self.items inside.running.items inside.shut (vec_capacity inside.calls)
     (vec_capacity c.push_reserved.new.self) c.args.stream c.args.tuple
-    c.self.invariant going c.in_default.is short calls c.in_ok-push.ensures.items fits
+    c.self.invariant going c.requires.plain c.in_default.is short calls c.in_ok-push.ensures.items fits
 
 pub invariant_of-self-2 : goal.invariant_of-self-2
 invariant_of-self-2 c = let adds = added c in adds.kept
