@@ -1,0 +1,48 @@
+-- Some files and replies, by going through them.
+use Rattle.std.proofs.Common.{refl}
+use Rattle.std.specs.Fmt.{digits}
+use Rattle.text_parts.specs.Lines.{raw_lines, without_return}
+use Rattle.text_parts.specs.Fields.{fields}
+use Rattle.text_parts.specs.Numbers.{number_within}
+use Rattle.rpq_base.specs.Names.{is_name}
+use Rattle.ask_text.specs.Reading.{query_named, vertex_of, position_of, ask_of_two, ask_of_three}
+use Rattle.ask_text.specs.Reading.{pair_of, ask_of_four, ask_of_fields}
+use Rattle.ask_text.specs.Asks.{begun, grown, begins_session, asked, after_fields, after_line}
+use Rattle.ask_text.specs.Asks.{gives, asks}
+use Rattle.ask_text.specs.Reply.{answers_text, from_text, pair_text, count_text, wait_text, told}
+use Rattle.ask_text.specs.Reply.{reply}
+use Rattle.ask_text.specs.Examples.{AskExamples, ReplyExamples}
+
+pub ask_examples : AskExamples
+unfolding raw_lines without_return fields number_within is_name query_named vertex_of position_of
+    ask_of_two ask_of_three pair_of ask_of_four ask_of_fields begun grown begins_session asked
+    after_fields after_line gives asks
+ask_examples = record {
+  empty = refl;
+  no_asks = refl;
+  all_six = λ query is. rw is refl;
+  blanks = λ query is. rw is refl;
+  before = λ queries. refl;
+  unknown = λ query is. rw is refl;
+  counted = λ queries. refl;
+  no_name = λ query is. rw is refl;
+  first_fault = λ query is. rw is refl;
+  beyond = λ queries. refl;
+}
+
+pub reply_examples : ReplyExamples
+unfolding digits answers_text from_text pair_text count_text wait_text told reply
+reply_examples = record {
+  answers = λ query is. rw is refl;
+  from = λ query is. rw is refl;
+  no_row = λ query is. rw is refl;
+  pair = λ query is. rw is refl;
+  no_pair = λ query is. rw is refl;
+  count = λ query is. rw is refl;
+  count_none = λ query is. rw is refl;
+  until = λ query is. rw is refl;
+  none = λ query is. rw is refl;
+  wait = λ queries. refl;
+  ended = λ queries. refl;
+  sessions = refl;
+}

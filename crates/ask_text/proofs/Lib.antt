@@ -1,0 +1,9 @@
+mod AskCases
+mod Back
+mod ByParts
+mod Examples
+mod Going
+mod LineCases
+mod Ranged
+mod Steps
+mod Telling

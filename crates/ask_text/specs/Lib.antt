@@ -1,0 +1,12 @@
+pub mod Answered
+pub mod AskCode
+pub mod Asks
+pub mod ByParts
+pub mod Examples
+pub mod FaultTexts
+pub mod Laws
+pub mod Parts
+pub mod Ranges
+pub mod Reading
+pub mod Replies
+pub mod Reply

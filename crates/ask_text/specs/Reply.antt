@@ -1,0 +1,89 @@
+-- What a reader is told.
+use Rattle.std.specs.Prelude.{◌≡◌, ℕ, Bool, List, [], ◌++◌, map, length, flat_map, take, codes}
+use Rattle.std.specs.Prelude.{decimal, Option, Some, None, is_some, slice_index_or, if◌then◌else◌}
+use Rattle.rpq_base.specs.declared.data.Pair.{Pair as PairOf}
+use Rattle.rpq_base.specs.declared.data.Entry.{Entry}
+use Rattle.rpq_model.specs.Query.{Query}
+use Rattle.answer_rows.specs.declared.target.Target.{Target}
+use Rattle.answer_rows.specs.Answers.{Answer, pair, pairs, row_of, until_of}
+use Rattle.answer_view.specs.View.{ViewValue, rows_at, IsViewOf}
+use Rattle.ask_text.specs.declared.ask.Ask.{Ask}
+use Rattle.ask_text.specs.declared.ask.Ask.TheVariants.{Answers, From, Pair, Count, Wait, Until}
+
+-- the name of the query with this number, from 0
+abbrev pub name_at : List Query → ℕ → List ℕ
+name_at queries number = slice_index_or (map (λ query. query.name) queries) number []
+
+-- two vertices in a line
+abbrev pub pair_line : PairOf → List ℕ
+pair_line pair = pair.from ++ codes " " ++ pair.to ++ codes "\n"
+
+-- a target in a line
+abbrev pub target_line : Target → List ℕ
+target_line target = target.to ++ codes "\n"
+
+-- what is asked, and the name of the query
+abbrev pub query_front : List ℕ → List ℕ → List ℕ
+query_front word name = word ++ codes " " ++ name ++ codes " "
+
+-- all answers of a query
+unfoldable pub answers_text : List ℕ → List Answer → List ℕ
+answers_text name rows =
+    query_front (codes "answers") name ++ decimal (length rows) ++ codes "\n"
+    ++ flat_map pair_line (pairs rows)
+
+-- the targets of a vertex among the answers of a query
+unfoldable pub from_text : List ℕ → List ℕ → List Target → List ℕ
+from_text name from row =
+    query_front (codes "from") name ++ from ++ codes " " ++ decimal (length row) ++ codes "\n"
+    ++ flat_map target_line row
+
+-- a word about the pair of two vertices
+unfoldable pub pair_text : List ℕ → List ℕ → List ℕ → List ℕ → List ℕ → List ℕ
+pair_text word name from to said =
+    query_front word name ++ from ++ codes " " ++ to ++ codes " " ++ said ++ codes "\n"
+
+-- whether the pair is an answer
+abbrev pub yes_or_no : Bool → List ℕ
+yes_or_no holds = if holds then codes "yes" else codes "no"
+
+-- when it ends
+abbrev pub end_text : Option ℕ → List ℕ
+end_text None = codes "none"
+end_text (Some until) = decimal until
+
+-- the number of answers of a query
+unfoldable pub count_text : List ℕ → ℕ → List ℕ
+count_text name count = query_front (codes "count") name ++ decimal count ++ codes "\n"
+
+-- that the position was waited for, or that it can't come
+unfoldable pub wait_text : ℕ → Bool → List ℕ
+wait_text number ended =
+    codes "wait " ++ decimal number ++ (if ended then codes " ended" else []) ++ codes "\n"
+
+-- what is told behind the position
+unfoldable pub told : List Query → ViewValue → Ask → Bool → List ℕ
+told queries view (Answers query) ended = answers_text (name_at queries query) (rows_at view query)
+told queries view (From query from) ended =
+    from_text (name_at queries query) from (row_of (rows_at view query) from)
+told queries view (Pair query from to) ended =
+    pair_text (codes "pair") (name_at queries query) from to
+    (yes_or_no (is_some (until_of (rows_at view query) (pair from to))))
+told queries view (Count query) ended =
+    count_text (name_at queries query) (length (rows_at view query))
+told queries view (Wait number) ended = wait_text number ended
+told queries view (Until query from to) ended =
+    pair_text (codes "until") (name_at queries query) from to
+    (end_text (until_of (rows_at view query) (pair from to)))
+
+-- what a reader is told: the position, and what is asked for there
+unfoldable pub reply : List Query → ViewValue → Ask → Bool → List ℕ
+reply queries view ask ended =
+    codes "@" ++ decimal view.position ++ codes " " ++ told queries view ask ended
+
+-- the text is the reply over the answers and their ends after so many entries of a history
+pub record IsReply (queries : List Query) (history : List Entry) (position : ℕ) (ask : Ask)
+    (ended : Bool) (text : List ℕ) : Type 0 where
+  pub view : ViewValue
+  pub is_view : IsViewOf queries (take position history) view
+  pub is_text : text ≡ reply queries view ask ended
