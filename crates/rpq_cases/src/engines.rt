@@ -35,6 +35,34 @@ pub fn answer_engine<R: RandomSource + Threads + Sync>(
         };
         put_events(out, &events)?;
     }
+    put_end(alloc, out, engine)
+}
+
+/// The same of an engine that takes all tuples as one front.
+pub fn answer_front<R: RandomSource + Threads + Sync>(
+    rt: &R,
+    alloc: Global,
+    out: &mut Output,
+    mut fields: Fields,
+) -> anyhow::Result<()> {
+    let workers = fields.number();
+    ensure!(workers > 0 && workers <= 64, "no workers");
+    let queries = read_queries(alloc, &decoded(alloc, fields.next())?)?;
+    let mut engine = Engine::new(rt, alloc, queries)?;
+    let entries = entries_of(alloc, fields.rest())?;
+    ensure!(engine.position() < 1 << 20, "too many tuples before");
+    ensure!(entries.len() < 1 << 20, "too many tuples");
+    let Ok(events) = engine.feed_front(rt, &entries, workers as u32, &OpenGate) else {
+        return Err(anyhow!("out of memory"));
+    };
+    for own in &events {
+        put_events(out, own)?;
+    }
+    put_end(alloc, out, engine)
+}
+
+/// Puts the position of an engine and the answers with their ends.
+fn put_end(alloc: Global, out: &mut Output, mut engine: Engine) -> anyhow::Result<()> {
     ensure!(!engine.is_spent(), "spent");
     out.put(" ")?;
     out.put_shown(&engine.position())?;

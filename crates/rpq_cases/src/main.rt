@@ -33,12 +33,17 @@
 //! - `engine WORKERS TEXT TUPLES`: what each tuple changes of the answers of the queries of a
 //!   queries file, `;` behind each, for an engine with this number of workers; then its position,
 //!   and for each query `|` and the answers with their ends.
+//! - `front WORKERS TEXT TUPLES`: the same, for an engine that takes all tuples at once, as a front.
 //! - `view SIZE SLIDE MODE EXPR FROM TO TUPLES`: the view after each tuple, `;` behind each: its
 //!   position, the number of answers, `+` where the pair of both names is one, else `-`, its end,
 //!   and behind `|` the targets of the first name with their ends.
 //! - `run PIECE OPENING WORDS QUERIES STREAM`: a run over the files `q` and `s`, read in pieces of
 //!   this length, where the opening of this number fails: its status, what it writes on the events,
 //!   and behind `|` what it tells on the errors.
+//! - `readers PIECE WORDS QUERIES ASKS STREAM STREAM`: a run over the files `q`, `a`, `s` and `t`,
+//!   read in pieces of this length: its status, how many entries its history has of each of the
+//!   streams 1 to 4, and how many in all; behind `|` what it tells on the errors, and behind another
+//!   `|` what on the replies. All are opened under these names, a stream as often as it is named.
 //! - `live SIZE SLIDE CLOCK TUPLES`: the places of the live entries, from 0, with their edges.
 //! - `clock TUPLES`: the clock of the history.
 //! - `tuple LINE`: the tuple of a line as it is written, `nothing`, or the fault of the line.
@@ -67,6 +72,7 @@ mod fields;
 mod files;
 mod output;
 mod queries;
+mod readers;
 mod request;
 mod runs;
 mod sources;
@@ -79,10 +85,11 @@ use request::Request;
 use std::alloc::Global;
 use std::io::{BufRead, BufReader};
 use std::random::RandomSource;
+use std::sync::Wait;
 use std::thread::Threads;
 
 /// Answers one request.
-fn answer<R: RandomSource + Threads + Sync>(
+fn answer<R: RandomSource + Threads + Wait + Sync>(
     rt: &R,
     alloc: Global,
     out: &mut Output,
@@ -104,7 +111,9 @@ fn answer<R: RandomSource + Threads + Sync>(
         Request::Rows => queries::answer_rows(alloc, out, fields),
         Request::View => views::answer_view(alloc, out, fields),
         Request::Run => runs::answer_run(rt, alloc, out, fields),
+        Request::Readers => readers::answer_readers(rt, alloc, out, fields),
         Request::Engine => engines::answer_engine(rt, alloc, out, fields),
+        Request::Front => engines::answer_front(rt, alloc, out, fields),
         Request::Live => queries::answer_live(alloc, out, fields),
         Request::Clock => queries::answer_clock(alloc, out, fields),
         Request::Tuple => texts::answer_tuple(alloc, out, fields),
@@ -121,7 +130,7 @@ fn answer<R: RandomSource + Threads + Sync>(
 }
 
 /// Answers one line.
-fn answer_line<R: RandomSource + Threads + Sync>(
+fn answer_line<R: RandomSource + Threads + Wait + Sync>(
     rt: &R,
     alloc: Global,
     out: &mut Output,

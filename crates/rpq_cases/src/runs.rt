@@ -9,13 +9,14 @@ use rpq_io::{MemoryFiles, MemorySink, OpenGate};
 use rpq_run::run;
 use std::alloc::Global;
 use std::random::RandomSource;
+use std::sync::Wait;
 use std::thread::Threads;
 
 /// How many bytes the events and the errors take.
 const ROOM: usize = 1 << 14;
 
 /// The status of a run, what it writes on the events, and what it tells on the errors.
-pub fn answer_run<R: RandomSource + Threads + Sync>(
+pub fn answer_run<R: RandomSource + Threads + Wait + Sync>(
     rt: &R,
     alloc: Global,
     out: &mut Output,

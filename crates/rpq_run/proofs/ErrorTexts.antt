@@ -8,10 +8,10 @@ use Rattle.std.specs.Io.KnownBytes.{append_known}
 use Rattle.std.proofs.lemmas.List.{append-nil, take-append-drop, take_more, drop_more, drop_all}
 use Rattle.std.proofs.lemmas.List.Concat.{flat_map-append}
 use Rattle.rpq_io.specs.Counts.{Rose, CountsFault}
-use Rattle.rpq_text.specs.declared.ends.StreamEnd.{StreamEnd}
+use Rattle.stream_tuples.specs.declared.ends.StreamEnd.{StreamEnd}
 use Rattle.rpq_text.specs.ErrorLines.{end_line, end_lines}
-use Rattle.rpq_run.specs.Written.{TellsLines}
-use Rattle.rpq_run.specs.Written.{GrewByPrefix, Tells}
+use Rattle.rpq_threads.specs.Written.{GrewByPrefix}
+use Rattle.rpq_run.specs.Written.{Tells, TellsLines}
 use Rattle.rpq_io.proofs.Bytes.{append_known-nil, append_known-append}
 
 abbrev pub Is : List ℕ → List ℕ → Type 0
@@ -46,7 +46,7 @@ pub counted_after : (fault : Type 0) (before between after : ℕ) → between �
 counted_after fault before between after same counts = subst (λ n. CountsFault fault n after) same counts
 
 -- of two texts that are nothing together the first is nothing
-nil_front : (front more : List ℕ) → front ++ more ≡ [] → front ≡ []
+pub nil_front : (front more : List ℕ) → front ++ more ≡ [] → front ≡ []
 nil_front [] more none = refl
 nil_front (byte ∷ front) more none = absurd cc
 

@@ -1,9 +1,10 @@
-mod Grows
-mod Feeding
-mod Emitting
-mod Checking
 mod ErrorTexts
-mod Reading
+mod Sinks
+mod Replying
+mod Totals
 mod Statuses
-mod Settings
+mod Done
+mod Running
+mod Refusals
 mod Tops
+mod Headlines

@@ -1,33 +1,30 @@
 -- What the check of a queries file does.
-use Rattle.std.specs.Prelude.{◌≡◌, ℕ, List, [], Contains, Option}
-use Rattle.rpq_base.specs.declared.data.Entry.{Entry}
-use Rattle.rpq_io.specs.Counts.{CountsFault}
+use Rattle.std.specs.Prelude.{◌≡◌, ℕ, List, [], Contains, Option, None}
 use Rattle.rpq_words.specs.Settings.{Settings}
 use Rattle.rpq_text.specs.declared.ends.SinkName.{SinkName}
 use Rattle.rpq_text.specs.declared.ends.SinkName.TheVariants.{Events}
-use Rattle.rpq_text.specs.declared.ends.StreamEnd.{StreamEnd}
-use Rattle.rpq_run.specs.Files.{IsQueriesFile, ForQueries}
-use Rattle.rpq_text.specs.Statuses.{AreSomeSinks, IsStatusOf}
 use Rattle.rpq_text.specs.Verdicts.{AreVerdicts}
-use Rattle.rpq_run.specs.Written.{WritesByStatus}
-use Rattle.rpq_text.specs.ErrorLines.{run_lines}
-use Rattle.rpq_run.specs.Written.{TellsLines}
+use Rattle.run_start.specs.Files.{IsQueriesFile, ForQueries}
+use Rattle.rpq_run.specs.Causes.{HasCauses}
+use Rattle.rpq_run.specs.Outcome.{Meanings, Sinks, Outcome}
+use Rattle.rpq_run.specs.Written.{WritesWhere}
 
--- the check: the queries file has queries, no stream is taken, and by the status the verdicts on
--- the queries are written, and by the status and the failed writes the lines on the errors
-pub record RunsCheck {S K : Type 0} (written : K → Option (List ℕ)) (failures : K → ℕ)
-    (given : Settings) (holds : List ℕ → Option (List ℕ))
-    (events_old events_new errors_old errors_new : K) (status : ℕ) (history : List Entry)
-    (ends : List StreamEnd) (sources : List S) : Type 0 where
+-- nothing was taken of a stream, and nothing answered
+pub record TakesNothing {S K : Type 0} (outcome : Outcome S K) : Type 0 where
+  pub no_history : outcome.history ≡ []
+  pub no_stream : outcome.ends ≡ []
+  pub no_session : outcome.sessions ≡ []
+  pub no_replies : outcome.replies ≡ None
+
+-- the check: the queries file has queries, nothing is taken and no source left, and the verdicts on
+-- the queries are written, or a prefix of them
+pub record RunsCheck {S K : Type 0} (means : Meanings S K) (given : Settings)
+    (holds : List ℕ → Option (List ℕ)) (sinks : Sinks K) (outcome : Outcome S K) : Type 0 where
   pub understood : IsQueriesFile (holds given.queries)
-  pub no_history : history ≡ []
-  pub no_stream : ends ≡ []
-  pub no_source : sources ≡ []
+  pub nothing : TakesNothing outcome
+  pub no_source : outcome.sources ≡ []
   pub failed : List SinkName
-  pub once : AreSomeSinks failed
-  pub events_failed : CountsFault (Contains failed Events)
-      (failures events_old) (failures events_new)
-  pub status_is : IsStatusOf ends failed status
-  pub text : ForQueries (holds given.queries) (λ all. WritesByStatus status (AreVerdicts all)
-      (written events_old) (written events_new))
-  pub told : TellsLines written failures (run_lines ends failed status) errors_old errors_new
+  pub text : ForQueries (holds given.queries) (λ queries.
+      WritesWhere (Contains failed Events) outcome.status (AreVerdicts queries)
+      (means.written sinks.events_old) (means.written sinks.events_new))
+  pub causes : HasCauses means failed sinks outcome

@@ -1,44 +1,85 @@
 -- What the run over streams does.
-use Rattle.std.specs.Prelude.{◌≡◌, ℕ, ◌≤◌, List, length, map, All, Contains, Option}
+use Rattle.std.specs.Prelude.{◌≡◌, ◌≢◌, ℕ, ◌≤◌, ◌⊎◌, ◌↔◌, List, [], length, map, take, All}
+use Rattle.std.specs.Prelude.{Contains, slice_get, Option, Some, is_some, option_map, IfSome}
+use Rattle.std.specs.List.{flat_map}
 use Rattle.rpq_base.specs.declared.data.Entry.{Entry}
-use Rattle.rpq_io.specs.Counts.{CountsFault}
+use Rattle.rpq_base.specs.declared.data.Event.{Event}
+use Rattle.rpq_base.specs.declared.data.Pair.{Pair}
+use Rattle.rpq_model.specs.Answers.{IsAnswer}
+use Rattle.rpq_model.specs.Events.{IsHeld}
+use Rattle.rpq_model.specs.Query.{Query, path_query}
+use Rattle.rpq_model.specs.QueryEvents.{AreAllEvents}
 use Rattle.rpq_words.specs.Settings.{Settings}
-use Rattle.rpq_text.specs.declared.ends.Why.{Why}
-use Rattle.rpq_text.specs.declared.ends.Why.TheVariants.{Write}
+use Rattle.ask_text.specs.Replies.{replies}
+use Rattle.stream_tuples.specs.History.{IsNumberOf, AreStreamsOf}
 use Rattle.rpq_text.specs.declared.ends.SinkName.{SinkName}
-use Rattle.rpq_text.specs.declared.ends.SinkName.TheVariants.{Events}
-use Rattle.rpq_text.specs.declared.ends.StreamEnd.{StreamEnd}
-use Rattle.rpq_text.specs.declared.ends.StreamEnd.TheVariants.{Full, Closed}
-use Rattle.rpq_run.specs.Files.{IsQueriesFile, ForQueries}
-use Rattle.rpq_run.specs.History.{IsNumberOf, AreStreamsOf}
-use Rattle.rpq_text.specs.Statuses.{AreSomeSinks, IsStatusOf}
+use Rattle.rpq_text.specs.declared.ends.SinkName.TheVariants.{Events, Replies}
+use Rattle.rpq_text.specs.Statuses.{memory_status}
 use Rattle.rpq_text.specs.Text.{IsText}
-use Rattle.rpq_run.specs.Written.{WritesByStatus}
-use Rattle.rpq_text.specs.ErrorLines.{run_lines}
-use Rattle.rpq_run.specs.Written.{TellsLines}
+use Rattle.run_start.specs.Files.{ForQueries, ForAsked, AreUnderstoodFiles}
+use Rattle.rpq_threads.specs.Runs.{AreSessionsOf}
+use Rattle.rpq_run.specs.Causes.{HasCauses}
+use Rattle.rpq_run.specs.Outcome.{Meanings, Sinks, Outcome}
+use Rattle.rpq_run.specs.Written.{WritesWhere}
 
--- the run over streams: the queries file has queries, and each stream's tuples stand in the
--- history, which has no other entries and isn't longer than the settings let it be; a stream is
--- full only where no write failed, and closed only for a failed write; by the ends and the failed
--- writes there is a status, by the status the text of the history is written, and by all three the
--- lines on the errors
-pub record RunsStreams {S K : Type 0} (left : S → Option (List ℕ)) (faults : S → ℕ)
-    (written : K → Option (List ℕ)) (failures : K → ℕ)
-    (given : Settings) (holds : List ℕ → Option (List ℕ))
-    (events_old events_new errors_old errors_new : K) (status : ℕ) (history : List Entry)
-    (ends : List StreamEnd) (sources : List S) : Type 0 where
-  pub understood : IsQueriesFile (holds given.queries)
-  pub each_stream : AreStreamsOf left faults given.history (map holds given.streams)
-      sources history ends
-  pub no_other : All (λ entry. IsNumberOf (length given.streams) entry.stream) history
-  pub few : length history ≤ given.history
+-- one history: each stream's tuples stand in it, in order, up to the stream's end, and nothing else
+-- does; it isn't longer than the settings let it be
+pub record HoldsStreams {S K : Type 0} (means : Meanings S K) (given : Settings)
+    (holds : List ℕ → Option (List ℕ)) (outcome : Outcome S K) : Type 0 where
+  pub each_stream : AreStreamsOf means.left means.faults given.history
+      (map holds given.streams) outcome.sources outcome.history outcome.ends
+  pub no_other : All (λ entry. IsNumberOf (length given.streams) entry.stream) outcome.history
+  pub few : length outcome.history ≤ given.history
+
+-- going through the events of the first blocks of the history's text leaves exactly each query's
+-- answers over as many entries
+abbrev pub FrontsHold : List Query → List Entry → Type 0
+FrontsHold queries history = (place : ℕ) (query : Query) (events : List (List Event))
+    → slice_get queries place ≡ Some query → AreAllEvents queries history events
+    → (count : ℕ) (pair : Pair) → IsHeld place (flat_map (λ list. list) (take count events)) pair
+    ↔ IsAnswer (path_query query) (take count history) pair
+
+-- the events: the text of the history was written, or a prefix of it, and after each block the
+-- pairs emitted and not retracted are the answers
+pub record WritesEvents {S K : Type 0} (means : Meanings S K) (given : Settings)
+    (holds : List ℕ → Option (List ℕ)) (failed : List SinkName) (sinks : Sinks K)
+    (outcome : Outcome S K) : Type 0 where
+  pub text : ForQueries (holds given.queries) (λ queries.
+      WritesWhere (Contains failed Events) outcome.status (IsText queries outcome.history)
+      (means.written sinks.events_old) (means.written sinks.events_new))
+  pub sets : ForQueries (holds given.queries) (λ queries. FrontsHold queries outcome.history)
+
+-- nothing, where what is written on the sink is told
+abbrev pub nothing_told : Option (List ℕ) → Option (List ℕ)
+nothing_told written = option_map (λ bytes. []) written
+
+-- the replies: each session's asks were answered in order, each at a position that never falls
+-- within the session, by what the history has there; no position is above the last one that was
+-- published, and a wait that was answered as ended has that one, which is the end of the history,
+-- unless a write of the events failed or memory ran out; all were answered, unless memory ran out;
+-- and their text was written, or a prefix of it
+pub record AnswersSessions {S K : Type 0} (means : Meanings S K) (given : Settings)
+    (holds : List ℕ → Option (List ℕ)) (failed : List SinkName) (outcome : Outcome S K)
+    : Type 0 where
+  pub last : ℕ
+  pub within : last ≤ length outcome.history
+  pub at_end : (last ≡ length outcome.history)
+      ⊎ (Contains failed Events ⊎ (outcome.status ≡ memory_status))
+  pub sessions : ForAsked given holds (λ queries asked.
+      AreSessionsOf queries outcome.history last asked outcome.sessions)
+  pub all : outcome.status ≢ memory_status → ForAsked given holds (λ queries asked.
+      map (λ own. map (λ one. one.ask) own) outcome.sessions ≡ asked)
+  pub sink : is_some outcome.replies ≡ is_some given.replies
+  pub text : IfSome outcome.replies (λ sink. WritesWhere (Contains failed Replies) outcome.status
+      (λ text. text ≡ replies (map (λ own. map (λ one. one.text) own) outcome.sessions))
+      (nothing_told (means.written sink)) (means.written sink))
+
+-- the run over streams
+pub record RunsStreams {S K : Type 0} (means : Meanings S K) (given : Settings)
+    (holds : List ℕ → Option (List ℕ)) (sinks : Sinks K) (outcome : Outcome S K) : Type 0 where
+  pub understood : AreUnderstoodFiles given holds
   pub failed : List SinkName
-  pub once : AreSomeSinks failed
-  pub events_failed : CountsFault (Contains failed Events)
-      (failures events_old) (failures events_new)
-  pub full : Contains ends Full → Contains failed Events → ⊥
-  pub closed : (why : Why) → Contains ends (Closed why) → (why ≡ Write) × Contains failed Events
-  pub status_is : IsStatusOf ends failed status
-  pub text : ForQueries (holds given.queries) (λ all. WritesByStatus status (IsText all history)
-      (written events_old) (written events_new))
-  pub told : TellsLines written failures (run_lines ends failed status) errors_old errors_new
+  pub history : HoldsStreams means given holds outcome
+  pub events : WritesEvents means given holds failed sinks outcome
+  pub replies : AnswersSessions means given holds failed outcome
+  pub causes : HasCauses means failed sinks outcome

@@ -1,38 +1,17 @@
--- What a sink grew by: a text of some kind, or a prefix of one.
-use Rattle.std.specs.Prelude.{◌≡◌, ◌≢◌, ℕ, List, [], ◌++◌, Option, Result, IsOk, IsErr}
+-- What a sink grew by, and what a call that was to write a text answered.
+use Rattle.std.specs.Prelude.{◌≡◌, ◌≢◌, ℕ, List, Option, Result, IsOk, IsErr}
 use Rattle.std.specs.Io.KnownBytes.{append_known}
 use Rattle.rpq_io.specs.Counts.{Rose, CountsFault}
 use Rattle.rpq_io.specs.Writes.{WritesProperPrefix}
-use Rattle.rpq_text.specs.Statuses.{write_status, memory_status}
+use Rattle.rpq_text.specs.Statuses.{memory_status}
+use Rattle.rpq_threads.specs.Written.{Grew, GrewByPrefix, GrewByProperPrefix}
 
--- a text of this kind was written, all of it
-pub record Grew (IsText : List ℕ → Type 0) (before after : Option (List ℕ)) : Type 0 where
-  pub text : List ℕ
-  pub of_kind : IsText text
-  pub written : after ≡ append_known before text
-
--- a prefix of such a text was written, perhaps all of it
-pub record GrewByPrefix (IsText : List ℕ → Type 0) (before after : Option (List ℕ)) : Type 0 where
-  pub front : List ℕ
-  pub rest : List ℕ
-  pub of_kind : IsText (front ++ rest)
-  pub written : after ≡ append_known before front
-
--- such a prefix, and not all of the text
-pub record GrewByProperPrefix (IsText : List ℕ → Type 0) (before after : Option (List ℕ))
-    : Type 0 where
-  pub front : List ℕ
-  pub rest : List ℕ
-  pub of_kind : IsText (front ++ rest)
-  pub proper : rest ≢ []
-  pub written : after ≡ append_known before front
-
--- a run with this status wrote a text of this kind: a proper prefix where a write failed, a prefix
--- where memory ran out, else all of it
-pub record WritesByStatus (status : ℕ) (IsText : List ℕ → Type 0) (before after : Option (List ℕ))
-    : Type 0 where
-  pub whole : status ≢ write_status → status ≢ memory_status → Grew IsText before after
-  pub write : status ≡ write_status → GrewByProperPrefix IsText before after
+-- a sink grew by a text of this kind: by all of it, where no write on it failed and memory didn't
+-- run out; by a proper prefix where a write failed; else by a prefix
+pub record WritesWhere (failed : Type 0) (status : ℕ) (IsText : List ℕ → Type 0)
+    (before after : Option (List ℕ)) : Type 0 where
+  pub whole : (failed → ⊥) → status ≢ memory_status → Grew IsText before after
+  pub part : failed → GrewByProperPrefix IsText before after
   pub memory : status ≡ memory_status → GrewByPrefix IsText before after
 
 -- a call that was to write this text on a sink answered this: the text was written, or a proper

@@ -3,21 +3,22 @@
 ghost use Rattle.std.specs.Prelude.{◌≡◌, IfSome, List, ℕ, Option, None, is_err};
 ghost use Rattle.std.specs.List.{flat_map};
 ghost use Rattle.rpq_words.specs.Settings.{Settings};
-ghost use Rattle.rpq_run.specs.Files.{HasQueries};
-ghost use Rattle.rpq_run.specs.Ready.{AreUnderstood};
 ghost use Rattle.rpq_text.specs.Definitions.{compiled_line, definitions_of};
-ghost use Rattle.rpq_run.specs.RunsCheck.{RunsCheck};
-ghost use Rattle.rpq_run.specs.Turns.{failed_sinks};
 ghost use Rattle.rpq_text.specs.WordTexts.{verdict_at_end, verdict_front};
+ghost use Rattle.run_start.specs.Files.{HasQueries};
+ghost use Rattle.run_start.specs.Ready.{AreUnderstood};
+ghost use Rattle.rpq_run.specs.Outcome.{meanings, outcome, sinks};
+ghost use Rattle.rpq_run.specs.RunsCheck.{RunsCheck};
 ghost use Rattle.rpq_run.specs.Written.{Tells};
 
 use crate::errors::tell_end;
 use crate::report::Report;
+use crate::streams::failed_sinks;
 use crate::word_texts::{end_with_words, put_piece};
 use containment_test::Verdict;
 use query_file::Compiled;
 use rpq_io::{Failed, Files, Sink};
-use rpq_text::{SinkName, first_status, name_of, verdict_front};
+use rpq_text::{first_status, name_of, verdict_front};
 use std::alloc::Global;
 
 /// The check of these queries: writes a line for each, and tells what went wrong.
@@ -31,11 +32,11 @@ pub fn run_check<F: Files>(
     ensures start { result.start ≡ None }
     ensures runs { (given : Settings) (holds : List ℕ → Option (List ℕ))
         → IfSome (holds given.queries) (λ bytes. HasQueries bytes (definitions_of queries.now))
-        → RunsCheck F.Sink.written F.Sink.faults given holds
-        events.old events.new errors.old errors.new
-        result.status result.history.items result.streams.items result.sources.items }
+        → RunsCheck (meanings F.Source.left F.Source.faults F.Sink.written F.Sink.faults)
+        given holds (sinks events.old events.new errors.old errors.new) (outcome result) }
 {
-    let failed = failed_sinks(&write_verdicts(events, queries));
+    let written = write_verdicts(events, queries);
+    let failed = failed_sinks(written.is_err(), false);
     let status = first_status(&[], failed);
     // A fault of the errors changes no status.
     let _ = tell_end(errors, &[], failed, status);
@@ -45,16 +46,8 @@ pub fn run_check<F: Files>(
         history: Vec::new(alloc),
         streams: Vec::new(alloc),
         sources: Vec::new(alloc),
-    }
-}
-
-/// The sinks of which a write failed: the events, where not all could be written on them.
-fn failed_sinks(written: &Result<(), Failed>) -> &'static [SinkName]
-    ensures { result.now ≡ failed_sinks (is_err written.now) }
-{
-    match written {
-        Ok(()) => &[],
-        Err(Failed) => &[SinkName::Events],
+        sessions: Vec::new(alloc),
+        replies: None,
     }
 }
 

@@ -10,17 +10,20 @@ ghost use Rattle.rpq_text.specs.Limits.{stream_limit};
 ghost use Rattle.rpq_text.specs.WordTexts.{not_contained_front, spaced_word};
 ghost use Rattle.rpq_run.specs.Written.{Tells};
 
-use crate::report::FIRST_STREAM;
 use crate::word_texts::end_with_words;
 use itoa::Buffer;
 use query_file::{QueryFault, QueryKind};
 use rpq_base::Word;
 use rpq_io::{Failed, Sink, put_all};
 use rpq_text::{
-    Line, SinkName, StartFault, StreamEnd, end_line, expr_line, file_line, line_of, memory_line,
-    not_contained_front, query_line, write_line,
+    Line, SinkName, StartFault, ask_fault_line, end_line, expr_line, file_line, line_of,
+    memory_line, not_contained_front, opening_line, query_line, read_line, write_line,
 };
 use rpq_words::usage_line;
+use stream_tuples::StreamEnd;
+
+/// The number of the first stream.
+const FIRST_STREAM: u32 = 1;
 
 /// Writes the line of a run that didn't begin.
 pub fn tell_start<S: Sink>(errors: &mut S, fault: &StartFault) -> Result<(), Failed>
@@ -29,8 +32,9 @@ pub fn tell_start<S: Sink>(errors: &mut S, fault: &StartFault) -> Result<(), Fai
     match fault {
         StartFault::Words => put_line(errors, &line_of(&["rpq: words\n", usage_line(), "\n"])),
         StartFault::Queries(fault) => tell_query(errors, fault),
-        StartFault::Open(which) => put_line(errors, &file_line("rpq: read failed: ", *which, "\n")),
-        StartFault::Read(which) => put_line(errors, &file_line("rpq: read failed: ", *which, "\n")),
+        StartFault::Asks(fault) => put_line(errors, &ask_fault_line(*fault)),
+        StartFault::Open(which) => put_line(errors, &opening_line(*which)),
+        StartFault::Read(which) => put_line(errors, &read_line(*which)),
         StartFault::Long(which) => put_line(errors, &file_line("rpq: ", *which, ": too long\n")),
         StartFault::NotYet => put_line(errors, &line_of(&["rpq: not yet\n"])),
         StartFault::Memory => put_line(errors, &line_of(&["rpq: memory\n"])),

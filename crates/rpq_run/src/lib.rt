@@ -1,30 +1,30 @@
-//! The top call: from the words and the files to the text of the events.
+//! The top call: from the words and the files to the texts of the events and the replies.
 //!
-//! The contract for the layer above is that of [`run`]: over a stream its history is tied to the
-//! bytes of the stream by the stream's end, and what it writes is the text of that history, or a
-//! prefix of it with its cause; where it checks queries it writes what there is to say of each; or
-//! it writes nothing and says why it didn't begin; and what went wrong is told on the errors. Each
-//! turn hands one entry to the engine.
+//! The contract for the layer above is that of [`run`]: over streams there is one history, in which
+//! each stream's tuples are those of its bytes by the stream's end; what is written on the events
+//! is the text of that history, and what the sessions are told are the answers at positions of it,
+//! or prefixes of these with their cause; where it checks queries it writes what there is to say of
+//! each; or it writes nothing and says why it didn't begin; and what went wrong is told on the
+//! errors. [`headline`] says the same of a run over streams that is done, in one piece.
 #![tactic(auto)]
 
-mod begin;
 mod check;
 mod errors;
-mod files;
-mod limits;
+mod laws;
+mod replies;
 mod report;
 mod room;
-mod run_stream;
-mod stream;
 mod streams;
 mod top;
-mod turns;
 mod word_texts;
-mod words;
 
+pub use ask_text::{Answered, Ask};
+pub use history_model::Why;
+pub use laws::headline;
 pub use report::Report;
 pub use rpq_text::{
-    SinkName, StartFault, StreamEnd, Which, Why, block_text, every_history_has_one_text,
-    fronts_hold_answers, line_examples, one_verdict_text, status, stream_by_parts,
+    SinkName, StartFault, Which, every_history_has_one_text, fronts_hold_answers, line_examples,
+    one_verdict_text, status,
 };
+pub use stream_tuples::{StreamEnd, stream_by_parts};
 pub use top::run;

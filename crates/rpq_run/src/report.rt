@@ -1,23 +1,23 @@
 //! What a run answers.
 
+use ask_text::Answered;
 use rpq_base::Entry;
 use rpq_io::Files;
-use rpq_text::{StartFault, StreamEnd};
-
-/// The number of the one stream of a run.
-pub const FIRST_STREAM: u32 = 1;
+use rpq_text::StartFault;
+use stream_tuples::StreamEnd;
 
 /// What a run answers.
 ///
 /// | Status | Where |
 /// |---|---|
-/// | 0 | the stream was read to its end, or the queries were checked |
+/// | 0 | every stream was read to its end, or the queries were checked |
 /// | 1 | the words have no settings |
 /// | 2 | the queries file has a fault |
-/// | 4 | a line of the stream is faulty or too long |
-/// | 5 | a file couldn't be opened or read |
-/// | 6 | a write of the events failed |
-/// | 7 | the history is full, or the stream or the queries file has too many bytes |
+/// | 3 | the asks file has a fault |
+/// | 4 | a line of a stream is faulty or too long |
+/// | 5 | a file to be read couldn't be opened or read |
+/// | 6 | a write of the events or the replies failed, or the replies couldn't be opened |
+/// | 7 | the history is full, or a file has too many bytes |
 /// | 8 | memory ran out |
 /// | 9 | the settings of the words aren't taken so far |
 ///
@@ -32,7 +32,11 @@ pub struct Report<F: Files> {
     pub history: Vec<Entry>,
     /// How each stream ended, in order. Where the run didn't begin, or is a check, there is none.
     pub streams: Vec<StreamEnd>,
-    /// The source of each stream, as the run leaves it; where a read of the queries file failed,
-    /// that file's source.
+    /// The source of each stream, as the run leaves it; where a read of the queries file or the
+    /// asks file failed, that file's source.
     pub sources: Vec<F::Source>,
+    /// The asks of each session that were answered, in order.
+    pub sessions: Vec<Vec<Answered>>,
+    /// The sink of the replies, if there is one, as the run leaves it.
+    pub replies: Option<F::Sink>,
 }

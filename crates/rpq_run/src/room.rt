@@ -1,15 +1,13 @@
-//! Room for what a report says of its stream.
+//! Room for a source that a refusal leaves.
 
-ghost use Rattle.std.specs.Prelude.{◌≡◌, ◌≤◌, ◌∷◌, [], IfOk, option_to_list, vec_capacity};
+ghost use Rattle.std.specs.Prelude.{◌≡◌, IfOk, option_to_list};
 
-use rpq_text::StreamEnd;
 use std::alloc::{AllocError, Global};
 
-/// Room for the end of the stream and for a source. It is taken before the first file is opened, so
-/// that a stream's end, and a failed read with its source, can be told whatever comes.
+/// Room for one source. It is taken before the first file is opened, so that a failed read can be
+/// told with its source, whatever comes.
 #[derive(Drop)]
 pub struct Room<S> {
-    ends: Vec<StreamEnd>,
     sources: Vec<S>,
 }
 
@@ -21,7 +19,6 @@ impl<S> Room<S> {
         ensures { IfOk result IsRoom }
     {
         Ok(Room {
-            ends: Vec::with_capacity(alloc, 1)?,
             sources: Vec::with_capacity(alloc, 1)?,
         })
     }
@@ -31,30 +28,10 @@ impl<S> Room<S> {
         requires { IsRoom self }
         ensures { result.items ≡ option_to_list source }
     {
-        with_member(self.sources, source)
+        let mut sources = self.sources;
+        if let Some(source) = source {
+            sources.push_reserved(source);
+        }
+        sources
     }
-
-    /// The lists of the one end and the one source.
-    pub fn of_stream(self, end: StreamEnd, source: S) -> (Vec<StreamEnd>, Vec<S>)
-        requires { IsRoom self }
-        ensures ends { result.0.items ≡ end ∷ [] }
-        ensures sources { result.1.items ≡ source ∷ [] }
-    {
-        (
-            with_member(self.ends, Some(end)),
-            with_member(self.sources, Some(source)),
-        )
-    }
-}
-
-/// The empty list, which has room for the member, with it, if there is one.
-fn with_member<T>(mut list: Vec<T>, member: Option<T>) -> Vec<T>
-    requires empty { list.items ≡ [] }
-    requires room { 1 ≤ vec_capacity list }
-    ensures { result.items ≡ option_to_list member }
-{
-    if let Some(member) = member {
-        list.push_reserved(member);
-    }
-    list
 }

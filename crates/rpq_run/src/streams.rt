@@ -1,58 +1,100 @@
 //! The run over streams.
 
-ghost use Rattle.std.specs.Prelude.{◌≡◌, List, ℕ, Option, None, IfSome};
-ghost use Rattle.rpq_run.specs.Files.{HasQueries};
-ghost use Rattle.rpq_run.specs.Ready.{AreTaken, AreUnderstood, IsNewReader, ReadsStream};
-ghost use Rattle.rpq_text.specs.Definitions.{definitions_of};
-ghost use Rattle.rpq_run.specs.Room.{IsRoom};
+ghost use Rattle.std.specs.Prelude.{◌≡◌, List, ℕ, Option, None, Some, Err, true, IfOk, OnErr};
+ghost use Rattle.rpq_words.specs.Settings.{Settings};
+ghost use Rattle.rpq_threads.specs.Runs.{IsTask};
+ghost use Rattle.rpq_run.specs.Failed.{failed_sinks, is_failed, is_write};
+ghost use Rattle.rpq_run.specs.Outcome.{meanings, outcome, sinks};
 ghost use Rattle.rpq_run.specs.RunsStreams.{RunsStreams};
+ghost use Rattle.rpq_run.specs.Asked.{IsAsked};
 
 use crate::errors::tell_end;
+use crate::replies::{RepliesFault, write_replies};
 use crate::report::Report;
-use crate::room::Room;
-use crate::run_stream::{StreamRun, run_stream};
-use query_file::Compiled;
-use rpq_io::{Context, Files, Gate, LineReader};
-use rpq_text::first_status;
-use rpq_words::Chosen;
+use history_model::Why;
+use rpq_base::Memory;
+use rpq_io::{Context, Files, Gate};
+use rpq_text::{SinkName, fronts_hold_answers, run_status};
+use rpq_threads::{Outcome, Task, run_threads};
 use std::random::RandomSource;
+use std::sync::Wait;
 use std::thread::Threads;
 
-/// The run over streams: takes the tuples one turn after another, and tells what went wrong. There
-/// is one stream so far.
-pub fn run_streams<R: Threads + RandomSource + Sync, G: Gate, F: Files>(
+/// The run over streams: takes their tuples and answers the sessions, writes the replies, and tells
+/// what went wrong. The only error is [`Memory`], before anything is written.
+pub fn run_streams<R: Threads + Wait + RandomSource + Sync, G: Gate, F: Files>(
     context: &Context<'_, R, G>,
-    chosen: &Chosen,
-    queries: Vec<Compiled>,
-    mut reader: LineReader<F::Source>,
-    room: Room<F::Source>,
+    task: Task<F::Source>,
+    mut replies: Option<F::Sink>,
     events: &mut F::Sink,
     errors: &mut F::Sink,
-) -> Report<F>
-    requires taken { AreTaken chosen.now }
-    requires understood { AreUnderstood queries.items }
-    requires fresh { IsNewReader F.Source.left F.Source.faults reader }
-    requires room { IsRoom room }
-    ensures start { result.start ≡ None }
-    ensures runs { (holds : List ℕ → Option (List ℕ))
-        → IfSome (holds chosen.now.queries)
-        (λ bytes. HasQueries bytes (definitions_of queries.items))
-        → ReadsStream F.Source.left F.Source.faults chosen.now holds reader
-        → RunsStreams F.Source.left F.Source.faults F.Sink.written F.Sink.faults
-        chosen.now holds events.old events.new errors.old errors.new
-        result.status result.history.items result.streams.items result.sources.items }
+) -> Result<Report<F>, Memory>
+    requires { IsTask F.Source.left F.Source.faults task }
+    ensures start { IfOk result (λ report. report.start ≡ None) }
+    ensures runs { IfOk result (λ report. (given : Settings) (holds : List ℕ → Option (List ℕ))
+        → IsAsked F.Source.left F.Sink.written F.Sink.faults given holds task replies
+        → RunsStreams (meanings F.Source.left F.Source.faults F.Sink.written F.Sink.faults)
+        given holds (sinks events.old events.new errors.old errors.new) (outcome report)) }
+    ensures events_kept { OnErr result (events.new ≡ events.old) }
+    ensures errors_kept { OnErr result (errors.new ≡ errors.old) }
 {
-    let StreamRun { history, stop } = run_stream(context, chosen, queries, &mut reader, events);
-    let (streams, sources) = room.of_stream(stop.end(), reader.into_source());
-    let failed = stop.failed_sinks();
-    let status = first_status(&streams, failed);
+    fronts_hold_answers(); // called for its clause
+    let Outcome {
+        history,
+        ends,
+        sources,
+        sessions,
+        why,
+        short_of_memory,
+    } = run_threads(context, task, events)?;
+    let replied = write_replies(context.alloc, &mut replies, &sessions);
+    let failed = failed_sinks(is_write(why), is_failed(replied));
+    let short_of_memory = is_short_of_memory(short_of_memory, why, replied);
+    let status = run_status(&ends, failed, short_of_memory);
     // A fault of the errors changes no status.
-    let _ = tell_end(errors, &streams, failed, status);
-    Report {
+    let _ = tell_end(errors, &ends, failed, status);
+    Ok(Report {
         status,
         start: None,
         history,
-        streams,
+        streams: ends,
         sources,
+        sessions,
+        replies,
+    })
+}
+
+/// Whether a write of the events failed.
+fn is_write(why: Option<Why>) -> bool
+    ensures { result ≡ is_write why }
+{
+    matches!(why, Some(Why::Write))
+}
+
+/// Whether a write of the replies failed.
+fn is_failed(replied: Result<(), RepliesFault>) -> bool
+    ensures { result ≡ is_failed replied }
+{
+    matches!(replied, Err(RepliesFault::Write))
+}
+
+/// Whether memory ran out: for a session, for the engine, or for the text of the replies.
+fn is_short_of_memory(session: bool, why: Option<Why>, replied: Result<(), RepliesFault>) -> bool
+    ensures sessions { session ≡ true → result ≡ true }
+    ensures engine { why ≡ Some Why.Memory → result ≡ true }
+    ensures replies { replied ≡ Err RepliesFault.Memory → result ≡ true }
+{
+    session || matches!(why, Some(Why::Memory)) || matches!(replied, Err(RepliesFault::Memory))
+}
+
+/// The sinks of which a write failed.
+pub fn failed_sinks(events: bool, replies: bool) -> &'static [SinkName]
+    ensures { result.now ≡ failed_sinks events replies }
+{
+    match (events, replies) {
+        (false, false) => &[],
+        (false, true) => &[SinkName::Replies],
+        (true, false) => &[SinkName::Events],
+        (true, true) => &[SinkName::Events, SinkName::Replies],
     }
 }

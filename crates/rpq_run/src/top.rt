@@ -1,43 +1,43 @@
 //! The top call, [`run`].
 
-ghost use Rattle.std.specs.Prelude.{◌≡◌, false, ◌⊎◌, ℕ, List, [], None, Some, IsNone, IfSome};
-ghost use Rattle.std.specs.Prelude.{MatchBool};
+ghost use Rattle.std.specs.Prelude.{◌≡◌, false, ◌⊎◌, [], None, Some, IsNone, IfSome};
 ghost use Rattle.rpq_words.specs.Settings.{settings, texts};
-ghost use Rattle.rpq_run.specs.Files.{CanBeDone};
 ghost use Rattle.rpq_text.specs.ErrorLines.{start_line};
-ghost use Rattle.rpq_run.specs.Written.{TellsLines};
-ghost use Rattle.rpq_run.specs.Given.{is_not_yet, file_names};
-ghost use Rattle.rpq_run.specs.Run.{IsBegun, IsDecided, Refuses, ReadsFiles, NothingRose};
-ghost use Rattle.rpq_run.specs.Run.{NothingFails};
-ghost use Rattle.rpq_run.specs.RunsCheck.{RunsCheck};
-ghost use Rattle.rpq_run.specs.RunsStreams.{RunsStreams};
 ghost use Rattle.rpq_text.specs.Statuses.{done_status, memory_status, status_of_start};
+ghost use Rattle.run_start.specs.Given.{is_not_yet};
+ghost use Rattle.run_start.specs.Start.{IsDecided, UsesFiles};
+ghost use Rattle.rpq_run.specs.Done.{CanBeDone, NothingRose, NothingFails};
+ghost use Rattle.rpq_run.specs.Outcome.{meanings, openings, outcome, sinks};
+ghost use Rattle.rpq_run.specs.Run.{IsBegun, Refuses, Runs};
+ghost use Rattle.rpq_run.specs.Written.{TellsLines};
 
-use crate::begin::{Ready, begin};
 use crate::check::run_check;
 use crate::errors::tell_start;
-use crate::files::Refusal;
 use crate::report::Report;
 use crate::room::Room;
 use crate::streams::run_streams;
-use crate::words::settings_of;
+use rpq_base::Memory;
 use rpq_io::{Context, Files, Gate};
 use rpq_text::StartFault;
+use rpq_threads::Task;
+use run_start::{Reads, Ready, Refusal, begin, settings_of};
 use std::alloc::Global;
 use std::random::RandomSource;
+use std::sync::Wait;
 use std::thread::Threads;
 
-/// Reads queries and a stream, and writes on `events` how each tuple of the stream changes the
-/// answers of each query; or checks the queries, and writes on `events` what there is to say of
-/// each.
+/// Reads queries and streams, and writes on `events` how each tuple changes the answers of each
+/// query; answers the asks of sessions meanwhile, and writes the replies; or checks the queries,
+/// and writes on `events` what there is to say of each.
 ///
 /// The words are those of the command line, the program's name first. The queries file is read
-/// whole, and its queries are understood before the stream is opened. The stream is read line by
-/// line: each tuple is put into the history, the engine takes it, and the block of the entry is
-/// written before the next line is read. With `--check` no stream is opened. What went wrong is
-/// told on `errors`. The gate is told of the engine's workers, and no clause rests on it. The
-/// clauses on contents stand where the files and the sinks tell them.
-pub fn run<R: Threads + RandomSource + Sync, F: Files, G: Gate>(
+/// whole and understood, then the asks file, then the streams are opened, and at last the replies.
+/// Each stream and each session has a thread of its own, and this thread is the engine's: it takes
+/// the entries of the one history in their order and writes the block of each. With `--check` no
+/// other file is opened. What went wrong is told on `errors`. The gate is told of the engine's
+/// workers and of the replies, and no clause rests on it. The clauses on contents stand where the
+/// files and the sinks tell them.
+pub fn run<R: Threads + Wait + RandomSource + Sync, F: Files, G: Gate>(
     rt: &R,
     alloc: Global,
     words: &[String],
@@ -49,33 +49,33 @@ pub fn run<R: Threads + RandomSource + Sync, F: Files, G: Gate>(
     // A run that begins is the one over streams or the check that its settings ask for; one that
     // doesn't says why.
     ensures begun { IsNone result.start → IsBegun (settings (texts words.now)) (λ given.
-        MatchBool given.check
-        (RunsCheck F.Sink.written F.Sink.faults given (F.holds files.old)
-        events.old events.new errors.old errors.new
-        result.status result.history.items result.streams.items result.sources.items)
-        (RunsStreams F.Source.left F.Source.faults F.Sink.written F.Sink.faults
-        given (F.holds files.old) events.old events.new errors.old errors.new
-        result.status result.history.items result.streams.items result.sources.items)) }
-    ensures refused { IfSome result.start (Refuses F.Source.left F.Source.faults
-        F.Sink.written F.Sink.faults (settings (texts words.now)) (F.holds files.old)
-        events.old events.new errors.old errors.new
-        result.status result.history.items result.streams.items result.sources.items) }
+        Runs (meanings F.Source.left F.Source.faults F.Sink.written F.Sink.faults) given
+        (F.holds files.old) (sinks events.old events.new errors.old errors.new)
+        (outcome result)) }
+    ensures refused { IfSome result.start (Refuses
+        (meanings F.Source.left F.Source.faults F.Sink.written F.Sink.faults)
+        (settings (texts words.now)) (F.holds files.old)
+        (sinks events.old events.new errors.old errors.new) (outcome result)) }
     ensures words { IsDecided (settings (texts words.now)) result.start }
 
     // What it does to the files, and when nothing fails.
-    ensures files { ReadsFiles F.holds F.opened F.made F.unread F.unmade
+    ensures files { UsesFiles F.holds F.opened F.made F.unread F.unmade
         (settings (texts words.now)) result.start files.old files.new }
-    ensures done { result.status ≡ done_status → NothingFails F.Source.faults
-        (F.unread files.old) (F.unread files.new)
-        (F.Sink.faults events.old) (F.Sink.faults events.new) result.sources.items }
+    ensures done { result.status ≡ done_status → NothingFails
+        (meanings F.Source.left F.Source.faults F.Sink.written F.Sink.faults)
+        (settings (texts words.now)) (F.holds files.old)
+        (openings (F.unread files.old) (F.unread files.new)
+        (F.unmade files.old) (F.unmade files.new))
+        (sinks events.old events.new errors.old errors.new) (outcome result) }
 
     // With settings that are taken so far, all files told and without a fault, tuples that the
     // history can hold, and no count risen, all is done, unless memory ran out.
     ensures complete { IfSome (settings (texts words.now)) (λ given. is_not_yet given ≡ false
-        → CanBeDone given (F.holds files.old)
-        → NothingRose F.Source.faults (file_names given)
-        (F.unread files.old) (F.unread files.new)
-        (F.Sink.faults events.old) (F.Sink.faults events.new) result.sources.items
+        → CanBeDone given (F.holds files.old) → NothingRose
+        (meanings F.Source.left F.Source.faults F.Sink.written F.Sink.faults) given
+        (openings (F.unread files.old) (F.unread files.new)
+        (F.unmade files.old) (F.unmade files.new))
+        (sinks events.old events.new errors.old errors.new) (outcome result)
         → (result.status ≡ done_status) ⊎ (result.status ≡ memory_status)) }
 {
     let chosen = match settings_of(alloc, words) {
@@ -85,18 +85,33 @@ pub fn run<R: Threads + RandomSource + Sync, F: Files, G: Gate>(
     let Ok(room) = Room::new(alloc) else {
         return report_of_refusal(alloc, StartFault::Memory, Vec::new(alloc), errors);
     };
-    let Ready { queries, reader } = match begin(alloc, files, &chosen) {
+    let Ready { queries, reads } = match begin(alloc, files, &chosen) {
         Ok(ready) => ready,
         Err(Refusal { fault, source }) => {
             return report_of_refusal(alloc, fault, room.of_source(source), errors);
         }
     };
-    match reader {
-        Some(reader) => {
-            let context = Context { rt, alloc, gate };
-            run_streams(&context, &chosen, queries, reader, room, events, errors)
-        }
-        None => run_check(alloc, &queries, events, errors),
+    let Some(
+        Reads {
+            readers,
+            sessions,
+            replies,
+        },
+    ) = reads
+    else {
+        return run_check(alloc, &queries, events, errors);
+    };
+    let context = Context { rt, alloc, gate };
+    let task = Task {
+        queries,
+        workers: chosen.workers,
+        limit: chosen.history,
+        readers,
+        sessions,
+    };
+    match run_streams(&context, task, replies, events, errors) {
+        Ok(report) => report,
+        Err(Memory) => report_of_refusal(alloc, StartFault::Memory, Vec::new(alloc), errors),
     }
 }
 
@@ -112,6 +127,8 @@ fn report_of_refusal<F: Files>(
     ensures history { result.history.items ≡ [] }
     ensures streams { result.streams.items ≡ [] }
     ensures sources { result.sources.items ≡ sources.items }
+    ensures sessions { result.sessions.items ≡ [] }
+    ensures replies { result.replies ≡ None }
     ensures errors { TellsLines F.Sink.written F.Sink.faults (start_line fault)
         errors.old errors.new }
 {
@@ -123,5 +140,7 @@ fn report_of_refusal<F: Files>(
         history: Vec::new(alloc),
         streams: Vec::new(alloc),
         sources,
+        sessions: Vec::new(alloc),
+        replies: None,
     }
 }

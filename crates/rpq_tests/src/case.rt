@@ -4,6 +4,7 @@ use rpq_io::{Gate, MemoryFiles, MemorySink, OpenGate};
 use rpq_run::run;
 use std::alloc::Global;
 use std::random::RandomSource;
+use std::sync::Wait;
 use std::test::Fail;
 use std::thread::Threads;
 
@@ -59,7 +60,7 @@ pub fn path<'a>() -> Case<'a> {
 }
 
 /// Whether the runs of all the cases answer what they are to.
-pub fn all_hold<R: Threads + RandomSource + Sync>(
+pub fn all_hold<R: Threads + Wait + RandomSource + Sync>(
     rt: &R,
     alloc: Global,
     cases: &[Case],
@@ -73,7 +74,7 @@ pub fn all_hold<R: Threads + RandomSource + Sync>(
 }
 
 /// Whether the run of the case answers what it is to.
-pub fn holds<R: Threads + RandomSource + Sync>(
+pub fn holds<R: Threads + Wait + RandomSource + Sync>(
     rt: &R,
     alloc: Global,
     case: &Case,
@@ -82,7 +83,7 @@ pub fn holds<R: Threads + RandomSource + Sync>(
 }
 
 /// Whether the run of the case, whose workers pass this gate, answers what it is to.
-pub fn holds_behind<R: Threads + RandomSource + Sync, G: Gate>(
+pub fn holds_behind<R: Threads + Wait + RandomSource + Sync, G: Gate>(
     rt: &R,
     alloc: Global,
     case: &Case,
@@ -112,7 +113,7 @@ fn sink(alloc: Global, room: usize, piece: usize, failing: &[u64]) -> Result<Mem
 }
 
 /// The program's name, and these words after it.
-fn words_of(alloc: Global, rest: &[&str]) -> Result<Vec<String>, Fail> {
+pub fn words_of(alloc: Global, rest: &[&str]) -> Result<Vec<String>, Fail> {
     let mut words = Vec::new(alloc);
     words.push(String::from_str(alloc, "rpq")?)?;
     for word in rest {

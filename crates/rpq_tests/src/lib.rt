@@ -1,10 +1,11 @@
-//! Runs of [`rpq_run::run`] over files and sinks in memory, sources and sinks that fail, and
-//! nothing but tests.
+//! Runs of [`rpq_run::run`] over files and sinks in memory, sources and sinks that fail, threads
+//! that wait for each other, and nothing but tests.
 //!
 //! The runs show by worked examples what no clause of `run` says: that a run with memory enough
-//! never answers that memory ran out, and which bytes it writes, whichever call of a file or a sink
-//! fails. Each is a row of a table: what the run is given, and what it is to answer. Runs in which
-//! no call fails are requests of `rpq_cases`.
+//! never answers that memory ran out, which bytes it writes, whichever call of a file or a sink
+//! fails, and that streams, readers and the engine go on at the same time. Each is a row of a table:
+//! what the run is given, and what it is to answer. Runs in which no call fails are requests of
+//! `rpq_cases`.
 #![tactic(auto)]
 
 #[cfg(test)]
@@ -14,6 +15,8 @@ mod edge;
 #[cfg(test)]
 mod faults;
 #[cfg(test)]
-mod turns;
+mod readers;
+#[cfg(test)]
+mod streams;
 #[cfg(test)]
 mod workers;

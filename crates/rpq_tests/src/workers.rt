@@ -5,6 +5,7 @@ use rpq_io::{Gate, OpenGate, Who};
 use std::alloc::Global;
 use std::hint::spin_loop;
 use std::random::RandomSource;
+use std::sync::Wait;
 use std::sync::atomic::AtomicU64;
 use std::sync::atomic::Ordering::SeqCst;
 use std::test::Fail;
@@ -95,7 +96,7 @@ fn two_workers<'a>() -> Case<'a> {
 
 /// Whether the run of the case answers what it is to behind a gate by which a change is shared from
 /// so many trees on, and whether a worker was found waiting in it is as wanted.
-fn holds_and_meets<R: Threads + RandomSource + Sync>(
+fn holds_and_meets<R: Threads + Wait + RandomSource + Sync>(
     rt: &R,
     alloc: Global,
     case: &Case,

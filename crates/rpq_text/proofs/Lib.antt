@@ -3,5 +3,3 @@ pub mod Texts
 mod Fronts
 pub mod WordPieces
 pub mod VerdictLines
-pub mod StreamTexts
-mod ByParts

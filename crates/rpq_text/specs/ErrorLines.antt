@@ -3,23 +3,28 @@ use Rattle.std.specs.Prelude.{ℕ, ◌+◌, ◌==◌, List, [], ◌∷◌, ◌++
 use Rattle.std.specs.List.{flat_map}
 use Rattle.tuple_text.specs.FaultTexts.{fault_text}
 use Rattle.query_file.specs.FaultTexts.{query_kind_text}
+use Rattle.ask_text.specs.FaultTexts.{ask_kind_text}
 use Rattle.rpq_words.specs.Usage.{usage}
+use Rattle.stream_tuples.specs.declared.ends.StreamEnd.{StreamEnd}
+use Rattle.stream_tuples.specs.declared.ends.StreamEnd.TheVariants.{Whole, Line, LongLine}
+use Rattle.stream_tuples.specs.declared.ends.StreamEnd.TheVariants.{LongStream, Read, Full, Closed}
+use Rattle.stream_tuples.specs.declared.ends.StreamEnd.TheVariants.{Memory}
 use Rattle.rpq_text.specs.declared.ends.Which.{Which}
-use Rattle.rpq_text.specs.declared.ends.Which.TheVariants.{Queries, Stream}
+use Rattle.rpq_text.specs.declared.ends.Which.TheVariants.{Queries, Asks, Replies, Stream}
 use Rattle.rpq_text.specs.declared.ends.SinkName.{SinkName}
-use Rattle.rpq_text.specs.declared.ends.SinkName.TheVariants.{Events}
+use Rattle.rpq_text.specs.declared.ends.SinkName.TheVariants.{Events, Replies as RepliesSink}
 use Rattle.rpq_text.specs.declared.ends.StartFault.{StartFault}
 use Rattle.rpq_text.specs.declared.ends.StartFault.TheVariants.{Words, Queries as QueriesFault}
-use Rattle.rpq_text.specs.declared.ends.StartFault.TheVariants.{Open, Read as ReadAtStart, Long}
-use Rattle.rpq_text.specs.declared.ends.StartFault.TheVariants.{NotYet, Memory as MemoryAtStart}
-use Rattle.rpq_text.specs.declared.ends.StreamEnd.{StreamEnd}
-use Rattle.rpq_text.specs.declared.ends.StreamEnd.TheVariants.{Whole, Line, LongLine, LongStream}
-use Rattle.rpq_text.specs.declared.ends.StreamEnd.TheVariants.{Read, Full, Closed, Memory}
+use Rattle.rpq_text.specs.declared.ends.StartFault.TheVariants.{Asks as AsksFault, Open}
+use Rattle.rpq_text.specs.declared.ends.StartFault.TheVariants.{Read as ReadAtStart, Long, NotYet}
+use Rattle.rpq_text.specs.declared.ends.StartFault.TheVariants.{Memory as MemoryAtStart}
 use Rattle.rpq_text.specs.Statuses.{memory_status}
 
 -- a file, as the lines name it
 abbrev pub file_text : Which → List ℕ
 file_text Queries = codes "queries"
+file_text Asks = codes "asks"
+file_text Replies = codes "replies"
 file_text (Stream number) = codes "stream " ++ decimal number
 
 -- what is said of the line of the queries file with this number
@@ -27,13 +32,36 @@ unfoldable pub query_text : ℕ → List ℕ → List ℕ
 query_text line text =
     codes "rpq: queries line " ++ (decimal line ++ (codes ": " ++ (text ++ codes "\n")))
 
+-- what is said of the line of the asks file with this number
+unfoldable pub asks_text : ℕ → List ℕ → List ℕ
+asks_text line text =
+    codes "rpq: asks line " ++ (decimal line ++ (codes ": " ++ (text ++ codes "\n")))
+
+-- the line of a failed read of a file
+abbrev pub read_line : Which → List ℕ
+read_line which = codes "rpq: read failed: " ++ file_text which ++ codes "\n"
+
+-- the line of a failed write of a sink
+abbrev pub write_line : SinkName → List ℕ
+write_line Events = codes "rpq: write failed: events\n"
+write_line RepliesSink = codes "rpq: write failed: replies\n"
+
+-- the line of a file that couldn't be opened: the replies were to be written, and the others to be
+-- read
+abbrev pub opening_line : Which → List ℕ
+opening_line Queries = read_line Queries
+opening_line Asks = read_line Asks
+opening_line Replies = write_line RepliesSink
+opening_line (Stream number) = read_line (Stream number)
+
 -- the line of a run that didn't begin; where the words are refused, a second one says how the
 -- command is used
 abbrev pub start_line : StartFault → List ℕ
 start_line Words = codes "rpq: words\n" ++ (usage ++ codes "\n")
 start_line (QueriesFault fault) = query_text fault.line (query_kind_text fault.kind)
-start_line (Open which) = codes "rpq: read failed: " ++ file_text which ++ codes "\n"
-start_line (ReadAtStart which) = codes "rpq: read failed: " ++ file_text which ++ codes "\n"
+start_line (AsksFault fault) = asks_text fault.line (ask_kind_text fault.kind)
+start_line (Open which) = opening_line which
+start_line (ReadAtStart which) = read_line which
 start_line (Long which) = codes "rpq: " ++ file_text which ++ codes ": too long\n"
 start_line NotYet = codes "rpq: not yet\n"
 start_line MemoryAtStart = codes "rpq: memory\n"
@@ -51,7 +79,7 @@ end_line stream Whole = []
 end_line stream (Line line fault) = line_text stream line (fault_text fault)
 end_line stream (LongLine line) = line_text stream line (codes "too long")
 end_line stream LongStream = codes "rpq: " ++ file_text (Stream stream) ++ codes ": too long\n"
-end_line stream Read = codes "rpq: read failed: " ++ file_text (Stream stream) ++ codes "\n"
+end_line stream Read = read_line (Stream stream)
 end_line stream Full = codes "rpq: " ++ file_text (Stream stream) ++ codes ": history full\n"
 end_line stream (Closed why) = []
 end_line stream Memory = []
@@ -60,10 +88,6 @@ end_line stream Memory = []
 abbrev pub end_lines : ℕ → List StreamEnd → List ℕ
 end_lines number [] = []
 end_lines number (end ∷ ends) = end_line number end ++ end_lines (number + 1) ends
-
--- the line of a failed write of a sink
-abbrev pub write_line : SinkName → List ℕ
-write_line Events = codes "rpq: write failed: events\n"
 
 -- the line for out of memory, on the status of that
 unfoldable pub memory_line : ℕ → List ℕ

@@ -6,8 +6,13 @@ use Rattle.path_syntax.specs.Expression.{Atom}
 use Rattle.rpq_model.specs.declared.mode.Mode.{Mode}
 use Rattle.rpq_model.specs.declared.mode.Mode.TheVariants.{Arbitrary, Simple}
 use Rattle.rpq_model.specs.Query.{Query}
-use Rattle.rpq_text.specs.declared.ends.StartFault.TheVariants.{Words}
-use Rattle.rpq_text.specs.ErrorLines.{start_line}
+use Rattle.ask_text.specs.declared.fault.AskKind.{AskKind}
+use Rattle.ask_text.specs.declared.fault.AskKind.TheVariants.{Shape, UnknownQuery}
+use Rattle.rpq_text.specs.declared.ends.Which.TheVariants.{Replies, Stream}
+use Rattle.rpq_text.specs.declared.ends.SinkName.TheVariants.{Events, Replies as RepliesSink}
+use Rattle.rpq_text.specs.declared.ends.StartFault.{StartFault}
+use Rattle.rpq_text.specs.declared.ends.StartFault.TheVariants.{Words, Asks, Open}
+use Rattle.rpq_text.specs.ErrorLines.{start_line, run_lines}
 use Rattle.rpq_text.specs.Verdicts.{verdict_line}
 
 -- the label with a name
@@ -23,8 +28,13 @@ query_named name mode = record {
   expr = Atom (label_named (codes "a"));
 }
 
--- a verdict yes; a verdict no, whose first word is empty and whose last has two labels; and the
--- lines for words that are refused
+-- a run that doesn't begin for this kind of fault in this line of the asks file
+abbrev pub asks_fault : ℕ → AskKind → StartFault
+asks_fault line kind = Asks (record { line = line; kind = kind })
+
+-- a verdict yes; a verdict no, whose first word is empty and whose last has two labels; the lines
+-- for words that are refused, for faults of an asks file, and for files that can't be opened; and
+-- those of a run in which writes of both sinks failed
 pub record LineExamples : Type 0 where
   pub yes : verdict_line (query_named (codes "r") Simple) 2 Yes ≡ codes "r simple states 2 yes\n"
   pub no : verdict_line (query_named (codes "p") Arbitrary) 3
@@ -33,3 +43,10 @@ pub record LineExamples : Type 0 where
       ≡ codes "p arbitrary states 3 no () a b/\"c|d\"\n"
   pub words : start_line Words ≡ codes "rpq: words\nusage: rpq [--workers N] [--history N] "
       ++ codes "[--asks FILE --replies FILE] [--check] [--generate N] QUERIES [STREAM...]\n"
+  pub shape : start_line (asks_fault 1 Shape) ≡ codes "rpq: asks line 1: shape\n"
+  pub unknown : start_line (asks_fault 2 UnknownQuery)
+      ≡ codes "rpq: asks line 2: unknown query\n"
+  pub replies : start_line (Open Replies) ≡ codes "rpq: write failed: replies\n"
+  pub stream : start_line (Open (Stream 2)) ≡ codes "rpq: read failed: stream 2\n"
+  pub writes : run_lines [] (Events ∷ RepliesSink ∷ []) 6
+      ≡ codes "rpq: write failed: events\nrpq: write failed: replies\n"

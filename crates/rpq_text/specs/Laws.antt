@@ -1,24 +1,14 @@
 -- What the definitions are meant to say, as laws.
-use Rattle.std.specs.Prelude.{◌≡◌, ℕ, ◌+◌, ◌<◌, ◌≤◌, ◌⊎◌, ◌↔◌, List, [], ◌∷◌, ◌++◌, length, take}
-use Rattle.std.specs.Prelude.{map, All, Option, Some, slice_get, option_to_list, Ok, Err}
+use Rattle.std.specs.Prelude.{◌≡◌, ℕ, ◌↔◌, List, take, All, Some, slice_get}
 use Rattle.std.specs.List.{flat_map}
-use Rattle.text_parts.specs.Lines.{raw_lines, without_return}
-use Rattle.text_parts.specs.EndedLines.{ended_lines, open_line}
-use Rattle.rpq_base.specs.declared.data.Tuple.{Tuple}
 use Rattle.rpq_base.specs.declared.data.Entry.{Entry}
 use Rattle.rpq_base.specs.declared.data.Pair.{Pair}
 use Rattle.rpq_base.specs.declared.data.Event.{Event}
-use Rattle.tuple_text.specs.declared.read.BadLine.{BadLine}
-use Rattle.tuple_text.specs.Reading.{line_tuple}
 use Rattle.containment_laws.specs.Accepted.{IsAccepted}
 use Rattle.rpq_model.specs.Events.{IsHeld}
 use Rattle.rpq_model.specs.Answers.{IsAnswer}
 use Rattle.rpq_model.specs.Query.{Query, path_query}
 use Rattle.rpq_model.specs.QueryEvents.{AreAllEvents}
-use Rattle.rpq_text.specs.declared.ends.StreamEnd.{StreamEnd}
-use Rattle.rpq_text.specs.declared.ends.StreamEnd.TheVariants.{Whole, Line, LongLine}
-use Rattle.rpq_text.specs.Limits.{line_limit, byte_limit}
-use Rattle.rpq_text.specs.StreamText.{tuples_with, cut_end, stream_tuples}
 use Rattle.rpq_text.specs.Text.{IsText}
 use Rattle.rpq_text.specs.Verdicts.{IsVerdictLine, AreVerdicts}
 
@@ -38,45 +28,6 @@ FrontsHoldAnswers =
     AreAllEvents queries history events → (count : ℕ) →
     (pair : Pair) → IsHeld place (flat_map (λ list. list) (take count events)) pair
     ↔ IsAnswer (path_query query) (take count history) pair
-
--- how the lines that follow the good ones end a stream: at once, with a line that is too long, or
--- with one that has a fault
-abbrev pub IsEndOf : List (List ℕ) → ℕ → StreamEnd → StreamEnd → Type 0
-IsEndOf [] number last end = end ≡ last
-IsEndOf (line ∷ lines) number last end =
-    ((line_limit < length line) × (end ≡ LongLine number))
-    ⊎ ((length line ≤ line_limit) × (fault : BadLine)
-    × (line_tuple (without_return line) ≡ Err fault) × (end ≡ Line number fault))
-
--- lines that give these tuples and end so, by their parts: some that are not too long and have no
--- fault, and then the end; where no line is faulty the end is the last one
-pub record AreReadByParts (lines : List (List ℕ)) (last : StreamEnd) (tuples : List Tuple)
-    (end : StreamEnd) : Type 0 where
-  pub good : List (List ℕ)
-  pub others : List (List ℕ)
-  pub given : List (Option Tuple)
-  pub cut : lines ≡ good ++ others
-  pub short : All (λ line. length line ≤ line_limit) good
-  pub read : map (λ line. line_tuple (without_return line)) good ≡ map Ok given
-  pub kept : tuples ≡ flat_map option_to_list given
-  pub ends : IsEndOf others (length good + 1) last end
-
--- the tuples of a stream are those of its lines, where it has fewer bytes than the limit; else
--- those of the lines with a line feed among the first bytes
-pub record IsStreamByParts (text : List ℕ) (tuples : List Tuple) (end : StreamEnd) : Type 0 where
-  pub within : length text < byte_limit →
-      (stream_tuples text ≡ tuples_with tuples end)
-      ↔ AreReadByParts (raw_lines text) Whole tuples end
-  pub beyond : byte_limit ≤ length text →
-      let front = take byte_limit text in
-      let lines = ended_lines front in
-      (stream_tuples text ≡ tuples_with tuples end)
-      ↔ AreReadByParts lines (cut_end (length lines + 1) (open_line front)) tuples end
-
--- the tuples of every stream are such
-abbrev pub StreamByParts : Type 0
-StreamByParts =
-    (text : List ℕ) (tuples : List Tuple) (end : StreamEnd) → IsStreamByParts text tuples end
 
 -- a query has one verdict line at most, and queries have one text of them
 pub record OneVerdictText : Type 0 where

@@ -1,5 +1,4 @@
 pub mod Limits
-pub mod StreamText
 pub mod Text
 pub mod Verdicts
 pub mod Definitions

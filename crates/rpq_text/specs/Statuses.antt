@@ -1,16 +1,20 @@
 -- The status of a run, by why it didn't begin, or by how its streams ended and which writes failed.
 use Rattle.std.specs.Prelude.{◌≡◌, ◌≢◌, ℕ, Bool, ◌==◌, ◌||◌, List, [], ◌∷◌, find, filter, unwrap_or}
 use Rattle.std.specs.List.{list_any}
-use Rattle.rpq_text.specs.declared.ends.Why.TheVariants.{Write, Memory as MemoryOfAll}
+use Rattle.history_model.specs.declared.line.Why.TheVariants.{Write, Memory as MemoryOfAll}
+use Rattle.stream_tuples.specs.declared.ends.StreamEnd.{StreamEnd}
+use Rattle.stream_tuples.specs.declared.ends.StreamEnd.TheVariants.{Whole, Line, LongLine}
+use Rattle.stream_tuples.specs.declared.ends.StreamEnd.TheVariants.{LongStream, Read, Full, Closed}
+use Rattle.stream_tuples.specs.declared.ends.StreamEnd.TheVariants.{Memory}
+use Rattle.rpq_text.specs.declared.ends.Which.{Which}
+use Rattle.rpq_text.specs.declared.ends.Which.TheVariants.{Queries, Asks, Replies, Stream}
 use Rattle.rpq_text.specs.declared.ends.SinkName.{SinkName}
-use Rattle.rpq_text.specs.declared.ends.SinkName.TheVariants.{Events}
+use Rattle.rpq_text.specs.declared.ends.SinkName.TheVariants.{Events, Replies as RepliesSink}
 use Rattle.rpq_text.specs.declared.ends.StartFault.{StartFault}
-use Rattle.rpq_text.specs.declared.ends.StartFault.TheVariants.{Words, Queries, Open}
+use Rattle.rpq_text.specs.declared.ends.StartFault.TheVariants.{Words, Queries as QueriesFault}
+use Rattle.rpq_text.specs.declared.ends.StartFault.TheVariants.{Asks as AsksFault, Open}
 use Rattle.rpq_text.specs.declared.ends.StartFault.TheVariants.{Read as ReadAtStart, Long, NotYet}
 use Rattle.rpq_text.specs.declared.ends.StartFault.TheVariants.{Memory as MemoryAtStart}
-use Rattle.rpq_text.specs.declared.ends.StreamEnd.{StreamEnd}
-use Rattle.rpq_text.specs.declared.ends.StreamEnd.TheVariants.{Whole, Line, LongLine, LongStream}
-use Rattle.rpq_text.specs.declared.ends.StreamEnd.TheVariants.{Read, Full, Closed, Memory}
 
 -- all was done
 abbrev pub done_status : ℕ
@@ -24,15 +28,19 @@ words_status = 1
 abbrev pub queries_status : ℕ
 queries_status = 2
 
+-- the asks file has a fault
+abbrev pub asks_status : ℕ
+asks_status = 3
+
 -- a line of a stream is faulty or too long
 abbrev pub line_status : ℕ
 line_status = 4
 
--- a file couldn't be opened or read
+-- a file couldn't be opened to be read, or a read of it failed
 abbrev pub read_status : ℕ
 read_status = 5
 
--- a write failed
+-- a write failed, or a file couldn't be opened to be written
 abbrev pub write_status : ℕ
 write_status = 6
 
@@ -48,11 +56,20 @@ memory_status = 8
 abbrev pub not_yet_status : ℕ
 not_yet_status = 9
 
+-- the status of a run that couldn't open this file: the replies were to be written, and the others
+-- to be read
+abbrev pub status_of_opening : Which → ℕ
+status_of_opening Queries = read_status
+status_of_opening Asks = read_status
+status_of_opening Replies = write_status
+status_of_opening (Stream number) = read_status
+
 -- the status of a run that didn't begin
 abbrev pub status_of_start : StartFault → ℕ
 status_of_start Words = words_status
-status_of_start (Queries fault) = queries_status
-status_of_start (Open which) = read_status
+status_of_start (QueriesFault fault) = queries_status
+status_of_start (AsksFault fault) = asks_status
+status_of_start (Open which) = status_of_opening which
 status_of_start (ReadAtStart which) = read_status
 status_of_start (Long which) = limit_status
 status_of_start NotYet = not_yet_status
@@ -73,11 +90,12 @@ status_of_end Memory = memory_status
 -- the status of a run in which nothing but a failed write of this sink arose
 abbrev pub status_of_sink : SinkName → ℕ
 status_of_sink Events = write_status
+status_of_sink RepliesSink = write_status
 
 -- the sinks on which a run writes what it finds, in the order in which their lines stand on the
 -- errors
 abbrev pub all_sinks : List SinkName
-all_sinks = Events ∷ []
+all_sinks = Events ∷ RepliesSink ∷ []
 
 -- some of these sinks, each once and in their order
 abbrev pub AreSomeSinks : List SinkName → Type 0

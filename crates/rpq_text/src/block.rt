@@ -1,9 +1,10 @@
 //! The text of an entry and its events.
 
-ghost use Rattle.std.specs.Prelude.{◌≡◌, ◌<◌, ◌++◌, length, OnOk, IfOk, All};
+ghost use Rattle.std.specs.Prelude.{◌≡◌, ◌<◌, ◌++◌, [], length, OnOk, IfOk, All};
 ghost use Rattle.rpq_base.specs.Plain.{IsPlain};
+ghost use Rattle.ask_text.specs.Reply.{name_at};
 ghost use Rattle.rpq_text.specs.Definitions.{definitions_of};
-ghost use Rattle.rpq_text.specs.Text.{name_at, event_line, entry_line, block};
+ghost use Rattle.rpq_text.specs.Text.{event_line, entry_line, block};
 
 use query_file::Compiled;
 use rpq_base::{Entry, Event, Memory};
@@ -12,10 +13,12 @@ use std::alloc::{AllocError, Global};
 use text_parts::push_decimal;
 use tuple_text::push_tuple;
 
+/// The most bytes of room that an emptied text keeps.
+const KEPT_ROOM: usize = 1 << 20;
+
 /// The block of the entry at position `n`, counted from 1: the line of the entry, then one line for
 /// each of its events, each with a line feed at its end. Each event has the number of one of the
 /// queries, counted from 0, and the entry's label points forwards. The only error is [`Memory`].
-#[tactic(auto, unfolding(crate::specs::Text::block))]
 pub fn block_text(
     alloc: Global,
     n: u64,
@@ -28,12 +31,44 @@ pub fn block_text(
     ensures { IfOk result (λ text.
         text.items ≡ block (definitions_of queries.now) n entry.now events.now) }
 {
-    let mut text = Vec::with_capacity(alloc, room_for(events.len()))?;
-    push_entry(&mut text, n, entry)?;
-    for event in events {
-        push_event(&mut text, queries, event)?;
-    }
+    let mut text = Vec::new(alloc);
+    make_block(&mut text, n, entry, events, queries)?;
     Ok(text)
+}
+
+/// Makes the text the block of the entry at position `n`, as [`block_text`] does, in place of what
+/// it was. So one text serves for block after block and keeps its room, up to a mebibyte. The only
+/// error is [`Memory`].
+#[tactic(auto, unfolding(crate::specs::Text::block))]
+pub fn make_block(
+    text: &mut Vec<u8>,
+    n: u64,
+    entry: &Entry,
+    events: &[Event],
+    queries: &[Compiled],
+) -> Result<(), Memory>
+    requires plain { IsPlain entry.now }
+    requires numbers { All (λ event. event.query < length queries.now) events.now }
+    ensures { OnOk result
+        (text.new.items ≡ block (definitions_of queries.now) n entry.now events.now) }
+{
+    empty(text);
+    text.reserve(room_for(events.len()))?;
+    push_entry(text, n, entry)?;
+    for event in events {
+        push_event(text, queries, event)?;
+    }
+    Ok(())
+}
+
+/// Empties the text, and gives back what room it has above that which is kept.
+fn empty(text: &mut Vec<u8>)
+    ensures { text.new.items ≡ [] }
+{
+    text.clear();
+    if text.capacity() > KEPT_ROOM {
+        text.shrink_to(KEPT_ROOM);
+    }
 }
 
 /// Room for a block with so many events whose names are short. A longer block takes more later.

@@ -1,16 +1,19 @@
-//! How a run can end: why it doesn't begin, how its streams end, and which sink fails.
+//! How a run can end: why it doesn't begin, and which sink fails.
 
 ghost use Rattle.std.specs.Prelude.{◌≡◌};
-ghost use Rattle.rpq_text.specs.Statuses.{status_of_start, status_of_end, status_of_sink};
+ghost use Rattle.rpq_text.specs.Statuses.{status_of_start, status_of_sink};
 
 use crate::status;
+use ask_text::AskFault;
 use query_file::QueryFault;
-use tuple_text::BadLine;
 
-/// One of the files that a run opens. Streams are numbered from 1.
+/// One of the files that a run opens: the replies to be written, and the others to be read. Streams
+/// are numbered from 1.
 #[derive(Clone, Copy, Debug, PartialEq, Eq)]
 pub enum Which {
     Queries,
+    Asks,
+    Replies,
     Stream(u32),
 }
 
@@ -18,6 +21,7 @@ pub enum Which {
 #[derive(Clone, Copy, Debug, PartialEq, Eq)]
 pub enum SinkName {
     Events,
+    Replies,
 }
 
 impl SinkName {
@@ -26,7 +30,7 @@ impl SinkName {
         ensures { result ≡ status_of_sink self.now }
     {
         match self {
-            SinkName::Events => status::WRITE,
+            SinkName::Events | SinkName::Replies => status::WRITE,
         }
     }
 }
@@ -38,14 +42,15 @@ pub enum StartFault {
     Words,
     /// The queries file has this fault.
     Queries(QueryFault),
+    /// The asks file has this fault.
+    Asks(AskFault),
     /// The opening of this file failed.
     Open(Which),
     /// A read of this file failed.
     Read(Which),
     /// This file, which is read whole, has too many bytes.
     Long(Which),
-    /// The settings of the words aren't taken so far: they have asks, generated tuples or more than
-    /// one stream.
+    /// The settings of the words aren't taken so far: they have generated tuples.
     NotYet,
     /// Memory ran out.
     Memory,
@@ -59,56 +64,12 @@ impl StartFault {
         match self {
             StartFault::Words => status::WORDS,
             StartFault::Queries(_) => status::QUERIES,
+            StartFault::Asks(_) => status::ASKS,
+            StartFault::Open(Which::Replies) => status::WRITE,
             StartFault::Open(_) | StartFault::Read(_) => status::READ,
             StartFault::Long(_) => status::LIMIT,
             StartFault::NotYet => status::NOT_YET,
             StartFault::Memory => status::MEMORY,
-        }
-    }
-}
-
-/// Why a run takes no more tuples of any stream.
-#[derive(Clone, Copy, Debug, PartialEq, Eq)]
-pub enum Why {
-    /// A write of the events failed.
-    Write,
-    /// Memory ran out.
-    Memory,
-}
-
-/// How a stream ended. Lines are numbered from 1, and blank lines and comments count.
-#[derive(Clone, Copy, Debug, PartialEq, Eq)]
-pub enum StreamEnd {
-    /// It was read to its end.
-    Whole,
-    /// This line has this fault.
-    Line { line: u64, fault: BadLine },
-    /// This line is too long.
-    LongLine { line: u64 },
-    /// It has too many bytes.
-    LongStream,
-    /// A read of it failed.
-    Read,
-    /// The history was full when a further tuple was read.
-    Full,
-    /// No tuple was taken any more when a further one was read.
-    Closed(Why),
-    /// Memory ran out.
-    Memory,
-}
-
-impl StreamEnd {
-    /// The status of a run in which nothing but this end arose.
-    pub fn status(&self) -> u8
-        ensures { result ≡ status_of_end self.now }
-    {
-        match self {
-            StreamEnd::Whole => status::DONE,
-            StreamEnd::Line { .. } | StreamEnd::LongLine { .. } => status::LINE,
-            StreamEnd::LongStream | StreamEnd::Full => status::LIMIT,
-            StreamEnd::Read => status::READ,
-            StreamEnd::Closed(Why::Write) => status::WRITE,
-            StreamEnd::Closed(Why::Memory) | StreamEnd::Memory => status::MEMORY,
         }
     }
 }

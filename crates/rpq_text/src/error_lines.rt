@@ -4,15 +4,18 @@ ghost use Rattle.std.specs.Prelude.{◌≡◌, ◌+◌, ◌≤◌, ◌++◌, len
 ghost use Rattle.std.specs.List.{flat_map};
 ghost use Rattle.path_syntax.specs.FaultTexts.{bad_expr_text};
 ghost use Rattle.tuple_text.specs.FaultTexts.{fault_text};
-ghost use Rattle.rpq_text.specs.ErrorLines.{file_text, query_text, line_text, end_line, write_line};
-ghost use Rattle.rpq_text.specs.ErrorLines.{memory_line};
+ghost use Rattle.ask_text.specs.FaultTexts.{ask_kind_text};
+ghost use Rattle.rpq_text.specs.ErrorLines.{file_text, query_text, asks_text, line_text, end_line};
+ghost use Rattle.rpq_text.specs.ErrorLines.{read_line, write_line, opening_line, memory_line};
 ghost use Rattle.rpq_text.specs.WordTexts.{not_contained_front};
 
-use crate::ends::{SinkName, StreamEnd, Which};
+use crate::ends::{SinkName, Which};
 use crate::status;
 use arrayvec::ArrayString;
+use ask_text::{AskFault, AskKind};
 use itoa::Buffer;
 use path_syntax::BadExpr;
+use stream_tuples::StreamEnd;
 use tuple_text::BadLine;
 
 /// A line with its line feed, or nothing.
@@ -28,7 +31,7 @@ pub fn end_line(stream: u32, end: StreamEnd) -> Line
         StreamEnd::Line { line, fault } => fault_line(stream, line, fault),
         StreamEnd::LongLine { line } => stream_line(stream, line, "too long", ""),
         StreamEnd::LongStream => file_line("rpq: ", which, ": too long\n"),
-        StreamEnd::Read => file_line("rpq: read failed: ", which, "\n"),
+        StreamEnd::Read => read_line(which),
         StreamEnd::Full => file_line("rpq: ", which, ": history full\n"),
         StreamEnd::Whole | StreamEnd::Closed(_) | StreamEnd::Memory => Line::new(),
     }
@@ -40,6 +43,24 @@ pub fn write_line(sink: SinkName) -> Line
 {
     match sink {
         SinkName::Events => line_of(&["rpq: write failed: events\n"]),
+        SinkName::Replies => line_of(&["rpq: write failed: replies\n"]),
+    }
+}
+
+/// The line of a failed read of a file.
+pub fn read_line(which: Which) -> Line
+    ensures { result.bytes ≡ read_line which }
+{
+    file_line("rpq: read failed: ", which, "\n")
+}
+
+/// The line of a failed opening of a file.
+pub fn opening_line(which: Which) -> Line
+    ensures { result.bytes ≡ opening_line which }
+{
+    match which {
+        Which::Queries | Which::Asks | Which::Stream(_) => read_line(which),
+        Which::Replies => write_line(SinkName::Replies),
     }
 }
 
@@ -86,6 +107,31 @@ pub fn query_line(line: u64, text: &str, more: &str) -> Line
     let mut digits = Buffer::new();
     let line = digits.format(line);
     line_of(&["rpq: queries line ", line, ": ", text, more, "\n"])
+}
+
+/// What is wrong with a line of the asks file.
+pub fn ask_fault_line(fault: AskFault) -> Line
+    ensures { result.bytes ≡ asks_text fault.line (ask_kind_text fault.kind) }
+{
+    let line = fault.line;
+    match fault.kind {
+        AskKind::Shape => ask_line(line, "shape"),
+        AskKind::UnknownQuery => ask_line(line, "unknown query"),
+        AskKind::BadName => ask_line(line, "bad name"),
+        AskKind::Number => ask_line(line, "number"),
+        AskKind::TooMany => ask_line(line, "too many"),
+        AskKind::Memory => ask_line(line, "out of memory"),
+    }
+}
+
+/// A text, said of a line of the asks file.
+#[tactic(auto, unfolding(crate::specs::ErrorLines::asks_text))]
+pub fn ask_line(line: u64, text: &str) -> Line
+    requires { length text.now ≤ 100 }
+    ensures { result.bytes ≡ asks_text line text.now }
+{
+    let mut digits = Buffer::new();
+    line_of(&["rpq: asks line ", digits.format(line), ": ", text, "\n"])
 }
 
 /// What is wrong with a line of a stream.
@@ -150,6 +196,8 @@ pub fn file_line(before: &str, which: Which, after: &str) -> Line
 {
     match which {
         Which::Queries => line_of(&[before, "queries", after]),
+        Which::Asks => line_of(&[before, "asks", after]),
+        Which::Replies => line_of(&[before, "replies", after]),
         Which::Stream(number) => {
             let mut digits = Buffer::new();
             let number = digits.format(u64::from(number));

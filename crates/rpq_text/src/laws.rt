@@ -2,7 +2,6 @@
 
 ghost use Rattle.rpq_text.specs.Examples.{LineExamples};
 ghost use Rattle.rpq_text.specs.Laws.{EveryHistoryHasOneText, FrontsHoldAnswers, OneVerdictText};
-ghost use Rattle.rpq_text.specs.Laws.{StreamByParts};
 
 use containment_laws::accepted_queries_have_events;
 use minimal_dfa::least_has_fewest;
@@ -23,12 +22,6 @@ pub fn fronts_hold_answers()
     each_held_is_answers();
 }
 
-/// The tuples of a stream and its end, by its parts: the lines before the first faulty one, and
-/// that line.
-pub fn stream_by_parts()
-    ensures { StreamByParts }
-{}
-
 /// A query has one verdict line at most, and queries have one text of them.
 pub fn one_verdict_text()
     ensures { OneVerdictText }
@@ -36,7 +29,7 @@ pub fn one_verdict_text()
     least_has_fewest();
 }
 
-/// Some verdict lines, and the lines for words that are refused.
+/// Some verdict lines, and some lines on errors.
 pub fn line_examples()
     ensures { LineExamples }
 {}

@@ -1,28 +1,24 @@
 //! The texts of a run, as values: the block of an entry, the line of a verdict up to the verdict,
-//! and the lines on errors; what they speak of, which is how a run and its streams end; and the
-//! statuses of that.
+//! and the lines on errors; what they speak of, which is why a run doesn't begin and which of its
+//! sinks fails; and the statuses of that and of the ends of streams.
 //!
-//! Nothing here reads or writes. The definitions say, besides, which tuples the bytes of a stream
-//! give and how it ends (`StreamText`). The laws of all these texts are here.
+//! Nothing here reads or writes. The laws of all these texts are here.
 #![tactic(auto)]
 
 mod block;
+mod end_status;
 mod ends;
 mod error_lines;
 mod laws;
-mod run_status;
 pub mod status;
 mod verdict_lines;
 
-pub use block::{block_text, name_of};
-pub use ends::{SinkName, StartFault, StreamEnd, Which, Why};
+pub use block::{block_text, make_block, name_of};
+pub use end_status::{first_status, run_status, status_of_end};
+pub use ends::{SinkName, StartFault, Which};
 pub use error_lines::{
-    Line, end_line, expr_line, file_line, line_of, memory_line, not_contained_front, query_line,
-    write_line,
+    Line, ask_fault_line, ask_line, end_line, expr_line, file_line, line_of, memory_line,
+    not_contained_front, opening_line, query_line, read_line, write_line,
 };
-pub use laws::{
-    every_history_has_one_text, fronts_hold_answers, line_examples, one_verdict_text,
-    stream_by_parts,
-};
-pub use run_status::first_status;
+pub use laws::{every_history_has_one_text, fronts_hold_answers, line_examples, one_verdict_text};
 pub use verdict_lines::verdict_front;

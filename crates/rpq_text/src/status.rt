@@ -1,6 +1,6 @@
 //! The statuses with which a run ends.
 
-/// All was done: the stream was read to its end, or the queries were checked.
+/// All was done: the streams were read to their ends, or the queries were checked.
 pub const DONE: u8 = 0;
 
 /// The words of the command line have no settings.
@@ -9,16 +9,19 @@ pub const WORDS: u8 = 1;
 /// The queries file has a fault.
 pub const QUERIES: u8 = 2;
 
-/// A line of the stream is faulty or too long.
+/// The asks file has a fault.
+pub const ASKS: u8 = 3;
+
+/// A line of a stream is faulty or too long.
 pub const LINE: u8 = 4;
 
-/// A file couldn't be opened or read.
+/// A file couldn't be opened to be read, or a read of it failed.
 pub const READ: u8 = 5;
 
-/// A write of the events failed.
+/// A write of the events or of the replies failed, or the replies couldn't be opened.
 pub const WRITE: u8 = 6;
 
-/// The history is full, or the stream or the queries file has too many bytes.
+/// The history is full, or a file has too many bytes.
 pub const LIMIT: u8 = 7;
 
 /// Memory ran out.

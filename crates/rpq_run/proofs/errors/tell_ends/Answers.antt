@@ -2,7 +2,7 @@ use Rattle.std.proofs.Common.{◌≡◌, ℕ, ◌+◌, true, List, ◌++◌, dro
 use Rattle.std.proofs.Common.{rules, arith}
 use Rattle.std.specs.Io.KnownBytes.{append_known}
 use Rattle.std.proofs.lemmas.List.{get_or_default}
-use Rattle.rpq_text.specs.declared.ends.StreamEnd.TheVariants.{Whole}
+use Rattle.stream_tuples.specs.declared.ends.StreamEnd.TheVariants.{Whole}
 use Rattle.rpq_text.specs.ErrorLines.{end_line, end_lines}
 use Rattle.rpq_run.proofs.ErrorTexts.{tells_in_turn, ends_from, ends_more}
 use Rattle.rpq_run.proofs.errors.tell_ends.Goals as goal

@@ -10,13 +10,13 @@ returns-in-Words g c =
     ∙ ap start_line (sym c.in-Words.is))) c.put_line.ensures
 
 pub returns-in-Open : goal.returns-in-Open
-returns-in-Open g c = tells_as (c.file_line.ensures ∙ ap start_line (sym c.in-Open.is)) c.put_line-in-Open.ensures
+returns-in-Open g c = tells_as (c.opening_line.ensures ∙ ap start_line (sym c.in-Open.is)) c.put_line-in-Open.ensures
 
 pub returns-in-Read : goal.returns-in-Read
-returns-in-Read g c = tells_as (c.file_line-in-Read.ensures ∙ ap start_line (sym c.in-Read.is)) c.put_line-in-Read.ensures
+returns-in-Read g c = tells_as (c.read_line.ensures ∙ ap start_line (sym c.in-Read.is)) c.put_line-in-Read.ensures
 
 pub returns-in-Long : goal.returns-in-Long
-returns-in-Long g c = tells_as (c.file_line-in-Long.ensures ∙ ap start_line (sym c.in-Long.is)) c.put_line-in-Long.ensures
+returns-in-Long g c = tells_as (c.file_line.ensures ∙ ap start_line (sym c.in-Long.is)) c.put_line-in-Long.ensures
 
 pub returns-in-NotYet : goal.returns-in-NotYet
 returns-in-NotYet g c = tells_as (c.line_of-in-NotYet.ensures ∙ ap start_line (sym c.in-NotYet.is)) c.put_line-in-NotYet.ensures

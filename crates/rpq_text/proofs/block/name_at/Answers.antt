@@ -2,7 +2,7 @@ use Rattle.std.proofs.Common.{◌≡◌, ℕ, zero, suc, ◌<◌, List, [], ◌�
 use Rattle.std.proofs.Common.{◌∙◌, arith}
 use Rattle.query_file.specs.Compiled.{CompiledValue}
 use Rattle.rpq_text.specs.Definitions.{definitions_of}
-use Rattle.rpq_text.specs.Text.{name_at}
+use Rattle.ask_text.specs.Reply.{name_at}
 use Rattle.rpq_text.proofs.block.name_at.Goals as goal
 
 -- the name of a compiled query is that of its definition

@@ -1,10 +1,25 @@
 use Rattle.std.proofs.Common.{◌≡◌, List, [], ◌∷◌, ◌++◌, ℕ, refl, ap, arith}
 use Rattle.std.specs.Prelude.{codes, decimal}
 use Rattle.std.proofs.lemmas.Fmt.{decimal_digit}
+use Rattle.rpq_text.specs.declared.ends.SinkName.TheVariants.{Events, Replies}
+use Rattle.rpq_text.specs.ErrorLines.{asks_text, memory_line, run_lines}
 use Rattle.rpq_text.proofs.laws.line_examples.Goals as goal
+
+-- what is said of a line of the asks file, by the digits of its number
+asks_line : (line : ℕ) (text digits : List ℕ) → decimal line ≡ digits
+    → asks_text line text ≡ codes "rpq: asks line " ++ (digits ++ (codes ": " ++ (text ++ codes "\n")))
+unfolding asks_text
+asks_line line text digits is =
+    ap (λ (d : List ℕ). codes "rpq: asks line " ++ (d ++ (codes ": " ++ (text ++ codes "\n")))) is
+
+both_writes : run_lines [] (Events ∷ Replies ∷ []) 6
+    ≡ codes "rpq: write failed: events\nrpq: write failed: replies\n"
+unfolding run_lines memory_line
+both_writes = refl
 
 pub returns : goal.returns
 returns c =
+    let one : decimal 1 ≡ 49 ∷ [] = decimal_digit 1 (omega arith) in
     let two : decimal 2 ≡ 50 ∷ [] = decimal_digit 2 (omega arith) in
     let three : decimal 3 ≡ 51 ∷ [] = decimal_digit 3 (omega arith) in
     record {
@@ -12,4 +27,9 @@ returns c =
       no = ap (λ (d : List ℕ). codes "p arbitrary states " ++ d ++ codes " "
           ++ codes "no () a b/\"c|d\"" ++ codes "\n") three;
       words = refl;
+      shape = asks_line 1 (codes "shape") (49 ∷ []) one;
+      unknown = asks_line 2 (codes "unknown query") (50 ∷ []) two;
+      replies = refl;
+      stream = ap (λ (d : List ℕ). codes "rpq: read failed: stream " ++ d ++ codes "\n") two;
+      writes = both_writes;
     }

@@ -1,0 +1,327 @@
+-- When a run over streams is done.
+use Rattle.std.proofs.Common.{◌≡◌, ◌≢◌, ℕ, zero, suc, ◌+◌, ◌<◌, ◌≤◌, List, [], ◌∷◌, ◌++◌, length, get_or}
+use Rattle.std.proofs.Common.{Option, Some, None, refl, ap, sym, subst, ◌∙◌, arith, inl, inr, ◌⊎◌, length-append}
+use Rattle.std.specs.Prelude.{IfSome, Contains, map, slice_get, sum}
+use Rattle.std.specs.List.{All}
+use Rattle.std.proofs.lemmas.Bool.{cases_eq}
+use Rattle.std.proofs.lemmas.List.{length-map}
+use Rattle.std.proofs.lemmas.List.Elements.{All-head, All-nil, All-tail}
+use Rattle.std.proofs.lemmas.Option.{slice_get-get_or, slice_get_within}
+use Rattle.rpq_base.specs.declared.data.Tuple.{Tuple}
+use Rattle.rpq_base.specs.declared.data.Entry.{Entry}
+use Rattle.rpq_io.specs.Counts.{Rose, CountsFault}
+use Rattle.rpq_words.specs.Settings.{Settings}
+use Rattle.history_model.specs.declared.line.Why.TheVariants.{Write, Memory as MemoryOfAll}
+use Rattle.stream_tuples.specs.declared.ends.StreamEnd.{StreamEnd}
+use Rattle.stream_tuples.specs.declared.ends.StreamEnd.TheVariants.{Whole, Line, LongLine, LongStream}
+use Rattle.stream_tuples.specs.declared.ends.StreamEnd.TheVariants.{Read, Full, Closed, Memory}
+use Rattle.stream_tuples.specs.History.{IsNumberOf, IsPrefix, IsProperPrefix, own_tuples}
+use Rattle.stream_tuples.specs.History.{AreTuplesOfEnd, IsStreamOf, AreStreamsOf}
+use Rattle.stream_tuples.specs.Limits.{byte_limit}
+use Rattle.stream_tuples.specs.StreamText.{StreamTuples, tuples_with, tuples_from}
+use Rattle.rpq_text.specs.declared.ends.SinkName.{SinkName}
+use Rattle.rpq_text.specs.declared.ends.SinkName.TheVariants.{Events, Replies}
+use Rattle.rpq_text.specs.Statuses.{first_status, IsStatusOf}
+use Rattle.run_start.specs.Ready.{AreReadWhole}
+use Rattle.rpq_run.specs.Causes.{HasCauses}
+use Rattle.rpq_run.specs.Done.{IsWholeStream, tuple_count, CanBeDone, NothingRose, NothingFails}
+use Rattle.rpq_run.specs.Outcome.{Meanings, Sinks, Openings, Outcome}
+use Rattle.rpq_run.specs.RunsCheck.{RunsCheck}
+use Rattle.rpq_run.specs.RunsStreams.{RunsStreams}
+use Rattle.rpq_run.proofs.Sinks.{no_sinks}
+use Rattle.rpq_run.proofs.Statuses.{IsFine, counted_quietly, fine_or_memory, read_quietly}
+use Rattle.rpq_run.proofs.Totals.{AreFew, all_counted, fewer_in_all}
+
+-- ---- members of lists by their places
+
+-- what holds of all holds at a place
+pub all_at : {X : Type 0} (P : X → Type 0) (xs : List X) (place : ℕ) (x : X) → All P xs
+    → slice_get xs place ≡ Some x → P x
+all_at P [] place x all is = absurd (cc is)
+all_at {X} P (first ∷ xs) zero x all is =
+    let same : first ≡ x = cc is in
+    subst P same (All-head P first xs all)
+all_at P (first ∷ xs) (suc place) x all is = all_at P xs place x (All-tail P first xs all) is
+
+-- there is a member at each place within the length
+pub found : {X : Type 0} (xs : List X) (place : ℕ) → place < length xs → (x : X) × (slice_get xs place ≡ Some x)
+found [] place inside = absurd (omega (arith, inside))
+found (x ∷ xs) zero inside = (x, refl)
+found (x ∷ xs) (suc place) inside = found xs place (omega (arith, inside))
+
+-- all of a list, by what holds at each place
+pub all_by : {X : Type 0} (P : X → Type 0) (xs : List X)
+    → ((place : ℕ) (x : X) → slice_get xs place ≡ Some x → P x) → All P xs
+all_by P xs each = λ place default inside.
+    each place (get_or xs place default) (slice_get-get_or xs place default inside)
+
+-- ---- a stream without a fault
+
+-- the tuples of such a stream aren't too many
+from_whole : (file : Option (List ℕ)) (tuples : List Tuple) (end : StreamEnd)
+    → IfSome file (λ text. tuples_from 1 byte_limit text ≡ tuples_with tuples end)
+    → IsWholeStream file → (end ≡ Whole) × (length tuples ≤ tuple_count file)
+from_whole None tuples end is whole = absurd whole
+from_whole (Some text) tuples end is whole = (
+  sym (ap (λ (ts : StreamTuples). ts.end) is) ∙ whole,
+  omega (arith, ap (λ (ts : StreamTuples). length ts.tuples) is),
+)
+
+by_prefix : (file : Option (List ℕ)) (tuples : List Tuple)
+    → IfSome file (λ text. IsPrefix tuples (tuples_from 1 byte_limit text).tuples)
+    → IsWholeStream file → length tuples ≤ tuple_count file
+by_prefix None tuples is whole = absurd whole
+by_prefix (Some text) tuples is whole =
+    omega (arith, ap (λ (ts : List Tuple). length ts) is.cut, length-append tuples is.rest)
+
+by_proper : (file : Option (List ℕ)) (tuples : List Tuple)
+    → IfSome file (λ text. IsProperPrefix tuples (tuples_from 1 byte_limit text).tuples)
+    → IsWholeStream file → length tuples < tuple_count file
+by_proper None tuples is whole = absurd whole
+by_proper (Some text) tuples is whole = some is.rest is.proper is.cut
+  where
+    some : (rest : List Tuple) → rest ≢ [] → (tuples_from 1 byte_limit text).tuples ≡ tuples ++ rest
+        → length tuples < tuple_count (Some text)
+    some [] proper cut = absurd (proper refl)
+    some (tuple ∷ rest) proper cut =
+        omega (arith, ap (λ (ts : List Tuple). length ts) cut, length-append tuples (tuple ∷ rest))
+
+-- what its end ties, without what is left of its source
+not_whole : (file left : Option (List ℕ)) (tuples : List Tuple)
+    → IfSome file (λ text. AreTuplesOfEnd byte_limit text left tuples Whole)
+    → IfSome file (λ text. tuples_from 1 byte_limit text ≡ tuples_with tuples Whole)
+not_whole None left tuples is = tt
+not_whole (Some text) left tuples is = is.0
+
+-- such a stream of which no read failed gave at most the tuples of its file, and fewer where it
+-- wasn't taken whole because the history was full
+at_most : (file left : Option (List ℕ)) (tuples : List Tuple) (end : StreamEnd) → IsWholeStream file
+    → (end ≡ Read → ⊥) → IfSome file (λ text. AreTuplesOfEnd byte_limit text left tuples end)
+    → length tuples ≤ tuple_count file
+at_most file left tuples Whole whole read tied =
+    (from_whole file tuples Whole (not_whole file left tuples tied) whole).1
+at_most file left tuples (Line number fault) whole read tied =
+    (from_whole file tuples (Line number fault) tied whole).1
+at_most file left tuples (LongLine number) whole read tied =
+    (from_whole file tuples (LongLine number) tied whole).1
+at_most file left tuples LongStream whole read tied = (from_whole file tuples LongStream tied whole).1
+at_most file left tuples Read whole read tied = absurd (read refl)
+at_most file left tuples Full whole read tied =
+    let fewer = by_proper file tuples tied whole in
+    omega (arith, fewer)
+at_most file left tuples (Closed why) whole read tied =
+    let fewer = by_proper file tuples tied whole in
+    omega (arith, fewer)
+at_most file left tuples Memory whole read tied = by_prefix file tuples tied whole
+
+-- how such a stream ends where no write of the events failed and the history wasn't full
+ends_well : (file left : Option (List ℕ)) (tuples : List Tuple) (end : StreamEnd) → IsWholeStream file
+    → (end ≡ Read → ⊥) → (end ≡ Full → ⊥) → (end ≡ Closed Write → ⊥)
+    → IfSome file (λ text. AreTuplesOfEnd byte_limit text left tuples end) → IsFine end
+ends_well file left tuples Whole whole read full closed tied = inl refl
+ends_well file left tuples (Line number fault) whole read full closed tied =
+    absurd (cc ((from_whole file tuples (Line number fault) tied whole).0))
+ends_well file left tuples (LongLine number) whole read full closed tied =
+    absurd (cc ((from_whole file tuples (LongLine number) tied whole).0))
+ends_well file left tuples LongStream whole read full closed tied =
+    absurd (cc ((from_whole file tuples LongStream tied whole).0))
+ends_well file left tuples Read whole read full closed tied = absurd (read refl)
+ends_well file left tuples Full whole read full closed tied = absurd (full refl)
+ends_well file left tuples (Closed Write) whole read full closed tied = absurd (closed refl)
+ends_well file left tuples (Closed MemoryOfAll) whole read full closed tied = inr refl
+ends_well file left tuples Memory whole read full closed tied = inr refl
+
+-- ---- all streams
+
+module _ {S : Type 0} (left : S → Option (List ℕ)) (faults : S → ℕ) (limit : ℕ)
+    (files : List (Option (List ℕ))) (sources : List S) (history : List Entry) (ends : List StreamEnd)
+    (are : AreStreamsOf left faults limit files sources history ends) where
+  -- a stream with its source and its end
+  pub record IsAt (place : ℕ) (file : Option (List ℕ)) : Type 0 where
+    pub source : S
+    pub end : StreamEnd
+    pub source_is : slice_get sources place ≡ Some source
+    pub end_is : slice_get ends place ≡ Some end
+    pub stream : IsStreamOf left faults (place + 1) limit file source history end
+
+  pub stream_at : (place : ℕ) (file : Option (List ℕ)) → slice_get files place ≡ Some file → IsAt place file
+  stream_at place file is =
+      let inside = slice_get_within files place file is in
+      let source = found sources place (omega (arith, inside, are.as_many_sources)) in
+      let end = found ends place (omega (arith, inside, are.as_many_ends)) in
+      record {
+        source = source.0;
+        end = end.0;
+        source_is = source.1;
+        end_is = end.1;
+        stream = are.each place file source.0 end.0 is source.1 end.1;
+      }
+
+  -- the streams without a fault, of which no read failed, gave at most their tuples
+  few_of : All IsWholeStream files → All (λ source. ¬ Rose 0 (faults source)) sources → AreFew 1 files history
+  few_of whole reads place file is =
+      let at = stream_at place file is in
+      let quiet = all_at (λ source. ¬ Rose 0 (faults source)) sources place at.source reads at.source_is in
+      let one : place + 1 ≡ 1 + place = omega arith in
+      subst (λ n. length (own_tuples n history) ≤ tuple_count file) one
+      (at_most file (left at.source) (own_tuples (place + 1) history) at.end
+      (all_at IsWholeStream files place file whole is) (λ e. quiet (at.stream.read.rose e)) at.stream.tied)
+
+  -- and none of them found the history full that could hold them all
+  not_full : (count : ℕ) → count ≡ length files → All (λ (e : Entry). IsNumberOf count e.stream) history
+      → All IsWholeStream files → All (λ source. ¬ Rose 0 (faults source)) sources
+      → sum (map tuple_count files) ≤ limit → (place : ℕ) (file : Option (List ℕ))
+      → slice_get files place ≡ Some file → length history ≡ limit
+      → IfSome file (λ text. IsProperPrefix (own_tuples (place + 1) history) (tuples_from 1 byte_limit text).tuples)
+      → ⊥
+  not_full count as_many numbers whole reads few place file is full tied =
+      let one : place + 1 ≡ 1 + place = omega arith in
+      let fewer : length (own_tuples (1 + place) history) < tuple_count file =
+      subst (λ n. length (own_tuples n history) < tuple_count file) one
+      (by_proper file (own_tuples (place + 1) history) tied (all_at IsWholeStream files place file whole is)) in
+      let all = fewer_in_all 1 files history place file (few_of whole reads) is fewer in
+      let counted = all_counted (length files) history
+      (subst (λ n. All (λ (e : Entry). IsNumberOf n e.stream) history) as_many numbers) in
+      omega (arith, all, counted, full, few)
+
+  -- so each ended well
+  pub all_end_well : (count : ℕ) → count ≡ length files → All (λ (e : Entry). IsNumberOf count e.stream) history
+      → All IsWholeStream files → All (λ source. ¬ Rose 0 (faults source)) sources
+      → sum (map tuple_count files) ≤ limit → (Contains ends (Closed Write) → ⊥) → All IsFine ends
+  all_end_well count as_many numbers whole reads few closed =
+      all_by IsFine ends (λ place end end_is.
+      let inside = slice_get_within ends place end end_is in
+      let file = found files place (omega (arith, inside, are.as_many_ends)) in
+      let source = found sources place (omega (arith, inside, are.as_many_ends, are.as_many_sources)) in
+      let stream = are.each place file.0 source.0 end file.1 source.1 end_is in
+      let quiet = all_at (λ s. ¬ Rose 0 (faults s)) sources place source.0 reads source.1 in
+      ends_well file.0 (left source.0) (own_tuples (place + 1) history) end
+      (all_at IsWholeStream files place file.0 whole file.1) (λ e. quiet (stream.read.rose e))
+      (λ e. not_full count as_many numbers whole reads few place file.0 file.1 (stream.full e)
+      (subst (λ (x : StreamEnd). IfSome file.0 (λ text.
+      AreTuplesOfEnd byte_limit text (left source.0) (own_tuples (place + 1) history) x)) e stream.tied))
+      (λ e. closed (contains_at ends place end (Closed Write) end_is e)) stream.tied)
+    where
+      contains_at : (xs : List StreamEnd) (place : ℕ) (x y : StreamEnd) → slice_get xs place ≡ Some x → x ≡ y
+          → Contains xs y
+      contains_at xs place x y is same =
+          let inside = slice_get_within xs place x is in
+          let at : ◌≡◌ {A = Option StreamEnd} (Some (get_or xs place y)) (Some y) =
+          sym (slice_get-get_or xs place y inside) ∙ (is ∙ ap (λ (e : StreamEnd). Some e) same) in
+          (place, inside, cc at)
+
+  -- where all is done no read of a source failed
+  pub reads_quietly : (failed : List SinkName) (status : ℕ) → IsStatusOf ends failed status → status ≡ 0
+      → All (λ source. faults source ≡ 0) sources
+  reads_quietly failed status is done =
+      all_by (λ source. faults source ≡ 0) sources (λ place source source_is.
+      let inside = slice_get_within sources place source source_is in
+      let file = found files place (omega (arith, inside, are.as_many_sources)) in
+      let end = found ends place (omega (arith, inside, are.as_many_sources, are.as_many_ends)) in
+      let stream = are.each place file.0 source end.0 file.1 source_is end.1 in
+      stream.read.quiet (read_quietly ends failed status place end.0 is done end.1))
+
+-- ---- a run
+
+-- where no count rose no write failed
+pub none_failed : {S K : Type 0} (means : Meanings S K) (failed : List SinkName) (sinks : Sinks K)
+    (outcome : Outcome S K) → HasCauses means failed sinks outcome
+    → ¬ Rose (means.failures sinks.events_old) (means.failures sinks.events_new)
+    → IfSome outcome.replies (λ sink. ¬ Rose 0 (means.failures sink)) → failed ≡ []
+none_failed {S} {K} means failed sinks outcome causes writes replies =
+    no_sinks failed (λ has. writes (causes.events_failed.rose has))
+    (no_replies outcome.replies causes.replies_failed causes.no_replies replies)
+  where
+    no_replies : (r : Option K)
+        → IfSome r (λ sink. CountsFault (Contains failed Replies) 0 (means.failures sink))
+        → (r ≡ None → Contains failed Replies → ⊥)
+        → IfSome r (λ sink. ¬ Rose 0 (means.failures sink)) → Contains failed Replies → ⊥
+    no_replies None counts none quiet has = none refl has
+    no_replies (Some sink) counts none quiet has = quiet (counts.rose has)
+
+-- such a status is that of a run that is done, or of want of memory
+done_or_short : (ends : List StreamEnd) (failed : List SinkName) (status : ℕ) → failed ≡ []
+    → IsStatusOf ends failed status → All IsFine ends → (status ≡ 0) ⊎ (status ≡ 8)
+done_or_short ends failed status none is fine = elim (cases_eq status 8) [
+  | inl eight ↦ inr eight
+  | inr other ↦
+      let first : status ≡ first_status ends [] =
+      is.others other ∙ ap (λ (fs : List SinkName). first_status ends fs) none in
+      elim (fine_or_memory ends fine) [
+        | inl done ↦ inl (first ∙ done)
+        | inr eight ↦ inr (first ∙ eight)
+      ]
+]
+
+-- a run over streams that can be done, in which no count rose, is done, or wants memory
+pub streams_done : {S K : Type 0} (means : Meanings S K) (given : Settings)
+    (holds : List ℕ → Option (List ℕ)) (openings : Openings) (sinks : Sinks K) (outcome : Outcome S K)
+    → RunsStreams means given holds sinks outcome → CanBeDone given holds
+    → NothingRose means given openings sinks outcome → (outcome.status ≡ 0) ⊎ (outcome.status ≡ 8)
+streams_done means given holds openings sinks outcome runs can none =
+    let failed = none_failed means runs.failed sinks outcome runs.causes none.writes none.replies in
+    done_or_short outcome.ends runs.failed outcome.status failed runs.causes.status_is
+    (all_end_well means.left means.faults given.history (map holds given.streams) outcome.sources outcome.history
+    outcome.ends runs.history.each_stream (length given.streams) (sym (length-map given.streams holds))
+    runs.history.no_other can.whole none.reads can.few
+    (λ closed. none.writes (runs.causes.events_failed.rose (runs.causes.closed closed))))
+
+-- and so is a check
+pub check_done : {S K : Type 0} (means : Meanings S K) (given : Settings)
+    (holds : List ℕ → Option (List ℕ)) (openings : Openings) (sinks : Sinks K) (outcome : Outcome S K)
+    → RunsCheck means given holds sinks outcome
+    → NothingRose means given openings sinks outcome → (outcome.status ≡ 0) ⊎ (outcome.status ≡ 8)
+check_done means given holds openings sinks outcome runs none =
+    let failed = none_failed means runs.failed sinks outcome runs.causes none.writes none.replies in
+    done_or_short outcome.ends runs.failed outcome.status failed runs.causes.status_is
+    (subst (λ (ends : List StreamEnd). All IsFine ends) (sym runs.nothing.no_stream) (λ k d inside.
+    absurd (omega (arith, inside))))
+
+-- ---- what failed nowhere
+
+-- no write on the replies failed, if there are any
+quiet_replies : {K : Type 0} (failures : K → ℕ) (failed : List SinkName) (ends : List StreamEnd) (status : ℕ)
+    → IsStatusOf ends failed status → status ≡ 0 → (replies : Option K)
+    → IfSome replies (λ sink. CountsFault (Contains failed Replies) 0 (failures sink))
+    → IfSome replies (λ sink. failures sink ≡ 0)
+quiet_replies failures failed ends status is done None counts = tt
+quiet_replies failures failed ends status is done (Some sink) counts =
+    counted_quietly ends failed status Replies 0 (failures sink) is done counts
+
+-- nothing failed in a run over streams that is done
+pub streams_quiet : {S K : Type 0} (means : Meanings S K) (words : Option Settings) (given : Settings)
+    (holds : List ℕ → Option (List ℕ)) (openings : Openings) (sinks : Sinks K) (outcome : Outcome S K)
+    → words ≡ Some given → ((name : List ℕ) → openings.unread_new name ≡ openings.unread_old name)
+    → ((name : List ℕ) → openings.unmade_new name ≡ openings.unmade_old name)
+    → AreReadWhole means.left means.faults given holds → RunsStreams means given holds sinks outcome
+    → outcome.status ≡ 0 → NothingFails means words holds openings sinks outcome
+streams_quiet means words given holds openings sinks outcome are unread unmade whole runs done = record {
+  unread = unread;
+  unmade = unmade;
+  whole = subst (λ (w : Option Settings). IfSome w (λ g. AreReadWhole means.left means.faults g holds)) (sym are) whole;
+  reads = reads_quietly means.left means.faults given.history (map holds given.streams) outcome.sources
+      outcome.history outcome.ends runs.history.each_stream runs.failed outcome.status runs.causes.status_is done;
+  writes = counted_quietly outcome.ends runs.failed outcome.status Events (means.failures sinks.events_old)
+      (means.failures sinks.events_new) runs.causes.status_is done runs.causes.events_failed;
+  replies = quiet_replies means.failures runs.failed outcome.ends outcome.status runs.causes.status_is done
+      outcome.replies runs.causes.replies_failed;
+}
+
+-- nor in a check
+pub check_quiet : {S K : Type 0} (means : Meanings S K) (words : Option Settings) (given : Settings)
+    (holds : List ℕ → Option (List ℕ)) (openings : Openings) (sinks : Sinks K) (outcome : Outcome S K)
+    → words ≡ Some given → ((name : List ℕ) → openings.unread_new name ≡ openings.unread_old name)
+    → ((name : List ℕ) → openings.unmade_new name ≡ openings.unmade_old name)
+    → AreReadWhole means.left means.faults given holds → RunsCheck means given holds sinks outcome
+    → outcome.status ≡ 0 → NothingFails means words holds openings sinks outcome
+check_quiet {S} means words given holds openings sinks outcome are unread unmade whole runs done = record {
+  unread = unread;
+  unmade = unmade;
+  whole = subst (λ (w : Option Settings). IfSome w (λ g. AreReadWhole means.left means.faults g holds)) (sym are) whole;
+  reads = subst (λ (ss : List S). All (λ source. means.faults source ≡ 0) ss) (sym runs.no_source)
+      (All-nil (λ source. means.faults source ≡ 0));
+  writes = counted_quietly outcome.ends runs.failed outcome.status Events (means.failures sinks.events_old)
+      (means.failures sinks.events_new) runs.causes.status_is done runs.causes.events_failed;
+  replies = quiet_replies means.failures runs.failed outcome.ends outcome.status runs.causes.status_is done
+      outcome.replies runs.causes.replies_failed;
+}

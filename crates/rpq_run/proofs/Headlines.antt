@@ -1,0 +1,201 @@
+-- A run over streams that is done, in one piece.
+use Rattle.std.proofs.Common.{◌≡◌, ◌≢◌, ℕ, ◌+◌, List, [], length, Option, Some, None, Result}
+use Rattle.std.proofs.Common.{Ok, refl, ap, sym, subst, ◌∙◌, arith, inl, inr}
+use Rattle.std.specs.Prelude.{IfSome, MatchOption, Contains, map, option_map, slice_get}
+use Rattle.std.specs.Io.KnownBytes.{append_known}
+use Rattle.std.specs.List.{All}
+use Rattle.std.proofs.lemmas.List.{length-map}
+use Rattle.std.proofs.lemmas.Option.{slice_get-map}
+use Rattle.rpq_base.specs.declared.data.Entry.{Entry}
+use Rattle.rpq_model.specs.Query.{Query}
+use Rattle.query_file.specs.declared.fault.QueryFault.{QueryFault}
+use Rattle.query_file.specs.Laws.{OneOutcome}
+use Rattle.rpq_words.specs.Settings.{Settings}
+use Rattle.ask_text.specs.declared.ask.Ask.{Ask}
+use Rattle.ask_text.specs.declared.fault.AskFault.{AskFault}
+use Rattle.ask_text.specs.Replies.{replies}
+use Rattle.stream_tuples.specs.declared.ends.StreamEnd.{StreamEnd}
+use Rattle.stream_tuples.specs.declared.ends.StreamEnd.TheVariants.{Whole}
+use Rattle.stream_tuples.specs.History.{IsNumberOf, AreTuplesOfEnd, own_tuples}
+use Rattle.stream_tuples.specs.Limits.{byte_limit}
+use Rattle.stream_tuples.specs.StreamText.{StreamTuples, stream_tuples}
+use Rattle.rpq_text.specs.declared.ends.SinkName.TheVariants.{Events, Replies}
+use Rattle.rpq_text.specs.Text.{IsText}
+use Rattle.run_start.specs.Files.{HasQueries, HasSessions, ForQueries, ForSessions, ForAsked}
+use Rattle.rpq_threads.specs.Runs.{AreSessionsOf, asks_answered}
+use Rattle.rpq_run.specs.Headline.{Told, IsTold, AreAsked, Headline}
+use Rattle.rpq_run.specs.Outcome.{Meanings, Sinks, Outcome}
+use Rattle.rpq_run.specs.Replies.{texts_of}
+use Rattle.rpq_run.specs.RunsStreams.{RunsStreams, FrontsHold, nothing_told}
+use Rattle.rpq_run.specs.Written.{WritesWhere}
+use Rattle.rpq_run.proofs.Done.{stream_at}
+use Rattle.rpq_run.proofs.Statuses.{first_of_done, sink_quietly, whole_end}
+
+-- ---- the one list of queries, and of sessions
+
+-- the queries of bytes that give some
+one_query_list : OneOutcome → (bytes : List ℕ) (first second : List Query) → HasQueries bytes first
+    → HasQueries bytes second → first ≡ second
+one_query_list one bytes first second has other =
+    let same : ◌≡◌ {A = Result (List Query) QueryFault} (Ok first) (Ok second) =
+    one bytes (Ok first) (Ok second) has.1 other.1 in
+    cc same
+
+from_queries : OneOutcome → (file : Option (List ℕ)) (bytes : List ℕ) (queries : List Query)
+    (P : List Query → Type 0) → file ≡ Some bytes → HasQueries bytes queries → ForQueries file P → P queries
+from_queries one file bytes queries P is has holds =
+    let held = subst (λ (f : Option (List ℕ)). ForQueries f P) is holds in
+    subst P (one_query_list one bytes held.0 queries held.1 has) held.2
+
+from_sessions : (given : Settings) (holds : List ℕ → Option (List ℕ)) (queries : List Query)
+    (told : Option (List ℕ)) (sessions : List (List Ask)) (P : List (List Ask) → Type 0)
+    → option_map holds given.asks ≡ option_map (λ bytes. Some bytes) told → AreAsked queries told sessions
+    → ForSessions given holds queries P → P sessions
+from_sessions given holds queries told sessions P is asked = by given.asks told is asked
+  where
+    by : (asks known : Option (List ℕ)) → option_map holds asks ≡ option_map (λ bytes. Some bytes) known
+        → AreAsked queries known sessions
+        → MatchOption asks (P []) (λ name. IfSome (holds name)
+        (λ bytes. (all : List (List Ask)) × HasSessions queries bytes all × P all)) → P sessions
+    by None None is asked p = subst P (sym {A = List (List Ask)} asked) p
+    by None (Some bytes) is asked p = absurd (cc is)
+    by (Some name) None is asked p = absurd (cc is)
+    by (Some name) (Some bytes) is asked p =
+        let content : holds name ≡ Some bytes = cc is in
+        let held = subst (λ (f : Option (List ℕ)). IfSome f
+        (λ text. (all : List (List Ask)) × HasSessions queries text all × P all)) content p in
+        let same : ◌≡◌ {A = Result (List (List Ask)) AskFault} (Ok held.0) (Ok sessions) =
+        sym held.1.1 ∙ asked.1 in
+        let same_sessions : held.0 ≡ sessions = cc same in
+        subst P same_sessions held.2
+
+from_asked : OneOutcome → {S K : Type 0} (means : Meanings S K) (given : Settings)
+    (holds : List ℕ → Option (List ℕ)) (sinks : Sinks K) (told : Told) (queries : List Query)
+    (sessions : List (List Ask)) (P : List Query → List (List Ask) → Type 0)
+    → IsTold means given holds sinks told → HasQueries told.queries queries
+    → AreAsked queries told.asks sessions → ForAsked given holds P → P queries sessions
+from_asked one means given holds sinks told queries sessions P is has asked p =
+    from_sessions given holds queries told.asks sessions (P queries) is.asks asked
+    (from_queries one (holds given.queries) told.queries queries (λ all. ForSessions given holds all (P all))
+    is.queries has p)
+
+-- there are queries and sessions
+record AreThere (told : Told) : Type 0 where
+  queries : List Query
+  has : HasQueries told.queries queries
+  sessions : List (List Ask)
+  asked : AreAsked queries told.asks sessions
+
+are_there : {S K : Type 0} (means : Meanings S K) (given : Settings) (holds : List ℕ → Option (List ℕ))
+    (sinks : Sinks K) (told : Told) → IsTold means given holds sinks told
+    → ForAsked given holds (λ queries sessions. Unit {0}) → AreThere told
+are_there means given holds sinks told is there =
+    let held = subst (λ (f : Option (List ℕ)). ForQueries f
+    (λ queries. ForSessions given holds queries (λ sessions. Unit {0}))) is.queries there in
+    let asked = by held.0 given.asks told.asks is.asks held.2 in
+    record { queries = held.0; has = held.1; sessions = asked.0; asked = asked.1 }
+  where
+    by : (queries : List Query) (asks known : Option (List ℕ))
+        → option_map holds asks ≡ option_map (λ bytes. Some bytes) known
+        → MatchOption asks (Unit {0}) (λ name. IfSome (holds name)
+        (λ bytes. (all : List (List Ask)) × HasSessions queries bytes all × Unit {0}))
+        → (sessions : List (List Ask)) × AreAsked queries known sessions
+    by queries None None is there = ([], refl)
+    by queries None (Some bytes) is there = absurd (cc is)
+    by queries (Some name) None is there = absurd (cc is)
+    by queries (Some name) (Some bytes) is there =
+        let content : holds name ≡ Some bytes = cc is in
+        let file = subst (λ (f : Option (List ℕ)). IfSome f
+        (λ text. (all : List (List Ask)) × HasSessions queries text all × Unit {0})) content there in
+        (file.0, file.1)
+
+-- ---- the parts
+
+-- what stands on a sink, where nothing stood before
+from_nothing : (now : Option (List ℕ)) (text : List ℕ) → now ≡ append_known (nothing_told now) text
+    → IfSome now (λ bytes. bytes ≡ text)
+from_nothing None text is = tt
+from_nothing (Some bytes) text is = cc is
+
+replies_are : {K : Type 0} (written : K → Option (List ℕ)) (text : List ℕ) (failed : Type 0) (status : ℕ)
+    → (failed → ⊥) → status ≢ 8 → (replies : Option K)
+    → IfSome replies (λ sink. WritesWhere failed status (λ t. t ≡ text) (nothing_told (written sink)) (written sink))
+    → IfSome replies (λ sink. IfSome (written sink) (λ bytes. bytes ≡ text))
+replies_are written text failed status none other None writes = tt
+replies_are written text failed status none other (Some sink) writes =
+    let whole = writes.whole none other in
+    from_nothing (written sink) text (subst (λ (t : List ℕ). written sink ≡ append_known (nothing_told (written sink)) t)
+    whole.of_kind whole.written)
+
+-- the tuples of a stream
+tuples_are : (text : List ℕ) (left : Option (List ℕ)) (number : ℕ) (history : List Entry) (end : StreamEnd)
+    → end ≡ Whole → AreTuplesOfEnd byte_limit text left (own_tuples number history) end
+    → own_tuples number history ≡ (stream_tuples text).tuples
+tuples_are text left number history end whole tied =
+    let at_whole = subst (λ (e : StreamEnd). AreTuplesOfEnd byte_limit text left (own_tuples number history) e)
+    whole tied in
+    sym (ap (λ (ts : StreamTuples). ts.tuples) at_whole.0)
+
+-- ---- all of it
+
+pub headline_holds : {S K : Type 0} (means : Meanings S K) (given : Settings)
+    (holds : List ℕ → Option (List ℕ)) (sinks : Sinks K) (outcome : Outcome S K) (told : Told)
+    → OneOutcome → RunsStreams means given holds sinks outcome → outcome.status ≡ 0
+    → IsTold means given holds sinks told → Headline means told sinks outcome
+headline_holds means given holds sinks outcome told one runs done is =
+    let there = are_there means given holds sinks told is runs.understood in
+    let quiet : (Contains runs.failed Events → ⊥) =
+    sink_quietly outcome.ends runs.failed outcome.status Events runs.causes.status_is done in
+    let not_short : outcome.status ≢ 8 = λ eight. absurd (omega (arith, eight, done)) in
+    let writes = from_queries one (holds given.queries) told.queries there.queries (λ queries.
+    WritesWhere (Contains runs.failed Events) outcome.status (IsText queries outcome.history)
+    (means.written sinks.events_old) (means.written sinks.events_new)) is.queries there.has runs.events.text in
+    let grew = writes.whole quiet not_short in
+    let sets = from_queries one (holds given.queries) told.queries there.queries
+    (λ queries. FrontsHold queries outcome.history) is.queries there.has runs.events.sets in
+    let last : runs.replies.last ≡ length outcome.history = elim runs.replies.at_end [
+      | inl all ↦ all
+      | inr other ↦ elim other [ inl failed ↦ absurd (quiet failed) | inr eight ↦ absurd (not_short eight) ]
+    ] in
+    record {
+      queries = there.queries;
+      accepted = there.has;
+      sessions = there.sessions;
+      asked = there.asked;
+      in_order = in_order;
+      no_other = subst (λ n. All (λ (e : Entry). IsNumberOf n e.stream) outcome.history) as_many
+          runs.history.no_other;
+      events = grew.of_kind.0;
+      are_events = grew.of_kind.1;
+      written = grew.written ∙ (ap (λ (w : Option (List ℕ)). append_known w grew.text) is.events
+          ∙ ap (λ (t : List ℕ). append_known (Some told.events) t) grew.of_kind.2);
+      held = λ place query at count pair. sets place query grew.of_kind.0 at grew.of_kind.1 count pair;
+      readers = subst (λ n. AreSessionsOf there.queries outcome.history n there.sessions outcome.sessions) last
+          (from_asked one means given holds sinks told there.queries there.sessions (λ queries asked.
+          AreSessionsOf queries outcome.history runs.replies.last asked outcome.sessions) is there.has there.asked
+          runs.replies.sessions);
+      all_answered = from_asked one means given holds sinks told there.queries there.sessions (λ queries asked.
+          asks_answered outcome.sessions ≡ asked) is there.has there.asked (runs.replies.all not_short);
+      replied = replies_are means.written (replies (texts_of outcome.sessions)) (Contains runs.failed Replies)
+          outcome.status (sink_quietly outcome.ends runs.failed outcome.status Replies runs.causes.status_is done)
+          not_short outcome.replies runs.replies.text;
+    }
+  where
+    as_many : length given.streams ≡ length told.streams
+    as_many = sym (length-map given.streams holds)
+        ∙ (ap (λ (fs : List (Option (List ℕ))). length fs) is.streams
+        ∙ length-map told.streams (λ (bytes : List ℕ). Some bytes))
+
+    in_order : (place : ℕ) (text : List ℕ) → slice_get told.streams place ≡ Some text
+        → own_tuples (place + 1) outcome.history ≡ (stream_tuples text).tuples
+    in_order place text at =
+        let file : slice_get (map holds given.streams) place ≡ Some (Some text) =
+        ap (λ (fs : List (Option (List ℕ))). slice_get fs place) is.streams
+        ∙ (slice_get-map (λ (bytes : List ℕ). Some bytes) told.streams place
+        ∙ ap (option_map (λ (bytes : List ℕ). Some bytes)) at) in
+        let stream = stream_at means.left means.faults given.history (map holds given.streams) outcome.sources
+        outcome.history outcome.ends runs.history.each_stream place (Some text) file in
+        tuples_are text (means.left stream.source) (place + 1) outcome.history stream.end
+        (whole_end outcome.ends runs.failed place stream.end
+        (first_of_done outcome.ends runs.failed outcome.status runs.causes.status_is done) stream.end_is)
+        stream.stream.tied

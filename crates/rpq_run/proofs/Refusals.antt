@@ -1,0 +1,321 @@
+-- A run that doesn't begin.
+use Rattle.std.proofs.Common.{◌≡◌, ℕ, zero, suc, ◌<◌, Bool, true, false, List, [], ◌∷◌, ◌++◌}
+use Rattle.std.proofs.Common.{length, get_or, Option, Some, None, refl, sym, subst, ◌∙◌, arith, inl}
+use Rattle.std.proofs.Common.{inr, ◌⊎◌, Err}
+use Rattle.std.specs.Prelude.{IfSome, IsSomeAnd, MatchBool, option_to_list}
+use Rattle.std.specs.List.{All}
+use Rattle.std.proofs.lemmas.List.{append-nil}
+use Rattle.std.proofs.lemmas.List.Elements.{All-head, All-tail}
+use Rattle.std.proofs.lemmas.Option.{slice_get-get_or}
+use Rattle.rpq_io.specs.Counts.{Rose}
+use Rattle.rpq_io.proofs.Counting.{counts_none}
+use Rattle.query_file.specs.declared.fault.QueryFault.{QueryFault}
+use Rattle.ask_text.specs.declared.fault.AskFault.{AskFault}
+use Rattle.ask_text.specs.Asks.{asks}
+use Rattle.rpq_words.specs.Settings.{Settings}
+use Rattle.stream_tuples.specs.History.{IsPrefix}
+use Rattle.rpq_text.specs.declared.ends.Which.{Which}
+use Rattle.rpq_text.specs.declared.ends.Which.TheVariants.{Queries, Asks, Replies, Stream}
+use Rattle.rpq_text.specs.declared.ends.StartFault.{StartFault}
+use Rattle.rpq_text.specs.declared.ends.StartFault.TheVariants.{Words, Queries as QueriesFault}
+use Rattle.rpq_text.specs.declared.ends.StartFault.TheVariants.{Asks as AsksFault, Open}
+use Rattle.rpq_text.specs.declared.ends.StartFault.TheVariants.{Read as ReadAtStart, Long, NotYet}
+use Rattle.rpq_text.specs.declared.ends.StartFault.TheVariants.{Memory}
+use Rattle.rpq_text.specs.Statuses.{status_of_start}
+use Rattle.run_start.specs.Files.{ForQueries, IsTooLong, IsFaultyFile, IsFaultless}
+use Rattle.run_start.specs.Files.{AreFaultyAsks, AreFaultlessAsks, AreUnderstoodFiles, HasAskFault}
+use Rattle.run_start.specs.Files.{IsQueriesFile}
+use Rattle.run_start.specs.Given.{is_not_yet, file_names, sink_names}
+use Rattle.run_start.specs.Ready.{IsWordsCause}
+use Rattle.run_start.specs.Start.{IsCause, IsRefusedFor, IsOpeningOf, IsMakingOf, AreSourcesOf}
+use Rattle.run_start.specs.Start.{file_held, AreOpenedBy, AreMadeBy, UsesFiles}
+use Rattle.rpq_run.specs.Done.{CanBeDone, NothingRose}
+use Rattle.rpq_run.specs.Outcome.{Meanings, Openings, Sinks, Outcome}
+
+-- ---- its status
+
+-- no run that doesn't begin is done
+pub not_done : (fault : StartFault) → status_of_start fault ≡ 0 → ⊥
+not_done Words is = absurd cc
+not_done (QueriesFault fault) is = absurd cc
+not_done (AsksFault fault) is = absurd cc
+not_done (Open Queries) is = absurd cc
+not_done (Open Asks) is = absurd cc
+not_done (Open Replies) is = absurd cc
+not_done (Open (Stream number)) is = absurd cc
+not_done (ReadAtStart which) is = absurd cc
+not_done (Long which) is = absurd cc
+not_done NotYet is = absurd cc
+not_done Memory is = absurd cc
+
+not_long : (file : Option (List ℕ)) → IsTooLong file → IsSomeAnd file IsFaultless → ⊥
+not_long None long some = some
+not_long (Some bytes) long some = omega (arith, long, some.short)
+
+not_faulty : (file : Option (List ℕ)) (fault : QueryFault) → IsFaultyFile file fault → IsSomeAnd file IsFaultless → ⊥
+not_faulty None fault faulty some = some
+not_faulty (Some bytes) fault faulty some = some.no_fault fault faulty.1.1
+
+asks_not_long : (queries file : Option (List ℕ)) → IsTooLong file → IsSomeAnd file (AreFaultlessAsks queries) → ⊥
+asks_not_long queries None long some = some
+asks_not_long queries (Some bytes) long some = omega (arith, long, some.short)
+
+asks_not_faulty : (queries file : Option (List ℕ)) (fault : AskFault) → AreFaultyAsks queries file fault
+    → IsSomeAnd file (AreFaultlessAsks queries) → ⊥
+asks_not_faulty queries None fault faulty some = some
+asks_not_faulty queries (Some bytes) fault faulty some = some.no_fault fault (by queries faulty.1)
+  where
+    by : (file : Option (List ℕ)) → ForQueries file (λ all. HasAskFault all bytes fault)
+        → ForQueries file (λ all. asks all bytes ≡ Err fault)
+    by None has = tt
+    by (Some held) (all, are, has) = (all, are, has.1)
+
+-- what holds of all of a list behind another
+all_behind : {X : Type 0} (P : X → Type 0) (front back : List X) → All P (front ++ back) → All P back
+all_behind P [] back all = all
+all_behind P (x ∷ front) back all = all_behind P front back (All-tail P x (front ++ back) all)
+
+-- what holds of the one name that there may be
+option_member : (P : List ℕ → Type 0) (option : Option (List ℕ)) (name : List ℕ) (rest : List (List ℕ))
+    → All P (option_to_list option ++ rest) → option ≡ Some name → P name
+option_member P None name rest all is = absurd (cc is)
+option_member P (Some other) name rest all is =
+    let same : other ≡ name = cc is in
+    subst P same (All-head P other rest all)
+
+-- no opening of this name failed
+abbrev Quiet : (List ℕ → ℕ) → (List ℕ → ℕ) → List ℕ → Type 0
+Quiet before after name = ¬ Rose (before name) (after name)
+
+-- a run that doesn't begin with files that have no fault, and in which no count rose, wants memory
+pub wants_memory : {S K : Type 0} (means : Meanings S K) (given : Settings)
+    (holds : List ℕ → Option (List ℕ)) (openings : Openings) (sinks : Sinks K) (outcome : Outcome S K)
+    (fault : StartFault) → IsRefusedFor given holds fault
+    → AreSourcesOf means.left means.faults (file_held (Some given) holds) fault outcome.sources
+    → ((name : List ℕ) → IsOpeningOf given name fault → Rose (openings.unread_old name) (openings.unread_new name))
+    → ((name : List ℕ) → IsMakingOf given name fault → Rose (openings.unmade_old name) (openings.unmade_new name))
+    → CanBeDone given holds → NothingRose means given openings sinks outcome
+    → (status_of_start fault ≡ 0) ⊎ (status_of_start fault ≡ 8)
+wants_memory {S} {K} means given holds openings sinks outcome start cause of opened made can none = by start cause of opened made
+  where
+    later_names : All (Quiet openings.unread_old openings.unread_new) (option_to_list given.asks ++ given.streams)
+    later_names = All-tail (Quiet openings.unread_old openings.unread_new) given.queries (option_to_list given.asks ++ given.streams) none.unread
+
+    asks_fault : (option : Option (List ℕ)) (fault : AskFault)
+        → IsSomeAnd option (λ name. AreFaultyAsks (holds given.queries) (holds name) fault)
+        → IfSome option (λ name. IsSomeAnd (holds name) (AreFaultlessAsks (holds given.queries))) → ⊥
+    asks_fault None fault cause can = cause
+    asks_fault (Some name) fault cause can = asks_not_faulty (holds given.queries) (holds name) fault cause can
+
+    asks_long : (option : Option (List ℕ))
+        → IsSomeAnd option (λ name. IsQueriesFile (holds given.queries) × IsTooLong (holds name))
+        → IfSome option (λ name. IsSomeAnd (holds name) (AreFaultlessAsks (holds given.queries))) → ⊥
+    asks_long None cause can = cause
+    asks_long (Some name) cause can = asks_not_long (holds given.queries) (holds name) cause.1 can
+
+    asks_opened : (option : Option (List ℕ)) → given.asks ≡ option
+        → IsSomeAnd option (λ name. IsQueriesFile (holds given.queries))
+        → ((name : List ℕ) → given.asks ≡ Some name → Rose (openings.unread_old name) (openings.unread_new name)) → ⊥
+    asks_opened None is cause rose = cause
+    asks_opened (Some name) is cause rose =
+        option_member (Quiet openings.unread_old openings.unread_new) given.asks name given.streams later_names is (rose name is)
+
+    replies_made : (option : Option (List ℕ)) → given.replies ≡ option
+        → IsSomeAnd option (λ name. AreUnderstoodFiles given holds)
+        → ((name : List ℕ) → given.replies ≡ Some name → Rose (openings.unmade_old name) (openings.unmade_new name)) → ⊥
+    replies_made None is cause rose = cause
+    replies_made (Some name) is cause rose =
+        option_member (Quiet openings.unmade_old openings.unmade_new) given.replies name []
+        (subst (λ (names : List (List ℕ)). All (Quiet openings.unmade_old openings.unmade_new) names) (sym (append-nil (option_to_list given.replies))) none.unmade)
+        is (rose name is)
+
+    by : (fault : StartFault) → IsRefusedFor given holds fault
+        → AreSourcesOf means.left means.faults (file_held (Some given) holds) fault outcome.sources
+        → ((name : List ℕ) → IsOpeningOf given name fault → Rose (openings.unread_old name) (openings.unread_new name))
+        → ((name : List ℕ) → IsMakingOf given name fault → Rose (openings.unmade_old name) (openings.unmade_new name))
+        → (status_of_start fault ≡ 0) ⊎ (status_of_start fault ≡ 8)
+    by Words cause of opened made = absurd cause
+    by (QueriesFault fault) cause of opened made = absurd (not_faulty (holds given.queries) fault cause can.understood)
+    by (AsksFault fault) cause of opened made = absurd (asks_fault given.asks fault cause can.asks)
+    by (Open Queries) cause of opened made =
+        absurd (All-head (Quiet openings.unread_old openings.unread_new) given.queries (option_to_list given.asks ++ given.streams) none.unread
+        (opened given.queries refl))
+    by (Open Asks) cause of opened made = absurd (asks_opened given.asks refl cause opened)
+    by (Open Replies) cause of opened made = absurd (replies_made given.replies refl cause made)
+    by (Open (Stream zero)) cause of opened made = absurd (omega (arith, cause.0.first))
+    by (Open (Stream (suc place))) cause of opened made =
+        let inside : place < length given.streams = omega (arith, cause.0.last) in
+        let names = all_behind (Quiet openings.unread_old openings.unread_new) (option_to_list given.asks) given.streams later_names in
+        absurd (names place [] inside
+        (opened (get_or given.streams place []) (slice_get-get_or given.streams place [] inside)))
+    by (ReadAtStart which) cause of opened made =
+        absurd (All-head (λ source. ¬ Rose 0 (means.faults source)) of.0 []
+        (subst (λ (ss : List S). All (λ source. ¬ Rose 0 (means.faults source)) ss) of.1 none.reads) of.2)
+    by (Long Queries) cause of opened made = absurd (not_long (holds given.queries) cause can.understood)
+    by (Long Asks) cause of opened made = absurd (asks_long given.asks cause can.asks)
+    by (Long Replies) cause of opened made = absurd cause
+    by (Long (Stream number)) cause of opened made = absurd cause
+    by NotYet cause of opened made = absurd cause
+    by Memory cause of opened made = inr refl
+
+-- words that are taken have no cause in themselves but want of memory
+pub not_taken : (words : Option Settings) (given : Settings) (fault : StartFault) → words ≡ Some given
+    → is_not_yet given ≡ false → IsWordsCause words fault → fault ≡ Memory
+not_taken words given Words are so_far is =
+    let no : Some given ≡ None = sym are ∙ is in
+    absurd (cc no)
+not_taken words given (QueriesFault fault) are so_far is = absurd is
+not_taken words given (AsksFault fault) are so_far is = absurd is
+not_taken words given (Open which) are so_far is = absurd is
+not_taken words given (ReadAtStart which) are so_far is = absurd is
+not_taken words given (Long which) are so_far is = absurd is
+not_taken words given NotYet are so_far is =
+    let yes : is_not_yet given ≡ true =
+    subst (λ (w : Option Settings). IsSomeAnd w (λ g. is_not_yet g ≡ true)) are is in
+    let no : true ≡ false = sym yes ∙ so_far in
+    absurd (cc no)
+not_taken words given Memory are so_far is = refl
+
+-- ---- its cause
+
+-- a cause of the words is one
+pub cause_of_words : (words : Option Settings) (holds : List ℕ → Option (List ℕ)) (fault : StartFault)
+    → IsWordsCause words fault → IsCause words holds fault
+cause_of_words None holds Words is = inl refl
+cause_of_words None holds (QueriesFault fault) is = absurd is
+cause_of_words None holds (AsksFault fault) is = absurd is
+cause_of_words None holds (Open which) is = absurd is
+cause_of_words None holds (ReadAtStart which) is = absurd is
+cause_of_words None holds (Long which) is = absurd is
+cause_of_words None holds NotYet is = absurd is
+cause_of_words None holds Memory is = inr refl
+cause_of_words (Some given) holds Words is = absurd cc
+cause_of_words (Some given) holds (QueriesFault fault) is = absurd is
+cause_of_words (Some given) holds (AsksFault fault) is = absurd is
+cause_of_words (Some given) holds (Open which) is = absurd is
+cause_of_words (Some given) holds (ReadAtStart which) is = absurd is
+cause_of_words (Some given) holds (Long which) is = absurd is
+cause_of_words (Some given) holds NotYet is =
+    subst (λ (b : Bool). MatchBool b ((NotYet ≡ NotYet) ⊎ (NotYet ≡ Memory)) (IsRefusedFor given holds NotYet))
+    (sym is) (inl refl)
+cause_of_words (Some given) holds Memory is = by (is_not_yet given)
+  where
+    by : (b : Bool) → MatchBool b ((Memory ≡ NotYet) ⊎ (Memory ≡ Memory)) (IsRefusedFor given holds Memory)
+    by true = inr refl
+    by false = tt
+
+-- a cause of the files is one, where the words are taken
+pub cause_of_files : (given : Settings) (holds : List ℕ → Option (List ℕ)) (fault : StartFault)
+    → is_not_yet given ≡ false → IsRefusedFor given holds fault → IsCause (Some given) holds fault
+cause_of_files given holds fault so_far is =
+    subst (λ (b : Bool). MatchBool b ((fault ≡ NotYet) ⊎ (fault ≡ Memory)) (IsRefusedFor given holds fault))
+    (sym so_far) is
+
+-- words that begin no run leave no source
+pub no_source_of_words : {S : Type 0} (left : S → Option (List ℕ)) (faults : S → ℕ)
+    (held : Which → Option (List ℕ)) (words : Option Settings) (fault : StartFault) (sources : List S)
+    → IsWordsCause words fault → sources ≡ [] → AreSourcesOf left faults held fault sources
+no_source_of_words left faults held words Words sources is none = none
+no_source_of_words left faults held words (QueriesFault fault) sources is none = absurd is
+no_source_of_words left faults held words (AsksFault fault) sources is none = absurd is
+no_source_of_words left faults held words (Open which) sources is none = absurd is
+no_source_of_words left faults held words (ReadAtStart which) sources is none = absurd is
+no_source_of_words left faults held words (Long which) sources is none = absurd is
+no_source_of_words left faults held words NotYet sources is none = none
+no_source_of_words left faults held words Memory sources is none = none
+
+-- ---- what it did to the files
+
+-- what was done to the files, for the words
+pub uses_files : {F : Type 0} (holds : F → List ℕ → Option (List ℕ)) (opened made : F → List (List ℕ))
+    (unread unmade : F → List ℕ → ℕ) (words : Option Settings) (given : Settings)
+    (start : Option StartFault) (old new : F) → words ≡ Some given
+    → UsesFiles holds opened made unread unmade (Some given) start old new
+    → UsesFiles holds opened made unread unmade words start old new
+uses_files holds opened made unread unmade words given start old new are uses =
+    subst (λ (w : Option Settings). UsesFiles holds opened made unread unmade w start old new) (sym are) uses
+
+-- words that begin no run leave the files as they are
+pub files_untouched : {F : Type 0} (holds : F → List ℕ → Option (List ℕ))
+    (opened made : F → List (List ℕ)) (unread unmade : F → List ℕ → ℕ) (words : Option Settings)
+    (fault : StartFault) (files : F) → IsWordsCause words fault
+    → UsesFiles holds opened made unread unmade words (Some fault) files files
+files_untouched holds opened made unread unmade words fault files is = record {
+  opens = record { names = []; of_kind = none_opened words fault is; more = sym (append-nil (opened files)) };
+  makes = record { names = []; of_kind = none_made words fault is; more = sym (append-nil (made files)) };
+  kept = λ name same. refl;
+  openings = λ name. counts_none (IsSomeAnd words (λ given. IsOpeningOf given name fault))
+      (unread files name) (unread files name) (no_opening words fault is name) refl;
+  makings = λ name. counts_none (IsSomeAnd words (λ given. IsMakingOf given name fault))
+      (unmade files name) (unmade files name) (no_making words fault is name) refl;
+}
+  where
+    none_opened : (w : Option Settings) (f : StartFault) → IsWordsCause w f → AreOpenedBy w (Some f) []
+    none_opened None f is = refl
+    none_opened (Some given) Words is = refl
+    none_opened (Some given) (QueriesFault fault) is = absurd is
+    none_opened (Some given) (AsksFault fault) is = absurd is
+    none_opened (Some given) (Open which) is = absurd is
+    none_opened (Some given) (ReadAtStart which) is = absurd is
+    none_opened (Some given) (Long which) is = absurd is
+    none_opened (Some given) NotYet is = refl
+    none_opened (Some given) Memory is = record { rest = file_names given; cut = refl }
+
+    none_made : (w : Option Settings) (f : StartFault) → IsWordsCause w f → AreMadeBy w (Some f) []
+    none_made None f is = refl
+    none_made (Some given) Words is = refl
+    none_made (Some given) (QueriesFault fault) is = absurd is
+    none_made (Some given) (AsksFault fault) is = absurd is
+    none_made (Some given) (Open which) is = absurd is
+    none_made (Some given) (ReadAtStart which) is = absurd is
+    none_made (Some given) (Long which) is = absurd is
+    none_made (Some given) NotYet is = refl
+    none_made (Some given) Memory is = record { rest = sink_names given; cut = refl }
+
+    no_opening : (w : Option Settings) (f : StartFault) → IsWordsCause w f → (name : List ℕ)
+        → IsSomeAnd w (λ given. IsOpeningOf given name f) → ⊥
+    no_opening None f is name opening = opening
+    no_opening (Some given) Words is name opening = opening
+    no_opening (Some given) (QueriesFault fault) is name opening = opening
+    no_opening (Some given) (AsksFault fault) is name opening = opening
+    no_opening (Some given) (Open which) is name opening = is
+    no_opening (Some given) (ReadAtStart which) is name opening = opening
+    no_opening (Some given) (Long which) is name opening = opening
+    no_opening (Some given) NotYet is name opening = opening
+    no_opening (Some given) Memory is name opening = opening
+
+    no_making : (w : Option Settings) (f : StartFault) → IsWordsCause w f → (name : List ℕ)
+        → IsSomeAnd w (λ given. IsMakingOf given name f) → ⊥
+    no_making None f is name making = making
+    no_making (Some given) Words is name making = making
+    no_making (Some given) (QueriesFault fault) is name making = making
+    no_making (Some given) (AsksFault fault) is name making = making
+    no_making (Some given) (Open which) is name making = is
+    no_making (Some given) (ReadAtStart which) is name making = making
+    no_making (Some given) (Long which) is name making = making
+    no_making (Some given) NotYet is name making = making
+    no_making (Some given) Memory is name making = making
+
+-- a run that began to use the files and then wanted memory
+pub stopped_for_memory : {F : Type 0} (holds : F → List ℕ → Option (List ℕ))
+    (opened made : F → List (List ℕ)) (unread unmade : F → List ℕ → ℕ) (given : Settings) (old new : F)
+    → UsesFiles holds opened made unread unmade (Some given) None old new
+    → UsesFiles holds opened made unread unmade (Some given) (Some Memory) old new
+stopped_for_memory holds opened made unread unmade given old new uses = record {
+  opens = record {
+    names = uses.opens.names;
+    of_kind = all_of uses.opens.names (file_names given) uses.opens.of_kind;
+    more = uses.opens.more;
+  };
+  makes = record {
+    names = uses.makes.names;
+    of_kind = all_of uses.makes.names (sink_names given) uses.makes.of_kind;
+    more = uses.makes.more;
+  };
+  kept = uses.kept;
+  openings = uses.openings;
+  makings = uses.makings;
+}
+  where
+    all_of : (names all : List (List ℕ)) → names ≡ all → IsPrefix names all
+    all_of names all same = record { rest = []; cut = sym same ∙ sym (append-nil names) }

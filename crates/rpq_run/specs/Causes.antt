@@ -1,0 +1,26 @@
+-- Why a run that began ended as it did.
+use Rattle.std.specs.Prelude.{◌≡◌, List, Contains, None, IfSome}
+use Rattle.rpq_io.specs.Counts.{CountsFault}
+use Rattle.history_model.specs.declared.line.Why.TheVariants.{Write}
+use Rattle.stream_tuples.specs.declared.ends.StreamEnd.TheVariants.{Closed}
+use Rattle.rpq_text.specs.declared.ends.SinkName.{SinkName}
+use Rattle.rpq_text.specs.declared.ends.SinkName.TheVariants.{Events, Replies}
+use Rattle.rpq_text.specs.ErrorLines.{run_lines}
+use Rattle.rpq_text.specs.Statuses.{AreSomeSinks, IsStatusOf}
+use Rattle.rpq_run.specs.Outcome.{Meanings, Sinks, Outcome}
+use Rattle.rpq_run.specs.Written.{TellsLines}
+
+-- the causes: which sinks a write failed of, each told once; why streams are closed; the status and
+-- the lines on the errors by the ends of the streams and the failed writes
+pub record HasCauses {S K : Type 0} (means : Meanings S K) (failed : List SinkName)
+    (sinks : Sinks K) (outcome : Outcome S K) : Type 0 where
+  pub once : AreSomeSinks failed
+  pub events_failed : CountsFault (Contains failed Events)
+      (means.failures sinks.events_old) (means.failures sinks.events_new)
+  pub replies_failed : IfSome outcome.replies (λ sink.
+      CountsFault (Contains failed Replies) 0 (means.failures sink))
+  pub no_replies : outcome.replies ≡ None → Contains failed Replies → ⊥
+  pub closed : Contains outcome.ends (Closed Write) → Contains failed Events
+  pub status_is : IsStatusOf outcome.ends failed outcome.status
+  pub told : TellsLines means.written means.failures
+      (run_lines outcome.ends failed outcome.status) sinks.errors_old sinks.errors_new

@@ -1,0 +1,51 @@
+-- When all is done.
+use Rattle.std.specs.Prelude.{◌≡◌, ℕ, ◌≤◌, List, length, map, sum, All, Option, option_map}
+use Rattle.std.specs.Prelude.{unwrap_or, IfSome, IsSomeAnd}
+use Rattle.rpq_io.specs.Counts.{Rose}
+use Rattle.rpq_words.specs.Settings.{Settings}
+use Rattle.stream_tuples.specs.declared.ends.StreamEnd.TheVariants.{Whole}
+use Rattle.stream_tuples.specs.StreamText.{stream_tuples}
+use Rattle.run_start.specs.Files.{IsFaultless, AreFaultlessAsks}
+use Rattle.run_start.specs.Given.{file_names, sink_names}
+use Rattle.run_start.specs.Ready.{AreReadWhole}
+use Rattle.rpq_run.specs.Outcome.{Meanings, Sinks, Openings, Outcome}
+
+-- the bytes of a stream are told, and it has no fault
+abbrev pub IsWholeStream : Option (List ℕ) → Type 0
+IsWholeStream file = IsSomeAnd file (λ text. (stream_tuples text).end ≡ Whole)
+
+-- how many tuples a stream has, where its bytes are told
+abbrev pub tuple_count : Option (List ℕ) → ℕ
+tuple_count file = unwrap_or (option_map (λ text. length (stream_tuples text).tuples) file) 0
+
+-- the bytes of all files are told and have no fault, and the history can hold the streams' tuples
+pub record CanBeDone (given : Settings) (holds : List ℕ → Option (List ℕ)) : Type 0 where
+  pub understood : IsSomeAnd (holds given.queries) IsFaultless
+  pub asks : IfSome given.asks (λ name.
+      IsSomeAnd (holds name) (AreFaultlessAsks (holds given.queries)))
+  pub whole : All IsWholeStream (map holds given.streams)
+  pub few : sum (map tuple_count (map holds given.streams)) ≤ given.history
+
+-- no count rose that shows a failure: of an opening of one of the files, of a read of a source, or
+-- of a write of the events or the replies
+pub record NothingRose {S K : Type 0} (means : Meanings S K) (given : Settings)
+    (openings : Openings) (sinks : Sinks K) (outcome : Outcome S K) : Type 0 where
+  pub unread : All (λ name. ¬ Rose (openings.unread_old name) (openings.unread_new name))
+      (file_names given)
+  pub unmade : All (λ name. ¬ Rose (openings.unmade_old name) (openings.unmade_new name))
+      (sink_names given)
+  pub reads : All (λ source. ¬ Rose 0 (means.faults source)) outcome.sources
+  pub writes : ¬ Rose (means.failures sinks.events_old) (means.failures sinks.events_new)
+  pub replies : IfSome outcome.replies (λ sink. ¬ Rose 0 (means.failures sink))
+
+-- nothing failed: no opening of a file, no read of a file, and no write of the events or the
+-- replies
+pub record NothingFails {S K : Type 0} (means : Meanings S K) (words : Option Settings)
+    (holds : List ℕ → Option (List ℕ)) (openings : Openings) (sinks : Sinks K)
+    (outcome : Outcome S K) : Type 0 where
+  pub unread : (name : List ℕ) → openings.unread_new name ≡ openings.unread_old name
+  pub unmade : (name : List ℕ) → openings.unmade_new name ≡ openings.unmade_old name
+  pub whole : IfSome words (λ given. AreReadWhole means.left means.faults given holds)
+  pub reads : All (λ source. means.faults source ≡ 0) outcome.sources
+  pub writes : means.failures sinks.events_new ≡ means.failures sinks.events_old
+  pub replies : IfSome outcome.replies (λ sink. means.failures sink ≡ 0)

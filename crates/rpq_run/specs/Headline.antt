@@ -1,0 +1,68 @@
+-- What a run over streams that is done comes to, in one piece.
+use Rattle.std.specs.Prelude.{◌≡◌, ℕ, ◌+◌, ◌↔◌, List, [], ◌++◌, length, map, take, All, Option}
+use Rattle.std.specs.Prelude.{Some, option_map, slice_get, IfSome, MatchOption}
+use Rattle.std.specs.List.{flat_map}
+use Rattle.rpq_base.specs.declared.data.Event.{Event}
+use Rattle.rpq_base.specs.declared.data.Pair.{Pair}
+use Rattle.rpq_model.specs.Answers.{IsAnswer}
+use Rattle.rpq_model.specs.Events.{IsHeld}
+use Rattle.rpq_model.specs.Query.{Query, path_query}
+use Rattle.rpq_model.specs.QueryEvents.{AreAllEvents}
+use Rattle.rpq_words.specs.Settings.{Settings}
+use Rattle.ask_text.specs.declared.ask.Ask.{Ask}
+use Rattle.ask_text.specs.Replies.{replies}
+use Rattle.stream_tuples.specs.History.{IsNumberOf, own_tuples}
+use Rattle.stream_tuples.specs.StreamText.{stream_tuples}
+use Rattle.rpq_text.specs.Text.{blocks_from}
+use Rattle.run_start.specs.Files.{HasQueries, HasSessions}
+use Rattle.rpq_threads.specs.Runs.{AreSessionsOf, asks_answered}
+use Rattle.rpq_run.specs.Outcome.{Meanings, Sinks, Outcome}
+
+-- the bytes of the queries file, of the asks file, if there is one, and of the streams, and those
+-- that stood on the events before
+pub record Told : Type 0 where
+  pub queries : List ℕ
+  pub asks : Option (List ℕ)
+  pub streams : List (List ℕ)
+  pub events : List ℕ
+
+-- the files of the settings hold these bytes, and the sink of the events had these
+pub record IsTold {S K : Type 0} (means : Meanings S K) (given : Settings)
+    (holds : List ℕ → Option (List ℕ)) (sinks : Sinks K) (told : Told) : Type 0 where
+  pub queries : holds given.queries ≡ Some told.queries
+  pub asks : option_map holds given.asks ≡ option_map (λ bytes. Some bytes) told.asks
+  pub streams : map holds given.streams ≡ map (λ bytes. Some bytes) told.streams
+  pub events : means.written sinks.events_old ≡ Some told.events
+
+-- what readers ask about these queries: the sessions of the asks file, or none
+abbrev pub AreAsked : List Query → Option (List ℕ) → List (List Ask) → Type 0
+AreAsked queries file sessions =
+    MatchOption file (sessions ≡ []) (λ bytes. HasSessions queries bytes sessions)
+
+-- there are queries and sessions, those of their files; one history, in which each stream's tuples
+-- stand once, in order, and nothing else; and the events that it brings, which were written behind
+-- what stood on the sink, with each entry its own. After each entry the pairs of a query emitted
+-- and not retracted are exactly its answers over the entries so far. Each session has exactly its
+-- asks answered, each by the answers at a position of the history that never falls within the
+-- session; and these replies were written
+pub record Headline {S K : Type 0} (means : Meanings S K) (told : Told) (sinks : Sinks K)
+    (outcome : Outcome S K) : Type 0 where
+  pub queries : List Query
+  pub accepted : HasQueries told.queries queries
+  pub sessions : List (List Ask)
+  pub asked : AreAsked queries told.asks sessions
+  pub in_order : (place : ℕ) (text : List ℕ) → slice_get told.streams place ≡ Some text
+      → own_tuples (place + 1) outcome.history ≡ (stream_tuples text).tuples
+  pub no_other : All (λ entry. IsNumberOf (length told.streams) entry.stream) outcome.history
+  pub events : List (List Event)
+  pub are_events : AreAllEvents queries outcome.history events
+  pub written : means.written sinks.events_new
+      ≡ Some (told.events ++ blocks_from queries 1 outcome.history events)
+  pub held : (place : ℕ) (query : Query) → slice_get queries place ≡ Some query
+      → (count : ℕ) (pair : Pair) → IsHeld place (flat_map (λ list. list) (take count events)) pair
+      ↔ IsAnswer (path_query query) (take count outcome.history) pair
+  pub readers : AreSessionsOf queries outcome.history (length outcome.history)
+      sessions outcome.sessions
+  pub all_answered : asks_answered outcome.sessions ≡ sessions
+  pub replied : IfSome outcome.replies (λ sink. IfSome (means.written sink) (λ bytes.
+      bytes ≡ replies (map (λ own. map (λ one. one.text) own) outcome.sessions)))

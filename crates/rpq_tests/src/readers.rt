@@ -1,0 +1,246 @@
+//! A reader beside a stream and the engine: it is answered before the next line is there, and while
+//! a worker on trees is at work.
+
+ghost use Rattle.std.specs.Prelude.{◌≡◌};
+
+use crate::case::words_of;
+use rpq_io::{Files, Gate, HostSink, HostSource, OpenFault, Who};
+use rpq_run::{Report, run};
+use std::alloc::Global;
+use std::hint::spin_loop;
+use std::io;
+use std::io::{ErrorKind, Read, Write};
+use std::random::RandomSource;
+use std::sync::atomic::AtomicU64;
+use std::sync::atomic::Ordering::SeqCst;
+use std::sync::{Arc, Wait};
+use std::test::Fail;
+use std::thread::Threads;
+
+/// For how many turns one waits for another.
+const TURNS: u32 = 10_000_000;
+
+/// The queries file.
+const QUERIES: &str = "query q window 100 slide 10 arbitrary: a/b\n";
+
+/// Takes whatever is written on it.
+#[derive(Drop)]
+struct Taking;
+
+impl Write for Taking {
+    fn write(&mut self, buf: &[u8]) -> io::Result<usize> {
+        Ok(buf.len())
+    }
+
+    fn flush(&mut self) -> io::Result<()> {
+        Ok(())
+    }
+}
+
+/// Whether the count comes to so many within so many turns.
+fn comes_to(count: &AtomicU64, wanted: u64) -> bool {
+    for _ in 0..TURNS {
+        if count.load(SeqCst) >= wanted {
+            return true;
+        }
+        spin_loop();
+    }
+    false
+}
+
+/// Gives one text and then another, and the second only once a reader was answered.
+#[derive(Drop)]
+struct Watching {
+    first: &'static str,
+    second: &'static str,
+    replies: Arc<AtomicU64>,
+    calls: u8,
+}
+
+impl Read for Watching {
+    fn read(&mut self, buf: &mut [u8]) -> io::Result<usize> {
+        self.calls = self.calls.saturating_add(1);
+        let text = match self.calls {
+            1 => self.first,
+            2 if self.second.is_empty() => "",
+            2 if comes_to(&self.replies, 1) => self.second,
+            2 => return Err(io::Error::from(ErrorKind::Other)),
+            _ => "",
+        };
+        let count = text.len().min(buf.len());
+        buf[..count].copy_from_slice(&text.as_bytes()[..count]);
+        Ok(count)
+    }
+}
+
+/// The files `q`, `a` and `s`, of which the last is watched, and the names that were opened to read
+/// and to write.
+#[derive(Drop)]
+struct WatchedFiles {
+    alloc: Global,
+    asks: &'static str,
+    replies: Arc<AtomicU64>,
+    opened: Vec<String>,
+    made: Vec<String>,
+}
+
+impl Files for WatchedFiles {
+    ghost use Rattle.std.specs.Prelude.{[], None, map, string_bytes};
+
+    type Source = HostSource<Watching>;
+
+    type Sink = HostSink<Taking>;
+
+    ghost holds = { λ _ _. None };
+
+    ghost opened = { λ files. map (λ name. string_bytes name) files.opened.items };
+
+    ghost made = { λ files. map (λ name. string_bytes name) files.made.items };
+
+    ghost unread = { λ _ _. 0 };
+
+    ghost unmade = { λ _ _. 0 };
+
+    fn source(&mut self, name: &str) -> Result<HostSource<Watching>, OpenFault> {
+        let Ok(replies) = Arc::try_clone(&self.replies) else {
+            return Err(OpenFault::Memory);
+        };
+        self.opened.reserve(1)?;
+        let noted = String::from_str(self.alloc, name)?;
+        self.opened.push_reserved(noted);
+        let (first, second) = match name {
+            "q" => (QUERIES, ""),
+            "a" => (self.asks, ""),
+            _ => ("1 x a y\n", "2 y b z\n"),
+        };
+        Ok(HostSource::new(Watching {
+            first,
+            second,
+            replies,
+            calls: 0,
+        }))
+    }
+
+    fn sink(&mut self, name: &str) -> Result<HostSink<Taking>, OpenFault> {
+        self.made.reserve(1)?;
+        let noted = String::from_str(self.alloc, name)?;
+        self.made.push_reserved(noted);
+        Ok(HostSink::new(Taking))
+    }
+}
+
+/// Counts the answers.
+#[derive(Drop)]
+struct CountingGate {
+    replies: Arc<AtomicU64>,
+}
+
+impl Gate for CountingGate {
+    fn pass(&self, _who: Who) {}
+
+    fn replied(&self, _session: u32, _position: u64) {
+        self.replies.fetch_add(1, SeqCst);
+    }
+}
+
+/// Keeps the reader at its first answer until a worker on trees passes behind it, and that worker
+/// until the second answer.
+#[derive(Drop)]
+struct HoldingGate {
+    replies: Arc<AtomicU64>,
+    passes: AtomicU64,
+    /// How many gave up waiting.
+    alone: AtomicU64,
+}
+
+impl HoldingGate {
+    fn note(&self, has_come: bool) {
+        if !has_come {
+            self.alone.fetch_add(1, SeqCst);
+        }
+    }
+}
+
+impl Gate for HoldingGate {
+    fn pass(&self, who: Who) {
+        if let Who::Trees(_) = who {
+            if self.replies.load(SeqCst) == 1 {
+                self.passes.fetch_add(1, SeqCst);
+                self.note(comes_to(&self.replies, 2));
+            }
+        }
+    }
+
+    fn replied(&self, _session: u32, _position: u64) {
+        if self.replies.fetch_add(1, SeqCst) == 0 {
+            self.note(comes_to(&self.passes, 1));
+        }
+    }
+}
+
+/// The report of a run over the watched files.
+fn report_of<R: Threads + Wait + RandomSource + Sync, G: Gate>(
+    rt: &R,
+    alloc: Global,
+    asks: &'static str,
+    replies: &Arc<AtomicU64>,
+    gate: &G,
+) -> Result<Report<WatchedFiles>, Fail> {
+    let words = words_of(alloc, &["--asks", "a", "--replies", "r", "q", "s"])?;
+    let mut files = WatchedFiles {
+        alloc,
+        asks,
+        replies: Arc::try_clone(replies)?,
+        opened: Vec::new(alloc),
+        made: Vec::new(alloc),
+    };
+    let mut events = HostSink::new(Taking);
+    let mut errors = HostSink::new(Taking);
+    Ok(run(
+        rt,
+        alloc,
+        &words,
+        &mut files,
+        &mut events,
+        &mut errors,
+        gate,
+    ))
+}
+
+/// Whether the one session of a run that is done was answered so.
+fn is_answered<F: Files>(report: &Report<F>, first: &[u8], second: &[u8]) -> bool {
+    match report.sessions.as_slice() {
+        [answers] => match answers.as_slice() {
+            [one, two] => report.status == 0 && one.text == first && two.text == second,
+            _ => false,
+        },
+        _ => false,
+    }
+}
+
+#[test]
+fn a_reply_before_the_next_line(rt: HostRuntime) -> Result<(), Fail> {
+    let alloc = rt.alloc();
+    let replies = Arc::new(alloc, AtomicU64::new(0))?;
+    let gate = CountingGate {
+        replies: Arc::try_clone(&replies)?,
+    };
+    let report = report_of(&rt, alloc, "session\nwait 1\nwait 2\n", &replies, &gate)?;
+    assert!(rt; is_answered(&report, b"@1 wait 1\n", b"@2 wait 2\n"));
+    Ok(())
+}
+
+#[test]
+fn a_reader_beside_the_engine(rt: HostRuntime) -> Result<(), Fail> {
+    let alloc = rt.alloc();
+    let replies = Arc::new(alloc, AtomicU64::new(0))?;
+    let gate = HoldingGate {
+        replies: Arc::try_clone(&replies)?,
+        passes: AtomicU64::new(0),
+        alone: AtomicU64::new(0),
+    };
+    let report = report_of(&rt, alloc, "session\nwait 1\ncount q\n", &replies, &gate)?;
+    assert!(rt; is_answered(&report, b"@1 wait 1\n", b"@1 count q 0\n"));
+    assert!(rt; gate.alone.load(SeqCst) == 0);
+    Ok(())
+}

@@ -1,0 +1,423 @@
+-- What a turn of the engine's loop makes of its pass and of what was written.
+use Rattle.std.proofs.Common.{◌≡◌, ℕ, ◌+◌, ◌≤◌, List, [], ◌∷◌, ◌++◌, length, map, take, drop}
+use Rattle.std.proofs.Common.{Option, Some, None, refl, sym, ap, subst, ◌∙◌, ⊎_elim, arith}
+use Rattle.std.specs.Prelude.{Contains}
+use Rattle.std.specs.List.{All}
+use Rattle.std.proofs.lemmas.List.{take-append-drop, length-take-le, take_all}
+use Rattle.std.proofs.lemmas.List.Elements.{Contains-push_cases, All-same, All-take, All-drop}
+use Rattle.containment_laws.specs.Accepted.{IsAccepted, AcceptedHaveEvents}
+use Rattle.rpq_base.specs.Plain.{IsPlain}
+use Rattle.rpq_base.specs.declared.data.Entry.{Entry}
+use Rattle.rpq_base.proofs.Members.{none_in}
+use Rattle.rpq_io.specs.Counts.{CountsFault}
+use Rattle.rpq_model.specs.Query.{Query}
+use Rattle.query_file.specs.Compiled.{CompiledValue}
+use Rattle.answer_view.specs.View.{ViewValue, IsViewOf}
+use Rattle.path_engine.specs.Engine.{StandsFor, definitions}
+use Rattle.turn_lock.specs.Lines.{StartsWith}
+use Rattle.history_model.specs.declared.line.Call.{Call}
+use Rattle.history_model.specs.declared.line.CallAct.TheVariants.{Shut}
+use Rattle.history_model.specs.declared.line.Line.{Line}
+use Rattle.history_model.specs.declared.line.Why.{Why}
+use Rattle.history_model.specs.declared.line.Why.TheVariants.{Write, Memory}
+use Rattle.history_model.specs.Lines.{publish_line, shut_line, calls, entries, published}
+use Rattle.history_model.specs.Lines.{IsShut, IsShutFor}
+use Rattle.stream_history.specs.Journal.{ShowsFront}
+use Rattle.stream_history.specs.History.{HistoryValue, IsFeedingPass, HasSeen, HasAdded}
+use Rattle.stream_history.proofs.Pushes.{calls_push, called, published_push}
+use Rattle.stream_history.proofs.Steps.{still_feeds, going_after}
+use Rattle.stream_history.proofs.Turns.{first_entries}
+use Rattle.rpq_text.specs.Text.{IsText}
+use Rattle.rpq_workers.specs.Started.{new_pass}
+use Rattle.rpq_workers.proofs.Numbering.{Each, new_is}
+use Rattle.rpq_workers.proofs.Seen.{entries_grow, same_front, take_part, part_fits}
+use Rattle.rpq_workers.proofs.Seen.{none_after, added_starts}
+use Rattle.rpq_threads.specs.declared.evaluator.Evaluator.{Evaluator}
+use Rattle.rpq_threads.specs.Fed.{GoesOn, Onward, Emits, answered, KeepsUp, IsFed, IsWhole, HasFed}
+use Rattle.rpq_threads.specs.Written.{Grew, GrewByPrefix, GrewByProperPrefix}
+use Rattle.rpq_threads.proofs.Grows.{prefix_of_longer, prefix_of_more, proper_of_longer}
+
+-- ---- what more is seen
+
+-- the first entries of a list begin it
+pub taken_starts : (n : ℕ) (all : List Entry) → StartsWith all (take n all)
+taken_starts n all = (drop n all, sym (take-append-drop n all))
+
+module _ (history : HistoryValue) (evaluator : Evaluator) (before after : Each)
+    (was : KeepsUp history evaluator before) (starts : StartsWith after.seen before.seen) where
+  -- what was answered stays where more is seen
+  pub answered_stays : answered evaluator.engine after ≡ answered evaluator.engine before
+  answered_stays = same_front after.seen before.seen starts evaluator.engine.position was.there
+
+  -- and so the engine keeps up
+  pub keeps_up_then : IsFeedingPass history after → KeepsUp history evaluator after
+  keeps_up_then feeds = record {
+    feeds = feeds;
+    workers = was.workers;
+    queries = was.queries;
+    accepted = was.accepted;
+    few = was.few;
+    there = omega (arith, was.there, entries_grow after.seen before.seen starts);
+    stands = subst (StandsFor evaluator.engine) (sym answered_stays) was.stands;
+  }
+
+  -- what was answered begins all entries
+  pub answered_starts : StartsWith (entries after.seen) (answered evaluator.engine before)
+  answered_starts = subst (StartsWith (entries after.seen)) answered_stays
+      (taken_starts evaluator.engine.position (entries after.seen))
+
+-- after a call that adds no line
+pub keeps_up_seen : (history : HistoryValue) (evaluator : Evaluator) (before after : Each) →
+    KeepsUp history evaluator before → HasSeen history before after →
+    KeepsUp history evaluator after
+keeps_up_seen history evaluator before after was seen =
+    keeps_up_then history evaluator before after was seen.seen
+    (still_feeds history before after was.feeds seen)
+
+pub fed_seen : (history : HistoryValue) (evaluator : Evaluator) (before after : Each) →
+    IsFed history evaluator before → HasSeen history before after → IsFed history evaluator after
+fed_seen history evaluator before after was seen = record {
+  keeps_up = keeps_up_seen history evaluator before after was.keeps_up seen;
+  told = λ some. ap published seen.mine ∙ was.told some;
+}
+
+-- after the answers over all that was answered are published
+module _ (history : HistoryValue) (evaluator : Evaluator) (before after : Each)
+    (was : KeepsUp history evaluator before) (number : ℕ)
+    (is : number ≡ evaluator.engine.position)
+    (added : HasAdded history before (publish_line number) after) where
+  pub feeds_published : IsFeedingPass history after
+  feeds_published = record {
+    is = record { is = added.is; number = added.number ∙ was.feeds.is.number };
+    goes_on = λ shut. going_after before.mine (publish_line number) (λ why same. cc)
+        was.feeds.goes_on (subst (λ (lines : List Line). IsShut lines) added.mine shut);
+  }
+
+  pub fed_published : IsFed history evaluator after
+  fed_published = record {
+    keeps_up = keeps_up_then history evaluator before after was
+        (added_starts history before after (publish_line number) added) feeds_published;
+    told = λ some. ap published added.mine
+        ∙ (published_push before.mine (publish_line number) ∙ is);
+  }
+
+-- the view of an engine that keeps up
+module _ (history : HistoryValue) (evaluator : Evaluator) (pass : Each)
+    (was : KeepsUp history evaluator pass) (view : ViewValue)
+    (shows : IsViewOf (definitions evaluator.engine) (answered evaluator.engine pass) view) where
+  pub view_place : view.position ≡ evaluator.engine.position
+  view_place =
+      shows.position ∙ length-take-le evaluator.engine.position (entries pass.seen) was.there
+
+  pub view_there : view.position ≤ length (entries pass.seen)
+  view_there = omega (arith, view_place, was.there)
+
+  pub view_shows : ShowsFront history.terms.queries (entries pass.seen) view
+  view_shows =
+      subst (λ (n : ℕ). IsViewOf history.terms.queries (take n (entries pass.seen)) view)
+      (sym view_place)
+      (subst (λ (qs : List Query). IsViewOf qs (answered evaluator.engine pass) view) was.queries
+      shows)
+
+-- at the start nothing is answered
+pub first_fed : (history : HistoryValue) (evaluator : Evaluator) →
+    1 ≤ evaluator.workers → evaluator.workers ≤ 64 →
+    definitions evaluator.engine ≡ history.terms.queries →
+    All IsAccepted history.terms.queries → history.terms.cap ≤ 1073741824 →
+    StandsFor evaluator.engine [] → IsFed history evaluator (new_pass history 0)
+first_fed history evaluator some many queries accepted few stands =
+    let none : evaluator.engine.position ≡ 0 = stands.counted in
+    record {
+      keeps_up = record {
+        feeds = record {
+          is = record { is = new_is history 0; number = refl };
+          goes_on = λ shut. none_in (record { by = 0; act = Shut shut.0 }) shut.1;
+        };
+        workers = (some, many);
+        queries = queries;
+        accepted = accepted;
+        few = few;
+        there = omega (arith, none);
+        stands = subst (λ (n : ℕ). StandsFor evaluator.engine (take n [])) (sym none) stands;
+      };
+      told = λ readers. sym none;
+    }
+
+-- ---- a front is answered
+
+module _ (history : HistoryValue) (old : Evaluator) (pass : Each) (was : KeepsUp history old pass)
+    (part : List Entry) (is : part ≡ take 256 (drop old.engine.position (entries pass.seen)))
+  where
+    pub part_within : old.engine.position + length part ≤ length (entries pass.seen)
+    part_within = part_fits old.engine.position 256 (entries pass.seen) part is was.there
+
+    pub part_is_plain : All IsPlain (entries pass.seen) → All IsPlain part
+    part_is_plain plain =
+        All-same IsPlain part (take 256 (drop old.engine.position (entries pass.seen))) is
+        (All-take IsPlain 256 (drop old.engine.position (entries pass.seen))
+        (All-drop IsPlain old.engine.position (entries pass.seen) plain))
+
+    -- what is answered then begins the entries
+    pub part_starts : StartsWith (entries pass.seen) (answered old.engine pass ++ part)
+    part_starts = subst (StartsWith (entries pass.seen))
+        (take_part old.engine.position 256 (entries pass.seen) part is)
+        (taken_starts (old.engine.position + length part) (entries pass.seen))
+
+    -- the engine went on by the front
+    module _ (new : Evaluator) (written_before written_after : Option (List ℕ))
+        (did : Emits old.engine new.engine part written_before written_after)
+        (workers : new.workers ≡ old.workers) where
+      answered_more : answered old.engine pass ++ part ≡ answered new.engine pass
+      answered_more =
+          sym (take_part old.engine.position 256 (entries pass.seen) part is)
+          ∙ ap (λ (n : ℕ). take n (entries pass.seen)) (sym did.position)
+
+      pub keeps_up_emitted : KeepsUp history new pass
+      keeps_up_emitted = record {
+        feeds = was.feeds;
+        workers = (omega (arith, workers, was.workers.0), omega (arith, workers, was.workers.1));
+        queries = ap (map (λ (each : CompiledValue). each.def)) did.queries ∙ was.queries;
+        accepted = was.accepted;
+        few = was.few;
+        there = omega (arith, did.position, part_within);
+        stands = subst (StandsFor new.engine) answered_more
+            (did.stands (answered old.engine pass) was.stands);
+      }
+
+      pub text_emitted : Onward history.terms.queries (answered old.engine pass) written_before
+          (λ start. Grew (IsText history.terms.queries (answered new.engine pass)) start
+          written_after)
+      text_emitted start so_far =
+          subst (λ (h : List Entry). Grew (IsText history.terms.queries h) start written_after)
+          answered_more
+          (subst (λ (qs : List Query). Grew (IsText qs (answered old.engine pass ++ part)) start
+          written_after) was.queries
+          (did.text (answered old.engine pass) start was.stands
+          (subst (λ (qs : List Query). Grew (IsText qs (answered old.engine pass)) start
+          written_before) (sym was.queries) so_far)))
+
+    -- what a front that was fed makes of the text, in words that don't name the engine
+    pub onward_of : (written : Option (List ℕ))
+        (Text : (List ℕ → Type 0) → Option (List ℕ) → Type 0) →
+        GoesOn old.engine written (λ before start.
+        Text (IsText (definitions old.engine) (before ++ part)) start) →
+        Onward history.terms.queries (answered old.engine pass) written
+        (λ start. Text (IsText history.terms.queries (answered old.engine pass ++ part)) start)
+    onward_of written Text did start so_far =
+        subst (λ (qs : List Query). Text (IsText qs (answered old.engine pass ++ part)) start)
+        was.queries
+        (did (answered old.engine pass) start was.stands
+        (subst (λ (qs : List Query). Grew (IsText qs (answered old.engine pass)) start written)
+        (sym was.queries) so_far))
+
+-- a front of the entries, and all of them
+module _ (have : AcceptedHaveEvents) (queries : List Query) (all : All IsAccepted queries)
+    (front entries : List Entry) (starts : StartsWith entries front)
+    (start now : Option (List ℕ)) where
+  pub prefix_of_all : Grew (IsText queries front) start now →
+      GrewByPrefix (IsText queries entries) start now
+  prefix_of_all whole =
+      subst (λ (history : List Entry). GrewByPrefix (IsText queries history) start now)
+      (sym starts.1) (prefix_of_longer have queries all front starts.0 start now whole)
+
+  pub prefix_of_them : GrewByPrefix (IsText queries front) start now →
+      GrewByPrefix (IsText queries entries) start now
+  prefix_of_them part =
+      subst (λ (history : List Entry). GrewByPrefix (IsText queries history) start now)
+      (sym starts.1) (prefix_of_more have queries all front starts.0 start now part)
+
+  pub proper_of_them : GrewByProperPrefix (IsText queries front) start now →
+      GrewByProperPrefix (IsText queries entries) start now
+  proper_of_them part =
+      subst (λ (history : List Entry). GrewByProperPrefix (IsText queries history) start now)
+      (sym starts.1) (proper_of_longer have queries all front starts.0 start now part)
+
+-- ---- a turn, by its steps
+
+module _ (history : HistoryValue) (old : Evaluator) (before mid : Each)
+    (was : IsFed history old before) (seen : HasSeen history before mid) where
+  still : KeepsUp history old mid
+  still = keeps_up_seen history old before mid was.keeps_up seen
+
+  stays : answered old.engine mid ≡ answered old.engine before
+  stays = answered_stays history old before mid was.keeps_up seen.seen
+
+  -- what was written stays the text of what was answered
+  pub text_stays : (written : Option (List ℕ)) →
+      Onward history.terms.queries (answered old.engine before) written
+      (λ start. Grew (IsText history.terms.queries (answered old.engine mid)) start written)
+  text_stays written start so_far =
+      subst (λ (h : List Entry). Grew (IsText history.terms.queries h) start written) (sym stays)
+      so_far
+
+  -- and is a prefix of that of all entries
+  pub text_begins : AcceptedHaveEvents → (written : Option (List ℕ)) →
+      Onward history.terms.queries (answered old.engine before) written
+      (λ start. GrewByPrefix (IsText history.terms.queries (entries mid.seen)) start written)
+  text_begins have written start so_far =
+      prefix_of_all have history.terms.queries was.keeps_up.accepted (answered old.engine before)
+      (entries mid.seen) (answered_starts history old before mid was.keeps_up seen.seen) start
+      written so_far
+
+  module _ (part : List Entry)
+      (is : part ≡ take 256 (drop old.engine.position (entries mid.seen))) where
+    -- no entry is left
+    pub none_is_left : length part ≡ 0 → old.engine.position ≡ length (entries mid.seen)
+    none_is_left none =
+        none_after old.engine.position 256 (entries mid.seen) part is (omega arith) none still.there
+
+    pub front_is_short : old.engine.position + length part ≤ 1073741824
+    front_is_short = omega (
+      arith,
+      part_within history old mid still part is,
+      seen.legal.capped,
+      was.keeps_up.few,
+    )
+
+    pub front_is_plain : All IsPlain part
+    front_is_plain = part_is_plain history old mid still part is seen.plain
+
+    module _ (have : AcceptedHaveEvents) (written_before written_after : Option (List ℕ)) where
+      pub front_proper : GoesOn old.engine written_before (λ first start.
+          GrewByProperPrefix (IsText (definitions old.engine) (first ++ part)) start
+          written_after) →
+          Onward history.terms.queries (answered old.engine before) written_before (λ start.
+          GrewByProperPrefix (IsText history.terms.queries (entries mid.seen)) start
+          written_after)
+      front_proper did start so_far =
+          proper_of_them have history.terms.queries was.keeps_up.accepted
+          (answered old.engine mid ++ part) (entries mid.seen)
+          (part_starts history old mid still part is) start written_after
+          (onward_of history old mid still part is written_before
+          (λ Is from. GrewByProperPrefix Is from written_after) did start
+          (text_stays written_before start so_far))
+
+      pub front_prefix : GoesOn old.engine written_before (λ first start.
+          GrewByPrefix (IsText (definitions old.engine) (first ++ part)) start written_after) →
+          Onward history.terms.queries (answered old.engine before) written_before (λ start.
+          GrewByPrefix (IsText history.terms.queries (entries mid.seen)) start written_after)
+      front_prefix did start so_far =
+          prefix_of_them have history.terms.queries was.keeps_up.accepted
+          (answered old.engine mid ++ part) (entries mid.seen)
+          (part_starts history old mid still part is) start written_after
+          (onward_of history old mid still part is written_before
+          (λ Is from. GrewByPrefix Is from written_after) did start
+          (text_stays written_before start so_far))
+
+    module _ (new : Evaluator) (written_before written_after : Option (List ℕ))
+        (did : Emits old.engine new.engine part written_before written_after)
+        (workers : new.workers ≡ old.workers) where
+      pub front_keeps_up : KeepsUp history new mid
+      front_keeps_up =
+          keeps_up_emitted history old mid still part is new written_before written_after did
+          workers
+
+      front_text : Onward history.terms.queries (answered old.engine before) written_before
+          (λ start. Grew (IsText history.terms.queries (answered new.engine mid)) start
+          written_after)
+      front_text start so_far =
+          text_emitted history old mid still part is new written_before written_after did workers
+          start (text_stays written_before start so_far)
+
+      module _ (after : Each) (starts : StartsWith after.seen mid.seen) where
+        pub text_then : Onward history.terms.queries (answered old.engine before) written_before
+            (λ start. Grew (IsText history.terms.queries (answered new.engine after)) start
+            written_after)
+        text_then start so_far =
+            subst (λ (h : List Entry). Grew (IsText history.terms.queries h) start written_after)
+            (sym (answered_stays history new mid after front_keeps_up starts))
+            (front_text start so_far)
+
+        pub prefix_then : AcceptedHaveEvents →
+            Onward history.terms.queries (answered old.engine before) written_before
+            (λ start. GrewByPrefix (IsText history.terms.queries (entries after.seen)) start
+            written_after)
+        prefix_then have start so_far =
+            prefix_of_all have history.terms.queries was.keeps_up.accepted
+            (answered new.engine mid) (entries after.seen)
+            (answered_starts history new mid after front_keeps_up starts) start written_after
+            (front_text start so_far)
+
+-- ---- the end of the loop
+
+-- a shut that is there is the new one
+shut_said : (lines : List Line) (why other : Why) → (IsShut lines → ⊥) →
+    IsShutFor (lines ++ shut_line why ∷ []) other → Some why ≡ Some other
+shut_said lines why other going shut =
+    let call : Call = record { by = 0; act = Shut other } in
+    ⊎_elim (λ old. absurd (going (other, old)))
+    (λ is. let same : Shut why ≡ Shut other = ap (λ (each : Call). each.act) is in
+    let reason : why ≡ other = cc in ap (λ (w : Why). Some w) reason)
+    (Contains-push_cases (calls lines) (record { by = 0; act = Shut why }) call
+    (subst (λ (all : List Call). Contains all call) (calls_push lines (shut_line why)) shut))
+
+-- a fault that isn't met leaves the count
+pub unmet : (Fault : Type 0) (before after : ℕ) → (Fault → ⊥) → after ≡ before →
+    CountsFault Fault before after
+unmet Fault before after never same = record {
+  never_falls = omega (arith, same);
+  rose = λ is. absurd (never is);
+  quiet = λ _. same;
+}
+
+module _ {K : Type 0} (written : K → Option (List ℕ)) (faults : K → ℕ) (history : HistoryValue)
+    (start now : K) where
+  pub fed_whole : (evaluator : Evaluator) (pass : Each) → IsFed history evaluator pass →
+      IsWhole history evaluator pass →
+      Grew (IsText history.terms.queries (answered evaluator.engine pass)) (written start)
+      (written now) →
+      faults now ≡ faults start → HasFed written faults history start now pass None
+  fed_whole evaluator pass fed whole text quiet = record {
+    is = fed.keeps_up.feeds.is.is;
+    number = fed.keeps_up.feeds.is.number;
+    ended = λ _. whole.ended;
+    told = λ _ some. fed.told some ∙ whole.all;
+    shut = λ other shut. absurd (fed.keeps_up.feeds.goes_on (other, shut));
+    seen_shut = λ other is. absurd cc;
+    text = record {
+      whole = λ _. subst (λ (h : List Entry). Grew (IsText history.terms.queries h)
+          (written start) (written now))
+          (take_all evaluator.engine.position (entries pass.seen) (omega (arith, whole.all)))
+          text;
+      write = λ is. absurd cc;
+      memory = λ is. absurd cc;
+      counted = unmet (None ≡ Some Write) (faults start) (faults now) (λ is. cc) quiet;
+    };
+  }
+
+  pub fed_shut : AcceptedHaveEvents → All IsAccepted history.terms.queries → (before after : Each)
+      (why : Why) → IsFeedingPass history before → HasAdded history before (shut_line why) after →
+      (why ≡ Write → GrewByProperPrefix (IsText history.terms.queries (entries before.seen))
+      (written start) (written now)) →
+      (why ≡ Memory → GrewByPrefix (IsText history.terms.queries (entries before.seen))
+      (written start) (written now)) →
+      CountsFault (Some why ≡ Some Write) (faults start) (faults now) →
+      HasFed written faults history start now after (Some why)
+  fed_shut have accepted before after why feeds added proper part counted =
+      let starts = first_entries after.seen before.seen
+      (added_starts history before after (shut_line why) added) in
+      record {
+        is = added.is;
+        number = added.number ∙ feeds.is.number;
+        ended = λ is. absurd cc;
+        told = λ is some. absurd cc;
+        shut = λ other shut. shut_said before.mine why other feeds.goes_on
+            (subst (λ (lines : List Line). IsShutFor lines other) added.mine shut);
+        seen_shut = λ other is.
+            let same : why ≡ other = cc in
+            subst (λ (lines : List Line). IsShutFor lines other) (sym added.ends)
+            (subst (λ (w : Why). IsShutFor (added.found ++ shut_line why ∷ []) w) same
+            (called added.found (shut_line why)));
+        text = record {
+          whole = λ is. absurd cc;
+          write = λ is.
+              let same : why ≡ Write = cc in
+              proper_of_them have history.terms.queries accepted (entries before.seen)
+              (entries after.seen) starts (written start) (written now) (proper same);
+          memory = λ is.
+              let same : why ≡ Memory = cc in
+              prefix_of_them have history.terms.queries accepted (entries before.seen)
+              (entries after.seen) starts (written start) (written now) (part same);
+          counted = counted;
+        };
+      }

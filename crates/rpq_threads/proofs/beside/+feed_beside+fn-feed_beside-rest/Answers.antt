@@ -1,0 +1,17 @@
+use Rattle.std.proofs.Common.{◌+◌, rules}
+use Rattle.rpq_workers.specs.Readers.{HaveReplied}
+use Rattle.rpq_workers.proofs.Replying.{replied_more}
+use Rattle.rpq_threads.proofs.beside.+feed_beside+fn-feed_beside-rest.Goals as goal
+
+pub returns-clause-replied : goal.returns-clause-replied
+returns-clause-replied g t c =
+    let history = c.args.shared.now.history.now in
+    let taken = c.in-Some.ensures in
+    let left = c.next_session-next.new.sessions.items in
+    let both = c.beside_session-beside.result in
+    let were : HaveReplied history (1 + history.terms.streams) left both.0.replied.items =
+    search rules in
+    replied_more history (1 + history.terms.streams) c.args.waiting.sessions.items left
+    c.in-Some.session both.0.replied.items c.with_reply.result.replied.items both.1 c.in-Some.pass
+    taken.sessions were c.with_reply.ensures.replied taken.pass
+    c.beside_session-beside.ensures.replied

@@ -1,0 +1,38 @@
+use Rattle.std.proofs.Common.{◌≡◌, ◌<◌, Err, ap, ◌∙◌, arith}
+use Rattle.stream_history.specs.declared.fault.PublishFault.{PublishFault}
+use Rattle.stream_history.specs.declared.fault.PublishFault.TheVariants.{Behind}
+use Rattle.rpq_threads.specs.Fed.{answered}
+use Rattle.rpq_threads.proofs.Turns.{view_place, fed_published}
+use Rattle.rpq_threads.proofs.feeding.publish_answers.Goals as goal
+
+pub unreachable-requires : goal.unreachable-requires
+unreachable-requires g c =
+    let history = c.args.history.now in
+    let evaluator = c.args.evaluator.now in
+    let pass = c.args.pass.now in
+    let was = c.requires.keeps_up in
+    let view = c.in_ok-view.view.value in
+    let shows = c.in_ok-view.ensures (answered evaluator.engine pass) was.stands in
+    let last = c.in-Err-Behind.field-0-0 in
+    let said : c.publish.result ≡ Err (Behind last) =
+    c.in-Err-Behind.is ∙ ap (λ (fault : PublishFault). Err fault) c.in-Err-Behind.field-0-is in
+    let both = (c.publish.ensures.behind last).0 said in
+    let some : 0 < history.readers = omega (arith, c.readers.ensures) in
+    omega (
+      arith,
+      both.0,
+      both.1,
+      c.requires.ahead some,
+      view_place history evaluator pass was view shows,
+    )
+
+pub returns-in-Ok-clause-fed : goal.returns-in-Ok-clause-fed
+returns-in-Ok-clause-fed g c =
+    let history = c.args.history.now in
+    let evaluator = c.args.evaluator.now in
+    let pass = c.args.pass.now in
+    let was = c.requires.keeps_up in
+    let view = c.in_ok-view.view.value in
+    let shows = c.in_ok-view.ensures (answered evaluator.engine pass) was.stands in
+    fed_published history evaluator pass c.publish.new.pass was view.position
+    (view_place history evaluator pass was view shows) c.in-Ok.ensures.line

@@ -1,0 +1,57 @@
+use Rattle.std.proofs.Common.{◌≡◌, length, refl, sym, ap, ◌∙◌, arith, rules}
+use Rattle.history_model.specs.World.{Terms}
+use Rattle.rpq_text.specs.Definitions.{definitions_of}
+use Rattle.rpq_workers.proofs.Numbering.{new_length}
+use Rattle.rpq_threads.proofs.Starting.{terms_of, begun_fed, begun_asks}
+use Rattle.rpq_threads.proofs.run.begin.Goals as goal
+
+pub new-requires-4-clause-passes : goal.new-requires-4-clause-passes
+new-requires-4-clause-passes g c =
+    let history = c.in_ok-history.history in
+    omega (
+      arith,
+      c.len-3.ensures,
+      c.in_ok-history.passes.ok.0,
+      ap length c.in_ok-history.ensures.passes ∙ new_length history 0 history.turns.passes,
+      c.in_ok-history.ensures.count,
+    )
+
+pub returns : goal.returns
+returns g c =
+    let task = c.args.task in
+    let history = c.in_ok-history.history in
+    let made = c.in_ok-history.ensures in
+    let streams : c.len-streams.result ≡ length task.readers.items = omega (
+      arith,
+      c.len-streams.ensures,
+      task.readers.ok.0,
+      c.requires.streams.1,
+    ) in
+    let asking : c.len-asking.result ≡ length task.sessions.items = omega (
+      arith,
+      c.len-asking.ensures,
+      task.sessions.ok.0,
+      c.requires.few,
+    ) in
+    let queries : c.in_ok-given.given.value.items ≡ definitions_of task.queries.items =
+    search rules in
+    let terms : history.terms ≡ terms_of task =
+    made.terms ∙ (λ i. record { queries = queries i; streams = streams i; cap = task.limit }) in
+    record {
+      terms = terms;
+      job = record {
+        queries = search rules;
+        passes = made.passes;
+        count = made.count;
+        fed = begun_fed g.S.Source.left g.S.Source.faults task c.requires history terms
+            c.in_ok-evaluator.evaluator c.in_ok-evaluator.ensures.queries
+            c.in_ok-evaluator.ensures.workers c.in_ok-evaluator.ensures.stands;
+        streams = sym (ap (λ (t : Terms). t.streams) terms);
+        fresh = c.requires.fresh;
+        readers = sym (made.readers ∙ asking);
+        asks = begun_asks g.S.Source.left g.S.Source.faults task c.requires history terms;
+        room = c.in_ok-room.ensures;
+      };
+      readers = refl;
+      sessions = refl;
+    }

@@ -1,0 +1,5 @@
+pub mod Understood
+pub mod Written
+pub mod Fed
+pub mod Served
+pub mod Runs

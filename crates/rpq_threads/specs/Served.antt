@@ -1,0 +1,147 @@
+-- What the threads of a run work with, and what they give back. Only private contracts cite this
+-- file.
+use Rattle.std.specs.Prelude.{◌≡◌, ℕ, ◌+◌, ◌≤◌, Bool, List, [], ◌∷◌, ◌++◌, length, map, Option, All}
+use Rattle.std.specs.Global.{Vec}
+use Rattle.std.specs.List.{list_any}
+use Rattle.std.specs.Vec.{vec_len, vec_capacity}
+use Rattle.rpq_io.specs.Reader.{ReaderState}
+use Rattle.rpq_model.specs.Query.{Query}
+use Rattle.rpq_text.specs.Definitions.{definitions_of}
+use Rattle.turn_lock.specs.Passes.{PassValue, newcomers}
+use Rattle.history_model.specs.declared.line.Why.{Why}
+use Rattle.history_model.specs.declared.line.Line.{Line}
+use Rattle.history_model.specs.World.{Terms}
+use Rattle.stream_history.specs.History.{HistoryValue, passes_for}
+use Rattle.stream_tuples.specs.declared.ends.StreamEnd.{StreamEnd}
+use Rattle.stream_tuples.specs.Progress.{IsNewReader}
+use Rattle.ask_text.specs.declared.ask.Ask.{Ask}
+use Rattle.ask_text.specs.Answered.{AnsweredValue}
+use Rattle.ask_text.specs.Ranges.{IsInRange}
+use Rattle.rpq_workers.specs.declared.session_worker.Replied.{Replied}
+use Rattle.rpq_workers.specs.declared.stream_worker.Streamed.{Streamed}
+use Rattle.rpq_workers.specs.Started.{HaveStreamed, new_pass, new_passes}
+use Rattle.rpq_workers.specs.Readers.{HaveReplied}
+use Rattle.rpq_threads.specs.declared.beside.Waiting.{Waiting}
+use Rattle.rpq_threads.specs.declared.evaluator.Evaluator.{Evaluator}
+use Rattle.rpq_threads.specs.declared.room.Room.{Room}
+use Rattle.rpq_threads.specs.declared.run.Begun.{Begun}
+use Rattle.rpq_threads.specs.declared.serving.Job.{Job}
+use Rattle.rpq_threads.specs.declared.serving.Served.{Served}
+use Rattle.rpq_threads.specs.declared.task.Task.{Task}
+use Rattle.rpq_threads.specs.Fed.{answered, IsFed, HasFed}
+
+-- the engine keeps up with what its pass has seen, and has answered nothing
+pub record IsAtStart (history : HistoryValue) (evaluator : Evaluator)
+    (pass : PassValue Line Terms) : Type 0 where
+  pub fed : IsFed history evaluator pass
+  pub none : answered evaluator.engine pass ≡ []
+
+-- the asks of these sessions are about queries of the history
+abbrev pub AreAbout : HistoryValue → List (List Ask) → Type 0
+AreAbout history sessions = All (All (IsInRange (length history.terms.queries))) sessions
+
+-- the sessions have the passes of the first readers, which are new; their asks are about the
+-- history's queries; and no worker gave anything yet, but there is room for it
+pub record AreWaiting (history : HistoryValue) (waiting : Waiting) : Type 0 where
+  pub passes : waiting.passes.items
+      ≡ new_passes history (1 + history.terms.streams) (length waiting.sessions.items)
+  pub asks : AreAbout history waiting.sessions.items
+  pub none : waiting.replied.items ≡ []
+  pub room : vec_len waiting.sessions ≤ vec_capacity waiting.replied
+
+-- the lists are empty and have room for what the workers give, and for all passes
+pub record HasRoom {S : Type 0} (history : HistoryValue) (room : Room S) : Type 0 where
+  pub no_started : room.started.items ≡ []
+  pub no_streamed : room.streamed.items ≡ []
+  pub no_waiting : room.waiting.items ≡ []
+  pub no_replied : room.replied.items ≡ []
+  pub no_passes : room.passes.items ≡ []
+  pub no_sources : room.sources.items ≡ []
+  pub no_ends : room.ends.items ≡ []
+  pub no_answers : room.answers.items ≡ []
+  pub started : history.terms.streams ≤ vec_capacity room.started
+  pub streamed : history.terms.streams ≤ vec_capacity room.streamed
+  pub waiting : history.readers ≤ vec_capacity room.waiting
+  pub replied : history.readers ≤ vec_capacity room.replied
+  pub passes : passes_for history.terms history.readers ≤ vec_capacity room.passes
+  pub sources : history.terms.streams ≤ vec_capacity room.sources
+  pub ends : history.terms.streams ≤ vec_capacity room.ends
+  pub answers : history.readers ≤ vec_capacity room.answers
+
+-- what the threads of a run work with: the queries of the history, all new passes, an engine at its
+-- start, as many new readers and sessions as the history has streams and readers, and room
+pub record IsJob {S : Type 0} (left : S → Option (List ℕ)) (faults : S → ℕ)
+    (history : HistoryValue) (definitions : List Query) (job : Job S) : Type 0 where
+  pub queries : definitions ≡ history.terms.queries
+  pub passes : job.passes.items ≡ newcomers history.turns.id history.terms history.turns.passes
+  pub count : history.turns.passes ≡ passes_for history.terms history.readers
+  pub fed : IsFed history job.evaluator (new_pass history 0)
+  pub streams : length job.readers.items ≡ history.terms.streams
+  pub fresh : All (IsNewReader left faults) job.readers.items
+  pub readers : length job.sessions.items ≡ history.readers
+  pub asks : AreAbout history job.sessions.items
+  pub room : HasRoom history job.room
+
+-- what was made for a run: a history of its queries and streams, which takes so many entries, and
+-- what its threads work with, among this the readers and the sessions that were given
+pub record IsBegun {S : Type 0} (left : S → Option (List ℕ)) (faults : S → ℕ) (task : Task S)
+    (begun : Begun S) : Type 0 where
+  pub terms : begun.history.terms ≡ record {
+    queries = definitions_of task.queries.items;
+    streams = length task.readers.items;
+    cap = task.limit;
+  }
+  pub job : IsJob left faults begun.history begun.definitions.value.items begun.job
+  pub readers : begun.job.readers.items ≡ task.readers.items
+  pub sessions : begun.job.sessions.items ≡ task.sessions.items
+
+-- what a run's threads were given, and the sink of the events before it
+pub record Given (S K : Type 0) : Type 0 where
+  pub readers : List (ReaderState S)
+  pub sessions : List (List Ask)
+  pub events : K
+
+-- what they gave, and the sink after it
+pub record Gave (S K : Type 0) : Type 0 where
+  pub sources : List S
+  pub ends : List StreamEnd
+  pub answers : List (List AnsweredValue)
+  pub why : Option Why
+  pub short_of_memory : Bool
+  pub events : K
+
+-- what a job gives to the threads
+abbrev pub given_by : {S K : Type 0} → Job S → K → Given S K
+given_by job events = record {
+  readers = job.readers.items;
+  sessions = job.sessions.items;
+  events = events;
+}
+
+-- what they gave back
+abbrev pub gave_by : {S K : Type 0} → Served S K → Gave S K
+gave_by served = record {
+  sources = served.sources.items;
+  ends = served.ends.items;
+  answers = map (λ (own : Vec AnsweredValue). own.items) served.answers.items;
+  why = served.why;
+  short_of_memory = served.short_of_memory;
+  events = served.events.now;
+}
+
+-- the workers of the streams and of the sessions and the engine have ended; all passes are back
+pub record IsServed {S K : Type 0} (left : S → Option (List ℕ)) (faults : S → ℕ)
+    (written : K → Option (List ℕ)) (failures : K → ℕ) (history : HistoryValue)
+    (given : Given S K) (gave : Gave S K) (passes : List (PassValue Line Terms)) : Type 0 where
+  pub streamed : List (Streamed S)
+  pub replied : List Replied
+  pub engine : PassValue Line Terms
+  pub did : HaveStreamed left faults history 1 given.readers streamed
+  pub answered_all : HaveReplied history (1 + history.terms.streams) given.sessions replied
+  pub fed : HasFed written failures history given.events gave.events engine gave.why
+  pub passes_are : passes
+      ≡ engine ∷ (map (λ d. d.pass) streamed ++ map (λ r. r.pass) replied)
+  pub sources_are : gave.sources ≡ map (λ d. d.source) streamed
+  pub ends_are : gave.ends ≡ map (λ d. d.end) streamed
+  pub answers_are : gave.answers ≡ map (λ r. r.answers.items) replied
+  pub memory_is : gave.short_of_memory ≡ list_any (λ r. r.memory) replied

@@ -1,0 +1,26 @@
+//! The threads of a run, which share one history: a worker for each stream, the engine in the
+//! calling thread, and a worker for each session.
+//!
+//! The contract for the layer above is that of [`run_threads`]: whatever the threads do, there is
+//! one history in the end, and all that is told is told of it (`specs/Runs`). Each stream's tuples
+//! stand in it up to the stream's end, and nothing else does; what was written on the events is its
+//! text, or a prefix where a write failed or memory ran out; and each reply to a session is the one
+//! over the entries up to its position.
+//!
+//! The engine takes up to 256 entries at once, writes their blocks one after another, and publishes
+//! the answers after the last of them, where there are sessions. No clause says that the threads
+//! get on, or in which order.
+#![tactic(auto)]
+
+mod beside;
+mod definitions;
+mod emitting;
+mod evaluator;
+mod feeding;
+mod room;
+mod run;
+mod serving;
+mod task;
+
+pub use run::run_threads;
+pub use task::{Outcome, Task};

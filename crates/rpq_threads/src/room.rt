@@ -1,0 +1,120 @@
+//! Room for what the workers give.
+
+ghost use Rattle.std.specs.Prelude.{◌≡◌, ◌≤◌, ◌+◌, ◌++◌, ◌||◌, false, length, map, All, IfOk};
+ghost use Rattle.std.specs.List.{list_any};
+ghost use Rattle.std.specs.Vec.{vec_len, vec_capacity};
+ghost use Rattle.std.specs.Vec.Iter.{into_iter_items};
+ghost use Rattle.stream_history.specs.History.{passes_for};
+ghost use Rattle.rpq_threads.specs.Served.{HasRoom};
+
+use ask_text::Answered;
+use rpq_base::Memory;
+use rpq_io::Source;
+use rpq_workers::{Replied, Started, Streamed};
+use std::alloc::Global;
+use std::vec::IntoIter;
+use stream_history::{History, Pass};
+use stream_tuples::StreamEnd;
+
+/// Lists that are long enough for a run, so that after the start nothing but the work needs memory.
+#[derive(Drop)]
+pub struct Room<S: Source> {
+    pub started: Vec<Started<S>>,
+    pub streamed: Vec<Streamed<S>>,
+    pub waiting: Vec<Pass>,
+    pub replied: Vec<Replied>,
+    pub passes: Vec<Pass>,
+    pub sources: Vec<S>,
+    pub ends: Vec<StreamEnd>,
+    pub answers: Vec<Vec<Answered>>,
+}
+
+impl<S: Source + Drop> Room<S> {
+    /// Empty lists for so many streams, sessions and passes. The only error is [`Memory`].
+    pub fn new(
+        alloc: Global,
+        history: &History,
+        streams: usize,
+        sessions: usize,
+        passes: usize,
+    ) -> Result<Room<S>, Memory>
+        requires streams { streams ≡ history.now.terms.streams }
+        requires sessions { sessions ≡ history.now.readers }
+        requires passes { passes ≡ passes_for history.now.terms history.now.readers }
+        ensures { IfOk result (HasRoom history.now) }
+    {
+        let _ = history;
+        Ok(Room {
+            started: Vec::with_capacity(alloc, streams)?,
+            streamed: Vec::with_capacity(alloc, streams)?,
+            waiting: Vec::with_capacity(alloc, sessions)?,
+            replied: Vec::with_capacity(alloc, sessions)?,
+            passes: Vec::with_capacity(alloc, passes)?,
+            sources: Vec::with_capacity(alloc, streams)?,
+            ends: Vec::with_capacity(alloc, streams)?,
+            answers: Vec::with_capacity(alloc, sessions)?,
+        })
+    }
+}
+
+/// Puts what the workers of the streams gave into lists.
+pub fn put_streamed<S: Source + Drop>(
+    streamed: Vec<Streamed<S>>,
+    passes: &mut Vec<Pass>,
+    sources: &mut Vec<S>,
+    ends: &mut Vec<StreamEnd>,
+)
+    requires passes { vec_len passes.old + vec_len streamed ≤ vec_capacity passes.old }
+    requires sources { vec_len sources.old + vec_len streamed ≤ vec_capacity sources.old }
+    requires ends { vec_len ends.old + vec_len streamed ≤ vec_capacity ends.old }
+    ensures passes { passes.new.items ≡ passes.old.items ++ map (λ d. d.pass) streamed.items }
+    ensures sources { sources.new.items
+        ≡ sources.old.items ++ map (λ d. d.source) streamed.items }
+    ensures ends { ends.new.items ≡ ends.old.items ++ map (λ d. d.end) streamed.items }
+    ensures many { vec_len passes.new ≡ vec_len passes.old + vec_len streamed }
+    ensures room { vec_capacity passes.new ≡ vec_capacity passes.old }
+{
+    for one in streamed {
+        let Streamed { pass, source, end } = one;
+        passes.push_reserved(pass);
+        sources.push_reserved(source);
+        ends.push_reserved(end);
+    }
+}
+
+/// Puts what the workers of the sessions gave into lists, and answers whether memory ran out for
+/// one of them.
+pub fn put_replied(
+    replied: Vec<Replied>,
+    passes: &mut Vec<Pass>,
+    answers: &mut Vec<Vec<Answered>>,
+) -> bool
+    requires passes { vec_len passes.old + vec_len replied ≤ vec_capacity passes.old }
+    requires answers { vec_len answers.old + vec_len replied ≤ vec_capacity answers.old }
+    ensures passes { passes.new.items ≡ passes.old.items ++ map (λ r. r.pass) replied.items }
+    ensures answers { answers.new.items ≡ answers.old.items ++ map (λ r. r.answers) replied.items }
+    ensures memory { result ≡ list_any (λ r. r.memory) replied.items }
+{
+    let mut short_of_memory = false;
+    for one in replied {
+        let Replied {
+            pass,
+            answers: own,
+            memory,
+        } = one;
+        passes.push_reserved(pass);
+        answers.push_reserved(own);
+        short_of_memory |= memory;
+    }
+    short_of_memory
+}
+
+/// Puts the rest of the passes into the list.
+pub fn put_passes(given: IntoIter<Pass>, passes: &mut Vec<Pass>)
+    requires { vec_len passes.old + length (into_iter_items given) ≤ vec_capacity passes.old }
+    ensures items { passes.new.items ≡ passes.old.items ++ into_iter_items given }
+{
+    for pass in given {
+        passes.push_reserved(pass);
+    }
+}

@@ -1,0 +1,128 @@
+//! The run of threads over one history.
+
+ghost use Rattle.std.specs.Prelude.{◌≡◌, IfOk, OnErr};
+ghost use Rattle.rpq_threads.specs.Runs.{IsTask, Holds};
+ghost use Rattle.rpq_threads.specs.Served.{IsBegun};
+
+use crate::definitions::copied_definitions;
+use crate::evaluator::Evaluator;
+use crate::room::Room;
+use crate::serving::{Job, Served, serve};
+use crate::task::{Outcome, Task};
+use history_model::{fronts_are_legal, legal_is_sound};
+use rpq_base::Memory;
+use rpq_io::{Context, Gate, Sink, Source};
+use rpq_model::QueryDef;
+use rpq_workers::Shared;
+use std::random::RandomSource;
+use std::sync::{Arc, Wait};
+use std::thread::Threads;
+use stream_history::{History, first_view};
+
+/// Takes the tuples of all streams into one history, each stream by a thread of its own, as far as
+/// threads can be made. Meanwhile it answers the entries in the calling thread, writes their blocks
+/// on the events, and answers the sessions, each by a thread of its own.
+///
+/// It ends when all streams have ended, all entries are answered, and each session has its answers.
+/// A failed write and want of memory end it early. The only error is [`Memory`], before any thread
+/// is started.
+pub fn run_threads<R, G: Gate, S: Source + Send + Drop, K: Sink>(
+    context: &Context<'_, R, G>,
+    task: Task<S>,
+    events: &mut K,
+) -> Result<Outcome<S>, Memory>
+where
+    R: Threads + Wait + RandomSource + Sync,
+    requires { IsTask S.left S.faults task }
+    ensures ok { IfOk result
+        (Holds S.left S.faults K.written K.faults task events.old events.new) }
+    ensures untouched { OnErr result (events.new ≡ events.old) }
+{
+    legal_is_sound(); // these are called for their clauses
+    fronts_are_legal();
+    let Begun {
+        history,
+        definitions,
+        job,
+    } = begin(context, task)?;
+    let shared = Shared {
+        rt: context.rt,
+        alloc: context.alloc,
+        gate: context.gate,
+        history: &history,
+        queries: &definitions,
+    };
+    let Served {
+        passes,
+        sources,
+        ends,
+        answers,
+        short_of_memory,
+        why,
+        events: back,
+    } = serve(&shared, job, events);
+    take_back(back);
+    let journal = history.finish(passes);
+    Ok(Outcome {
+        history: journal.into_entries(),
+        ends,
+        sources,
+        sessions: answers,
+        why,
+        short_of_memory,
+    })
+}
+
+/// Does nothing. This use ties the reference that came back, for the borrow checker, to the
+/// parameter that lent it.
+fn take_back<T>(x: &mut T)
+    ensures { x.new ≡ x.old }
+{}
+
+/// A history, the definitions of its queries, and what its threads work with.
+#[derive(Drop)]
+pub struct Begun<S: Source> {
+    pub history: History,
+    pub definitions: Arc<Vec<QueryDef>>,
+    pub job: Job<S>,
+}
+
+/// A history for what was given, an engine that has answered no entry, and room for what the
+/// threads give. The only error is [`Memory`].
+fn begin<R: RandomSource, G: Gate, S: Source + Drop>(
+    context: &Context<'_, R, G>,
+    task: Task<S>,
+) -> Result<Begun<S>, Memory>
+    requires { IsTask S.left S.faults task }
+    ensures { IfOk result (IsBegun S.left S.faults task) }
+{
+    first_view(); // called for its clause
+    let Task {
+        queries,
+        workers,
+        limit,
+        readers,
+        sessions,
+    } = task;
+    let alloc = context.alloc;
+    let definitions = Arc::new(alloc, copied_definitions(alloc, &queries)?)?;
+    let evaluator = Evaluator::new(context.rt, alloc, queries, workers)?;
+    let first = evaluator.engine.view()?;
+    let streams = readers.len() as u32;
+    let asking = sessions.len() as u32;
+    let given = Arc::try_clone(&definitions)?;
+    let (history, passes) = History::new(alloc, given, streams, asking, limit, first)?;
+    let room = Room::new(alloc, &history, readers.len(), sessions.len(), passes.len())?;
+    let job = Job {
+        passes,
+        evaluator,
+        readers,
+        sessions,
+        room,
+    };
+    Ok(Begun {
+        history,
+        definitions,
+        job,
+    })
+}

@@ -1,0 +1,40 @@
+//! What the threads of a run are given, and what they give.
+
+use ask_text::{Answered, Session};
+use history_model::Why;
+use query_file::Compiled;
+use rpq_base::Entry;
+use rpq_io::{LineReader, Source};
+use stream_tuples::StreamEnd;
+
+/// What the threads of a run are given.
+#[derive(Drop)]
+pub struct Task<S: Source> {
+    /// The queries, in the order of their file.
+    pub queries: Vec<Compiled>,
+    /// How many workers the engine has.
+    pub workers: u32,
+    /// How many entries the history may have.
+    pub limit: u64,
+    /// The streams, the first of which has the number 1.
+    pub readers: Vec<LineReader<S>>,
+    /// What is asked while the streams are read.
+    pub sessions: Vec<Session>,
+}
+
+/// What the threads of a run give.
+#[derive(Drop)]
+pub struct Outcome<S> {
+    /// The entries, in the order in which they were taken.
+    pub history: Vec<Entry>,
+    /// How each stream ended.
+    pub ends: Vec<StreamEnd>,
+    /// The source of each stream.
+    pub sources: Vec<S>,
+    /// For each session its answered asks.
+    pub sessions: Vec<Vec<Answered>>,
+    /// Why the history was shut, if it was.
+    pub why: Option<Why>,
+    /// Whether some session has asks that weren't answered, for want of memory.
+    pub short_of_memory: bool,
+}

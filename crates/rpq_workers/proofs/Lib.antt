@@ -1,0 +1,4 @@
+mod Appending
+pub mod Seen
+pub mod Numbering
+pub mod Replying

@@ -1,0 +1,6 @@
+pub mod Streams
+pub mod Taking
+pub mod Numbered
+pub mod Started
+pub mod Sessions
+pub mod Readers

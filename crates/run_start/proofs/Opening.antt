@@ -1,0 +1,273 @@
+-- What the opening of one file to read does to the files.
+use Rattle.std.proofs.Common.{◌≡◌, ◌≢◌, inl, inr, ℕ, List, [], ◌∷◌, ◌++◌, take}
+use Rattle.std.proofs.Common.{drop, Option, Some, None, refl, ap, sym, subst, ◌∙◌, append-nil, map}
+use Rattle.std.proofs.Common.{append_assoc, suc}
+use Rattle.std.specs.Prelude.{IfSome, IsSomeAnd, option_to_list, slice_get}
+use Rattle.std.proofs.lemmas.List.{map-append, take-append-drop}
+use Rattle.std.proofs.lemmas.Option.{get_or_from_slice_get, slice_get_within}
+use Rattle.std.proofs.Math.Seq.{take-suc}
+use Rattle.rpq_io.specs.Counts.{CountsFault, CountsOpening, Rose}
+use Rattle.rpq_io.specs.Reader.{ReaderState}
+use Rattle.rpq_words.specs.Settings.{Settings}
+use Rattle.stream_tuples.specs.History.{IsPrefix}
+use Rattle.rpq_text.specs.declared.ends.Which.{Which}
+use Rattle.rpq_text.specs.declared.ends.Which.TheVariants.{Queries, Asks, Stream, Replies}
+use Rattle.rpq_text.specs.declared.ends.StartFault.{StartFault}
+use Rattle.rpq_text.specs.declared.ends.StartFault.TheVariants.{Words, Queries as QueriesFault}
+use Rattle.rpq_text.specs.declared.ends.StartFault.TheVariants.{Asks as AsksFault, Open, Read, Long}
+use Rattle.rpq_text.specs.declared.ends.StartFault.TheVariants.{NotYet, Memory}
+use Rattle.run_start.specs.Given.{file_names, names_before, names_up_to, whole_names}
+use Rattle.run_start.specs.Start.{AreOpened, IsOpeningOf}
+use Rattle.run_start.specs.Steps.{AreNamesOfFile, AreOpenedBehind, IsFaultOfFile, OpensFile, UsesMore}
+use Rattle.run_start.specs.Steps.{IsRefusalOfStream}
+use Rattle.run_start.specs.declared.refusal.Refusal.{Refusal}
+use Rattle.run_start.proofs.Using.{one_by_one, only_reads}
+
+-- the file of this name is opened as this one, behind these
+pub record IsPlace (given : Settings) (which : Which) (before : List (List ℕ)) (name : List ℕ) : Type 0 where
+  pub behind : names_before given which ≡ before
+  pub up_to : names_up_to given which ≡ before ++ name ∷ []
+  pub front : IsPrefix (before ++ name ∷ []) (file_names given)
+  pub named : (any : List ℕ) → IsOpeningOf given any (Open which) → any ≡ name
+  pub names : IsOpeningOf given name (Open which)
+  pub to_read : which ≢ Replies
+
+-- the queries file
+pub queries_place : (given : Settings) (name : List ℕ) → name ≡ given.queries
+    → IsPlace given Queries [] name
+queries_place given name is = record {
+  behind = refl;
+  up_to = ap (λ (n : List ℕ). n ∷ []) (sym is);
+  front = record {
+    rest = option_to_list given.asks ++ given.streams;
+    cut = ap (λ (n : List ℕ). n ∷ (option_to_list given.asks ++ given.streams)) (sym is);
+  };
+  named = λ any opening. opening ∙ sym is;
+  names = is;
+  to_read = λ other. cc other;
+}
+
+-- the asks file
+pub asks_place : (given : Settings) (name : List ℕ) → given.asks ≡ Some name
+    → IsPlace given Asks (given.queries ∷ []) name
+asks_place given name is =
+    let only = ap (λ (a : Option (List ℕ)). option_to_list a) is in
+    record {
+      behind = refl;
+      up_to = ap (λ (ns : List (List ℕ)). given.queries ∷ ns) only;
+      front = record {
+        rest = given.streams;
+        cut = ap (λ (ns : List (List ℕ)). given.queries ∷ (ns ++ given.streams)) only;
+      };
+      named = λ any opening.
+          let found : ◌≡◌ {A = Option (List ℕ)} (Some any) (Some name) = sym opening ∙ is in
+          cc found;
+      names = is;
+      to_read = λ other. cc other;
+    }
+
+-- one stream more
+pub one_stream_more : (given : Settings) (place : ℕ) (name : List ℕ)
+    → slice_get given.streams place ≡ Some name
+    → take (suc place) given.streams ≡ take place given.streams ++ name ∷ []
+one_stream_more given place name is =
+    take-suc given.streams place name (slice_get_within given.streams place name is)
+    ∙ ap (λ (n : List ℕ). take place given.streams ++ n ∷ [])
+    (get_or_from_slice_get given.streams place name name is)
+
+-- a stream
+pub stream_place : (given : Settings) (place : ℕ) (name : List ℕ) → slice_get given.streams place ≡ Some name
+    → IsPlace given (Stream (suc place)) (whole_names given ++ take place given.streams) name
+stream_place given place name is =
+    let up_to : whole_names given ++ take (suc place) given.streams
+    ≡ (whole_names given ++ take place given.streams) ++ name ∷ [] =
+    ap (λ (ns : List (List ℕ)). whole_names given ++ ns) (one_stream_more given place name is)
+    ∙ sym (append_assoc (whole_names given) (take place given.streams) (name ∷ [])) in
+    record {
+      behind = refl;
+      up_to = up_to;
+      front = record {
+        rest = drop (suc place) given.streams;
+        cut = ap (λ (ns : List (List ℕ)). whole_names given ++ ns) (sym (take-append-drop (suc place) given.streams))
+            ∙ (sym (append_assoc (whole_names given) (take (suc place) given.streams)
+            (drop (suc place) given.streams))
+            ∙ ap (λ (ns : List (List ℕ)). ns ++ drop (suc place) given.streams) up_to);
+      };
+      named = λ any opening.
+          let found : ◌≡◌ {A = Option (List ℕ)} (Some any) (Some name) = sym opening ∙ is in
+          cc found;
+      names = is;
+      to_read = λ other. cc other;
+    }
+
+-- a fault of the reading of a file is none of the opening to write
+to_read_only : (which : Which) (file : Option (List ℕ)) (fault : StartFault) → which ≢ Replies
+    → IsFaultOfFile which file fault → fault ≢ Open Replies
+to_read_only which file Words to_read is other = is
+to_read_only which file (QueriesFault fault) to_read is other = is
+to_read_only which file (AsksFault fault) to_read is other = is
+to_read_only which file (Open one) to_read is other =
+    let same : one ≡ Replies = cc other in
+    to_read (sym is ∙ same)
+to_read_only which file (Read one) to_read is other = absurd (cc other)
+to_read_only which file (Long one) to_read is other = absurd (cc other)
+to_read_only which file NotYet to_read is other = is
+to_read_only which file Memory to_read is other = absurd (cc other)
+
+-- the name of the file that couldn't be opened
+is_opening : (given : Settings) (which : Which) (before : List (List ℕ)) (name : List ℕ)
+    (file : Option (List ℕ)) (fault : StartFault) → IsPlace given which before name
+    → IsFaultOfFile which file fault → (any : List ℕ) → IsOpeningOf given any fault
+    → (fault ≡ Open which) × (any ≡ name)
+is_opening given which before name file Words at is any opening = absurd opening
+is_opening given which before name file (QueriesFault fault) at is any opening = absurd opening
+is_opening given which before name file (AsksFault fault) at is any opening = absurd opening
+is_opening given which before name file (Open one) at is any opening =
+    let same : Open one ≡ Open which = ap (λ w. Open w) is in
+    (same, at.named any (subst (λ (f : StartFault). IsOpeningOf given any f) same opening))
+is_opening given which before name file (Read one) at is any opening = absurd opening
+is_opening given which before name file (Long one) at is any opening = absurd opening
+is_opening given which before name file NotYet at is any opening = absurd opening
+is_opening given which before name file Memory at is any opening = absurd opening
+
+-- the names that were opened are those of a run that doesn't begin for this
+opened_to : (given : Settings) (which : Which) (before : List (List ℕ)) (name : List ℕ)
+    (file : Option (List ℕ)) (fault : StartFault) (names : List (List ℕ)) → IsPlace given which before name
+    → IsFaultOfFile which file fault → AreNamesOfFile name (Some fault) names
+    → AreOpened given (Some fault) (before ++ names)
+opened_to given which before name file Words names at is are = absurd is
+opened_to given which before name file (QueriesFault fault) names at is are = absurd is
+opened_to given which before name file (AsksFault fault) names at is are = absurd is
+opened_to given which before name file (Open one) names at is are =
+    ap (λ (ns : List (List ℕ)). before ++ ns) are ∙ (append-nil before
+    ∙ (sym at.behind ∙ ap (λ w. names_before given w) (sym is)))
+opened_to given which before name file (Read one) names at is are =
+    ap (λ (ns : List (List ℕ)). before ++ ns) are ∙ (sym at.up_to ∙ ap (λ w. names_up_to given w) (sym is))
+opened_to given which before name file (Long one) names at is are =
+    ap (λ (ns : List (List ℕ)). before ++ ns) are ∙ (sym at.up_to ∙ ap (λ w. names_up_to given w) (sym is.0))
+opened_to given which before name file NotYet names at is are = absurd is
+opened_to given which before name file Memory names at is are = record {
+  rest = are.rest ++ at.front.rest;
+  cut = at.front.cut ∙ (ap (λ (ns : List (List ℕ)). (before ++ ns) ++ at.front.rest) are.cut
+      ∙ (append_assoc before (names ++ are.rest) at.front.rest
+      ∙ (ap (λ (ns : List (List ℕ)). before ++ ns) (append_assoc names are.rest at.front.rest)
+      ∙ sym (append_assoc before names (are.rest ++ at.front.rest)))));
+}
+
+-- a name of which no opening failed
+quietly : (given : Settings) (which : Which) (before : List (List ℕ)) (name : List ℕ)
+    (file : Option (List ℕ)) (fault : StartFault) (old new : List ℕ → ℕ) → IsPlace given which before name
+    → IsFaultOfFile which file fault → CountsOpening (fault ≡ Open which) name old new
+    → (any : List ℕ) → (IsOpeningOf given any fault → ⊥) → new any ≡ old any
+quietly given which before name file Words old new at is counts any none = absurd is
+quietly given which before name file (QueriesFault fault) old new at is counts any none = absurd is
+quietly given which before name file (AsksFault fault) old new at is counts any none = absurd is
+quietly given which before name file (Open one) old new at is counts any none =
+    let opening : IsOpeningOf given name (Open one) =
+    subst (λ (w : Which). IsOpeningOf given name (Open w)) (sym is) at.names in
+    counts.others any (λ same. none (subst (λ (n : List ℕ). IsOpeningOf given n (Open one)) (sym same) opening))
+quietly given which before name file (Read one) old new at is counts any none =
+    counts.quiet (λ opens. absurd (cc opens)) any
+quietly given which before name file (Long one) old new at is counts any none =
+    counts.quiet (λ opens. absurd (cc opens)) any
+quietly given which before name file NotYet old new at is counts any none = absurd is
+quietly given which before name file Memory old new at is counts any none =
+    counts.quiet (λ opens. absurd (cc opens)) any
+
+-- a file was opened and read, or not
+pub uses_file : {F : Type 0} {holds : F → List ℕ → Option (List ℕ)} {opened made : F → List (List ℕ)}
+    {unread unmade : F → List ℕ → ℕ} (given : Settings) (which : Which) (before : List (List ℕ))
+    (name : List ℕ) (file : Option (List ℕ)) (start : Option StartFault) (old new : F)
+    → IsPlace given which before name → IfSome start (IsFaultOfFile which file)
+    → OpensFile holds opened made unread unmade which name start old new
+    → UsesMore holds opened made unread unmade given before (name ∷ []) [] start old new
+uses_file {F} {holds} {opened} {made} {unread} {unmade} given which before name file start old new at is opens =
+    only_reads given before (name ∷ []) start old new (reads start is) opens.kept opens.unmade_stays
+    (record {
+      names = opens.opens.names;
+      of_kind = kind start is opens.opens.names opens.opens.of_kind;
+      more = opens.opens.more;
+    })
+    (λ any. opening start is opens.openings any)
+  where
+    reads : (s : Option StartFault) → IfSome s (IsFaultOfFile which file)
+        → IfSome s (λ fault. fault ≢ Open Replies)
+    reads None is = tt
+    reads (Some fault) is = to_read_only which file fault at.to_read is
+
+    kind : (s : Option StartFault) → IfSome s (IsFaultOfFile which file) → (names : List (List ℕ))
+        → AreNamesOfFile name s names → AreOpenedBehind given before (name ∷ []) s names
+    kind None is names are = are
+    kind (Some fault) is names are = opened_to given which before name file fault names at is are
+
+    opening : (s : Option StartFault) → IfSome s (IsFaultOfFile which file)
+        → CountsOpening (IsSomeAnd s (λ fault. fault ≡ Open which)) name (unread old) (unread new)
+        → (any : List ℕ) → CountsFault (IsSomeAnd s (λ fault. IsOpeningOf given any fault))
+        (unread old any) (unread new any)
+    opening None is counts any = record {
+      never_falls = counts.never_fall any;
+      rose = λ opening. absurd opening;
+      quiet = λ none. counts.quiet none any;
+    }
+    opening (Some fault) is counts any = record {
+      never_falls = counts.never_fall any;
+      rose = λ opening.
+          let found = is_opening given which before name file fault at is any opening in
+          subst (λ (n : List ℕ). Rose (unread old n) (unread new n)) (sym found.1) (counts.rose found.0);
+      quiet = quietly given which before name file fault (unread old) (unread new) at is counts any;
+    }
+
+-- a stream that isn't read
+pub stream_refusal : {S : Type 0} (number : ℕ) (refusal : Refusal S) → IsRefusalOfStream number refusal
+    → IsFaultOfFile (Stream number) None refusal.fault
+stream_refusal {S} number refusal is = elim is.cause [
+  | inl opening ↦ subst (λ (f : StartFault). IsFaultOfFile (Stream number) None f) (sym opening) refl
+  | inr memory ↦ subst (λ (f : StartFault). IsFaultOfFile (Stream number) None f) (sym memory) tt
+]
+
+-- one stream more was opened, or not, behind those before it
+pub uses_stream : {F : Type 0} {holds : F → List ℕ → Option (List ℕ)} {opened made : F → List (List ℕ)}
+    {unread unmade : F → List ℕ → ℕ} (given : Settings) (place number : ℕ) (name : List ℕ)
+    (start : Option StartFault) (old between new : F) → number ≡ suc place
+    → slice_get given.streams place ≡ Some name
+    → UsesMore holds opened made unread unmade given (whole_names given) (take place given.streams) [] None old between
+    → IfSome start (IsFaultOfFile (Stream number) None)
+    → OpensFile holds opened made unread unmade (Stream number) name start between new
+    → UsesMore holds opened made unread unmade given (whole_names given) (take number given.streams) [] start old new
+uses_stream {F} {holds} {opened} {made} {unread} {unmade} given place number name start old between new next is
+    before cause opens =
+    let at : IsPlace given (Stream number) (whole_names given ++ take place given.streams) name =
+    subst (λ (n : ℕ). IsPlace given (Stream n) (whole_names given ++ take place given.streams) name) (sym next)
+    (stream_place given place name is) in
+    let names : take place given.streams ++ name ∷ [] ≡ take number given.streams =
+    sym (one_stream_more given place name is) ∙ ap (λ (n : ℕ). take n given.streams) (sym next) in
+    subst (λ (ns : List (List ℕ)). UsesMore holds opened made unread unmade given (whole_names given) ns [] start old new)
+    names (one_by_one before (uses_file given (Stream number) (whole_names given ++ take place given.streams) name
+    None start between new at cause opens))
+
+-- where memory ran out behind some streams, their names stand at the front of all
+pub front_of_streams : (given : Settings) (place : ℕ)
+    → AreOpened given (Some Memory) (whole_names given ++ take place given.streams)
+front_of_streams given place = record {
+  rest = drop place given.streams;
+  cut = ap (λ (ns : List (List ℕ)). whole_names given ++ ns) (sym (take-append-drop place given.streams))
+      ∙ sym (append_assoc (whole_names given) (take place given.streams) (drop place given.streams));
+}
+
+-- what the streams hold, with one stream more
+pub one_content_more : {S : Type 0} (left : S → Option (List ℕ)) (holds now : List ℕ → Option (List ℕ))
+    (given : Settings) (place number : ℕ) (name : List ℕ) (readers more : List (ReaderState S))
+    (reader : ReaderState S) → number ≡ suc place → slice_get given.streams place ≡ Some name → now ≡ holds
+    → map holds (take place given.streams) ≡ map (λ (r : ReaderState S). left r.source) readers
+    → left reader.source ≡ now name → more ≡ readers ++ reader ∷ []
+    → map holds (take number given.streams) ≡ map (λ (r : ReaderState S). left r.source) more
+one_content_more {S} left holds now given place number name readers more reader next is same before content
+    pushed =
+    ap (λ (n : ℕ). map holds (take n given.streams)) next
+    ∙ (ap (λ (ns : List (List ℕ)). map holds ns) (one_stream_more given place name is)
+    ∙ (map-append holds (take place given.streams) (name ∷ [])
+    ∙ (ap (λ (fs : List (Option (List ℕ))). fs ++ holds name ∷ []) before
+    ∙ (ap (λ (f : Option (List ℕ)). map (λ (r : ReaderState S). left r.source) readers ++ f ∷ [])
+    (ap (λ (h : List ℕ → Option (List ℕ)). h name) (sym same) ∙ sym content)
+    ∙ (sym (map-append (λ (r : ReaderState S). left r.source) readers (reader ∷ []))
+    ∙ ap (λ (rs : List (ReaderState S)). map (λ (r : ReaderState S). left r.source) rs) (sym pushed))))))

@@ -1,0 +1,53 @@
+use Rattle.std.proofs.Common.{rules, ◌≡◌, ◌∷◌, ◌++◌, ℕ, List, Option, Some, None, refl, subst}
+use Rattle.std.specs.Prelude.{option_to_list}
+use Rattle.query_file.specs.Compiled.{CompiledValue}
+use Rattle.rpq_text.specs.declared.ends.StartFault.{StartFault}
+use Rattle.run_start.specs.Given.{sink_names}
+use Rattle.run_start.specs.Ready.{IsReading, fault_of}
+use Rattle.run_start.specs.Start.{IsRefusedFor, UsesFiles}
+use Rattle.run_start.proofs.Using.{all_steps, holds_stays, one_by_one}
+use Rattle.run_start.proofs.ready.begin.Goals as goal
+
+pub returns-in_err-reads-clause-cause : goal.returns-in_err-reads-clause-cause
+returns-in_err-reads-clause-cause g c =
+    let refusal = c.in_err-reads.field-0.0 in
+    let moved : IsRefusedFor c.args.chosen.now (g.F.Files.holds c.args.files.now) refusal.fault =
+    subst (λ (holds : List ℕ → Option (List ℕ)). IsRefusedFor c.args.chosen.now holds refusal.fault)
+    (holds_stays c.in_ok-queries.ensures.files) c.in_err-reads.ensures.refused.cause in
+    search (rules, moved)
+
+pub returns-in_err-reads-clause-files : goal.returns-in_err-reads-clause-files
+returns-in_err-reads-clause-files g c =
+    let given = c.args.chosen.now in
+    let fault = c.in_err-reads.field-0.0.fault in
+    let start : Some fault ≡ fault_of c.from_residual-in_err-reads.result = search rules in
+    subst (λ (s : Option StartFault). UsesFiles g.F.Files.holds g.F.Files.opened g.F.Files.made g.F.Files.unread
+    g.F.Files.unmade (Some given) s c.args.files.now c.begin_reading.new.files) start
+    (all_steps given (given.queries ∷ (option_to_list given.asks ++ given.streams)) (sink_names given) (Some fault)
+    c.args.files.now c.begin_reading.new.files refl refl
+    (one_by_one {more = option_to_list given.asks ++ given.streams}
+    {start = Some c.in_err-reads.field-0.0.fault} c.in_ok-queries.ensures.files
+    c.in_err-reads.ensures.files))
+
+pub returns-clause-ready : goal.returns-clause-ready
+returns-clause-ready g c =
+    let given = c.args.chosen.now in
+    let holds = g.F.Files.holds c.args.files.now in
+    let reading = subst (λ (h : List ℕ → Option (List ℕ)). IsReading g.F.Source.Source.left g.F.Source.Source.faults
+    g.F.Sink.Sink.written g.F.Sink.Sink.faults given h c.deref.result.now c.in_ok-reads.reads)
+    (holds_stays c.in_ok-queries.ensures.files) c.in_ok-reads.ensures.reading in
+    record {
+      has = c.in_ok-queries.ensures.queries;
+      understood = c.in_ok-queries.ensures.understood;
+      reads = subst (λ (qs : List CompiledValue). IsReading g.F.Source.Source.left g.F.Source.Source.faults
+          g.F.Sink.Sink.written g.F.Sink.Sink.faults given holds qs c.in_ok-reads.reads)
+          c.deref.ensures.value reading;
+    }
+
+pub returns-clause-files : goal.returns-clause-files
+returns-clause-files g c =
+    let given = c.args.chosen.now in
+    all_steps given (given.queries ∷ (option_to_list given.asks ++ given.streams)) (sink_names given) None
+    c.args.files.now c.begin_reading.new.files refl refl
+    (one_by_one {more = option_to_list given.asks ++ given.streams} {start = None}
+    c.in_ok-queries.ensures.files c.in_ok-reads.ensures.files)

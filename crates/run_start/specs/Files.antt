@@ -1,0 +1,88 @@
+-- The files of a run that are read whole: what they hold, and what can be wrong with them.
+use Rattle.std.specs.Prelude.{◌≡◌, ◌≢◌, ℕ, ◌<◌, ◌≤◌, List, [], length, Option, IfSome, MatchOption}
+use Rattle.std.specs.Prelude.{Ok, Err}
+use Rattle.std.specs.Io.KnownBytes.{prepend_known}
+use Rattle.rpq_model.specs.Query.{Query}
+use Rattle.query_file.specs.declared.fault.QueryFault.{QueryFault}
+use Rattle.query_file.specs.declared.fault.QueryKind.TheVariants.{Memory}
+use Rattle.query_file.specs.Queries.{Queries}
+use Rattle.ask_text.specs.declared.ask.Ask.{Ask}
+use Rattle.ask_text.specs.declared.fault.AskFault.{AskFault}
+use Rattle.ask_text.specs.declared.fault.AskKind.TheVariants.{Memory as MemoryOfAsks}
+use Rattle.ask_text.specs.Asks.{asks}
+use Rattle.rpq_words.specs.Settings.{Settings}
+use Rattle.rpq_text.specs.Limits.{file_limit}
+
+-- a queries file has these bytes, which are not too many, and these queries
+abbrev pub HasQueries : List ℕ → List Query → Type 0
+HasQueries bytes queries = (length bytes < file_limit) × Queries bytes (Ok queries)
+
+-- a queries file has these bytes, which are not too many, and this fault
+abbrev pub HasFault : List ℕ → QueryFault → Type 0
+HasFault bytes fault = (length bytes < file_limit) × Queries bytes (Err fault)
+
+-- the bytes of a queries file, where they are told, give queries, and this holds of them
+abbrev pub ForQueries : Option (List ℕ) → (List Query → Type 0) → Type 0
+ForQueries file P =
+    IfSome file (λ bytes. (queries : List Query) × HasQueries bytes queries × P queries)
+
+-- the bytes of a queries file, where they are told, give queries
+abbrev pub IsQueriesFile : Option (List ℕ) → Type 0
+IsQueriesFile file = IfSome file (λ bytes. (queries : List Query) × HasQueries bytes queries)
+
+-- the bytes of a queries file, where they are told, have this fault, which isn't out of memory
+abbrev pub IsFaultyFile : Option (List ℕ) → QueryFault → Type 0
+IsFaultyFile file fault = (fault.kind ≢ Memory) × IfSome file (λ bytes. HasFault bytes fault)
+
+-- an asks file about these queries has these bytes, which are not too many, and these sessions
+abbrev pub HasSessions : List Query → List ℕ → List (List Ask) → Type 0
+HasSessions queries bytes sessions =
+    (length bytes < file_limit) × (asks queries bytes ≡ Ok sessions)
+
+-- an asks file about these queries has these bytes, which are not too many, and this fault
+abbrev pub HasAskFault : List Query → List ℕ → AskFault → Type 0
+HasAskFault queries bytes fault = (length bytes < file_limit) × (asks queries bytes ≡ Err fault)
+
+-- the sessions of a run about these queries, where the bytes of the asks file are told, and this
+-- holds of them; where no asks file is named there is none
+abbrev pub ForSessions : Settings → (List ℕ → Option (List ℕ)) → List Query
+    → (List (List Ask) → Type 0) → Type 0
+ForSessions given holds queries P = MatchOption given.asks (P []) (λ name. IfSome (holds name)
+    (λ bytes. (sessions : List (List Ask)) × HasSessions queries bytes sessions × P sessions))
+
+-- what is asked in a run: its queries and its sessions, where the bytes of their files are told,
+-- and this holds of them
+abbrev pub ForAsked : Settings → (List ℕ → Option (List ℕ))
+    → (List Query → List (List Ask) → Type 0) → Type 0
+ForAsked given holds P = ForQueries (holds given.queries)
+    (λ queries. ForSessions given holds queries (P queries))
+
+-- the files that are read whole have no fault
+abbrev pub AreUnderstoodFiles : Settings → (List ℕ → Option (List ℕ)) → Type 0
+AreUnderstoodFiles given holds = ForAsked given holds (λ queries sessions. Unit {0})
+
+-- the bytes of an asks file, where they are told, have this fault, which isn't out of memory, about
+-- the queries of the queries file, where its bytes are told
+abbrev pub AreFaultyAsks : Option (List ℕ) → Option (List ℕ) → AskFault → Type 0
+AreFaultyAsks queries_file file fault = (fault.kind ≢ MemoryOfAsks)
+    × ForQueries queries_file (λ queries. IfSome file (λ bytes. HasAskFault queries bytes fault))
+
+-- the bytes of a file, where they are told, are too many
+abbrev pub IsTooLong : Option (List ℕ) → Type 0
+IsTooLong file = IfSome file (λ bytes. file_limit ≤ length bytes)
+
+-- of a file some bytes were taken, and these are left
+abbrev pub IsRestOf : Option (List ℕ) → Option (List ℕ) → Type 0
+IsRestOf file left = (bytes : List ℕ) × (file ≡ prepend_known bytes left)
+
+-- a queries file that isn't too long and has no fault
+pub record IsFaultless (bytes : List ℕ) : Type 0 where
+  pub short : length bytes < file_limit
+  pub no_fault : (fault : QueryFault) → Queries bytes (Err fault) → ⊥
+
+-- an asks file that isn't too long and has no fault about the queries of this queries file, whose
+-- bytes are told
+pub record AreFaultlessAsks (queries_file : Option (List ℕ)) (bytes : List ℕ) : Type 0 where
+  pub short : length bytes < file_limit
+  pub no_fault : (fault : AskFault)
+      → ForQueries queries_file (λ queries. asks queries bytes ≡ Err fault) → ⊥

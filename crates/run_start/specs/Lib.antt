@@ -1,0 +1,5 @@
+pub mod Given
+pub mod Files
+pub mod Start
+pub mod Ready
+pub mod Steps

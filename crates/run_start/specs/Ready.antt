@@ -1,0 +1,90 @@
+-- What a run begins with, and why its words alone begin none.
+use Rattle.std.specs.Prelude.{◌≡◌, ℕ, ◌≤◌, true, false, List, [], length, map, All, Option, Some}
+use Rattle.std.specs.Prelude.{None, is_some, option_map, IsSomeAnd, IfSome, MatchOption, Result}
+use Rattle.std.specs.Prelude.{Ok, Err}
+use Rattle.containment_laws.specs.Accepted.{IsAccepted}
+use Rattle.rpq_io.specs.Files.{IsNewSink}
+use Rattle.query_file.specs.Compiled.{CompiledValue, IsCompiled}
+use Rattle.ask_text.specs.Ranges.{IsSession}
+use Rattle.rpq_words.specs.Modes.{AreSettings}
+use Rattle.rpq_words.specs.Settings.{Settings}
+use Rattle.stream_tuples.specs.Progress.{IsNewReader}
+use Rattle.rpq_text.specs.Definitions.{definitions_of}
+use Rattle.rpq_text.specs.Limits.{query_limit}
+use Rattle.rpq_text.specs.declared.ends.StartFault.{StartFault}
+use Rattle.rpq_text.specs.declared.ends.StartFault.TheVariants.{Words, Queries, Asks, Open, Read}
+use Rattle.rpq_text.specs.declared.ends.StartFault.TheVariants.{Long, NotYet, Memory}
+use Rattle.run_start.specs.Files.{ForSessions, HasQueries}
+use Rattle.run_start.specs.Given.{is_not_yet}
+use Rattle.run_start.specs.declared.ready.Reads.{Reads}
+use Rattle.run_start.specs.declared.refusal.Refusal.{Refusal}
+
+-- settings of words, with nothing that isn't done so far
+pub record AreTaken (given : Settings) : Type 0 where
+  pub settings : AreSettings given
+  pub so_far : is_not_yet given ≡ false
+
+-- why the words alone begin no run, by their settings, if they have any; or memory ran out
+abbrev pub IsWordsCause : Option Settings → StartFault → Type 0
+IsWordsCause words Words = words ≡ None
+IsWordsCause words (Queries fault) = ⊥
+IsWordsCause words (Asks fault) = ⊥
+IsWordsCause words (Open which) = ⊥
+IsWordsCause words (Read which) = ⊥
+IsWordsCause words (Long which) = ⊥
+IsWordsCause words NotYet = IsSomeAnd words (λ given. is_not_yet given ≡ true)
+IsWordsCause words Memory = Unit {0}
+
+-- the queries of a file: some, not too many, all accepted, and each with its own automaton and
+-- verdict
+pub record AreUnderstood (queries : List CompiledValue) : Type 0 where
+  pub some : 1 ≤ length queries
+  pub few : length queries ≤ query_limit
+  pub accepted : All (λ each. IsAccepted each.def) queries
+  pub compiled : All IsCompiled queries
+
+-- what is read and answered in a run that isn't a check: a new reader of each stream, in order; the
+-- sessions of the asks file, not too many, each about the queries; and where replies are wanted, a
+-- new sink for them
+pub record IsReading {S K : Type 0} (left : S → Option (List ℕ)) (faults : S → ℕ)
+    (written : K → Option (List ℕ)) (failures : K → ℕ) (given : Settings)
+    (holds : List ℕ → Option (List ℕ)) (queries : List CompiledValue) (reading : Reads S K)
+    : Type 0 where
+  pub unchecked : given.check ≡ false
+  pub contents : map holds given.streams ≡ map (λ reader. left reader.source) reading.readers.items
+  pub fresh : All (IsNewReader left faults) reading.readers.items
+  pub asked : ForSessions given holds (definitions_of queries)
+      (λ asked. reading.sessions.items ≡ asked)
+  pub few : length reading.sessions.items ≤ 64
+  pub ranges : All (IsSession (length queries)) reading.sessions.items
+  pub sink : is_some reading.replies ≡ is_some given.replies
+  pub unwritten : IfSome reading.replies (IsNewSink written failures)
+
+-- what a run begins with: the queries of its file, understood, and what is read and answered, or
+-- nothing where the queries are only checked
+pub record IsReady {S K : Type 0} (left : S → Option (List ℕ)) (faults : S → ℕ)
+    (written : K → Option (List ℕ)) (failures : K → ℕ) (given : Settings)
+    (holds : List ℕ → Option (List ℕ)) (queries : List CompiledValue)
+    (reading : Option (Reads S K)) : Type 0 where
+  pub has : IfSome (holds given.queries) (λ bytes. HasQueries bytes (definitions_of queries))
+  pub understood : AreUnderstood queries
+  pub reads : MatchOption reading (given.check ≡ true)
+      (IsReading left faults written failures given holds queries)
+
+-- all bytes of a file were taken, by reads of which none failed
+pub record IsReadWhole {S : Type 0} (left : S → Option (List ℕ)) (faults : S → ℕ)
+    (file : Option (List ℕ)) : Type 0 where
+  pub source : S
+  pub no_fault : faults source ≡ 0
+  pub taken : left source ≡ option_map (λ bytes. []) file
+
+-- the queries file was read whole, and so was the asks file, if there is one
+pub record AreReadWhole {S : Type 0} (left : S → Option (List ℕ)) (faults : S → ℕ)
+    (given : Settings) (holds : List ℕ → Option (List ℕ)) : Type 0 where
+  pub queries : IsReadWhole left faults (holds given.queries)
+  pub asks : IfSome given.asks (λ name. IsReadWhole left faults (holds name))
+
+-- why a run didn't begin, if it didn't
+abbrev pub fault_of : {A S : Type 0} → Result A (Refusal S) → Option StartFault
+fault_of (Ok answer) = None
+fault_of (Err refusal) = Some refusal.fault

@@ -1,0 +1,165 @@
+-- Why a run doesn't begin, and what its beginning does to the files.
+use Rattle.std.specs.Prelude.{◌≡◌, ◌≢◌, ℕ, true, MatchBool, ◌⊎◌, List, [], ◌∷◌, ◌++◌, length}
+use Rattle.std.specs.Prelude.{Option, Some, None, IsSomeAnd, option_and_then}
+use Rattle.rpq_io.specs.Counts.{Rose, CountsFault}
+use Rattle.rpq_words.specs.Settings.{Settings}
+use Rattle.rpq_text.specs.declared.ends.Which.{Which}
+use Rattle.rpq_text.specs.declared.ends.Which.TheVariants.{Queries, Asks, Stream, Replies}
+use Rattle.rpq_text.specs.declared.ends.StartFault.{StartFault}
+use Rattle.rpq_text.specs.declared.ends.StartFault.TheVariants.{Words, Queries as QueriesFault}
+use Rattle.rpq_text.specs.declared.ends.StartFault.TheVariants.{Asks as AsksFault, Open, Read, Long}
+use Rattle.rpq_text.specs.declared.ends.StartFault.TheVariants.{NotYet, Memory}
+use Rattle.stream_tuples.specs.History.{IsNumberOf, IsPrefix}
+use Rattle.run_start.specs.Files.{AreFaultyAsks, AreUnderstoodFiles, IsFaultyFile, IsQueriesFile}
+use Rattle.run_start.specs.Files.{IsRestOf, IsTooLong}
+use Rattle.run_start.specs.Given.{is_not_yet, stream_name, whole_names, file_names, sink_names}
+use Rattle.run_start.specs.Given.{names_before, names_up_to}
+
+-- where each cause of a refusal may come that isn't one of the words, by what the files hold: a
+-- file is looked at only where all that come before it are understood, and only one that is given
+abbrev pub IsRefusedFor : Settings → (List ℕ → Option (List ℕ)) → StartFault → Type 0
+IsRefusedFor given holds Words = ⊥
+IsRefusedFor given holds (QueriesFault fault) = IsFaultyFile (holds given.queries) fault
+IsRefusedFor given holds (AsksFault fault) =
+    IsSomeAnd given.asks (λ name. AreFaultyAsks (holds given.queries) (holds name) fault)
+IsRefusedFor given holds (Open Queries) = Unit {0}
+IsRefusedFor given holds (Open Asks) =
+    IsSomeAnd given.asks (λ name. IsQueriesFile (holds given.queries))
+IsRefusedFor given holds (Open (Stream number)) =
+    IsNumberOf (length given.streams) number × AreUnderstoodFiles given holds
+IsRefusedFor given holds (Open Replies) =
+    IsSomeAnd given.replies (λ name. AreUnderstoodFiles given holds)
+IsRefusedFor given holds (Read Queries) = Unit {0}
+IsRefusedFor given holds (Read Asks) =
+    IsSomeAnd given.asks (λ name. IsQueriesFile (holds given.queries))
+IsRefusedFor given holds (Read (Stream number)) = ⊥
+IsRefusedFor given holds (Read Replies) = ⊥
+IsRefusedFor given holds (Long Queries) = IsTooLong (holds given.queries)
+IsRefusedFor given holds (Long Asks) =
+    IsSomeAnd given.asks (λ name. IsQueriesFile (holds given.queries) × IsTooLong (holds name))
+IsRefusedFor given holds (Long (Stream number)) = ⊥
+IsRefusedFor given holds (Long Replies) = ⊥
+IsRefusedFor given holds NotYet = ⊥
+IsRefusedFor given holds Memory = Unit {0}
+
+-- why a run doesn't begin, by the settings of its words, if they have any: they have none, or such
+-- as aren't taken so far, or a file is the cause; or memory ran out
+abbrev pub IsCause : Option Settings → (List ℕ → Option (List ℕ)) → StartFault → Type 0
+IsCause None holds fault = (fault ≡ Words) ⊎ (fault ≡ Memory)
+IsCause (Some given) holds fault = MatchBool (is_not_yet given)
+    ((fault ≡ NotYet) ⊎ (fault ≡ Memory)) (IsRefusedFor given holds fault)
+
+-- the cause is that the file of this name couldn't be opened to read
+abbrev pub IsOpeningOf : Settings → List ℕ → StartFault → Type 0
+IsOpeningOf given name Words = ⊥
+IsOpeningOf given name (QueriesFault fault) = ⊥
+IsOpeningOf given name (AsksFault fault) = ⊥
+IsOpeningOf given name (Open Queries) = name ≡ given.queries
+IsOpeningOf given name (Open Asks) = given.asks ≡ Some name
+IsOpeningOf given name (Open (Stream number)) = stream_name given number ≡ Some name
+IsOpeningOf given name (Open Replies) = ⊥
+IsOpeningOf given name (Read which) = ⊥
+IsOpeningOf given name (Long which) = ⊥
+IsOpeningOf given name NotYet = ⊥
+IsOpeningOf given name Memory = ⊥
+
+-- the cause is that the file of this name couldn't be opened to write
+abbrev pub IsMakingOf : Settings → List ℕ → StartFault → Type 0
+IsMakingOf given name Words = ⊥
+IsMakingOf given name (QueriesFault fault) = ⊥
+IsMakingOf given name (AsksFault fault) = ⊥
+IsMakingOf given name (Open Queries) = ⊥
+IsMakingOf given name (Open Asks) = ⊥
+IsMakingOf given name (Open (Stream number)) = ⊥
+IsMakingOf given name (Open Replies) = given.replies ≡ Some name
+IsMakingOf given name (Read which) = ⊥
+IsMakingOf given name (Long which) = ⊥
+IsMakingOf given name NotYet = ⊥
+IsMakingOf given name Memory = ⊥
+
+-- what the file holds that is read as this one, where the words have settings that name it
+abbrev pub file_held : Option Settings → (List ℕ → Option (List ℕ)) → Which → Option (List ℕ)
+file_held None holds which = None
+file_held (Some given) holds Queries = holds given.queries
+file_held (Some given) holds Asks = option_and_then holds given.asks
+file_held (Some given) holds (Stream number) = option_and_then holds (stream_name given number)
+file_held (Some given) holds Replies = None
+
+-- the sources that a refusal leaves: that of the file that is read whole and of which a read
+-- failed, as its count shows, with a rest of the file left; else none
+abbrev pub AreSourcesOf : {S : Type 0} → (S → Option (List ℕ)) → (S → ℕ)
+    → (Which → Option (List ℕ)) → StartFault → List S → Type 0
+AreSourcesOf {S} left faults held Words sources = sources ≡ []
+AreSourcesOf {S} left faults held (QueriesFault fault) sources = sources ≡ []
+AreSourcesOf {S} left faults held (AsksFault fault) sources = sources ≡ []
+AreSourcesOf {S} left faults held (Open which) sources = sources ≡ []
+AreSourcesOf {S} left faults held (Read which) sources = (source : S) × (sources ≡ source ∷ [])
+    × Rose 0 (faults source) × IsRestOf (held which) (left source)
+AreSourcesOf {S} left faults held (Long which) sources = sources ≡ []
+AreSourcesOf {S} left faults held NotYet sources = sources ≡ []
+AreSourcesOf {S} left faults held Memory sources = sources ≡ []
+
+-- what the words alone decide: none that have no settings, and none whose settings aren't taken so
+-- far, begin a run
+abbrev pub IsDecided : Option Settings → Option StartFault → Type 0
+IsDecided None start = (start ≡ Some Words) ⊎ (start ≡ Some Memory)
+IsDecided (Some given) start =
+    is_not_yet given ≡ true → (start ≡ Some NotYet) ⊎ (start ≡ Some Memory)
+
+-- the names of the files that a run opened to read, in order, by why it didn't begin, if it didn't
+abbrev pub AreOpened : Settings → Option StartFault → List (List ℕ) → Type 0
+AreOpened given None names = names ≡ file_names given
+AreOpened given (Some Words) names = names ≡ []
+AreOpened given (Some (QueriesFault fault)) names = names ≡ given.queries ∷ []
+AreOpened given (Some (AsksFault fault)) names = names ≡ whole_names given
+AreOpened given (Some (Open which)) names = names ≡ names_before given which
+AreOpened given (Some (Read which)) names = names ≡ names_up_to given which
+AreOpened given (Some (Long which)) names = names ≡ names_up_to given which
+AreOpened given (Some NotYet) names = names ≡ []
+AreOpened given (Some Memory) names = IsPrefix names (file_names given)
+
+-- the names of the files that a run opened to write, by why it didn't begin, if it didn't
+abbrev pub AreMade : Settings → Option StartFault → List (List ℕ) → Type 0
+AreMade given None names = names ≡ sink_names given
+AreMade given (Some Words) names = names ≡ []
+AreMade given (Some (QueriesFault fault)) names = names ≡ []
+AreMade given (Some (AsksFault fault)) names = names ≡ []
+AreMade given (Some (Open which)) names = names ≡ []
+AreMade given (Some (Read which)) names = names ≡ []
+AreMade given (Some (Long which)) names = names ≡ []
+AreMade given (Some NotYet) names = names ≡ []
+AreMade given (Some Memory) names = IsPrefix names (sink_names given)
+
+-- the names that were opened to read, where words without settings open none
+abbrev pub AreOpenedBy : Option Settings → Option StartFault → List (List ℕ) → Type 0
+AreOpenedBy None start names = names ≡ []
+AreOpenedBy (Some given) start names = AreOpened given start names
+
+-- the names that were opened to write, where words without settings open none
+abbrev pub AreMadeBy : Option Settings → Option StartFault → List (List ℕ) → Type 0
+AreMadeBy None start names = names ≡ []
+AreMadeBy (Some given) start names = AreMade given start names
+
+-- more names were opened, which are of some kind
+pub record Opens (IsKind : List (List ℕ) → Type 0) (before after : List (List ℕ)) : Type 0 where
+  pub names : List (List ℕ)
+  pub of_kind : IsKind names
+  pub more : after ≡ before ++ names
+
+-- what a run does to the files: it opens those to read that its words name, each once and in
+-- order, and then the one to write, if they name one; it changes no other; and the openings of no
+-- name failed but of the one for which it didn't begin
+pub record UsesFiles {F : Type 0} (holds : F → List ℕ → Option (List ℕ))
+    (opened made : F → List (List ℕ)) (unread unmade : F → List ℕ → ℕ) (words : Option Settings)
+    (start : Option StartFault) (old new : F) : Type 0 where
+  pub opens : Opens (AreOpenedBy words start) (opened old) (opened new)
+  pub makes : Opens (AreMadeBy words start) (made old) (made new)
+  pub kept : (name : List ℕ)
+      → (made new ≡ made old) ⊎ IsSomeAnd words (λ given. given.replies ≢ Some name)
+      → holds new name ≡ holds old name
+  pub openings : (name : List ℕ) → CountsFault
+      (IsSomeAnd start (λ fault. IsSomeAnd words (λ given. IsOpeningOf given name fault)))
+      (unread old name) (unread new name)
+  pub makings : (name : List ℕ) → CountsFault
+      (IsSomeAnd start (λ fault. IsSomeAnd words (λ given. IsMakingOf given name fault)))
+      (unmade old name) (unmade new name)

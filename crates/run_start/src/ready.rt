@@ -1,0 +1,110 @@
+//! What a run begins with, or why it doesn't.
+
+ghost use Rattle.std.specs.Prelude.{◌≡◌, ◌∷◌, ◌++◌, [], false, Some, option_to_list, IfOk, IfErr};
+ghost use Rattle.std.specs.Prelude.{IfSome};
+ghost use Rattle.rpq_text.specs.Definitions.{definitions_of};
+ghost use Rattle.run_start.specs.Files.{HasQueries};
+ghost use Rattle.run_start.specs.Given.{sink_names};
+ghost use Rattle.run_start.specs.Ready.{AreReadWhole, AreTaken, AreUnderstood, IsReading};
+ghost use Rattle.run_start.specs.Ready.{IsReady, IsReadWhole, fault_of};
+ghost use Rattle.run_start.specs.Start.{AreSourcesOf, IsRefusedFor, UsesFiles, file_held};
+ghost use Rattle.run_start.specs.Steps.{IsRefusal, UsesMore};
+
+use crate::queries::queries_of_file;
+use crate::refusal::Refusal;
+use crate::replies::open_replies;
+use crate::sessions::sessions_of_file;
+use crate::streams::open_streams;
+use ask_text::Session;
+use query_file::Compiled;
+use rpq_io::{Files, LineReader, Sink, Source};
+use rpq_words::Chosen;
+use std::alloc::Global;
+
+/// What a run begins with.
+#[derive(Drop)]
+pub struct Ready<S: Source, K: Sink> {
+    pub queries: Vec<Compiled>,
+    /// What is read and answered; none where the queries are only checked.
+    pub reads: Option<Reads<S, K>>,
+}
+
+/// What is read and answered in a run.
+#[derive(Drop)]
+pub struct Reads<S: Source, K: Sink> {
+    /// The lines of each stream, in order, of which none was read.
+    pub readers: Vec<LineReader<S>>,
+    /// What each session asks, in order.
+    pub sessions: Vec<Session>,
+    /// Where the replies go, where a file is named for them.
+    pub replies: Option<K>,
+}
+
+/// Reads the queries file whole and understands it; then the asks file, if there is one; opens the
+/// streams in their order; and opens the sink of the replies, if there is one. For a check only the
+/// queries file is opened. The first of these that fails ends it.
+pub fn begin<F: Files>(
+    alloc: Global,
+    files: &mut F,
+    chosen: &Chosen,
+) -> Result<Ready<F::Source, F::Sink>, Refusal<F::Source>>
+    requires { AreTaken chosen.now }
+    ensures ready { IfOk result (λ ready. IsReady F.Source.left F.Source.faults
+        F.Sink.written F.Sink.faults chosen.now (F.holds files.old)
+        ready.queries.items ready.reads) }
+    ensures read { IfOk result (λ ready.
+        AreReadWhole F.Source.left F.Source.faults chosen.now (F.holds files.old)) }
+    ensures cause { IfErr result (λ refusal.
+        IsRefusedFor chosen.now (F.holds files.old) refusal.fault) }
+    ensures source { IfErr result (λ refusal. AreSourcesOf F.Source.left F.Source.faults
+        (file_held (Some chosen.now) (F.holds files.old)) refusal.fault
+        (option_to_list refusal.source)) }
+    ensures files { UsesFiles F.holds F.opened F.made F.unread F.unmade
+        (Some chosen.now) (fault_of result) files.old files.new }
+{
+    let queries = queries_of_file(alloc, files, chosen)?;
+    if chosen.check {
+        return Ok(Ready {
+            queries,
+            reads: None,
+        });
+    }
+    let reads = begin_reading(alloc, files, chosen, &queries)?;
+    Ok(Ready {
+        queries,
+        reads: Some(reads),
+    })
+}
+
+/// Reads the asks file and opens the streams and the replies, in a run with these queries, which
+/// are those of its queries file.
+fn begin_reading<F: Files>(
+    alloc: Global,
+    files: &mut F,
+    chosen: &Chosen,
+    queries: &[Compiled],
+) -> Result<Reads<F::Source, F::Sink>, Refusal<F::Source>>
+    requires taken { AreTaken chosen.now }
+    requires unchecked { chosen.now.check ≡ false }
+    requires understood { AreUnderstood queries.now }
+    requires has { IfSome (F.holds files.old chosen.now.queries)
+        (λ bytes. HasQueries bytes (definitions_of queries.now)) }
+    ensures reading { IfOk result (IsReading F.Source.left F.Source.faults
+        F.Sink.written F.Sink.faults chosen.now (F.holds files.old) queries.now) }
+    ensures read { IfOk result (λ reads. IfSome chosen.now.asks (λ name.
+        IsReadWhole F.Source.left F.Source.faults (F.holds files.old name))) }
+    ensures refused { IfErr result
+        (IsRefusal F.Source.left F.Source.faults chosen.now (F.holds files.old)) }
+    ensures files { UsesMore F.holds F.opened F.made F.unread F.unmade chosen.now
+        (chosen.now.queries ∷ []) (option_to_list chosen.now.asks ++ chosen.now.streams)
+        (sink_names chosen.now) (fault_of result) files.old files.new }
+{
+    let sessions = sessions_of_file(alloc, files, chosen, queries)?;
+    let readers = open_streams(alloc, files, chosen)?;
+    let replies = open_replies(files, chosen)?;
+    Ok(Reads {
+        readers,
+        sessions,
+        replies,
+    })
+}

@@ -1,0 +1,3 @@
+mod ByParts
+pub mod StreamTexts
+pub mod Reading

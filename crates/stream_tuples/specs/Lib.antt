@@ -1,0 +1,6 @@
+pub mod Limits
+pub mod StreamText
+pub mod History
+pub mod Ends
+pub mod Progress
+pub mod Laws
