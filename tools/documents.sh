@@ -8,8 +8,8 @@
 #   writes; a line `...` there is any further lines.
 # - The example of the README's first screen, and the files *-events.txt of examples/.
 # - Whether docs/architecture.md has each crate, and docs/proved.md each law.
-# - What `main` makes of words that aren't UTF-8, of too many words, and of a closed output: no
-#   contract says it.
+# - What `main` makes of words that aren't UTF-8, of too many words, of options with three streams
+#   and readers, and of a closed output: no contract says it.
 #
 # The commands of a document run one after another in a copy of examples/, those of the README in
 # the folder above it. Small stand-ins are there for the packages of the machine, a collector, the
@@ -208,6 +208,19 @@ ends_with 6 "rpq: write failed: events" "a pipe that nobody reads" to_nobody "$q
 ends_with 5 "rpq: read failed: stream 1" "a closed input" from_closed "$queries" /dev/stdin
 rpq "$queries" "$stream" > /dev/null 2>&-
 count $? "closed errors: the status isn't 0"
+
+# Options, three streams and readers: each stream's tuples stand there in their order.
+three=(ring-stream.txt reach-stream.txt facts-stream.txt)
+rpq --workers 2 --history=1000 --asks reach-asks.txt --replies "$place/replies" \
+    reach-queries.txt "${three[@]}" > "$place/events"
+count $? "three streams: the status isn't 0"
+for number in 1 2 3; do
+    cmp -s <(sed -n "s/^@[0-9]* $number //p" "$place/events") \
+        <(rpq "$queries" "${three[number - 1]}" | sed -n 's/^@[0-9]* 1 //p')
+    count $? "three streams: the tuples of stream $number aren't in their order"
+done
+grep -q '^session 2$' "$place/replies"
+count $? "three streams: no second session in the replies"
 
 echo "$passed passed, $failed failed"
 [ "$failed" -eq 0 ]

@@ -1,0 +1,411 @@
+#!/usr/bin/env python3
+"""tools/live-runs.py PROGRAM [--runs N] [--seed N]
+
+Runs PROGRAM, an `rpq`, on random queries, streams and asks, on real threads, and checks each run
+against the one history that its own `@` lines spell:
+
+- each stream's tuples stand there in their order, once, up to the stream's end;
+- after each line the events are the pairs lost and gained, found from scratch by the definitions;
+- each reply is what the history has at the reply's position, positions never fall within a session,
+  and a wait is answered as ended exactly where the history ended before its position;
+- the status and the lines on errors are those of the streams' ends.
+
+Half of the streams are files, and half are named pipes that are written in pieces while the program
+runs. It isn't part of the gate. The last line is `N passed, M failed`.
+"""
+import argparse
+import os
+import random
+import subprocess
+import sys
+import tempfile
+import threading
+import time
+
+NAMES = ["x", "y", "z", "u", "v", "w"]
+LABELS = ["a", "b", "c"]
+# languages whose simple paths may be asked for
+CONTAINED = [("plus", ("label", "a")), ("star", ("label", "b")), ("label", "c"),
+             ("plus", ("or", ("label", "a"), ("label", "b")))]
+
+
+# ---- expressions: trees, their written form, and the words that they match
+
+def random_expression(rng, depth):
+    kind = rng.choice(["label"] if depth == 0 else
+                      ["label", "then", "then", "or", "star", "plus", "maybe"])
+    if kind == "label":
+        return ("label", rng.choice(LABELS))
+    if kind in ("then", "or"):
+        return (kind, random_expression(rng, depth - 1), random_expression(rng, depth - 1))
+    return (kind, random_expression(rng, depth - 1))
+
+
+def written(tree):
+    kind = tree[0]
+    if kind == "label":
+        return tree[1]
+    if kind in ("then", "or"):
+        return "(%s)%s(%s)" % (written(tree[1]), "/" if kind == "then" else "|", written(tree[2]))
+    return "(%s)%s" % (written(tree[1]), {"star": "*", "plus": "+", "maybe": "?"}[kind])
+
+
+def positions(tree, labels):
+    """Whether the empty word matches, the first and last positions, and which follow which. Each
+    label of the expression is a position, and its label is put into the list."""
+    kind = tree[0]
+    if kind == "label":
+        labels.append(tree[1])
+        place = len(labels) - 1
+        return False, {place}, {place}, set()
+    empty, first, last, follow = positions(tree[1], labels)
+    if kind == "maybe":
+        return True, first, last, follow
+    if kind in ("star", "plus"):
+        return empty or kind == "star", first, last, follow | {(p, q) for p in last for q in first}
+    empty2, first2, last2, follow2 = positions(tree[2], labels)
+    if kind == "or":
+        return empty or empty2, first | first2, last | last2, follow | follow2
+    return (empty and empty2, first | (first2 if empty else set()),
+            last2 | (last if empty2 else set()),
+            follow | follow2 | {(p, q) for p in last for q in first2})
+
+
+def steps_of(tree):
+    """What the positions are after a label, from some positions or from the start (None), and which
+    positions end a word."""
+    labels = []
+    _, first, last, follow = positions(tree, labels)
+
+    def after(place, label):
+        following = first if place is None else {q for p, q in follow if p == place}
+        return [q for q in following if labels[q] == label]
+
+    return after, last
+
+
+# ---- windows, answers and their ends, from scratch
+
+def deadline(query, entry):
+    least = -(-(entry["time"] + query["window"]) // query["slide"]) * query["slide"]
+    return least if entry["until"] is None else min(least, entry["until"])
+
+
+def window_of(query, history, clock):
+    """The edges of the live entries, each with its deadline."""
+    live = []
+    for place, entry in enumerate(history):
+        if entry["act"] != "+" or deadline(query, entry) <= clock:
+            continue
+        if any(late["act"] == "-" and late["edge"] == entry["edge"] for late in history[place + 1:]):
+            continue
+        live.append((entry["edge"], deadline(query, entry)))
+    return live
+
+
+def arbitrary_pairs(after, last, edges):
+    found = set()
+    for start in {edge[0] for edge in edges}:
+        todo, seen = [(start, None)], set()
+        while todo:
+            vertex, place = todo.pop()
+            for source, label, target in edges:
+                if source != vertex:
+                    continue
+                for reached in after(place, label):
+                    if (target, reached) not in seen:
+                        seen.add((target, reached))
+                        todo.append((target, reached))
+        found |= {(start, vertex) for vertex, place in seen if place in last}
+    return found
+
+
+def simple_pairs(after, last, edges):
+    found = set()
+
+    def walk(start, vertex, place, visited):
+        for source, label, target in edges:
+            if source != vertex or target in visited:
+                continue
+            for reached in after(place, label):
+                if reached in last:
+                    found.add((start, target))
+                walk(start, target, reached, visited | {target})
+
+    for start in {edge[0] for edge in edges}:
+        walk(start, start, None, {start})
+    return found
+
+
+def pairs_of(query, live):
+    edges = {edge for edge, _ in live}
+    find = simple_pairs if query["mode"] == "simple" else arbitrary_pairs
+    return find(*steps_of(query["tree"]), edges)
+
+
+def clock_of(history):
+    return max([entry["time"] for entry in history], default=0)
+
+
+def ends_of(query, history):
+    """Each pair that answers the query, with the least time at which it ends."""
+    clock = clock_of(history)
+    live = window_of(query, history, clock)
+    pairs = pairs_of(query, live)
+    ends, left = {}, set(pairs)
+    for time_of_end in sorted({end for _, end in live}):
+        still = pairs_of(query, [(edge, end) for edge, end in live if end > time_of_end])
+        for pair in left - still:
+            ends[pair] = time_of_end
+        left &= still
+    return ends
+
+
+# ---- a random case
+
+def random_stream(rng, queries):
+    entries, lines, clock = [], [], 0
+    for _ in range(rng.randrange(14)):
+        clock += rng.randrange(4)
+        at = max(0, clock - rng.choice([0, 0, 0, 3, 9]))
+        edge = (rng.choice(NAMES), rng.choice(LABELS), rng.choice(NAMES))
+        kind = rng.choice(["+", "+", "+", "until", "-", "tick", "blank"])
+        if kind == "blank":
+            lines.append(rng.choice(["", "# a comment", "   "]))
+            continue
+        if kind == "tick":
+            lines.append(str(at))
+            entries.append({"time": at, "act": "", "edge": None, "until": None})
+            continue
+        line = "%d %s %s %s" % ((at,) + edge)
+        until = at + rng.randrange(20) if kind == "until" else None
+        if kind == "until":
+            line += " until %d" % until
+        elif kind == "-" or rng.random() < 0.5:
+            line += " " + kind
+        lines.append(line)
+        entries.append({"time": at, "act": "-" if kind == "-" else "+", "edge": edge, "until": until})
+    fault = None
+    if rng.random() < 0.15:
+        fault = len(lines) + 1
+        lines += ["1 x a y *"] + ["2 x a y"] * rng.randrange(2)
+    return {"entries": entries, "lines": lines, "fault": fault}
+
+
+def random_case(rng):
+    queries = []
+    for place in range(rng.randrange(1, 4)):
+        simple = rng.random() < 0.3
+        queries.append({
+            "name": "q%d" % place, "window": rng.randrange(1, 30), "slide": rng.randrange(1, 9),
+            "mode": "simple" if simple else "arbitrary",
+            "tree": rng.choice(CONTAINED) if simple else random_expression(rng, 3),
+        })
+    streams = [random_stream(rng, queries) for _ in range(rng.randrange(1, 5))]
+    total = sum(len(stream["entries"]) for stream in streams)
+    sessions = []
+    for _ in range(rng.randrange(4)):
+        asks = []
+        for _ in range(rng.randrange(7)):
+            query, pair = rng.choice(queries)["name"], (rng.choice(NAMES), rng.choice(NAMES))
+            asks.append(rng.choice([
+                ("answers", query), ("from", query, pair[0]), ("pair", query) + pair,
+                ("count", query), ("until", query) + pair,
+                ("wait", str(rng.randrange(total + 3))), ("wait", str(rng.randrange(total + 3)))]))
+        sessions.append(asks)
+    limit = rng.randrange(1, total + 2) if rng.random() < 0.2 else None
+    return {"queries": queries, "streams": streams, "sessions": sessions, "limit": limit,
+            "workers": rng.choice([1, 2, 4, 8])}
+
+
+# ---- a run
+
+def feed(path, data, rng_seed):
+    rng = random.Random(rng_seed)
+    try:
+        with open(path, "wb", buffering=0) as pipe:
+            while data:
+                size = rng.randrange(1, 40)
+                pipe.write(data[:size])
+                data = data[size:]
+                if rng.random() < 0.3:
+                    time.sleep(rng.random() / 500)
+    except BrokenPipeError:
+        pass
+
+
+def run(program, case, folder, seed):
+    rng = random.Random(seed)
+    with open(folder + "/queries.txt", "w") as out:
+        for query in case["queries"]:
+            out.write("query %(name)s window %(window)d slide %(slide)d %(mode)s:" % query)
+            out.write(" %s\n" % written(query["tree"]))
+    words = ["--workers", str(case["workers"])]
+    if case["limit"] is not None:
+        words += ["--history", str(case["limit"])]
+    if case["sessions"]:
+        words += ["--asks", "asks.txt", "--replies", "replies.txt"]
+        with open(folder + "/asks.txt", "w") as out:
+            for asks in case["sessions"]:
+                out.write("session\n" + "".join(" ".join(ask) + "\n" for ask in asks))
+    words.append("queries.txt")
+    feeders = []
+    for number, stream in enumerate(case["streams"], 1):
+        name = "stream%d" % number
+        data = "".join(line + "\n" for line in stream["lines"]).encode()
+        if rng.random() < 0.5:
+            os.mkfifo(folder + "/" + name)
+            feeder = threading.Thread(target=feed, args=(folder + "/" + name, data, rng.random()))
+            feeder.start()
+            feeders.append(feeder)
+        else:
+            open(folder + "/" + name, "wb").write(data)
+        words.append(name)
+    done = subprocess.run([program] + words, cwd=folder, stdin=subprocess.DEVNULL,
+                          capture_output=True, timeout=60)
+    for feeder in feeders:
+        feeder.join(10)
+    replies = None
+    if case["sessions"] and os.path.exists(folder + "/replies.txt"):
+        replies = open(folder + "/replies.txt").read()
+    return done.returncode, done.stdout.decode(), done.stderr.decode(), replies
+
+
+# ---- what the run has to be
+
+def entry_of(fields):
+    """The number of the stream and the entry that the fields of an `@` line spell."""
+    stream, rest = int(fields[1]), fields[2:]
+    if len(rest) == 1:
+        return stream, {"time": int(rest[0]), "act": "", "edge": None, "until": None}
+    until = int(rest[6]) if len(rest) == 7 else None
+    return stream, {"time": int(rest[0]), "act": rest[4], "edge": tuple(rest[1:4]), "until": until}
+
+
+def check_history(case, history, numbers):
+    cut = False
+    for number, stream in enumerate(case["streams"], 1):
+        own = [entry for entry, of in zip(history, numbers) if of == number]
+        whole = stream["entries"]
+        if own != whole[:len(own)]:
+            return "the tuples of stream %d" % number, cut
+        cut = cut or len(own) < len(whole)
+    if cut and len(history) != case["limit"]:
+        return "a stream is cut and the history isn't full", cut
+    if case["limit"] is not None and len(history) > case["limit"]:
+        return "the history is too long", cut
+    return None, cut
+
+
+def expected_errors(case, history, numbers):
+    """The status, and the lines on the errors."""
+    lines, status = [], 0
+    for number, stream in enumerate(case["streams"], 1):
+        own = sum(1 for of in numbers if of == number)
+        if own < len(stream["entries"]):
+            lines.append("rpq: stream %d: history full\n" % number)
+            status = 7
+        elif stream["fault"] is not None:
+            lines.append("rpq: stream %d line %d: operation\n" % (number, stream["fault"]))
+            status = max(status, 4)
+    return status, "".join(lines)
+
+
+def expected_reply(ask, position, ends, names):
+    front = "@%d %s" % (position, " ".join(ask))
+    if ask[0] == "wait":
+        return front + (" ended\n" if position < int(ask[1]) else "\n")
+    own = ends[names.index(ask[1])]
+    if ask[0] == "answers":
+        return front + " %d\n" % len(own) + "".join("%s %s\n" % pair for pair in sorted(own))
+    if ask[0] == "from":
+        targets = sorted(pair[1] for pair in own if pair[0] == ask[2])
+        return front + " %d\n" % len(targets) + "".join(target + "\n" for target in targets)
+    if ask[0] == "count":
+        return front + " %d\n" % len(own)
+    end = own.get((ask[2], ask[3]))
+    if ask[0] == "pair":
+        return front + (" no\n" if end is None else " yes\n")
+    return front + (" none\n" if end is None else " %d\n" % end)
+
+
+def check_replies(case, history, ends, replies):
+    names = [query["name"] for query in case["queries"]]
+    for number, asks in enumerate(case["sessions"], 1):
+        front = "session %d\n" % number
+        if not replies.startswith(front):
+            return "the line of session %d" % number
+        replies, last = replies[len(front):], 0
+        for ask in asks:
+            head = replies.split(" ", 1)[0]
+            position = int(head[1:]) if head[:1] == "@" and head[1:].isdigit() else -1
+            if not last <= position <= len(history):
+                return "the position %s of an ask of session %d" % (head, number)
+            due = expected_reply(ask, position, ends[position], names)
+            if not replies.startswith(due):
+                return "session %d, %r: %r, due %r" % (number, ask, replies[:60], due)
+            if ask[0] == "wait" and position < int(ask[1]) and position != len(history):
+                return "a wait of session %d that ended before the history" % number
+            replies, last = replies[len(due):], position
+    return None if replies == "" else "text behind the last session"
+
+
+def check(case, status, events, errors, replies):
+    history, numbers, blocks = [], [], []
+    for line in events.splitlines():
+        if line[0] == "@":
+            stream, entry = entry_of(line.split(" "))
+            history.append(entry)
+            numbers.append(stream)
+            blocks.append([])
+            if line.split(" ")[0] != "@%d" % len(history):
+                return "the number of an entry"
+        else:
+            blocks[-1].append(line)
+    wrong, _ = check_history(case, history, numbers)
+    if wrong:
+        return wrong
+    ends = [[ends_of(query, history[:count]) for query in case["queries"]]
+            for count in range(len(history) + 1)]
+    for place, block in enumerate(blocks):
+        due = []
+        for query, old, new in zip(case["queries"], ends[place], ends[place + 1]):
+            due += ["- %s %s %s" % ((query["name"],) + pair) for pair in sorted(set(old) - set(new))]
+            due += ["+ %s %s %s" % ((query["name"],) + pair) for pair in sorted(set(new) - set(old))]
+        if block != due:
+            return "block %d: %r, due %r" % (place + 1, block, due)
+    due_status, due_errors = expected_errors(case, history, numbers)
+    if (status, errors) != (due_status, due_errors):
+        return "status %d, errors %r; due %d, %r" % (status, errors, due_status, due_errors)
+    if case["sessions"]:
+        return "no replies" if replies is None else check_replies(case, history, ends, replies)
+    return None
+
+
+def main():
+    parser = argparse.ArgumentParser(description=__doc__.split("\n\n")[0])
+    parser.add_argument("program")
+    parser.add_argument("--runs", type=int, default=200)
+    parser.add_argument("--seed", type=int, default=1)
+    given = parser.parse_args()
+    program = os.path.abspath(given.program)
+    passed = failed = 0
+    for number in range(given.runs):
+        seed = given.seed * 1000003 + number
+        case = random_case(random.Random(seed))
+        with tempfile.TemporaryDirectory(prefix="rpqlive") as folder:
+            try:
+                wrong = check(case, *run(program, case, folder, seed))
+            except subprocess.TimeoutExpired:
+                wrong = "no end within 60 seconds"
+        if wrong:
+            failed += 1
+            print("run %d (--seed %d): %s" % (number, given.seed, wrong))
+        else:
+            passed += 1
+    print("%d passed, %d failed" % (passed, failed))
+    return 0 if failed == 0 else 1
+
+
+if __name__ == "__main__":
+    sys.exit(main())
