@@ -211,7 +211,9 @@ fn report_of<R: Threads + Wait + RandomSource + Sync, G: Gate>(
 fn is_answered<F: Files>(report: &Report<F>, first: &[u8], second: &[u8]) -> bool {
     match report.sessions.as_slice() {
         [answers] => match answers.as_slice() {
-            [one, two] => report.status == 0 && one.text == first && two.text == second,
+            [one, two] => report.status == 0
+                && one.text.as_slice() == first
+                && two.text.as_slice() == second,
             _ => false,
         },
         _ => false,

@@ -44,6 +44,7 @@ impl Gate for MeetingGate {
 /// What a run over the files `q`, `s`, `t` and `u` is given, of which the reads of `t` and the writes
 /// of the events with these numbers fail, and its status, its lines on the errors, and how many
 /// entries its history has at most.
+#[derive(Clone, Copy)]
 struct Case<'a> {
     words: &'a [&'a str],
     streams: [&'a str; 3],

@@ -1,0 +1,5 @@
+mod Entries
+pub mod Order
+mod Search
+mod Listed
+mod Outcomes

@@ -1,0 +1,194 @@
+//! Chunks in their order.
+
+ghost use Rattle.std.specs.Prelude.{◌≡◌, ◌<◌, List, length, slice_index_or, IfOk, OnOk, OnErr};
+ghost use Rattle.std.specs.Global.{Global as GlobalHeap};
+ghost use Rattle.std.specs.declared.sync.Arc.{Arc as Shared};
+ghost use Rattle.std.specs.BTreeMap.{insert_entry, is_at};
+ghost use Rattle.std.specs.List.Sorted.{IsStrictlySortedBy};
+ghost use Rattle.std.specs.Map.{keys_of, lookup, remove_entry};
+ghost use Rattle.shared_map.specs.Chunks.{IsChunkOf, entries_of};
+
+use crate::chunk::Chunk;
+use rpq_base::{Copied, Memory};
+use std::alloc::Global;
+use std::sync::Arc;
+
+/// The place of the chunk in which the key stands or would stand; 0 where there is no chunk.
+pub(crate) fn chunk_of<K: Ord + Copied, V: Copied>(chunks: &[Arc<Chunk<K, V>>], key: &K) -> usize
+    requires { IsStrictlySortedBy K.cmp (keys_of (entries_of chunks.now)) }
+    ensures place { IsChunkOf K.cmp key.now chunks.now result }
+    ensures within { 0 < length chunks.now → result < length chunks.now }
+{
+    let mut low = 0;
+    let mut high = chunks.len();
+    while high - low > 1 {
+        let middle = low + (high - low) / 2;
+        if key < chunks[middle].first() {
+            high = middle;
+        } else {
+            low = middle;
+        }
+    }
+    low
+}
+
+/// The same chunks, which both lists share.
+pub(crate) fn shared<K: Ord + Copied, V: Copied>(
+    alloc: Global,
+    chunks: &[Arc<Chunk<K, V>>],
+) -> Result<Vec<Arc<Chunk<K, V>>>, Memory>
+    ensures { IfOk result (λ shared. entries_of shared.items ≡ entries_of chunks.now) }
+{
+    let mut shared = Vec::with_capacity(alloc, chunks.len())?;
+    for chunk in chunks {
+        shared.push(Arc::try_clone(chunk)?)?;
+    }
+    Ok(shared)
+}
+
+/// Puts two halves in the place of a chunk.
+fn split<K: Ord + Copied, V: Copied>(
+    alloc: Global,
+    chunks: &mut Vec<Arc<Chunk<K, V>>>,
+    place: usize,
+) -> Result<(), Memory>
+    requires within { place < length chunks.old.items }
+    requires another { (default : Shared (List (K × V)) GlobalHeap) →
+        1 < length (slice_index_or chunks.old.items place default).value }
+    ensures same { entries_of chunks.new.items ≡ entries_of chunks.old.items }
+    ensures some { 0 < length chunks.new.items }
+{
+    let (left, right) = chunks[place].halves()?;
+    let left = Arc::new(alloc, left)?;
+    let right = Arc::new(alloc, right)?;
+    chunks.insert(place + 1, right)?;
+    chunks[place] = left;
+    Ok(())
+}
+
+/// Splits the chunk of a key where it is full.
+fn make_room<K: Ord + Copied, V: Copied>(
+    alloc: Global,
+    chunks: &mut Vec<Arc<Chunk<K, V>>>,
+    key: &K,
+) -> Result<(), Memory>
+    requires some { 0 < length chunks.old.items }
+    requires sorted { IsStrictlySortedBy K.cmp (keys_of (entries_of chunks.old.items)) }
+    ensures same { entries_of chunks.new.items ≡ entries_of chunks.old.items }
+    ensures some { 0 < length chunks.new.items }
+{
+    let place = chunk_of(chunks, key);
+    if chunks[place].is_full() {
+        split(alloc, chunks, place)?;
+    }
+    Ok(())
+}
+
+/// Gives a key a value in a chunk, which is made anew where it is shared.
+fn insert_in<K: Ord + Copied, V: Copied>(
+    chunk: &mut Arc<Chunk<K, V>>,
+    key: K,
+    value: V,
+) -> Result<Option<V>, Memory>
+    requires { IsStrictlySortedBy K.cmp (keys_of chunk.old.value) }
+    ensures old { IfOk result (λ old. old ≡ lookup (is_at (K.cmp key)) chunk.old.value) }
+    ensures entries { OnOk result (chunk.new.value ≡ insert_entry K.cmp chunk.old.value key value) }
+    ensures unchanged { OnErr result (chunk.new.value ≡ chunk.old.value) }
+{
+    Arc::make_mut(chunk)?.insert(key, value)
+}
+
+/// Takes a key's entry out of a chunk, which is made anew where it is shared.
+fn remove_from<K: Ord + Copied, V: Copied>(
+    chunk: &mut Arc<Chunk<K, V>>,
+    key: &K,
+) -> Result<(), Memory>
+    requires sorted { IsStrictlySortedBy K.cmp (keys_of chunk.old.value) }
+    requires another { 1 < length chunk.old.value }
+    ensures entries { OnOk result
+        (chunk.new.value ≡ remove_entry (is_at (K.cmp key.now)) chunk.old.value) }
+    ensures unchanged { OnErr result (chunk.new.value ≡ chunk.old.value) }
+{
+    Arc::make_mut(chunk)?.remove(key);
+    Ok(())
+}
+
+/// Gives a key a value in its chunk.
+fn put<K: Ord + Copied, V: Copied>(
+    chunks: &mut Vec<Arc<Chunk<K, V>>>,
+    key: K,
+    value: V,
+) -> Result<Option<V>, Memory>
+    requires some { 0 < length chunks.old.items }
+    requires sorted { IsStrictlySortedBy K.cmp (keys_of (entries_of chunks.old.items)) }
+    ensures old { IfOk result (λ old.
+        old ≡ lookup (is_at (K.cmp key)) (entries_of chunks.old.items)) }
+    ensures entries { OnOk result (entries_of chunks.new.items
+        ≡ insert_entry K.cmp (entries_of chunks.old.items) key value) }
+    ensures unchanged { OnErr result (entries_of chunks.new.items ≡ entries_of chunks.old.items) }
+{
+    let place = chunk_of(chunks, &key);
+    insert_in(&mut chunks[place], key, value)
+}
+
+/// Takes a key's entry out of its chunk. An emptied chunk goes away.
+fn take<K: Ord + Copied, V: Copied>(
+    chunks: &mut Vec<Arc<Chunk<K, V>>>,
+    key: &K,
+) -> Result<(), Memory>
+    requires some { 0 < length chunks.old.items }
+    requires sorted { IsStrictlySortedBy K.cmp (keys_of (entries_of chunks.old.items)) }
+    ensures entries { OnOk result (entries_of chunks.new.items
+        ≡ remove_entry (is_at (K.cmp key.now)) (entries_of chunks.old.items)) }
+    ensures unchanged { OnErr result (entries_of chunks.new.items ≡ entries_of chunks.old.items) }
+{
+    let place = chunk_of(chunks, key);
+    let chunk = &chunks[place];
+    if chunk.get(key).is_none() {
+        return Ok(());
+    }
+    if chunk.len() > 1 {
+        return remove_from(&mut chunks[place], key);
+    }
+    chunks.remove(place);
+    Ok(())
+}
+
+/// Gives a key a value, and answers the one that it had. A full chunk is split first.
+pub(crate) fn insert<K: Ord + Copied, V: Copied>(
+    alloc: Global,
+    chunks: &mut Vec<Arc<Chunk<K, V>>>,
+    key: K,
+    value: V,
+) -> Result<Option<V>, Memory>
+    requires { IsStrictlySortedBy K.cmp (keys_of (entries_of chunks.old.items)) }
+    ensures old { IfOk result (λ old.
+        old ≡ lookup (is_at (K.cmp key)) (entries_of chunks.old.items)) }
+    ensures entries { OnOk result (entries_of chunks.new.items
+        ≡ insert_entry K.cmp (entries_of chunks.old.items) key value) }
+    ensures unchanged { OnErr result (entries_of chunks.new.items ≡ entries_of chunks.old.items) }
+{
+    if chunks.is_empty() {
+        let chunk = Chunk::one(alloc, key, value)?;
+        chunks.push(Arc::new(alloc, chunk)?)?;
+        return Ok(None);
+    }
+    make_room(alloc, chunks, &key)?;
+    put(chunks, key, value)
+}
+
+/// Takes a key's entry out, if there is one.
+pub(crate) fn remove<K: Ord + Copied, V: Copied>(
+    chunks: &mut Vec<Arc<Chunk<K, V>>>,
+    key: &K,
+) -> Result<(), Memory>
+    requires { IsStrictlySortedBy K.cmp (keys_of (entries_of chunks.old.items)) }
+    ensures entries { OnOk result (entries_of chunks.new.items
+        ≡ remove_entry (is_at (K.cmp key.now)) (entries_of chunks.old.items)) }
+    ensures unchanged { OnErr result (entries_of chunks.new.items ≡ entries_of chunks.old.items) }
+{
+    if chunks.is_empty() {
+        return Ok(());
+    }
+    take(chunks, key)
+}
