@@ -12,9 +12,9 @@ and for what one vertex leads to; and with 64 readers of 100 asks each. The time
 are also told as a part of those of the one stream. With --before the one stream is run by another
 program of the same command line, too, in turn.
 
---idle tells what processor time a run takes in 10 s in which its pipe says nothing, with two readers
-that wait. --delay tells how long it takes from a line that is written into a pipe until its block is
-on the output, of a thousand lines.
+--idle tells what processor time a run takes in 10 s in which its pipe says nothing, with two
+readers that wait. --delay tells how long it takes from a line that is written into a pipe until its
+block is on the output, of a thousand lines.
 """
 
 import argparse
@@ -62,7 +62,8 @@ def vertices(stream, count):
 
 def asks(path, queries, stream, tuples, sessions, each):
     """An asks file of so many sessions, each with so many groups of a wait, a count and a from."""
-    names = [line.split()[1] for line in open(queries, encoding="utf-8") if line.startswith("query")]
+    with open(queries, encoding="utf-8") as lines:
+        names = [line.split()[1] for line in lines if line.startswith("query")]
     own = vertices(stream, 1000)
     with open(path, "w", encoding="utf-8") as out:
         for session in range(sessions):
@@ -132,7 +133,8 @@ def idle(program):
     time.sleep(1)
 
     def busy():
-        fields = open(f"/proc/{process.pid}/stat", encoding="utf-8").read().rsplit(")", 1)[1].split()
+        with open(f"/proc/{process.pid}/stat", encoding="utf-8") as stat:
+            fields = stat.read().rsplit(")", 1)[1].split()
         return (int(fields[11]) + int(fields[12])) / os.sysconf("SC_CLK_TCK")
 
     start = busy()

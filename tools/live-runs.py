@@ -97,7 +97,8 @@ def window_of(query, history, clock):
     for place, entry in enumerate(history):
         if entry["act"] != "+" or deadline(query, entry) <= clock:
             continue
-        if any(late["act"] == "-" and late["edge"] == entry["edge"] for late in history[place + 1:]):
+        later = history[place + 1:]
+        if any(late["act"] == "-" and late["edge"] == entry["edge"] for late in later):
             continue
         live.append((entry["edge"], deadline(query, entry)))
     return live
@@ -184,7 +185,8 @@ def random_stream(rng, queries):
         elif kind == "-" or rng.random() < 0.5:
             line += " " + kind
         lines.append(line)
-        entries.append({"time": at, "act": "-" if kind == "-" else "+", "edge": edge, "until": until})
+        act = "-" if kind == "-" else "+"
+        entries.append({"time": at, "act": act, "edge": edge, "until": until})
     fault = None
     if rng.random() < 0.15:
         fault = len(lines) + 1
@@ -370,8 +372,8 @@ def check(case, status, events, errors, replies):
     for place, block in enumerate(blocks):
         due = []
         for query, old, new in zip(case["queries"], ends[place], ends[place + 1]):
-            due += ["- %s %s %s" % ((query["name"],) + pair) for pair in sorted(set(old) - set(new))]
-            due += ["+ %s %s %s" % ((query["name"],) + pair) for pair in sorted(set(new) - set(old))]
+            for sign, pairs in (("-", set(old) - set(new)), ("+", set(new) - set(old))):
+                due += ["%s %s %s %s" % ((sign, query["name"]) + pair) for pair in sorted(pairs)]
         if block != due:
             return "block %d: %r, due %r" % (place + 1, block, due)
     due_status, due_errors = expected_errors(case, history, numbers)
