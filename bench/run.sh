@@ -5,6 +5,8 @@
 #                                     OTHER, --attacks, --states, --hostile, --sqlite, --workers,
 #                                     --memory
 #   bench/run.sh [--fast] --fronts    fronts of entries, by the program bench/fronts.rattle
+#   bench/run.sh [--fast] --live ..   several streams and readers, by bench/live.py, which says what
+#                                     its words are: --idle, --delay, --before OTHER
 #   bench/run.sh [--fast] NAME ..     the program NAME.rattle with these words: edge_store, fronts
 # Words of measure.py can follow a form, as --kinds uniform,so --tuples 10000.
 #
@@ -53,7 +55,12 @@ case "${1:-}" in
             build "$place" fronts_bench "$place/fronts" "$queries" /dev/null 1 1
             set -- --fronts "$place/fronts" "$@"
         fi
-        python3 "$top/bench/measure.py" "$place/rpq" "$@"
+        if [ "${1:-}" = --live ]; then
+            shift
+            python3 "$top/bench/live.py" "$place/rpq" "$@"
+        else
+            python3 "$top/bench/measure.py" "$place/rpq" "$@"
+        fi
         ;;
     *)
         name="$1"
