@@ -7,7 +7,7 @@ use crate::fields::{Fields, decoded};
 use crate::output::Output;
 use rpq_base::Entry;
 use rpq_io::{MemoryFiles, MemorySink, OpenGate};
-use rpq_run::run;
+use rpq_run::{Report, run};
 use std::alloc::Global;
 use std::random::RandomSource;
 use std::sync::Wait;
@@ -42,10 +42,15 @@ pub fn answer_readers<R: RandomSource + Threads + Wait + Sync>(
         &mut errors,
         &OpenGate,
     );
+    put_report(out, &report, errors.bytes())
+}
+
+/// Puts what a run with readers answered, and what it told on the errors.
+fn put_report(out: &mut Output, report: &Report<MemoryFiles>, errors: &[u8]) -> anyhow::Result<()> {
     out.put_shown(&report.status)?;
     put_counts(out, &report.history)?;
     out.put("|")?;
-    out.put_bytes(errors.bytes())?;
+    out.put_bytes(errors)?;
     out.put("|")?;
     match &report.replies {
         Some(sink) => out.put_bytes(sink.bytes()),
