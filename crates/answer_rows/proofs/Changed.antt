@@ -1,7 +1,8 @@
 -- The pairs of rows that others lack, source by source.
 use Rattle.std.proofs.Common.{◌≡◌, ℕ, Bool, true, false, not, cond, List, [], ◌∷◌, ◌++◌, map, filter, refl, sym, ap, ◌∙◌, append_assoc}
 use Rattle.std.specs.List.{list_any}
-use Rattle.std.proofs.lemmas.List.{map-append}
+use Rattle.std.proofs.lemmas.List.{append-nil, map-append}
+use Rattle.std.proofs.lemmas.List.Concat.{flat_map-append}
 use Rattle.std.proofs.lemmas.List.Elements.{filter-append}
 use Rattle.rpq_base.specs.Same.{same_name, same_pair}
 use Rattle.rpq_base.specs.declared.data.Pair.{Pair}
@@ -66,15 +67,32 @@ first_source source rest others =
 
 -- ---- the events
 
--- a source more of a map: what is left gives the rest
-pub source_given : (source : List ℕ × List Target) (rest : BySource) (others : List Answer) (tell : Pair → Event) (old found all : List Event) →
-    found ≡ old ++ map tell (row_without source.0 source.1 (row_of others source.0)) →
-    old ++ map tell (without (pairs (answers (source ∷ rest))) (pairs others)) ≡ all →
-    found ++ map tell (without (pairs (answers rest)) (pairs others)) ≡ all
-source_given source rest others tell old found all is so_far =
-    let here = row_without source.0 source.1 (row_of others source.0) in
-    let later = without (pairs (answers rest)) (pairs others) in
-    ap (λ (events : List Event). events ++ map tell later) is
-    ∙ (append_assoc old (map tell here) (map tell later)
-    ∙ (ap (λ (events : List Event). old ++ events) (sym (map-append tell here later) ∙ ap (map tell) (sym (first_source source rest others)))
-    ∙ so_far))
+answers_append : (sources more : BySource) → answers (sources ++ more) ≡ answers sources ++ answers more
+answers_append sources more = flat_map-append (λ (source : List ℕ × List Target). map (answer source.0) source.1) sources more
+
+-- the events of more sources come behind
+pub events_append : (sources more : BySource) (others : List Answer) (tell : Pair → Event) →
+    map tell (without (pairs (answers (sources ++ more))) (pairs others))
+    ≡ map tell (without (pairs (answers sources)) (pairs others)) ++ map tell (without (pairs (answers more)) (pairs others))
+events_append sources more others tell =
+    ap (λ (all : List Answer). map tell (without (pairs all) (pairs others))) (answers_append sources more)
+    ∙ (ap (λ (all : List Pair). map tell (without all (pairs others))) (map-append pair_of (answers sources) (answers more))
+    ∙ (ap (map tell) (without_append (pairs (answers sources)) (pairs (answers more)) (pairs others))
+    ∙ map-append tell (without (pairs (answers sources)) (pairs others)) (without (pairs (answers more)) (pairs others))))
+
+-- a source more: its events are those of its row
+pub source_told : (sources : BySource) (from : List ℕ) (row : List Target) (others : List Answer) (tell : Pair → Event)
+    (before so_far now : List Event) →
+    so_far ≡ before ++ map tell (without (pairs (answers sources)) (pairs others)) →
+    now ≡ so_far ++ map tell (row_without from row (row_of others from)) →
+    now ≡ before ++ map tell (without (pairs (answers (sources ++ (from, row) ∷ []))) (pairs others))
+source_told sources from row others tell before so_far now is more =
+    let here = row_without from row (row_of others from) in
+    let one : map tell (without (pairs (answers ((from, row) ∷ []))) (pairs others)) ≡ map tell here =
+    ap (map tell) (first_source (from, row) [] others ∙ append-nil here) in
+    more
+    ∙ (ap (λ (events : List Event). events ++ map tell here) is
+    ∙ (append_assoc before (map tell (without (pairs (answers sources)) (pairs others))) (map tell here)
+    ∙ ap (λ (events : List Event). before ++ events)
+    (ap (λ (events : List Event). map tell (without (pairs (answers sources)) (pairs others)) ++ events) (sym one)
+    ∙ sym (events_append sources ((from, row) ∷ []) others tell))))

@@ -1,10 +1,9 @@
 -- Rows in which one target changed.
 use Rattle.std.proofs.Common.{◌≡◌, ◌≢◌, ℕ, zero, suc, ◌<◌, ◌≤◌, Bool, true, false, not, ◌||◌, cond, List, [], ◌∷◌, length, get_or, map, Option, Some, None, Result, Ok, Err, Ordering, refl, sym, ap, subst, ◌∙◌, arith}
-use Rattle.std.specs.Prelude.{All, IsTrue, OnOk, set}
+use Rattle.std.specs.Prelude.{All, IsTrue, OnOk, OnErr, set}
 use Rattle.std.specs.List.{insert, remove}
 use Rattle.std.specs.List.Sorted.{IsStrictlySortedBy, IsBinarySearchResult, IsSearchInRange}
 use Rattle.std.specs.BTreeSet.{insert_key}
-use Rattle.std.specs.Int.{from_bool}
 use Rattle.std.specs.Option.{is_some}
 use Rattle.std.specs.Ordering.{match_ordering, ordering_reverse}
 use Rattle.std.specs.declared.cmp.Ordering.TheVariants.{Less, Equal, Greater}
@@ -272,7 +271,7 @@ pub both_ok : {X E P Q G : Type 0} (result : Result X E) → OnOk result P → O
 both_ok (Ok x) p q gives = gives p q
 both_ok (Err e) p q gives = tt
 
--- a test as a number
-pub as_number : (test : Bool) → from_bool test ≡ cond test 1 0
-as_number true = refl
-as_number false = refl
+-- what follows from what stands after an error
+pub then_err : {X E P Q : Type 0} (result : Result X E) → OnErr result P → (P → Q) → OnErr result Q
+then_err (Ok x) p gives = tt
+then_err (Err e) p gives = gives p

@@ -22,7 +22,7 @@ use Rattle.rpq_base.specs.declared.data.Pair.{Pair}
 use Rattle.rpq_base.proofs.Equality.{names, name_again}
 use Rattle.rpq_base.proofs.Sorted.{sorted_nil, sorted_cons}
 use Rattle.answer_rows.specs.Answers.{Answer, pair, pair_of, pairs, AreRows, row_of, target_of, AreTargets}
-use Rattle.answer_rows.specs.BySource.{BySource, answer, answers}
+use Rattle.answer_rows.specs.BySource.{BySource, answer, answers, held_row}
 use Rattle.answer_rows.specs.declared.target.Target.{Target}
 use Rattle.answer_rows.proofs.Places.{to_of}
 
@@ -44,14 +44,10 @@ row_elsewhere from other [] e = refl
 row_elsewhere from other (first ∷ rest) e = rw e (row_elsewhere from other rest e)
 
 -- sources above a name don't have it
-none_passes : (from : List ℕ) (rest : BySource) → AllByRecursion (λ each. name_cmp from each ≡ Less) (keys_of rest) →
+pub none_passes : (from : List ℕ) (rest : BySource) → AllByRecursion (λ each. name_cmp from each ≡ Less) (keys_of rest) →
     NonePasses (is_at (name_cmp from)) rest
 none_passes from [] below = tt
 none_passes from (first ∷ rest) below = (ap is_eq below.0, none_passes from rest below.1)
-
--- the row that the sources have for a name
-abbrev pub held_row : BySource → List ℕ → List Target
-held_row sources from = unwrap_or (lookup (is_at (name_cmp from)) sources) []
 
 row_step : (order : Ordering) (source : List ℕ × List Target) (rest : BySource) (from : List ℕ) → name_cmp from source.0 ≡ order →
     IsStrictlySortedBy name_cmp (keys_of (source ∷ rest)) → row_of (answers rest) from ≡ held_row rest from →

@@ -4,9 +4,11 @@ ghost use Rattle.std.specs.Prelude.{◌≡◌, ◌++◌, true, false, map, OnOk,
 ghost use Rattle.std.specs.List.Sorted.{IsStrictlySortedBy};
 ghost use Rattle.rpq_base.specs.Order.{name_cmp};
 ghost use Rattle.answer_rows.specs.Answers.{AreTargets, pair, pairs};
+ghost use Rattle.answer_rows.specs.BySource.{answers};
 ghost use Rattle.answer_rows.specs.Changes.{DifferAtMostIn, changes, event, without};
 ghost use Rattle.answer_rows.specs.RowChanges.{row_without};
 
+use crate::row::Row;
 use crate::rows::Rows;
 use crate::target::{Target, has_target};
 use rpq_base::{Copied, Event, Memory, Name, Pair};
@@ -66,13 +68,30 @@ fn push_row(
     Ok(())
 }
 
+/// Adds an event for each pair of these sources that isn't in the others, in order.
+fn push_sources(
+    events: &mut Vec<Event>,
+    kind: Kind,
+    sources: &[(Name, Row)],
+    others: &Rows,
+) -> Result<(), Memory>
+    ensures { OnOk result (events.new.items ≡ events.old.items ++ map (event kind.query kind.added)
+        (without (pairs (answers sources.now)) (pairs others.now))) }
+{
+    for (from, row) in sources {
+        push_row(events, kind, from, row.targets(), others.targets(from))?;
+    }
+    Ok(())
+}
+
 /// Adds an event for each pair of the rows that isn't in the others, in order.
 fn push_all(events: &mut Vec<Event>, kind: Kind, rows: &Rows, others: &Rows) -> Result<(), Memory>
     ensures { OnOk result (events.new.items ≡ events.old.items
         ++ map (event kind.query kind.added) (without (pairs rows.now) (pairs others.now))) }
 {
-    for (from, row) in &rows.rows {
-        push_row(events, kind, from, row.as_slice(), others.targets(from))?;
+    let chunks = rows.rows.chunks();
+    for chunk in chunks {
+        push_sources(events, kind, chunk.entries(), others)?;
     }
     Ok(())
 }

@@ -1,40 +1,39 @@
 //! The answers of a query, as rows.
 
 ghost use Rattle.std.specs.Prelude.{◌≡◌, ◌<◌, ◌++◌, [], length, map, IfNone, IfSome, IfOk, OnOk, OnErr};
-ghost use Rattle.std.specs.Option.{option_map, unwrap_or};
 ghost use Rattle.answer_rows.specs.Answers.{AreRows, AreTargets, KeepsOtherRows};
 ghost use Rattle.answer_rows.specs.Answers.{pair, row_of, until_of};
-ghost use Rattle.answer_rows.specs.BySource.{answer, by_source, shared_row};
+ghost use Rattle.answer_rows.specs.BySource.{answer, answers};
 ghost use Rattle.answer_rows.specs.Listing.{listed};
 
+use crate::row::Row;
 use crate::target::{Target, end_of};
 use rpq_base::{Copied, Memory, Name};
+use shared_map::SharedMap;
 use std::alloc::Global;
-use std::collections::BTreeMap;
 use std::marker::Model;
-use std::sync::Arc;
 
 /// The pairs that answer a query, each with its end.
 ///
 /// Contracts see the list of the answers, sorted by source and then target, each pair once. A
-/// source's row is shared by the copies that hold it.
+/// source's row is shared by the copies that hold it, and so is each chunk of sources.
 #[derive(Debug, Drop)]
 pub struct Rows {
     pub(crate) alloc: Global,
-    pub(crate) rows: BTreeMap<Name, Arc<Vec<Target>>>,
+    pub(crate) rows: SharedMap<Name, Row>,
     pub(crate) count: u128,
 }
 
 impl Model for Rows {
     ghost use Rattle.std.specs.Prelude.{List};
     ghost use Rattle.answer_rows.specs.Answers.{Answer};
-    ghost use Rattle.answer_rows.specs.BySource.{AreHeld, answers, by_source};
+    ghost use Rattle.answer_rows.specs.BySource.{AreHeld, answers};
 
     ghost Value = { List Answer };
 
-    ghost view = { λ held. answers (by_source held.rows) };
+    ghost view = { λ held. answers held.rows };
 
-    ghost invariant = { λ held. AreHeld (by_source held.rows) held.count };
+    ghost invariant = { λ held. AreHeld held.rows held.count };
 }
 
 impl Rows {
@@ -44,7 +43,7 @@ impl Rows {
     {
         Rows {
             alloc,
-            rows: BTreeMap::new(alloc),
+            rows: SharedMap::new(alloc),
             count: 0,
         }
     }
@@ -67,7 +66,7 @@ impl Rows {
         ensures sorted { AreTargets (row_of self.now from.now) }
     {
         match self.rows.get(from) {
-            Some(row) => Some(row.as_slice()),
+            Some(row) => Some(row.targets()),
             None => None,
         }
     }
@@ -96,19 +95,20 @@ impl Rows {
         ensures { IfOk result (λ list. listed list.items ≡ self.now) }
     {
         let mut list = Vec::new(self.alloc);
-        for (from, row) in &self.rows {
-            push_targets(&mut list, from, row.as_slice())?;
+        let chunks = self.rows.chunks();
+        for chunk in chunks {
+            push_sources(&mut list, chunk.entries())?;
         }
         Ok(list)
     }
 
-    /// Equal rows. The sources are copied, and the rows are shared.
+    /// Equal rows, which share all sources with these. Takes a step for each chunk of sources.
     pub fn copy(&self) -> Result<Rows, Memory>
         ensures { IfOk result (λ copy. copy ≡ self.now) }
     {
         Ok(Rows {
             alloc: self.alloc,
-            rows: share(self.alloc, &self.rows)?,
+            rows: self.rows.share()?,
             count: self.count,
         })
     }
@@ -116,7 +116,8 @@ impl Rows {
     /// Puts these targets in the place of the source's row. Without a target, the source has no
     /// pair afterwards.
     ///
-    /// The time grows with the logarithm of the number of sources.
+    /// The time grows with the logarithm of the number of sources. The chunk of sources is copied
+    /// first where it is shared.
     pub fn set(&mut self, from: &Name, targets: Vec<Target>) -> Result<(), Memory>
         requires { AreTargets targets.items }
         ensures row { OnOk result (row_of self.new from.now ≡ targets.items) }
@@ -124,37 +125,52 @@ impl Rows {
         ensures unchanged { OnErr result (self.new ≡ self.old) }
     {
         if targets.is_empty() {
-            self.remove(from);
-            return Ok(());
+            return self.remove(from);
         }
-        let row = Arc::new(self.alloc, targets)?;
+        let row = Row::new(self.alloc, targets)?;
         self.insert(from.copy()?, row)
     }
 
-    /// Takes a source's row away.
-    pub(crate) fn remove(&mut self, from: &Name)
-        ensures row { row_of self.new from.now ≡ [] }
-        ensures others { KeepsOtherRows from.now self.old self.new }
+    /// Takes a source's row away. Takes memory only where its chunk is shared.
+    pub(crate) fn remove(&mut self, from: &Name) -> Result<(), Memory>
+        ensures row { OnOk result (row_of self.new from.now ≡ []) }
+        ensures others { OnOk result (KeepsOtherRows from.now self.old self.new) }
+        ensures unchanged { OnErr result (self.new ≡ self.old) }
     {
-        let row = self.rows.remove(from);
-        self.count -= targets_in(&row);
+        let lost = self.targets(from).len() as u128;
+        self.rows.remove(from)?;
+        self.count -= lost;
+        Ok(())
     }
 
     /// Puts this row in the place of the source's.
-    fn insert(&mut self, from: Name, row: Arc<Vec<Target>>) -> Result<(), Memory>
-        requires some { 0 < length (shared_row row) }
-        requires sorted { AreTargets (shared_row row) }
-        ensures row { OnOk result (row_of self.new from ≡ shared_row row) }
+    fn insert(&mut self, from: Name, row: Row) -> Result<(), Memory>
+        requires some { 0 < length row }
+        requires sorted { AreTargets row }
+        ensures row { OnOk result (row_of self.new from ≡ row) }
         ensures others { OnOk result (KeepsOtherRows from self.old self.new) }
         ensures unchanged { OnErr result (self.new ≡ self.old) }
     {
-        let gained = row.len();
-        // The number of sources bounds the count.
-        let _ = self.rows.len();
-        let old = self.rows.insert(from, row)?;
-        self.count = self.count - targets_in(&old) + gained as u128;
+        let lost = self.targets(&from).len() as u128;
+        let gained = row.targets().len() as u128;
+        let count = (self.count - lost).checked_add(gained).ok_or(Memory)?;
+        self.rows.insert(from, row)?;
+        self.count = count;
         Ok(())
     }
+}
+
+/// Adds each source with each of its targets, in order.
+fn push_sources<'a>(
+    list: &mut Vec<(&'a Name, &'a Target)>,
+    sources: &'a [(Name, Row)],
+) -> Result<(), Memory>
+    ensures { OnOk result (listed list.new.items ≡ listed list.old.items ++ answers sources.now) }
+{
+    for (from, row) in sources {
+        push_targets(list, from, row.targets())?;
+    }
+    Ok(())
 }
 
 /// Adds a source with each of its targets, in order.
@@ -170,28 +186,4 @@ fn push_targets<'a>(
         list.push((from, target))?;
     }
     Ok(())
-}
-
-/// The number of targets in a row; 0 without one.
-fn targets_in(row: &Option<Arc<Vec<Target>>>) -> u128
-    ensures { result ≡ length (unwrap_or (option_map shared_row row.now) []) }
-{
-    match row {
-        Some(row) => row.len() as u128,
-        None => 0,
-    }
-}
-
-/// A map of the same sources, which shares their rows.
-fn share(
-    alloc: Global,
-    rows: &BTreeMap<Name, Arc<Vec<Target>>>,
-) -> Result<BTreeMap<Name, Arc<Vec<Target>>>, Memory>
-    ensures { IfOk result (λ shared. by_source shared ≡ by_source rows.now) }
-{
-    let mut shared = BTreeMap::new(alloc);
-    for (from, row) in rows {
-        shared.insert(from.copy()?, Arc::try_clone(row)?)?;
-    }
-    Ok(shared)
 }

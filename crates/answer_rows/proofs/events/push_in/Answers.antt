@@ -3,7 +3,6 @@ use Rattle.std.proofs.lemmas.List.{take_all}
 use Rattle.rpq_base.specs.declared.data.Event.{Event}
 use Rattle.rpq_base.specs.declared.data.Pair.{Pair}
 use Rattle.answer_rows.specs.Answers.{AreRows, AreTargets, row_of}
-use Rattle.answer_rows.specs.BySource.{by_source}
 use Rattle.answer_rows.specs.Changes.{event}
 use Rattle.answer_rows.specs.RowChanges.{rows_without}
 use Rattle.answer_rows.proofs.Held.{held_are_rows, row_in_order}
@@ -15,11 +14,11 @@ returns c =
     let rows = c.args.rows.now in
     let others = c.args.others.now in
     let sources = c.args.sources.now in
-    let inside = by_source c.rows.inside.rows in
+    let inside = c.rows.inside.rows in
     let count = c.rows.inside.count in
     let sorted : AreRows rows = rw (← c.rows.view_is) (held_are_rows inside count c.rows.invariant) in
     let in_order : (from : List ℕ) → AreTargets (row_of rows from) = λ from.
-    rw (← c.rows.view_is) (row_in_order inside count from c.rows.invariant) in
+    row_in_order inside count rows from c.rows.invariant c.rows.view_is in
     let tell : Pair → Event = event c.args.kind.query c.args.kind.added in
     c.loop-from.invariant
     ∙ ap (λ (all : List Pair). c.args.events.now.items ++ map tell all)

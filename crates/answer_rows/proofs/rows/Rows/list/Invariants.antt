@@ -1,9 +1,9 @@
-use Rattle.std.proofs.Common.{◌≡◌, ◌++◌}
+use Rattle.std.proofs.Common.{◌≡◌, take}
+use Rattle.shared_map.specs.Chunks.{entries_of}
 use Rattle.answer_rows.specs.BySource.{answers}
 use Rattle.answer_rows.specs.Listing.{listed}
-use Rattle.answer_rows.proofs.Held.{seen}
 use Rattle.answer_rows.proofs.rows.Rows.list.Given as goal
 
--- the answers so far, and those of the sources that are left, are all
-abbrev pub invariant-loop-from : goal.invariant-loop-from
-invariant-loop-from l = listed l.list.items ++ answers (seen l.from-iterator) ≡ l.self
+-- the answers of the chunks so far are listed
+abbrev pub invariant-loop-chunk : goal.invariant-loop-chunk
+invariant-loop-chunk l = listed l.list.items ≡ answers (entries_of (take l.chunk-index l.chunks))

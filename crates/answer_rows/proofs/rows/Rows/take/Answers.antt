@@ -30,7 +30,8 @@ returns-clause-taken c =
     let there : has_target row to ≡ true =
     ap (λ (each : List Target). has_target each to) (sym c.targets-targets.ensures.row) ∙ (sym c.has_target.ensures ∙ c.if-not-has_target.false) in
     let few : length row ≤ 1 = subst (λ (each : List Target). length each ≤ 1) c.targets-targets.ensures.row (search rules) in
-    take_end c.args.self.now c.remove.new.self c.args.from.now to (c.remove.ensures.row ∙ only_target row to there few)
+    then_ok c.remove.result c.remove.ensures.row
+    (λ gone. take_end c.args.self.now c.remove.new.self c.args.from.now to (gone ∙ only_target row to there few))
 
 pub returns-clause-others : goal.returns-clause-others
 returns-clause-others c =
@@ -39,4 +40,5 @@ returns-clause-others c =
     let there : has_target row to ≡ true =
     ap (λ (each : List Target). has_target each to) (sym c.targets-targets.ensures.row) ∙ (sym c.has_target.ensures ∙ c.if-not-has_target.false) in
     let few : length row ≤ 1 = subst (λ (each : List Target). length each ≤ 1) c.targets-targets.ensures.row (search rules) in
-    take_others c.args.self.now c.remove.new.self c.args.from.now to (c.remove.ensures.row ∙ only_target row to there few) c.remove.ensures.others
+    both_ok c.remove.result c.remove.ensures.row c.remove.ensures.others
+    (λ gone. take_others c.args.self.now c.remove.new.self c.args.from.now to (gone ∙ only_target row to there few))

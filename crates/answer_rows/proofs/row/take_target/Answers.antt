@@ -4,7 +4,7 @@ use Rattle.std.proofs.lemmas.Map.Lookups.{exact_bytes}
 use Rattle.answer_rows.specs.Answers.{AreTargets, has_target}
 use Rattle.answer_rows.specs.declared.target.Target.{Target}
 use Rattle.answer_rows.proofs.Edited.{remove_is_without, not_there}
-use Rattle.answer_rows.proofs.edits.take_target.Goals as goal
+use Rattle.answer_rows.proofs.row.take_target.Goals as goal
 
 pub returns-in-Ok-clause-row : goal.returns-in-Ok-clause-row
 returns-in-Ok-clause-row c =

@@ -7,7 +7,7 @@ use Rattle.answer_rows.specs.RowEdits.{target}
 use Rattle.answer_rows.specs.declared.target.Target.{Target}
 use Rattle.answer_rows.proofs.Edited.{set_is_with, gap_is_with}
 use Rattle.answer_rows.proofs.Places.{to_of}
-use Rattle.answer_rows.proofs.edits.put_target.Goals as goal
+use Rattle.answer_rows.proofs.row.put_target.Goals as goal
 
 pub returns-in-Ok-clause-row : goal.returns-in-Ok-clause-row
 returns-in-Ok-clause-row c =
