@@ -1,0 +1,9 @@
+pub mod Circles
+pub mod Counters
+pub mod Laws
+pub mod New
+pub mod Objects
+pub mod Said
+pub mod Stood
+pub mod Tails
+pub mod Told

@@ -1,0 +1,4 @@
+pub mod Examples
+pub mod History
+pub mod Names
+pub mod Seeds

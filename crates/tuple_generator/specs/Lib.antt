@@ -1,0 +1,4 @@
+pub mod Examples
+pub mod Generator
+pub mod Laws
+pub mod Seeds
