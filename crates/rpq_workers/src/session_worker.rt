@@ -116,9 +116,17 @@ fn look_for<R: Wait, G: Gate>(
         if is_enough_for(ask, &looked) {
             return Ok(looked.view);
         }
-        history.sleep_until_views(shared.rt, heard);
+        history.sleep_until_views(shared.rt, heard, wanted_position(ask));
     }
     unreachable!()
+}
+
+/// The position that the ask waits for; 0 where it waits for none.
+fn wanted_position(ask: &Ask) -> u64 {
+    match ask {
+        Ask::Wait(position) => *position,
+        _ => 0,
+    }
 }
 
 /// Whether the ask can be answered by what was looked at: it waits for no later position, or none

@@ -104,11 +104,22 @@ impl History {
     {
         legal_by_lines();
         legal_is_sound();
+        let position = view.position();
         let mut journal = self.turns.take(rt, pass);
         let answer = journal.publish(view);
+        let are_ended = journal.all_ended();
         self.turns.give(pass, journal);
-        self.view_bell.ring();
+        self.ring_for_view(position, are_ended);
         answer
+    }
+
+    // Wakes those who wait for this position, or all where no further entry is to come.
+    fn ring_for_view(&self, position: u64, are_ended: bool) {
+        if are_ended {
+            self.view_bell.ring();
+        } else {
+            self.view_bell.ring_at(position);
+        }
     }
 
     /// Shuts the history, so that nothing is appended or published any more. It costs a turn, and
@@ -189,8 +200,7 @@ impl History {
         self.entry_bell.sleep(rt, heard);
     }
 
-    /// How often so far a view was published, a stream ended, or the history was shut. It costs no
-    /// turn.
+    /// How often so far those who wait for views were woken. It costs no turn.
     ///
     /// Ask before [`History::look`], and sleep by [`History::sleep_until_views`] only where that
     /// found nothing to do.
@@ -198,12 +208,13 @@ impl History {
         self.view_bell.heard()
     }
 
-    /// Sleeps until a view is published, a stream ends, or the history is shut, where none of this
-    /// came since `heard` was asked. It may return earlier, so look again after it.
+    /// Sleeps until a view at this position or a later one is published, a stream ends, the last
+    /// view is published, or the history is shut, where none of this came since `heard` was asked.
+    /// It may return earlier, so look again after it.
     ///
     /// No clause says that anybody is woken.
-    pub fn sleep_until_views<R: Wait>(&self, rt: &R, heard: Heard) {
-        self.view_bell.sleep(rt, heard);
+    pub fn sleep_until_views<R: Wait>(&self, rt: &R, heard: Heard, position: u64) {
+        self.view_bell.sleep(rt, heard, position);
     }
 }
 

@@ -277,7 +277,7 @@ fn look_to_the_end<R: Wait>(rt: &R, history: &History, mut pass: Pass) -> (Pass,
                 return (pass, rises);
             }
         }
-        history.sleep_until_views(rt, heard);
+        history.sleep_until_views(rt, heard, last.0.saturating_add(1));
     }
     (pass, false)
 }
@@ -494,7 +494,7 @@ fn sleep_until_published<R: Wait>(rt: &R, history: &History, pass: &mut Pass, co
         if are_published(rt, history, pass, count) {
             break;
         }
-        history.sleep_until_views(rt, heard);
+        history.sleep_until_views(rt, heard, count);
     }
 }
 
