@@ -1,0 +1,140 @@
+#!/usr/bin/env python3
+"""Runs rpq over random and mutated bytes, outside the gate.
+
+    hostile-runs.py PROGRAM [--runs 10000] [--seed 1]
+
+Each run takes a queries file, an asks file and one or two streams, of which some bytes are changed,
+left out, repeated or put in from elsewhere, or which are random altogether; sometimes it checks or
+generates instead. It is to end within 5 seconds, by no signal, with a status that docs/formats.md
+has, and with lines on standard error of the forms that it has. What runs ended with which status is
+printed, and the first runs that did otherwise, whose files stay. The last line is `N passed, M
+failed`; the status is 0 where none failed.
+"""
+
+import argparse
+import collections
+import os
+import random
+import re
+import shutil
+import subprocess
+import sys
+import tempfile
+from concurrent.futures import ThreadPoolExecutor
+
+SECONDS = 5
+QUERIES = [
+    b"query q window 100 slide 10 arbitrary: a/b\n",
+    b"# two\nquery p window 20 slide 5 arbitrary: a+\nquery r window 50 slide 50 simple: (a|b)+\n",
+    b"query t window 4611686018427387903 slide 1 arbitrary: \"x y\"?/a*|b\n",
+]
+ASKS = [
+    b"session\nwait 1\ncount q\nsession\nanswers q\nfrom q x\npair q x z\nuntil q x z\nwait 9\n",
+    b"# none\nsession\n",
+]
+STREAMS = [
+    b"1 x a y\n2 y b z\n3 x a w +\n7 y b z -\n200\n",
+    b"5 u a v until 9\n4 v b u\n6 v b u -\n\n# a comment\n8\r\n9 w a w",
+]
+# Each file with how often it is left as it is.
+FILES = [("q", QUERIES, 0.7), ("a", ASKS, 0.5), ("s", STREAMS, 0.2), ("t", STREAMS, 0.2)]
+PIECES = [
+    b"query ", b"window ", b"slide ", b"arbitrary: ", b"simple: ", b"session\n", b"wait ", b"until ",
+    b"from ", b"(", b")", b"*", b"+", b"?", b"/", b"|", b"^", b'"', b"%", b"\n", b"\r\n", b"\0", b"\xff",
+    b"0", b"-1", b"4611686018427387903", b"4611686018427387904", b"99999999999999999999999", b" ", b"\t",
+    b"x" * 255, b"x" * 256, b"x" * 1023, b"(" * 600, b"a/" * 70 + b"a", b"(a|b)*/a/" * 9 + b"a",
+]
+LINE = re.compile(
+    rb"rpq: (words|memory|(queries|asks) line \d+: .*|(queries|asks): too long"
+    rb"|read failed: (queries|asks|stream \d+)|write failed: (events|replies)"
+    rb"|stream \d+ line \d+: .*|stream \d+: (history full|too long))|usage: rpq .*")
+
+
+def mutated(chance, base):
+    """The bytes with some changes."""
+    if chance.random() < 0.1:
+        return bytes(chance.randrange(256) for _ in range(chance.randrange(200)))
+    text = bytearray(base)
+    for _ in range(chance.choice([0, 1, 1, 2, 3, 8])):
+        place = chance.randrange(len(text) + 1)
+        way = chance.randrange(6)
+        if way == 0 and place < len(text):
+            text[place] = chance.randrange(256)
+        elif way == 1:
+            del text[place:place + chance.choice([1, 2, 10, 100])]
+        elif way == 2:
+            text[place:place] = chance.choice(PIECES)
+        elif way == 3:
+            text[place:place] = text[:chance.randrange(len(text) + 1)]
+        elif way == 4:
+            text[place:place] = chance.choice(QUERIES + ASKS + STREAMS)
+        else:
+            text[place:place] = bytes([chance.randrange(256)])
+    return bytes(text)
+
+
+def words_of(chance):
+    """The words of a run behind the program."""
+    way = chance.random()
+    if way < 0.1:
+        return ["--check", "q"]
+    if way < 0.15:
+        return ["--generate", str(chance.choice([0, 1, 3, 300])), "q"]
+    words = ["--workers", str(chance.choice([1, 2, 64, 65]))] if chance.random() < 0.3 else []
+    words += ["--history", str(chance.choice([1, 3, 1000]))] if chance.random() < 0.2 else []
+    words += ["--asks", "a", "--replies", "r"] if chance.random() < 0.6 else []
+    return words + ["q", "s"] + (["t"] if chance.random() < 0.4 else [])
+
+
+def one_run(program, seed, place):
+    """What was wrong with a run, and its status."""
+    chance = random.Random(seed)
+    folder = os.path.join(place, str(seed))
+    os.mkdir(folder)
+    # Mostly one file is hostile and those before it aren't, else no run would come to the last.
+    for name, base, kept in FILES:
+        text = chance.choice(base)
+        with open(os.path.join(folder, name), "wb") as out:
+            out.write(text if chance.random() < kept else mutated(chance, text))
+    words = words_of(chance)
+    try:
+        done = subprocess.run([program, *words], cwd=folder, capture_output=True,
+                              stdin=subprocess.DEVNULL, timeout=SECONDS, check=False)
+    except subprocess.TimeoutExpired:
+        return f"seed {seed}: {words} takes more than {SECONDS} s", None
+    status = done.returncode
+    if not 0 <= status <= 7:
+        return f"seed {seed}: {words} ends with {status}", status
+    if (status == 0) != (done.stderr == b""):
+        return f"seed {seed}: {words} ends with {status} and writes {done.stderr[:200]}", status
+    for line in done.stderr.split(b"\n")[:-1]:
+        if not LINE.fullmatch(line):
+            return f"seed {seed}: {words} writes {line[:200]} on its errors", status
+    shutil.rmtree(folder)
+    return None, status
+
+
+def main():
+    parser = argparse.ArgumentParser()
+    parser.add_argument("program")
+    parser.add_argument("--runs", type=int, default=10000)
+    parser.add_argument("--seed", type=int, default=1)
+    given = parser.parse_args()
+    program = os.path.abspath(given.program)
+    place = tempfile.mkdtemp(prefix="rpq-hostile")
+    seeds = range(given.seed, given.seed + given.runs)
+    with ThreadPoolExecutor(os.cpu_count()) as pool:
+        ended = list(pool.map(lambda seed: one_run(program, seed, place), seeds))
+    wrong = [said for said, _ in ended if said]
+    for status, count in sorted(collections.Counter(str(status) for _, status in ended).items()):
+        print(f"status {status}: {count}")
+    for said in wrong[:10]:
+        print(f"FAILED: {said}; its files are in {place}")
+    if not wrong:
+        shutil.rmtree(place)
+    print(f"{len(ended) - len(wrong)} passed, {len(wrong)} failed")
+    return 1 if wrong else 0
+
+
+if __name__ == "__main__":
+    sys.exit(main())
