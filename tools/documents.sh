@@ -3,8 +3,8 @@
 #
 # Runs what the documents say, with PROGRAM as `rpq`, and compares what comes out.
 #
-# - Each command of README.md, docs/examples.md, docs/your-data.md and docs/formats.md, which is an
-#   indented line behind `$ `. What follows it, up to a blank line or the next command, is what it
+# - Each command of README.md, docs/examples.md, docs/your-data.md, docs/formats.md and
+#   docs/scale.md, which is an indented line behind `$ `. What follows it, up to a blank line or the next command, is what it
 #   writes; a line `...` there is any further lines.
 # - The example of the README's first screen, and the files *-events.txt of examples/.
 # - Whether docs/architecture.md has each crate, and docs/proved.md each law.
@@ -125,7 +125,7 @@ run_document() {
 }
 
 run_document README.md top
-for document in docs/examples.md docs/your-data.md docs/formats.md; do
+for document in docs/examples.md docs/your-data.md docs/formats.md docs/scale.md; do
     run_document "$document" top/examples
 done
 

@@ -29,8 +29,8 @@ use Rattle.path_engine.specs.declared.index.Index.{Index}
 use Rattle.path_engine.specs.Engine.{IsIndexFor}
 use Rattle.path_engine.specs.Laws.{Laws}
 use Rattle.path_engine.specs.Answering.{HasAnswered, HasHistory, HasStepped, MayHaveApplied}
-use Rattle.path_engine.specs.Showing.{HaveNames}
-use Rattle.path_engine.proofs.Stepping.{is_index, follows, expired_by}
+use Rattle.path_engine.specs.Shown.{HaveNames}
+use Rattle.path_engine.proofs.Stepping.{is_index, index_after, follows, expired_by}
 use Rattle.path_engine.proofs.Telling.{HaveEnds, are_changes, are_events, ends_of, have_names}
 use Rattle.path_engine.proofs.Telling.{log_named, no_changes}
 use Rattle.path_engine.proofs.Kept.{keeps_forest}
@@ -92,21 +92,25 @@ module _ (laws : Laws) (names : List (List ℕ)) (entry : Entry) (query : Compil
     index_before : IsIndexOf query.def history names old.forest.dfa (kept old.forest)
     index_before = is_index laws.best query history names old some compiled was
 
-    pub after : IsIndexFor query (history ++ entry ∷ []) names new
-    after = follows laws.follow query history names entry old new first second some was stepped
-
-    index_after : IsIndexOf query.def (history ++ entry ∷ []) names new.forest.dfa (kept new.forest)
-    index_after = is_index laws.best query (history ++ entry ∷ []) names new some compiled after
-
-    old_names : HaveNames names old.forest
-    old_names = have_names laws.keeps query.def history names old.forest index_before
-
-    middle_names : HaveNames names middle
-    middle_names = have_names laws.keeps query.def (history ++ tick ∷ []) names middle middle_index
+    index_then : IsIndexOf query.def (history ++ entry ∷ []) names new.forest.dfa (kept new.forest)
+    index_then =
+        index_after laws.follow query history names entry old new first second some was stepped
+        laws.best compiled
 
     new_names : HaveNames names new.forest
     new_names =
-        have_names laws.keeps query.def (history ++ entry ∷ []) names new.forest index_after
+        have_names laws.keeps query.def (history ++ entry ∷ []) names new.forest index_then
+
+    pub after : IsIndexFor query (history ++ entry ∷ []) names new
+    after =
+        follows laws.follow query history names entry old new first second some was stepped
+        new_names
+
+    old_names : HaveNames names old.forest
+    old_names = was.rows.named
+
+    middle_names : HaveNames names middle
+    middle_names = have_names laws.keeps query.def (history ++ tick ∷ []) names middle middle_index
 
     pub first_named : AreNamed names first
     first_named =
@@ -161,7 +165,7 @@ module _ (laws : Laws) (names : List (List ℕ)) (entry : Entry) (query : Compil
         (history ++ entry ∷ []) old.forest new.forest start last number events
         (laws.tells query.def history names old.forest.dfa (kept old.forest) index_before)
         (laws.tells query.def (history ++ entry ∷ []) names new.forest.dfa (kept new.forest)
-        index_after)
+        index_then)
         (λ root vertex. (laws.have old.forest root vertex).1)
         (λ root vertex. (laws.have new.forest root vertex).1) are
 

@@ -16,6 +16,7 @@ use Rattle.path_engine.specs.declared.index.Index.{Index}
 use Rattle.path_engine.specs.Engine.{IsIndexFor}
 use Rattle.path_engine.specs.Answering.{HasAnswered, HasHistory, HaveAnswered}
 use Rattle.path_engine.specs.Keeping.{KeepsForest}
+use Rattle.path_engine.proofs.Untouched.{rows_by_more}
 
 -- each query has its index over the history
 abbrev pub AreIndexes : List Entry → List (List ℕ) → List CompiledValue → List Index → Type 0
@@ -55,6 +56,7 @@ more_named follow history names more (query ∷ queries) (index ∷ indexes) kee
     indexed = are.0.indexed;
     unbroken = are.0.unbroken;
     few = are.0.few;
+    rows = rows_by_more query.def.mode names more index keeps are.0.rows;
   },
   more_named follow history names more queries indexes keeps are.1,
 )
@@ -99,7 +101,7 @@ each_events names entry history number (query ∷ queries) (old ∷ olds) (new �
       answered.4,
     )
 
-abbrev forest_of : Index → ForestValue
+abbrev pub forest_of : Index → ForestValue
 forest_of index = index.forest
 
 pub each_keeps : (names : List (List ℕ)) (entry : Entry) (number : ℕ)

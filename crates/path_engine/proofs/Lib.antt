@@ -1,10 +1,13 @@
-pub mod Stepping
 pub mod Telling
+pub mod Untouched
+pub mod Stepping
 pub mod Kept
 pub mod Answered
 pub mod Each
 pub mod Choosing
+pub mod Rows
 pub mod Shown
 pub mod Starting
+pub mod Still
 pub mod Feeding
 pub mod Fronts

@@ -12,7 +12,7 @@ use Rattle.path_syntax.specs.Laws.{nonempty}
 use Rattle.dfa_table.specs.DfaValue.{DfaValue}
 use Rattle.dfa_table.specs.Runs.{Accepts}
 use Rattle.rpq_model.specs.Query.{language_of}
-use Rattle.rpq_model.specs.Window.{WindowValue, Inserts, inserted_edge}
+use Rattle.rpq_model.specs.Window.{WindowValue, inserted_edge}
 use Rattle.rpq_model.specs.WindowLaws.{IsDeadline, IsDeadlineOf, IsTupleDeadline}
 use Rattle.rpq_model.proofs.Ticks.{clock_more}
 use Rattle.window_clock.specs.Clock.{IsDeadlineOf as IsClockDeadlineOf}
@@ -31,22 +31,33 @@ use Rattle.query_file.proofs.Verdicts.{accepted_of}
 use Rattle.path_engine.specs.declared.index.Index.{Index}
 use Rattle.path_engine.specs.Engine.{IsIndexFor}
 use Rattle.path_engine.specs.Answering.{HasStepped, MayHaveApplied, Suits}
+use Rattle.path_engine.specs.Shown.{HaveNames}
+use Rattle.path_engine.proofs.Untouched.{rows_after}
+
+-- a forest over the query's automaton that holds the store of the history is an index of it
+pub index_of : KeptIsBest → (query : CompiledValue) (history : List Entry)
+    (names : List (List ℕ)) (forest : ForestValue) → 0 < query.def.window.slide →
+    IsCompiled query → forest.dfa ≡ query.dfa →
+    HoldsStoreOf query.def.window history names forest.dfa forest.store → IsIndexed forest →
+    IsIndexOf query.def history names forest.dfa (kept forest)
+index_of best query history names forest some compiled automaton holds indexed = record {
+  slide = some;
+  accepted = accepted_of query compiled;
+  words = λ word. subst (λ (dfa : DfaValue).
+      Accepts dfa word ↔ nonempty (language_of query.def) word) (sym automaton)
+      (compiled.automaton.accepts word);
+  edges = forest.store;
+  holds = holds;
+  bests = best forest indexed;
+}
 
 -- what an engine holds for a query is an index of it
 pub is_index : KeptIsBest → (query : CompiledValue) (history : List Entry)
     (names : List (List ℕ)) (index : Index) → 0 < query.def.window.slide → IsCompiled query →
     IsIndexFor query history names index →
     IsIndexOf query.def history names index.forest.dfa (kept index.forest)
-is_index best query history names index some compiled is = record {
-  slide = some;
-  accepted = accepted_of query compiled;
-  words = λ word. subst (λ (dfa : DfaValue).
-      Accepts dfa word ↔ nonempty (language_of query.def) word) (sym is.automaton)
-      (compiled.automaton.accepts word);
-  edges = index.forest.store;
-  holds = is.holds;
-  bests = best index.forest is.indexed;
-}
+is_index best query history names index some compiled is =
+    index_of best query history names index.forest some compiled is.automaton is.holds is.indexed
 
 -- a forest after a change that there may be
 pub record IsWell (old new : ForestValue) : Type 0 where
@@ -202,17 +213,31 @@ module _ (follow : StoresFollow) (query : CompiledValue) (history : List Entry)
       well stepped.change middle new.forest second stepped.expired.indexed
       stepped.expired.unbroken stepped.changed
 
-  -- the index afterwards is that of the history with the entry
-  pub follows : IsIndexFor query (history ++ entry ∷ []) names new
-  follows = record {
+  automaton_after : new.forest.dfa ≡ query.dfa
+  automaton_after = well_after.dfa ∙ (stepped.expired.dfa ∙ was.automaton)
+
+  holds_after : HoldsStoreOf window (history ++ entry ∷ []) names new.forest.dfa new.forest.store
+  holds_after =
+      subst (λ (dfa : DfaValue).
+      HoldsStoreOf window (history ++ entry ∷ []) names dfa new.forest.store)
+      (sym well_after.dfa)
+      (by_act entry.tuple.act refl stepped.change stepped.suits stepped.changed)
+
+  -- the forest afterwards is an index over the history with the entry
+  pub index_after : KeptIsBest → IsCompiled query →
+      IsIndexOf query.def (history ++ entry ∷ []) names new.forest.dfa (kept new.forest)
+  index_after best compiled =
+      index_of best query (history ++ entry ∷ []) names new.forest some compiled automaton_after
+      holds_after well_after.indexed
+
+  -- and what the engine holds is that of this history, where what the forest keeps has names
+  pub follows : HaveNames names new.forest → IsIndexFor query (history ++ entry ∷ []) names new
+  follows named = record {
     size = size_is;
     slide = slide_is;
     time = now_is;
-    automaton = well_after.dfa ∙ (stepped.expired.dfa ∙ was.automaton);
-    holds = subst (λ (dfa : DfaValue).
-        HoldsStoreOf window (history ++ entry ∷ []) names dfa new.forest.store)
-        (sym well_after.dfa)
-        (by_act entry.tuple.act refl stepped.change stepped.suits stepped.changed);
+    automaton = automaton_after;
+    holds = holds_after;
     indexed = well_after.indexed;
     unbroken = well_after.unbroken;
     few = omega (
@@ -222,4 +247,6 @@ module _ (follow : StoresFollow) (query : CompiledValue) (history : List Entry)
       was.few,
       length-append history (entry ∷ []),
     );
+    rows = rows_after query.def.mode names old new (well_after.dfa ∙ stepped.expired.dfa) named
+        stepped.shown stepped.fresh was.rows;
   }

@@ -1,13 +1,14 @@
 -- What a query's index tells: the events of an entry, and names for its numbers.
-use Rattle.std.proofs.Common.{◌≡◌, ◌≢◌, ℕ, ◌<◌, Bool, true, false, not, List, [], ◌++◌, length, map}
-use Rattle.std.proofs.Common.{Option, Some, None, refl, sym, ap₂, subst, ◌∙◌, inl, inr, ⊎_elim, arith, true≢false}
+use Rattle.std.proofs.Common.{◌≡◌, ◌≢◌, ℕ, ◌<◌, true, false, not, List, [], ◌++◌, length, map}
+use Rattle.std.proofs.Common.{get_or, Option, Some, None, refl, sym, ap, ap₂, subst, ◌∙◌, inl, inr, ⊎_elim, true≢false}
 use Rattle.std.specs.Prelude.{◌↔◌, Contains, IsSome}
 use Rattle.std.specs.List.{list_any}
 use Rattle.std.specs.List.Sorted.{IsStrictlySortedBy}
-use Rattle.std.proofs.lemmas.Bool.{cases_lt}
+use Rattle.std.proofs.lemmas.Bool.{cases_eq}
 use Rattle.std.proofs.lemmas.List.Elements.{All-contains_itself, All-weaker}
 use Rattle.std.proofs.lemmas.List.Kept.{IsStrictlySortedBy-filter}
 use Rattle.std.proofs.lemmas.List.Quantifiers.{position-Some}
+use Rattle.std.proofs.lemmas.Option.{none-some, same_Some}
 use Rattle.rpq_base.specs.Laws.{SameIsEqual}
 use Rattle.rpq_base.specs.Order.{pair_cmp}
 use Rattle.rpq_base.specs.Same.{same_name, same_pair}
@@ -32,7 +33,7 @@ use Rattle.containment_laws.specs.Accepted.{IsAccepted, AcceptedHaveAnswers}
 use Rattle.index_laws.specs.Numbered.{AreNumbersOf, IsFree}
 use Rattle.index_laws.specs.Index.{IsIndexOf, IsFinalBest, MayAnswer}
 use Rattle.index_laws.specs.LawsOfIndexes.{IndexKeepsBests, TellsAnswers}
-use Rattle.path_engine.specs.Showing.{HaveNames}
+use Rattle.path_engine.specs.Shown.{HaveNames, IsTaken}
 
 -- equal names, labels, edges and pairs are told by their tests
 pub same : SameIsEqual
@@ -44,11 +45,37 @@ pub below : (names : List (List ℕ)) (name : List ℕ) (number : ℕ) →
     number_of names name ≡ Some number → number < length names
 below names name number is = (position-Some (same_name name) names number [] is).0
 
--- a number that some name may have is below the number of names
-within : (names : List (List ℕ)) (number : ℕ) → (IsFree names number → ⊥) → number < length names
-within names number taken = ⊎_elim (λ less. less)
-    (λ past. absurd (taken (λ name is. omega (arith, past, below names name number is))))
-    (cases_lt number (length names))
+pub one_name : (names : List (List ℕ)) (first second : List ℕ) (number : ℕ) →
+    number_of names first ≡ Some number → number_of names second ≡ Some number → first ≡ second
+one_name names first second number first_is second_is =
+    let one = (position-Some (same_name first) names number [] first_is).1 in
+    let other = (position-Some (same_name second) names number [] second_is).1 in
+    (name_test first (get_or names number [])).0 one
+    ∙ sym ((name_test second (get_or names number [])).0 other)
+
+-- the name at the place of a number that a name has is this name
+pub name_there : (names : List (List ℕ)) (name : List ℕ) (number : ℕ) →
+    number_of names name ≡ Some number → name ≡ get_or names number []
+name_there names name number is =
+    (name_test name (get_or names number [])).0
+    (position-Some (same_name name) names number [] is).1
+
+-- a number that some name may have is that of the name at its place
+taken : (names : List (List ℕ)) (number : ℕ) → (IsFree names number → ⊥) → IsTaken names number
+taken names number some = by (number_of names (get_or names number [])) refl
+  where
+    here : (name : List ℕ) → number_of names name ≡ Some number →
+        number_of names (get_or names number []) ≡ Some number
+    here name is = ap (number_of names) (sym (name_there names name number is)) ∙ is
+
+    by : (found : Option ℕ) → number_of names (get_or names number []) ≡ found →
+        IsTaken names number
+    by None is = absurd (some (λ name has. none-some number (sym is ∙ here name has)))
+    by (Some other) is = ⊎_elim
+        (λ (same : other ≡ number). (get_or names number [], is ∙ ap Some same))
+        (λ differ. absurd (some (λ name has.
+        differ (same_Some other number (sym is ∙ here name has)))))
+        (cases_eq other number)
 
 pub have_names : IndexKeepsBests → (query : Query) (history : List Entry)
     (names : List (List ℕ)) (forest : ForestValue) →
@@ -57,8 +84,8 @@ have_names keeps query history names forest is = λ root vertex state value ther
     let bests = keeps query history names forest.dfa (kept forest) is.holds.store is is.holds.is in
     let never : kept forest root vertex state ≡ None → ⊥ =
     λ none. let both : Some value ≡ None = sym there ∙ none in absurd cc in (
-      within names root (λ free. never (bests.free root vertex state (inl free))),
-      within names vertex (λ free. never (bests.free root vertex state (inr free))),
+      taken names root (λ free. never (bests.free root vertex state (inl free))),
+      taken names vertex (λ free. never (bests.free root vertex state (inr free))),
     )
 
 -- the changed ends are those of named vertices
@@ -66,7 +93,9 @@ end_named : (names : List (List ℕ)) (forest : ForestValue) (root vertex end : 
     HaveNames names forest → IsEnd forest root vertex (Some end) →
     (root < length names) × (vertex < length names)
 end_named names forest root vertex end named is =
-    let final = is.is in named root vertex final.0 end final.2
+    let final = is.is in
+    let both = named root vertex final.0 end final.2 in
+    (below names both.0.0 root both.0.1, below names both.1.0 vertex both.1.1)
 
 one_named : (names : List (List ℕ)) (old new : ForestValue) (root vertex : ℕ) →
     HaveNames names old → HaveNames names new → (before after : Option ℕ) →

@@ -23,6 +23,7 @@ use Rattle.path_engine.specs.declared.index.Index.{Index}
 use Rattle.path_engine.specs.declared.ends.Ends.{Ends}
 use Rattle.path_engine.specs.Engine.{IsIndexFor}
 use Rattle.path_engine.specs.Keeping.{KeepsForest}
+use Rattle.path_engine.specs.Showing.{LeavesFresh}
 
 -- the numbers of the edge's vertices
 pub record AreEndsOf (names : List (List ℕ)) (edge : Edge) (ends : Ends) : Type 0 where
@@ -92,7 +93,8 @@ abbrev pub log_if : Bool → ForestValue → List EndChange
 log_if asked forest = if asked then forest.log else []
 
 -- the clock went on, the forest expired and then took the change that suits the entry; these are
--- the ends that changed by the one and by the other
+-- the ends that changed by the one and by the other; the rows are as they were, and what was
+-- touched is stale
 pub record HasStepped (names : List (List ℕ)) (entry : Entry) (old new : Index)
     (first second : List EndChange) : Type 0 where
   pub window : IsSameWindow old.clock new.clock
@@ -102,6 +104,8 @@ pub record HasStepped (names : List (List ℕ)) (entry : Entry) (old new : Index
   pub change : Option Change
   pub suits : Suits names middle.dfa new.clock entry.tuple.time entry.tuple.act change
   pub changed : MayHaveApplied change middle new.forest second
+  pub shown : new.shown ≡ old.shown
+  pub fresh : LeavesFresh old.stale old.forest new.stale new.forest
 
 -- the index is that of the query over some short history
 pub record HasHistory (query : CompiledValue) (names : List (List ℕ)) (index : Index)

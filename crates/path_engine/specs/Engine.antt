@@ -12,6 +12,7 @@ use Rattle.index_laws.specs.Index.{HoldsStoreOf}
 use Rattle.index_laws.specs.LawsOfIndexes.{AreBestsOf}
 use Rattle.query_file.specs.Compiled.{CompiledValue}
 use Rattle.path_engine.specs.declared.index.Index.{Index}
+use Rattle.path_engine.specs.Shown.{HasRows}
 
 -- the queries of an engine; how many entries it answered; whether memory ran out, after which it
 -- answers none; the names that have numbers; and for each query its index
@@ -31,8 +32,9 @@ abbrev pub forests : EngineValue → List ForestValue
 forests engine = map (λ (each : Index). each.forest) engine.indexes
 
 -- the index is that of the query over the history, by the numbers of these names: its clock is that
--- of the history, in the query's window; and its forest is over the query's automaton, holds the
--- store of the history and the bests of this, and took at most two changes for each entry
+-- of the history, in the query's window; its forest is over the query's automaton, holds the store
+-- of the history and the bests of this, and took at most two changes for each entry; and its rows
+-- have what the forest shows, but for those of stale roots
 pub record IsIndexFor (query : CompiledValue) (history : List Entry) (names : List (List ℕ))
     (index : Index) : Type 0 where
   pub size : index.clock.size ≡ query.def.window.size
@@ -43,6 +45,7 @@ pub record IsIndexFor (query : CompiledValue) (history : List Entry) (names : Li
   pub indexed : IsIndexed index.forest
   pub unbroken : index.forest.broken ≡ false
   pub few : index.forest.calls ≤ 2 * length history
+  pub rows : HasRows query.def.mode names index
 
 -- the engine stands for the history: it isn't spent, it answered each of the entries, at most two
 -- names got a number with each, and it holds each query's index over them

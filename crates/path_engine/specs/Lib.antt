@@ -1,3 +1,4 @@
+pub mod Shown
 pub mod Engine
 pub mod Keeping
 pub mod Feeding

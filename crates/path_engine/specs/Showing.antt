@@ -1,65 +1,78 @@
--- The answers that a forest shows, each with its end. No public contract cites this file.
-use Rattle.std.specs.Prelude.{◌≡◌, ◌≢◌, ◌⊎◌, ◌↔◌, ℕ, ◌<◌, List, length, Contains, Some}
+-- How the rows of stale roots are made anew. No public contract cites this file.
+use Rattle.std.specs.Prelude.{◌≡◌, ◌⊎◌, ◌↔◌, ℕ, List, map, filter, Contains, Some}
+use Rattle.std.specs.List.{AllZip}
+use Rattle.std.specs.declared.cmp.Ordering.{Ordering}
+use Rattle.rpq_base.specs.Order.{name_cmp}
+use Rattle.rpq_base.specs.declared.data.Entry.{Entry}
 use Rattle.rpq_base.specs.declared.data.Pair.{Pair}
 use Rattle.rpq_model.specs.declared.mode.Mode.{Mode}
-use Rattle.rpq_model.specs.declared.mode.Mode.TheVariants.{Simple}
-use Rattle.name_table.specs.Names.{number_of}
+use Rattle.name_table.specs.Names.{name_at, number_of}
 use Rattle.source_tree.specs.declared.change.Reached.{Reached}
-use Rattle.delta_forest.specs.Forest.{ForestValue, IsEnd, kept}
-use Rattle.answer_rows.specs.Answers.{Answer, KeepsOtherPairs, until_of, pair as pair_of}
+use Rattle.delta_forest.specs.Forest.{ForestValue, kept}
+use Rattle.answer_rows.specs.Answers.{Answer, until_of}
+use Rattle.answer_rows.specs.declared.target.Target.{Target}
+use Rattle.end_events.specs.Changes.{counts}
+use Rattle.query_file.specs.Compiled.{CompiledValue}
+use Rattle.path_engine.specs.declared.stale.Stale.{Stale}
+use Rattle.path_engine.specs.declared.index.Index.{Index}
+use Rattle.path_engine.specs.Shown.{IsShown, IsStale, Shows}
+use Rattle.path_engine.specs.Engine.{IsIndexFor}
 
--- the pair, seen from this root, ends at this time, and counts: no simple path ends where it begins
-pub record Shows (mode : Mode) (names : List (List ℕ)) (forest : ForestValue) (root : ℕ)
-    (pair : Pair) (until : ℕ) : Type 0 where
-  pub vertex : ℕ
-  pub from : number_of names pair.from ≡ Some root
-  pub to : number_of names pair.to ≡ Some vertex
-  pub apart : mode ≡ Simple → pair.from ≢ pair.to
-  pub end : IsEnd forest root vertex (Some until)
+-- ---- stale roots
 
--- the rows have exactly what is shown from the roots below this number
-abbrev pub HaveShown : Mode → List (List ℕ) → ForestValue → ℕ → List Answer → Type 0
-HaveShown mode names forest count rows = (pair : Pair) (until : ℕ) →
-    (until_of rows pair ≡ Some until)
-    ↔ ((root : ℕ) × (root < count) × Shows mode names forest root pair until)
+-- these roots are stale now, and those that were
+abbrev pub Marks : Stale → List ℕ → Stale → Type 0
+Marks old roots new = (root : ℕ) → IsStale old root ⊎ Contains roots root → IsStale new root
 
--- the vertices are those of names
-abbrev pub HaveNames : List (List ℕ) → ForestValue → Type 0
-HaveNames names forest = (root vertex state value : ℕ) →
-    kept forest root vertex state ≡ Some value → (root < length names) × (vertex < length names)
+-- a root that isn't stale wasn't before either, and what is kept for it is as it was
+abbrev pub LeavesFresh : Stale → ForestValue → Stale → ForestValue → Type 0
+LeavesFresh was old is new = (root : ℕ) → (IsStale is root → ⊥) →
+    (IsStale was root → ⊥)
+    × ((vertex state : ℕ) → kept new root vertex state ≡ kept old root vertex state)
 
--- the pair ends at this time, seen from this root, by one of these vertices
-pub record IsAmong (mode : Mode) (names : List (List ℕ)) (root : ℕ) (reached : List Reached)
-    (pair : Pair) (until : ℕ) : Type 0 where
-  pub vertex : ℕ
-  pub from : number_of names pair.from ≡ Some root
-  pub to : number_of names pair.to ≡ Some vertex
-  pub apart : mode ≡ Simple → pair.from ≢ pair.to
-  pub member : Contains reached (record { vertex = vertex; value = until })
+-- ---- the row of a root
 
--- these vertices, each once in the list of the vertices that the root reaches, came to the rows
-abbrev pub HaveAdded : Mode → List (List ℕ) → ℕ → List Reached → List Answer → List Answer → Type 0
-HaveAdded mode names root reached old new = (pair : Pair) (until : ℕ) →
-    (until_of new pair ≡ Some until)
-    ↔ ((until_of old pair ≡ Some until) ⊎ IsAmong mode names root reached pair until)
+-- vertices in the order of their names
+abbrev pub reached_cmp : List (List ℕ) → Reached → Reached → Ordering
+reached_cmp names first second =
+    name_cmp (name_at names first.vertex) (name_at names second.vertex)
 
--- no pair is seen from the root yet
-abbrev pub LacksRoot : List (List ℕ) → ℕ → List Answer → Type 0
-LacksRoot names root rows = (pair : Pair) (until : ℕ) →
-    number_of names pair.from ≡ Some root → until_of rows pair ≡ Some until → ⊥
+-- the target that a vertex is
+abbrev pub target_at : List (List ℕ) → Reached → Target
+target_at names each = record { to = name_at names each.vertex; until = each.value }
 
--- each vertex has one end in the list
-abbrev pub HasOneEach : List Reached → Type 0
-HasOneEach reached = (vertex first second : ℕ) →
-    Contains reached (record { vertex = vertex; value = first }) →
-    Contains reached (record { vertex = vertex; value = second }) → first ≡ second
+-- the targets that the vertices are whose pairs with the root count
+abbrev pub targets_among : Mode → List (List ℕ) → ℕ → List Reached → List Target
+targets_among mode names root reached =
+    map (target_at names) (filter (λ (each : Reached). counts mode root each.vertex) reached)
 
--- the pair of the root and the vertex was put in with the end, by its names
-pub record IsPut (names : List (List ℕ)) (root : ℕ) (each : Reached) (old new : List Answer)
+-- the row of the root has what is shown from it, and the others are as they were
+pub record Renews (mode : Mode) (names : List (List ℕ)) (forest : ForestValue) (root : ℕ)
+    (old new : List Answer) : Type 0 where
+  pub here : (pair : Pair) (until : ℕ) → number_of names pair.from ≡ Some root →
+      (until_of new pair ≡ Some until) ↔ Shows mode names forest root pair until
+  pub others : (pair : Pair) → (number_of names pair.from ≡ Some root → ⊥) →
+      until_of new pair ≡ until_of old pair
+
+-- ---- all rows
+
+-- the rows have exactly what is shown
+abbrev pub HaveShown : Mode → List (List ℕ) → ForestValue → List Answer → Type 0
+HaveShown mode names forest rows = (pair : Pair) (until : ℕ) →
+    (until_of rows pair ≡ Some until) ↔ IsShown mode names forest pair until
+
+-- the index keeps its forest, and is that of the query over each history of which it was
+pub record StandsStill (query : CompiledValue) (names : List (List ℕ)) (old new : Index)
     : Type 0 where
-  pub from : List ℕ
-  pub to : List ℕ
-  pub from_is : number_of names from ≡ Some root
-  pub to_is : number_of names to ≡ Some each.vertex
-  pub put : until_of new (pair_of from to) ≡ Some each.value
-  pub kept : KeepsOtherPairs (pair_of from to) old new
+  pub forest : new.forest ≡ old.forest
+  pub stands : (history : List Entry) → IsIndexFor query history names old →
+      IsIndexFor query history names new
+
+-- so do the indexes of all queries
+pub record StandStill (queries : List CompiledValue) (names : List (List ℕ))
+    (olds news : List Index) : Type 0 where
+  pub forests : map (λ (index : Index). index.forest) news
+      ≡ map (λ (index : Index). index.forest) olds
+  pub stand : (history : List Entry) →
+      AllZip (λ query index. IsIndexFor query history names index) queries olds →
+      AllZip (λ query index. IsIndexFor query history names index) queries news

@@ -9,11 +9,13 @@ ghost use Rattle.query_file.specs.Compiled.{IsCompiled};
 ghost use Rattle.path_engine.specs.Answering.{AreEndsFor, HasApplied, HasAnswered, HasHistory};
 ghost use Rattle.path_engine.specs.Answering.{HasStepped, HaveAnswered, IsNumbered, Suits, log_if};
 ghost use Rattle.path_engine.specs.Laws.{Laws};
+ghost use Rattle.path_engine.specs.Showing.{LeavesFresh};
 ghost use Rattle.rpq_base.specs.declared.data.Act.TheVariants.{Insert, Delete};
 ghost use Rattle.window_clock.specs.Clock.{ClockValue};
 
 use crate::ends::Ends;
 use crate::index::Index;
+use crate::stale::Stale;
 use containment_laws::accepted_queries_have_answers;
 use delta_forest::{Change, EndChange, Forest, each_has_an_end, ends_are_one, kept_is_best};
 use dfa_table::Dfa;
@@ -158,11 +160,16 @@ fn step<R: Threads + Sync, G: Gate>(
         (log_if logs.second index.new.forest)) }
 {
     let now = index.clock.advance(entry.tuple.time);
-    apply(crew, &mut index.forest, Change::Expire(now))?;
+    apply(
+        crew,
+        &mut index.forest,
+        &mut index.stale,
+        Change::Expire(now),
+    )?;
     let first = log_of(crew.context.alloc, &index.forest)?;
     match change_for(&index.forest, &index.clock, now, ends, entry) {
         Some(change) => {
-            apply(crew, &mut index.forest, change)?;
+            apply(crew, &mut index.forest, &mut index.stale, change)?;
             Ok(Logs {
                 first,
                 second: true,
@@ -175,19 +182,23 @@ fn step<R: Threads + Sync, G: Gate>(
     }
 }
 
-/// Applies the change to a forest.
+/// Applies the change to a forest, and marks the roots that it touches as stale.
 fn apply<R: Threads + Sync, G: Gate>(
     crew: &Crew<'_, R, G>,
     forest: &mut Forest,
+    stale: &mut Stale,
     change: Change,
 ) -> Result<(), Memory>
     requires some { 1 ≤ crew.now.workers }
     requires few { crew.now.workers ≤ 64 }
     requires unbroken { forest.old.broken ≡ false }
     requires calls { forest.old.calls < 2 ^ 60 }
-    ensures { OnOk result (HasApplied change forest.old forest.new forest.new.log) }
+    ensures applied { OnOk result (HasApplied change forest.old forest.new forest.new.log) }
+    ensures fresh { OnOk result (LeavesFresh stale.old forest.old stale.new forest.new) }
 {
-    forest.apply(crew.context, change, crew.workers)
+    forest.apply(crew.context, change, crew.workers)?;
+    stale.mark(forest.touched());
+    Ok(())
 }
 
 /// The ends that the last change of a forest changed, by a copy.

@@ -2,8 +2,10 @@
 
 ghost use Rattle.std.specs.Prelude.{◌≡◌, ◌≤◌, ◌<◌, ◌+◌, ◌^◌, ◌↔◌, [], List, true, false};
 ghost use Rattle.std.specs.Prelude.{length, map, Err, IfOk, Some, slice_get};
+ghost use Rattle.std.specs.List.{AllZip};
 ghost use Rattle.rpq_base.specs.declared.data.Entry.{Entry as EntryTaken};
-ghost use Rattle.answer_view.specs.View.{IsViewOf};
+ghost use Rattle.rpq_model.specs.Query.{path_query};
+ghost use Rattle.answer_view.specs.View.{AreRowsOf, IsViewOf};
 ghost use Rattle.query_file.specs.Compiled.{CompiledValue};
 ghost use Rattle.path_engine.specs.Engine.{StandsFor, IsForestFor, definitions, forests};
 ghost use Rattle.path_engine.specs.Feeding.{Feeds, FeedsFront, Spends};
@@ -15,6 +17,7 @@ use crate::fault::FeedFault;
 use crate::front::{answer_front, told_in};
 use crate::index::{Index, indexes_of};
 use crate::showing::rows_of_each;
+use answer_rows::Rows;
 use answer_view::View;
 use delta_forest::{Forest, kept_is_best};
 use index_laws::{index_keeps_bests, stores_follow};
@@ -284,21 +287,49 @@ impl Engine {
     /// The answers of each query with their ends. The only error is [`Memory`], and the engine goes
     /// on after it.
     ///
-    /// It goes through the vertices that each name reaches, and takes a step in a tree for each
-    /// answer.
-    pub fn view(&self) -> Result<Arc<View>, Memory>
-        requires unspent { self.now.spent ≡ false }
-        ensures { (history : List EntryTaken) → StandsFor self.now history →
-            IfOk result (λ view. IsViewOf (definitions self.now) history view.value) }
+    /// The view shares its rows with the views before it. For each vertex whose tree was touched
+    /// since the last one it goes through that tree, and puts the targets there in the order of
+    /// their names. The first view goes through all trees, and one after an error may do so. An
+    /// engine that shows views before its first name alone keeps no rows, and pays nothing for them.
+    pub fn view(&mut self) -> Result<Arc<View>, Memory>
+        requires unspent { self.old.spent ≡ false }
+        ensures view { (history : List EntryTaken) → StandsFor self.old history →
+            IfOk result (λ view. IsViewOf (definitions self.old) history view.value) }
+        ensures stands { (history : List EntryTaken) → StandsFor self.old history →
+            StandsFor self.new history }
+        ensures queries { self.new.queries ≡ self.old.queries }
+        ensures position { self.new.position ≡ self.old.position }
+        ensures spent { self.new.spent ≡ self.old.spent }
+        ensures names { self.new.names ≡ self.old.names }
+        ensures forests { forests self.new ≡ forests self.old }
     {
-        let rows = rows_of_each(
+        let alloc = self.alloc;
+        let position = self.position;
+        let rows = self.rows()?;
+        View::new(alloc, position, rows)
+    }
+
+    /// The answers of each query, as rows.
+    fn rows(&mut self) -> Result<Vec<Rows>, Memory>
+        requires unspent { self.old.spent ≡ false }
+        ensures rows { (history : List EntryTaken) → StandsFor self.old history →
+            IfOk result (λ rows. AllZip (λ query own. AreRowsOf (path_query query.def) history own)
+            self.old.queries rows.items) }
+        ensures stands { (history : List EntryTaken) → StandsFor self.old history →
+            StandsFor self.new history }
+        ensures queries { self.new.queries ≡ self.old.queries }
+        ensures position { self.new.position ≡ self.old.position }
+        ensures spent { self.new.spent ≡ self.old.spent }
+        ensures names { self.new.names ≡ self.old.names }
+        ensures forests { forests self.new ≡ forests self.old }
+    {
+        rows_of_each(
             self.alloc,
             &self.queries,
-            &self.indexes,
+            &mut self.indexes,
             &self.names,
             self.named,
-        )?;
-        View::new(self.alloc, self.position, rows)
+        )
     }
 
     /// The forest of the query with this number.

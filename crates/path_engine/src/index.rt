@@ -5,6 +5,8 @@ ghost use Rattle.std.specs.List.{AllZip};
 ghost use Rattle.path_engine.specs.Engine.{IsIndexFor};
 
 use crate::automaton::copy_of;
+use crate::stale::Stale;
+use answer_rows::Rows;
 use delta_forest::Forest;
 use index_laws::stores_follow;
 use query_file::Compiled;
@@ -12,11 +14,15 @@ use rpq_base::Memory;
 use std::alloc::Global;
 use window_clock::WindowClock;
 
-/// The clock of a query's window, and its edges with the trees of best paths.
+/// The clock of a query's window, its edges with the trees of best paths, and the rows of answers
+/// that were shown last.
 #[derive(Drop)]
 pub struct Index {
     pub clock: WindowClock,
     pub forest: Forest,
+    pub shown: Rows,
+    /// The roots whose trees were touched since then.
+    pub stale: Stale,
 }
 
 /// The indexes of the queries over the empty history.
@@ -40,5 +46,10 @@ fn index_of(alloc: Global, query: &Compiled) -> Result<Index, Memory>
     let forest = Forest::new(alloc, copy_of(alloc, &query.dfa)?)?;
     let _broken = forest.broken();
     stores_follow();
-    Ok(Index { clock, forest })
+    Ok(Index {
+        clock,
+        forest,
+        shown: Rows::new(alloc),
+        stale: Stale::Every,
+    })
 }

@@ -13,6 +13,11 @@
 //! takes simple paths is taken only where its language has the property of containment, and then
 //! its answers are those of all paths, without the pairs of one vertex.
 //!
+//! For its readers, an index also keeps the rows that it showed last, and the roots whose trees
+//! were touched since then. The next view makes the rows of these roots anew, and shares all others
+//! with the view before. The invariant says that a row whose root isn't stale is what the forest
+//! shows. Until the first view of an engine with names, all roots are stale and nothing is kept.
+//!
 //! The queries depend on each other by the names alone. So a front first gives numbers to all names
 //! that its entries bring, and then each query takes the whole front before the next query does, or
 //! beside it by another worker. An index then stays in its processor's cache for a whole front, and
@@ -28,6 +33,8 @@ mod fault;
 mod front;
 mod index;
 mod showing;
+mod stale;
+mod targets;
 
 pub use engine::Engine;
 pub use fault::FeedFault;

@@ -1,12 +1,14 @@
-//! The program `rpq`: it makes the real files and streams, calls [`run`] with the words of the
-//! command line, and ends with its status.
+//! The program `rpq`: it makes the real files and streams and a tally of all events, calls [`run`]
+//! with the words of the command line, and ends with its status.
 #![tactic(auto)]
 
 ghost use Rattle.std.specs.Prelude.{◌≡◌};
 ghost use Rattle.std.specs.Process.{exit_status};
 
+use rpq_base::Memory;
 use rpq_io::{Files, HostFiles, HostSink, OpenGate, Place};
 use rpq_run::{Report, run, status};
+use standing::{Standing, Tally};
 use std::alloc::Global;
 use std::env;
 use std::io::{self, ErrorKind};
@@ -15,6 +17,11 @@ use std::process::ExitCode;
 /// The words of the command line, the program's name first.
 fn words(rt: &HostRuntime, alloc: Global) -> io::Result<Vec<String>> {
     Ok(env::args(rt)?.collect(alloc)?)
+}
+
+/// A tally of all events, as an object of its own.
+fn tally(alloc: Global) -> Result<Box<Tally>, Memory> {
+    Ok(Box::new(alloc, Tally::all(alloc)?)?)
 }
 
 /// The end of the program with the report's status.
@@ -34,6 +41,14 @@ fn main(rt: HostRuntime) -> ExitCode {
         // A word that isn't UTF-8 can't be handed on: the run refuses the words, as it does none.
         Err(_) => Vec::new(alloc),
     };
+    let mut standing: Vec<Box<dyn Standing>> = Vec::new(alloc);
+    let is_counted = match tally(alloc) {
+        Ok(tally) => standing.push(tally).is_ok(),
+        Err(Memory) => false,
+    };
+    if !is_counted {
+        return ExitCode::from(status::MEMORY);
+    }
     let mut files = HostFiles::new(alloc, &rt);
     let mut events = HostSink::new(Place::Output(rt.stdout()));
     let mut errors = HostSink::new(Place::Errors(rt.stderr()));
@@ -44,6 +59,7 @@ fn main(rt: HostRuntime) -> ExitCode {
         &mut files,
         &mut events,
         &mut errors,
+        &mut standing,
         &OpenGate,
     ))
 }

@@ -40,6 +40,7 @@ pub fn answer_readers<R: RandomSource + Threads + Wait + Sync>(
         &mut files,
         &mut events,
         &mut errors,
+        &mut Vec::new(alloc),
         &OpenGate,
     );
     put_report(out, &report, errors.bytes())

@@ -35,6 +35,7 @@ pub fn answer_run<R: RandomSource + Threads + Wait + Sync>(
         &mut files,
         &mut events,
         &mut errors,
+        &mut Vec::new(alloc),
         &OpenGate,
     );
     put_run(out, report.status, events.bytes(), errors.bytes())

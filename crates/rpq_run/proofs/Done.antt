@@ -1,11 +1,12 @@
--- When a run over streams is done.
+-- When a run is done.
 use Rattle.std.proofs.Common.{◌≡◌, ◌≢◌, ℕ, zero, suc, ◌+◌, ◌<◌, ◌≤◌, List, [], ◌∷◌, ◌++◌, length, get_or}
-use Rattle.std.proofs.Common.{Option, Some, None, refl, ap, sym, subst, ◌∙◌, arith, inl, inr, ◌⊎◌, length-append}
-use Rattle.std.specs.Prelude.{IfSome, Contains, map, slice_get, sum}
+use Rattle.std.proofs.Common.{Option, Some, None, Bool, true, false, refl, ap, sym, subst, ◌∙◌, arith, inl, inr}
+use Rattle.std.proofs.Common.{◌⊎◌, length-append}
+use Rattle.std.specs.Prelude.{IfSome, MatchBool, MatchOption, Contains, map, slice_get, sum}
 use Rattle.std.specs.List.{All}
 use Rattle.std.proofs.lemmas.Bool.{cases_eq}
 use Rattle.std.proofs.lemmas.List.{length-map}
-use Rattle.std.proofs.lemmas.List.Elements.{All-head, All-nil, All-tail}
+use Rattle.std.proofs.lemmas.List.Elements.{All-cons, All-head, All-nil, All-tail}
 use Rattle.std.proofs.lemmas.Option.{slice_get-get_or, slice_get_within}
 use Rattle.rpq_base.specs.declared.data.Tuple.{Tuple}
 use Rattle.rpq_base.specs.declared.data.Entry.{Entry}
@@ -21,12 +22,14 @@ use Rattle.stream_tuples.specs.Limits.{byte_limit}
 use Rattle.stream_tuples.specs.StreamText.{StreamTuples, tuples_with, tuples_from}
 use Rattle.rpq_text.specs.declared.ends.SinkName.{SinkName}
 use Rattle.rpq_text.specs.declared.ends.SinkName.TheVariants.{Events, Replies}
-use Rattle.rpq_text.specs.Statuses.{first_status, IsStatusOf}
+use Rattle.rpq_text.specs.Statuses.{first_status, status_of_end, IsStatusOf}
 use Rattle.run_start.specs.Ready.{AreReadWhole}
 use Rattle.rpq_run.specs.Causes.{HasCauses}
 use Rattle.rpq_run.specs.Done.{IsWholeStream, tuple_count, CanBeDone, NothingRose, NothingFails}
-use Rattle.rpq_run.specs.Outcome.{Meanings, Sinks, Openings, Outcome}
+use Rattle.rpq_run.specs.Outcome.{Meanings, Sinks, Objects, Openings, Outcome}
+use Rattle.rpq_run.specs.Run.{Runs}
 use Rattle.rpq_run.specs.RunsCheck.{RunsCheck}
+use Rattle.rpq_run.specs.RunsGenerated.{RunsGenerated}
 use Rattle.rpq_run.specs.RunsStreams.{RunsStreams}
 use Rattle.rpq_run.proofs.Sinks.{no_sinks}
 use Rattle.rpq_run.proofs.Statuses.{IsFine, counted_quietly, fine_or_memory, read_quietly}
@@ -255,10 +258,10 @@ done_or_short ends failed status none is fine = elim (cases_eq status 8) [
 
 -- a run over streams that can be done, in which no count rose, is done, or wants memory
 pub streams_done : {S K : Type 0} (means : Meanings S K) (given : Settings)
-    (holds : List ℕ → Option (List ℕ)) (openings : Openings) (sinks : Sinks K) (outcome : Outcome S K)
-    → RunsStreams means given holds sinks outcome → CanBeDone given holds
+    (holds : List ℕ → Option (List ℕ)) (openings : Openings) (sinks : Sinks K) (objects : Objects)
+    (outcome : Outcome S K) → RunsStreams means given holds sinks objects outcome → CanBeDone given holds
     → NothingRose means given openings sinks outcome → (outcome.status ≡ 0) ⊎ (outcome.status ≡ 8)
-streams_done means given holds openings sinks outcome runs can none =
+streams_done means given holds openings sinks objects outcome runs can none =
     let failed = none_failed means runs.failed sinks outcome runs.causes none.writes none.replies in
     done_or_short outcome.ends runs.failed outcome.status failed runs.causes.status_is
     (all_end_well means.left means.faults given.history (map holds given.streams) outcome.sources outcome.history
@@ -266,16 +269,38 @@ streams_done means given holds openings sinks outcome runs can none =
     runs.history.no_other can.whole none.reads can.few
     (λ closed. none.writes (runs.causes.events_failed.rose (runs.causes.closed closed))))
 
+-- so is one over generated tuples
+pub generated_done : {S K : Type 0} (means : Meanings S K) (given : Settings) (count : ℕ)
+    (holds : List ℕ → Option (List ℕ)) (openings : Openings) (sinks : Sinks K) (objects : Objects)
+    (outcome : Outcome S K) → RunsGenerated means given count holds sinks objects outcome
+    → given.generate ≡ Some count → CanBeDone given holds
+    → NothingRose means given openings sinks outcome → (outcome.status ≡ 0) ⊎ (outcome.status ≡ 8)
+generated_done means given count holds openings sinks objects outcome runs wanted can none =
+    let failed = none_failed means runs.failed sinks outcome runs.causes none.writes none.replies in
+    let fits : count ≤ given.history =
+    subst (λ (g : Option ℕ). IfSome g (λ n. n ≤ given.history)) wanted can.made in
+    let fine : IsFine runs.history.end = elim runs.history.one_of [
+      | inl whole ↦ inl (ap status_of_end whole)
+      | inr other ↦ elim other [
+        | inl full ↦
+            let at_limit = runs.history.full full in
+            absurd (omega (arith, at_limit.0, at_limit.1, fits))
+        | inr short ↦ inr (ap status_of_end short)
+      ]
+    ] in
+    done_or_short outcome.ends runs.failed outcome.status failed runs.causes.status_is
+    (subst (λ (ends : List StreamEnd). All IsFine ends) (sym runs.history.one_stream)
+    (All-cons IsFine runs.history.end [] fine (All-nil IsFine)))
+
 -- and so is a check
 pub check_done : {S K : Type 0} (means : Meanings S K) (given : Settings)
-    (holds : List ℕ → Option (List ℕ)) (openings : Openings) (sinks : Sinks K) (outcome : Outcome S K)
-    → RunsCheck means given holds sinks outcome
+    (holds : List ℕ → Option (List ℕ)) (openings : Openings) (sinks : Sinks K) (objects : Objects)
+    (outcome : Outcome S K) → RunsCheck means given holds sinks objects outcome
     → NothingRose means given openings sinks outcome → (outcome.status ≡ 0) ⊎ (outcome.status ≡ 8)
-check_done means given holds openings sinks outcome runs none =
+check_done means given holds openings sinks objects outcome runs none =
     let failed = none_failed means runs.failed sinks outcome runs.causes none.writes none.replies in
     done_or_short outcome.ends runs.failed outcome.status failed runs.causes.status_is
-    (subst (λ (ends : List StreamEnd). All IsFine ends) (sym runs.nothing.no_stream) (λ k d inside.
-    absurd (omega (arith, inside))))
+    (subst (λ (ends : List StreamEnd). All IsFine ends) (sym runs.nothing.no_stream) (All-nil IsFine))
 
 -- ---- what failed nowhere
 
@@ -288,40 +313,70 @@ quiet_replies failures failed ends status is done None counts = tt
 quiet_replies failures failed ends status is done (Some sink) counts =
     counted_quietly ends failed status Replies 0 (failures sink) is done counts
 
--- nothing failed in a run over streams that is done
-pub streams_quiet : {S K : Type 0} (means : Meanings S K) (words : Option Settings) (given : Settings)
+module _ {S K : Type 0} (means : Meanings S K) (words : Option Settings) (given : Settings)
     (holds : List ℕ → Option (List ℕ)) (openings : Openings) (sinks : Sinks K) (outcome : Outcome S K)
-    → words ≡ Some given → ((name : List ℕ) → openings.unread_new name ≡ openings.unread_old name)
-    → ((name : List ℕ) → openings.unmade_new name ≡ openings.unmade_old name)
-    → AreReadWhole means.left means.faults given holds → RunsStreams means given holds sinks outcome
-    → outcome.status ≡ 0 → NothingFails means words holds openings sinks outcome
-streams_quiet means words given holds openings sinks outcome are unread unmade whole runs done = record {
-  unread = unread;
-  unmade = unmade;
-  whole = subst (λ (w : Option Settings). IfSome w (λ g. AreReadWhole means.left means.faults g holds)) (sym are) whole;
-  reads = reads_quietly means.left means.faults given.history (map holds given.streams) outcome.sources
-      outcome.history outcome.ends runs.history.each_stream runs.failed outcome.status runs.causes.status_is done;
-  writes = counted_quietly outcome.ends runs.failed outcome.status Events (means.failures sinks.events_old)
-      (means.failures sinks.events_new) runs.causes.status_is done runs.causes.events_failed;
-  replies = quiet_replies means.failures runs.failed outcome.ends outcome.status runs.causes.status_is done
-      outcome.replies runs.causes.replies_failed;
-}
+    (are : words ≡ Some given) (unread : (name : List ℕ) → openings.unread_new name ≡ openings.unread_old name)
+    (unmade : (name : List ℕ) → openings.unmade_new name ≡ openings.unmade_old name)
+    (whole : AreReadWhole means.left means.faults given holds) (done : outcome.status ≡ 0) where
+  -- where all is done and no read of a source failed, nothing did
+  all_quiet : (failed : List SinkName) → HasCauses means failed sinks outcome
+      → All (λ source. means.faults source ≡ 0) outcome.sources
+      → NothingFails means words holds openings sinks outcome
+  all_quiet failed causes reads = record {
+    unread = unread;
+    unmade = unmade;
+    whole = subst (λ (w : Option Settings). IfSome w (λ g. AreReadWhole means.left means.faults g holds)) (sym are) whole;
+    reads = reads;
+    writes = counted_quietly outcome.ends failed outcome.status Events (means.failures sinks.events_old)
+        (means.failures sinks.events_new) causes.status_is done causes.events_failed;
+    replies = quiet_replies means.failures failed outcome.ends outcome.status causes.status_is done
+        outcome.replies causes.replies_failed;
+  }
 
--- nor in a check
-pub check_quiet : {S K : Type 0} (means : Meanings S K) (words : Option Settings) (given : Settings)
-    (holds : List ℕ → Option (List ℕ)) (openings : Openings) (sinks : Sinks K) (outcome : Outcome S K)
-    → words ≡ Some given → ((name : List ℕ) → openings.unread_new name ≡ openings.unread_old name)
-    → ((name : List ℕ) → openings.unmade_new name ≡ openings.unmade_old name)
-    → AreReadWhole means.left means.faults given holds → RunsCheck means given holds sinks outcome
-    → outcome.status ≡ 0 → NothingFails means words holds openings sinks outcome
-check_quiet {S} means words given holds openings sinks outcome are unread unmade whole runs done = record {
-  unread = unread;
-  unmade = unmade;
-  whole = subst (λ (w : Option Settings). IfSome w (λ g. AreReadWhole means.left means.faults g holds)) (sym are) whole;
-  reads = subst (λ (ss : List S). All (λ source. means.faults source ≡ 0) ss) (sym runs.no_source)
-      (All-nil (λ source. means.faults source ≡ 0));
-  writes = counted_quietly outcome.ends runs.failed outcome.status Events (means.failures sinks.events_old)
-      (means.failures sinks.events_new) runs.causes.status_is done runs.causes.events_failed;
-  replies = quiet_replies means.failures runs.failed outcome.ends outcome.status runs.causes.status_is done
-      outcome.replies runs.causes.replies_failed;
-}
+  -- no source has a fault where there is none
+  none_faulty : outcome.sources ≡ [] → All (λ source. means.faults source ≡ 0) outcome.sources
+  none_faulty none = subst (λ (ss : List S). All (λ source. means.faults source ≡ 0) ss) (sym none)
+      (All-nil (λ source. means.faults source ≡ 0))
+
+  -- nothing failed in a run that is done
+  pub runs_quiet : (objects : Objects) → Runs means given holds sinks objects outcome
+      → NothingFails means words holds openings sinks outcome
+  runs_quiet objects = by given.check
+    where
+      by_count : (generate : Option ℕ)
+          → MatchOption generate (RunsStreams means given holds sinks objects outcome)
+          (λ count. RunsGenerated means given count holds sinks objects outcome)
+          → NothingFails means words holds openings sinks outcome
+      by_count None runs = all_quiet runs.failed runs.causes
+          (reads_quietly means.left means.faults given.history (map holds given.streams) outcome.sources
+          outcome.history outcome.ends runs.history.each_stream runs.failed outcome.status runs.causes.status_is done)
+      by_count (Some count) runs = all_quiet runs.failed runs.causes (none_faulty runs.no_source)
+
+      by : (check : Bool) → MatchBool check (RunsCheck means given holds sinks objects outcome)
+          (MatchOption given.generate (RunsStreams means given holds sinks objects outcome)
+          (λ count. RunsGenerated means given count holds sinks objects outcome))
+          → NothingFails means words holds openings sinks outcome
+      by true runs = all_quiet runs.failed runs.causes (none_faulty runs.no_source)
+      by false runs = by_count given.generate runs
+
+-- a run that can be done, in which no count rose, is done, or wants memory
+pub runs_done : {S K : Type 0} (means : Meanings S K) (given : Settings)
+    (holds : List ℕ → Option (List ℕ)) (openings : Openings) (sinks : Sinks K) (objects : Objects)
+    (outcome : Outcome S K) → Runs means given holds sinks objects outcome → CanBeDone given holds
+    → NothingRose means given openings sinks outcome → (outcome.status ≡ 0) ⊎ (outcome.status ≡ 8)
+runs_done means given holds openings sinks objects outcome runs can none = by given.check runs
+  where
+    by_count : (generate : Option ℕ) → given.generate ≡ generate
+        → MatchOption generate (RunsStreams means given holds sinks objects outcome)
+        (λ count. RunsGenerated means given count holds sinks objects outcome)
+        → (outcome.status ≡ 0) ⊎ (outcome.status ≡ 8)
+    by_count None is streams = streams_done means given holds openings sinks objects outcome streams can none
+    by_count (Some count) is generated =
+        generated_done means given count holds openings sinks objects outcome generated is can none
+
+    by : (check : Bool) → MatchBool check (RunsCheck means given holds sinks objects outcome)
+        (MatchOption given.generate (RunsStreams means given holds sinks objects outcome)
+        (λ count. RunsGenerated means given count holds sinks objects outcome))
+        → (outcome.status ≡ 0) ⊎ (outcome.status ≡ 8)
+    by true checks = check_done means given holds openings sinks objects outcome checks none
+    by false others = by_count given.generate refl others

@@ -1,13 +1,17 @@
 -- A run over streams that is done, in one piece.
-use Rattle.std.proofs.Common.{◌≡◌, ◌≢◌, ℕ, ◌+◌, List, [], length, Option, Some, None, Result}
-use Rattle.std.proofs.Common.{Ok, refl, ap, sym, subst, ◌∙◌, arith, inl, inr}
-use Rattle.std.specs.Prelude.{IfSome, MatchOption, Contains, map, option_map, slice_get}
+use Rattle.std.proofs.Common.{◌≡◌, ◌≢◌, ℕ, ◌+◌, List, [], ◌++◌, length, take, Option, Some, None, Result}
+use Rattle.std.proofs.Common.{Ok, refl, ap, ap₂, sym, subst, ◌∙◌, arith, inl, inr, ◌⊎◌, append-nil}
+use Rattle.std.specs.Prelude.{⊤, IfSome, MatchOption, Contains, map, option_map, slice_get}
 use Rattle.std.specs.Io.KnownBytes.{append_known}
-use Rattle.std.specs.List.{All}
-use Rattle.std.proofs.lemmas.List.{length-map}
-use Rattle.std.proofs.lemmas.Option.{slice_get-map}
+use Rattle.std.specs.List.{All, flat_map}
+use Rattle.std.proofs.lemmas.List.{length-map, take_all}
+use Rattle.std.proofs.lemmas.Option.{slice_get-map, slice_get_within}
 use Rattle.rpq_base.specs.declared.data.Entry.{Entry}
+use Rattle.rpq_base.specs.declared.data.Event.{Event}
 use Rattle.rpq_model.specs.Query.{Query}
+use Rattle.rpq_model.specs.QueryEvents.{AreAllEvents}
+use Rattle.history_model.specs.declared.line.Why.{Why}
+use Rattle.history_model.specs.declared.line.Why.TheVariants.{Write, Memory}
 use Rattle.query_file.specs.declared.fault.QueryFault.{QueryFault}
 use Rattle.query_file.specs.Laws.{OneOutcome}
 use Rattle.rpq_words.specs.Settings.{Settings}
@@ -20,11 +24,16 @@ use Rattle.stream_tuples.specs.History.{IsNumberOf, AreTuplesOfEnd, own_tuples}
 use Rattle.stream_tuples.specs.Limits.{byte_limit}
 use Rattle.stream_tuples.specs.StreamText.{StreamTuples, stream_tuples}
 use Rattle.rpq_text.specs.declared.ends.SinkName.TheVariants.{Events, Replies}
-use Rattle.rpq_text.specs.Text.{IsText}
+use Rattle.rpq_text.specs.Text.{blocks_from}
 use Rattle.run_start.specs.Files.{HasQueries, HasSessions, ForQueries, ForSessions, ForAsked}
 use Rattle.rpq_threads.specs.Runs.{AreSessionsOf, asks_answered}
+use Rattle.rpq_threads.specs.Told.{BeginsBlock, TellsObjects}
+use Rattle.standing.specs.Circles.{CircleValue}
+use Rattle.standing.specs.Objects.{ObjectValue}
+use Rattle.standing.specs.Stood.{HaveStood}
+use Rattle.standing.proofs.HavingStood.{stood_weaker}
 use Rattle.rpq_run.specs.Headline.{Told, IsTold, AreAsked, Headline}
-use Rattle.rpq_run.specs.Outcome.{Meanings, Sinks, Outcome}
+use Rattle.rpq_run.specs.Outcome.{Meanings, Sinks, Objects, Outcome}
 use Rattle.rpq_run.specs.Replies.{texts_of}
 use Rattle.rpq_run.specs.RunsStreams.{RunsStreams, FrontsHold, nothing_told}
 use Rattle.rpq_run.specs.Written.{WritesWhere}
@@ -136,21 +145,62 @@ tuples_are text left number history end whole tied =
     whole tied in
     sym (ap (λ (ts : StreamTuples). ts.tuples) at_whole.0)
 
+-- ---- the objects
+
+-- the events of a history, each entry's own, which were written, and told to the objects
+record AreAllTold (queries : List Query) (history : List Entry) (before now : Option (List ℕ))
+    (objects : List ObjectValue) (circle : CircleValue) : Type 0 where
+  events : List (List Event)
+  are_events : AreAllEvents queries history events
+  written : now ≡ append_known before (blocks_from queries 1 history events)
+  heard : HaveStood objects (flat_map (λ own. own) events) ⊤ circle.members circle.left
+
+-- no block begins behind the last one
+none_begun : (queries : List Query) (history : List Entry) (count : ℕ) (rest : List ℕ)
+    → count ≡ length history → (rest ≡ []) ⊎ BeginsBlock queries history count rest → rest ≡ []
+none_begun queries history count rest all (inl none) = none
+none_begun queries history count rest all (inr begun) =
+    let inside = slice_get_within history count begun.entry begun.there in
+    absurd (omega (arith, inside, all))
+
+-- where nothing ended the run early all of them were
+all_told : (queries : List Query) (history : List Entry) (before now : Option (List ℕ))
+    (objects : List ObjectValue) (why : Option Why) (circle : CircleValue) → why ≡ None
+    → TellsObjects queries history before now objects why circle
+    → AreAllTold queries history before now objects circle
+all_told queries history before now objects why circle none tells =
+    let all : tells.count ≡ length history = tells.all none in
+    let whole : take tells.count history ≡ history = take_all tells.count history (omega (arith, all)) in
+    let text = λ (entries : List Entry) (rest : List ℕ). blocks_from queries 1 entries tells.events ++ rest in
+    record {
+      events = tells.events;
+      are_events = subst (λ (entries : List Entry). AreAllEvents queries entries tells.events) whole tells.are_events;
+      written = tells.written ∙ ap (λ (t : List ℕ). append_known before t)
+          (ap₂ text whole (none_begun queries history tells.count tells.rest all tells.part)
+          ∙ append-nil (blocks_from queries 1 history tells.events));
+      heard = stood_weaker objects (flat_map (λ own. own) tells.events) (why ≢ Some Memory) ⊤
+          circle.members circle.left (λ _ is.
+          let no : None ≡ Some Memory = sym none ∙ is in
+          absurd (cc no)) tells.told;
+    }
+
 -- ---- all of it
 
 pub headline_holds : {S K : Type 0} (means : Meanings S K) (given : Settings)
-    (holds : List ℕ → Option (List ℕ)) (sinks : Sinks K) (outcome : Outcome S K) (told : Told)
-    → OneOutcome → RunsStreams means given holds sinks outcome → outcome.status ≡ 0
-    → IsTold means given holds sinks told → Headline means told sinks outcome
-headline_holds means given holds sinks outcome told one runs done is =
+    (holds : List ℕ → Option (List ℕ)) (sinks : Sinks K) (objects : Objects) (outcome : Outcome S K)
+    (told : Told) → OneOutcome → RunsStreams means given holds sinks objects outcome → outcome.status ≡ 0
+    → IsTold means given holds sinks told → Headline means told sinks objects outcome
+headline_holds means given holds sinks objects outcome told one runs done is =
     let there = are_there means given holds sinks told is runs.understood in
     let quiet : (Contains runs.failed Events → ⊥) =
     sink_quietly outcome.ends runs.failed outcome.status Events runs.causes.status_is done in
     let not_short : outcome.status ≢ 8 = λ eight. absurd (omega (arith, eight, done)) in
-    let writes = from_queries one (holds given.queries) told.queries there.queries (λ queries.
-    WritesWhere (Contains runs.failed Events) outcome.status (IsText queries outcome.history)
-    (means.written sinks.events_old) (means.written sinks.events_new)) is.queries there.has runs.events.text in
-    let grew = writes.whole quiet not_short in
+    let tells = from_queries one (holds given.queries) told.queries there.queries (λ queries.
+    TellsObjects queries outcome.history (means.written sinks.events_old) (means.written sinks.events_new)
+    objects.before runs.told.why objects.after) is.queries there.has runs.told.told in
+    let all = all_told there.queries outcome.history (means.written sinks.events_old)
+    (means.written sinks.events_new) objects.before runs.told.why objects.after
+    (unended runs.told.why refl quiet not_short) tells in
     let sets = from_queries one (holds given.queries) told.queries there.queries
     (λ queries. FrontsHold queries outcome.history) is.queries there.has runs.events.sets in
     let last : runs.replies.last ≡ length outcome.history = elim runs.replies.at_end [
@@ -165,11 +215,12 @@ headline_holds means given holds sinks outcome told one runs done is =
       in_order = in_order;
       no_other = subst (λ n. All (λ (e : Entry). IsNumberOf n e.stream) outcome.history) as_many
           runs.history.no_other;
-      events = grew.of_kind.0;
-      are_events = grew.of_kind.1;
-      written = grew.written ∙ (ap (λ (w : Option (List ℕ)). append_known w grew.text) is.events
-          ∙ ap (λ (t : List ℕ). append_known (Some told.events) t) grew.of_kind.2);
-      held = λ place query at count pair. sets place query grew.of_kind.0 at grew.of_kind.1 count pair;
+      events = all.events;
+      are_events = all.are_events;
+      written = all.written
+          ∙ ap (λ (w : Option (List ℕ)). append_known w (blocks_from there.queries 1 outcome.history all.events)) is.events;
+      held = λ place query at count pair. sets place query all.events at all.are_events count pair;
+      heard = all.heard;
       readers = subst (λ n. AreSessionsOf there.queries outcome.history n there.sessions outcome.sessions) last
           (from_asked one means given holds sinks told there.queries there.sessions (λ queries asked.
           AreSessionsOf queries outcome.history runs.replies.last asked outcome.sessions) is there.has there.asked
@@ -181,6 +232,12 @@ headline_holds means given holds sinks outcome told one runs done is =
           not_short outcome.replies runs.replies.text;
     }
   where
+    unended : (why : Option Why) → runs.told.why ≡ why → (Contains runs.failed Events → ⊥) → outcome.status ≢ 8
+        → runs.told.why ≡ None
+    unended None why_is quiet not_short = why_is
+    unended (Some Write) why_is quiet not_short = absurd (quiet (runs.told.write why_is))
+    unended (Some Memory) why_is quiet not_short = absurd (not_short (runs.told.memory why_is))
+
     as_many : length given.streams ≡ length told.streams
     as_many = sym (length-map given.streams holds)
         ∙ (ap (λ (fs : List (Option (List ℕ))). length fs) is.streams

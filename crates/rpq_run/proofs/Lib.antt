@@ -5,6 +5,7 @@ mod Totals
 mod Statuses
 mod Done
 mod Running
+mod Generating
 mod Refusals
 mod Tops
 mod Headlines

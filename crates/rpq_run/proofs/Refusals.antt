@@ -1,8 +1,8 @@
 -- A run that doesn't begin.
-use Rattle.std.proofs.Common.{◌≡◌, ℕ, zero, suc, ◌<◌, Bool, true, false, List, [], ◌∷◌, ◌++◌}
-use Rattle.std.proofs.Common.{length, get_or, Option, Some, None, refl, sym, subst, ◌∙◌, arith, inl}
+use Rattle.std.proofs.Common.{◌≡◌, ℕ, zero, suc, ◌<◌, List, [], ◌∷◌, ◌++◌}
+use Rattle.std.proofs.Common.{length, get_or, Option, Some, None, refl, sym, subst, ◌∙◌, arith}
 use Rattle.std.proofs.Common.{inr, ◌⊎◌, Err}
-use Rattle.std.specs.Prelude.{IfSome, IsSomeAnd, MatchBool, option_to_list}
+use Rattle.std.specs.Prelude.{IfSome, IsSomeAnd, option_to_list}
 use Rattle.std.specs.List.{All}
 use Rattle.std.proofs.lemmas.List.{append-nil}
 use Rattle.std.proofs.lemmas.List.Elements.{All-head, All-tail}
@@ -14,39 +14,24 @@ use Rattle.ask_text.specs.declared.fault.AskFault.{AskFault}
 use Rattle.ask_text.specs.Asks.{asks}
 use Rattle.rpq_words.specs.Settings.{Settings}
 use Rattle.stream_tuples.specs.History.{IsPrefix}
-use Rattle.rpq_text.specs.declared.ends.Which.{Which}
 use Rattle.rpq_text.specs.declared.ends.Which.TheVariants.{Queries, Asks, Replies, Stream}
 use Rattle.rpq_text.specs.declared.ends.StartFault.{StartFault}
 use Rattle.rpq_text.specs.declared.ends.StartFault.TheVariants.{Words, Queries as QueriesFault}
 use Rattle.rpq_text.specs.declared.ends.StartFault.TheVariants.{Asks as AsksFault, Open}
-use Rattle.rpq_text.specs.declared.ends.StartFault.TheVariants.{Read as ReadAtStart, Long, NotYet}
+use Rattle.rpq_text.specs.declared.ends.StartFault.TheVariants.{Read as ReadAtStart, Long}
 use Rattle.rpq_text.specs.declared.ends.StartFault.TheVariants.{Memory}
 use Rattle.rpq_text.specs.Statuses.{status_of_start}
 use Rattle.run_start.specs.Files.{ForQueries, IsTooLong, IsFaultyFile, IsFaultless}
 use Rattle.run_start.specs.Files.{AreFaultyAsks, AreFaultlessAsks, AreUnderstoodFiles, HasAskFault}
 use Rattle.run_start.specs.Files.{IsQueriesFile}
-use Rattle.run_start.specs.Given.{is_not_yet, file_names, sink_names}
+use Rattle.run_start.specs.Given.{file_names, sink_names}
 use Rattle.run_start.specs.Ready.{IsWordsCause}
-use Rattle.run_start.specs.Start.{IsCause, IsRefusedFor, IsOpeningOf, IsMakingOf, AreSourcesOf}
+use Rattle.run_start.specs.Start.{IsRefusedFor, IsOpeningOf, IsMakingOf, AreSourcesOf}
 use Rattle.run_start.specs.Start.{file_held, AreOpenedBy, AreMadeBy, UsesFiles}
 use Rattle.rpq_run.specs.Done.{CanBeDone, NothingRose}
 use Rattle.rpq_run.specs.Outcome.{Meanings, Openings, Sinks, Outcome}
 
 -- ---- its status
-
--- no run that doesn't begin is done
-pub not_done : (fault : StartFault) → status_of_start fault ≡ 0 → ⊥
-not_done Words is = absurd cc
-not_done (QueriesFault fault) is = absurd cc
-not_done (AsksFault fault) is = absurd cc
-not_done (Open Queries) is = absurd cc
-not_done (Open Asks) is = absurd cc
-not_done (Open Replies) is = absurd cc
-not_done (Open (Stream number)) is = absurd cc
-not_done (ReadAtStart which) is = absurd cc
-not_done (Long which) is = absurd cc
-not_done NotYet is = absurd cc
-not_done Memory is = absurd cc
 
 not_long : (file : Option (List ℕ)) → IsTooLong file → IsSomeAnd file IsFaultless → ⊥
 not_long None long some = some
@@ -155,74 +140,9 @@ wants_memory {S} {K} means given holds openings sinks outcome start cause of ope
     by (Long Asks) cause of opened made = absurd (asks_long given.asks cause can.asks)
     by (Long Replies) cause of opened made = absurd cause
     by (Long (Stream number)) cause of opened made = absurd cause
-    by NotYet cause of opened made = absurd cause
     by Memory cause of opened made = inr refl
 
--- words that are taken have no cause in themselves but want of memory
-pub not_taken : (words : Option Settings) (given : Settings) (fault : StartFault) → words ≡ Some given
-    → is_not_yet given ≡ false → IsWordsCause words fault → fault ≡ Memory
-not_taken words given Words are so_far is =
-    let no : Some given ≡ None = sym are ∙ is in
-    absurd (cc no)
-not_taken words given (QueriesFault fault) are so_far is = absurd is
-not_taken words given (AsksFault fault) are so_far is = absurd is
-not_taken words given (Open which) are so_far is = absurd is
-not_taken words given (ReadAtStart which) are so_far is = absurd is
-not_taken words given (Long which) are so_far is = absurd is
-not_taken words given NotYet are so_far is =
-    let yes : is_not_yet given ≡ true =
-    subst (λ (w : Option Settings). IsSomeAnd w (λ g. is_not_yet g ≡ true)) are is in
-    let no : true ≡ false = sym yes ∙ so_far in
-    absurd (cc no)
-not_taken words given Memory are so_far is = refl
-
 -- ---- its cause
-
--- a cause of the words is one
-pub cause_of_words : (words : Option Settings) (holds : List ℕ → Option (List ℕ)) (fault : StartFault)
-    → IsWordsCause words fault → IsCause words holds fault
-cause_of_words None holds Words is = inl refl
-cause_of_words None holds (QueriesFault fault) is = absurd is
-cause_of_words None holds (AsksFault fault) is = absurd is
-cause_of_words None holds (Open which) is = absurd is
-cause_of_words None holds (ReadAtStart which) is = absurd is
-cause_of_words None holds (Long which) is = absurd is
-cause_of_words None holds NotYet is = absurd is
-cause_of_words None holds Memory is = inr refl
-cause_of_words (Some given) holds Words is = absurd cc
-cause_of_words (Some given) holds (QueriesFault fault) is = absurd is
-cause_of_words (Some given) holds (AsksFault fault) is = absurd is
-cause_of_words (Some given) holds (Open which) is = absurd is
-cause_of_words (Some given) holds (ReadAtStart which) is = absurd is
-cause_of_words (Some given) holds (Long which) is = absurd is
-cause_of_words (Some given) holds NotYet is =
-    subst (λ (b : Bool). MatchBool b ((NotYet ≡ NotYet) ⊎ (NotYet ≡ Memory)) (IsRefusedFor given holds NotYet))
-    (sym is) (inl refl)
-cause_of_words (Some given) holds Memory is = by (is_not_yet given)
-  where
-    by : (b : Bool) → MatchBool b ((Memory ≡ NotYet) ⊎ (Memory ≡ Memory)) (IsRefusedFor given holds Memory)
-    by true = inr refl
-    by false = tt
-
--- a cause of the files is one, where the words are taken
-pub cause_of_files : (given : Settings) (holds : List ℕ → Option (List ℕ)) (fault : StartFault)
-    → is_not_yet given ≡ false → IsRefusedFor given holds fault → IsCause (Some given) holds fault
-cause_of_files given holds fault so_far is =
-    subst (λ (b : Bool). MatchBool b ((fault ≡ NotYet) ⊎ (fault ≡ Memory)) (IsRefusedFor given holds fault))
-    (sym so_far) is
-
--- words that begin no run leave no source
-pub no_source_of_words : {S : Type 0} (left : S → Option (List ℕ)) (faults : S → ℕ)
-    (held : Which → Option (List ℕ)) (words : Option Settings) (fault : StartFault) (sources : List S)
-    → IsWordsCause words fault → sources ≡ [] → AreSourcesOf left faults held fault sources
-no_source_of_words left faults held words Words sources is none = none
-no_source_of_words left faults held words (QueriesFault fault) sources is none = absurd is
-no_source_of_words left faults held words (AsksFault fault) sources is none = absurd is
-no_source_of_words left faults held words (Open which) sources is none = absurd is
-no_source_of_words left faults held words (ReadAtStart which) sources is none = absurd is
-no_source_of_words left faults held words (Long which) sources is none = absurd is
-no_source_of_words left faults held words NotYet sources is none = none
-no_source_of_words left faults held words Memory sources is none = none
 
 -- ---- what it did to the files
 
@@ -258,7 +178,6 @@ files_untouched holds opened made unread unmade words fault files is = record {
     none_opened (Some given) (Open which) is = absurd is
     none_opened (Some given) (ReadAtStart which) is = absurd is
     none_opened (Some given) (Long which) is = absurd is
-    none_opened (Some given) NotYet is = refl
     none_opened (Some given) Memory is = record { rest = file_names given; cut = refl }
 
     none_made : (w : Option Settings) (f : StartFault) → IsWordsCause w f → AreMadeBy w (Some f) []
@@ -269,7 +188,6 @@ files_untouched holds opened made unread unmade words fault files is = record {
     none_made (Some given) (Open which) is = absurd is
     none_made (Some given) (ReadAtStart which) is = absurd is
     none_made (Some given) (Long which) is = absurd is
-    none_made (Some given) NotYet is = refl
     none_made (Some given) Memory is = record { rest = sink_names given; cut = refl }
 
     no_opening : (w : Option Settings) (f : StartFault) → IsWordsCause w f → (name : List ℕ)
@@ -281,7 +199,6 @@ files_untouched holds opened made unread unmade words fault files is = record {
     no_opening (Some given) (Open which) is name opening = is
     no_opening (Some given) (ReadAtStart which) is name opening = opening
     no_opening (Some given) (Long which) is name opening = opening
-    no_opening (Some given) NotYet is name opening = opening
     no_opening (Some given) Memory is name opening = opening
 
     no_making : (w : Option Settings) (f : StartFault) → IsWordsCause w f → (name : List ℕ)
@@ -293,7 +210,6 @@ files_untouched holds opened made unread unmade words fault files is = record {
     no_making (Some given) (Open which) is name making = is
     no_making (Some given) (ReadAtStart which) is name making = making
     no_making (Some given) (Long which) is name making = making
-    no_making (Some given) NotYet is name making = making
     no_making (Some given) Memory is name making = making
 
 -- a run that began to use the files and then wanted memory

@@ -31,19 +31,22 @@ use Rattle.rpq_text.specs.Text.{IsText}
 use Rattle.rpq_text.specs.Verdicts.{AreVerdicts}
 use Rattle.rpq_text.proofs.VerdictLines.{are_verdicts}
 use Rattle.run_start.specs.Files.{HasQueries, HasSessions, IsQueriesFile, ForQueries, ForSessions, ForAsked}
+use Rattle.standing.specs.Circles.{Parts, as_seen}
+use Rattle.standing.specs.Objects.{ObjectValue}
 use Rattle.rpq_threads.specs.declared.task.Outcome.{Outcome as ThreadsOutcome}
 use Rattle.rpq_threads.specs.declared.task.Task.{Task}
 use Rattle.rpq_threads.specs.Runs.{AreSessionsOf, Holds, asks_answered}
+use Rattle.rpq_threads.specs.Told.{TellsObjects}
 use Rattle.rpq_threads.specs.Written.{Grew, GrewByProperPrefix}
 use Rattle.rpq_run.specs.declared.replies.RepliesFault.{RepliesFault}
 use Rattle.rpq_run.specs.declared.replies.RepliesFault.TheVariants.{Memory as MemoryForReplies}
 use Rattle.rpq_run.specs.Asked.{IsAsked}
 use Rattle.rpq_run.specs.Failed.{failed_sinks, is_failed, is_write}
-use Rattle.rpq_run.specs.Outcome.{Meanings, Sinks, Outcome}
+use Rattle.rpq_run.specs.Outcome.{Meanings, Sinks, Objects, Outcome, objects}
 use Rattle.rpq_run.specs.Replies.{WritesReplies, texts_of}
-use Rattle.rpq_run.specs.RunsCheck.{RunsCheck}
-use Rattle.rpq_run.specs.RunsStreams.{HoldsStreams, WritesEvents, AnswersSessions, RunsStreams}
-use Rattle.rpq_run.specs.RunsStreams.{FrontsHold, nothing_told}
+use Rattle.rpq_run.specs.RunsCheck.{LeavesObjects, RunsCheck}
+use Rattle.rpq_run.specs.RunsStreams.{HoldsStreams, WritesEvents, AnswersSessions, TellsHistory}
+use Rattle.rpq_run.specs.RunsStreams.{RunsStreams, FrontsHold, nothing_told}
 use Rattle.rpq_run.specs.Written.{Tells, TellsLines, WritesWhere}
 use Rattle.rpq_run.proofs.Sinks.{some_sinks, in_replies, events_in, is_write_some, events_written}
 use Rattle.rpq_run.proofs.Sinks.{events_counted, in_events, proper_is_prefix, replies_written}
@@ -93,10 +96,24 @@ for_asked given holds queries sessions P has are p =
     for_queries (holds given.queries) queries (λ all. ForSessions given holds all (P all)) has
     (for_sessions given holds queries sessions (P queries) are p)
 
+-- ---- the objects
+
+-- they are these, as they are seen
+pub objects_are : {X : Type 0} (seen : X → ObjectValue) (before before' stayed stayed' left left' : List X)
+    → before ≡ before' → stayed ≡ stayed' → left ≡ left'
+    → objects seen before stayed left ≡ objects seen before' stayed' left'
+objects_are seen before before' stayed stayed' left left' befores stays leaves = λ i.
+    objects seen (befores i) (stays i) (leaves i)
+
+-- all stayed as they were
+pub leaves_objects : {X : Type 0} (seen : X → ObjectValue) (all left : List X) → left ≡ []
+    → LeavesObjects (objects seen all all left)
+leaves_objects seen all left none = record { stayed = refl; none_left = ap (map seen) none }
+
 -- ---- the run over streams
 
 -- what a run over streams answers, by what its threads gave
-abbrev pub outcome_of : {S K : Type 0} → ℕ → ThreadsOutcome S → Option K → Outcome S K
+abbrev pub outcome_of : {S K O : Type 0} → ℕ → ThreadsOutcome S O → Option K → Outcome S K
 outcome_of status threads replies = record {
   status = status;
   history = threads.history.items;
@@ -106,11 +123,18 @@ outcome_of status threads replies = record {
   replies = replies;
 }
 
-module _ {S K : Type 0} (means : Meanings S K) (given : Settings)
+-- the objects that were handed to the threads, and as they gave them back
+abbrev pub objects_of : {S O : Type 0} → (O → ObjectValue) → Parts O → ThreadsOutcome S O → Objects
+objects_of seen circle threads =
+    objects seen circle.members threads.circle.members threads.circle.left
+
+module _ {S K O : Type 0} (means : Meanings S K) (given : Settings)
     (holds : List ℕ → Option (List ℕ)) (task : Task S) (old new : Option K) (sinks : Sinks K)
-    (threads : ThreadsOutcome S) (replied : Result (Unit {0}) RepliesFault) (status : ℕ)
+    (seen : O → ObjectValue) (circle : Parts O) (threads : ThreadsOutcome S O)
+    (replied : Result (Unit {0}) RepliesFault) (status : ℕ)
     (asked : IsAsked means.left means.written means.failures given holds task old)
-    (held : Holds means.left means.faults means.written means.failures task sinks.events_old sinks.events_new threads)
+    (held : Holds means.left means.faults means.written means.failures seen task sinks.events_old
+    sinks.events_new circle threads)
     (wrote : WritesReplies means.written means.failures
     (replies (texts_of (map (λ (own : Vec AnsweredValue). own.items) threads.sessions.items))) old new replied)
     (for_session : threads.short_of_memory ≡ true → status ≡ 8)
@@ -240,17 +264,30 @@ module _ {S K : Type 0} (means : Meanings S K) (given : Settings)
     text = replies_text;
   }
 
+  -- the objects
+  tells_history : TellsHistory means given holds failed_in sinks (objects_of seen circle threads)
+      (outcome_of status threads new)
+  tells_history = record {
+    why = threads.why;
+    write = λ is. events_in (is_write threads.why) (is_failed replied) (is_write_some threads.why is);
+    memory = for_engine;
+    told = for_queries (holds given.queries) queries_in (λ all. TellsObjects all threads.history.items
+        (means.written sinks.events_old) (means.written sinks.events_new) (map seen circle.members) threads.why
+        (as_seen seen threads.circle)) asked.has held.objects;
+  }
+
   -- the run over streams
-  pub runs_streams : FrontsHoldAnswers → IsStatusOf threads.ends.items failed_in status
+  streams_run : FrontsHoldAnswers → IsStatusOf threads.ends.items failed_in status
       → TellsLines means.written means.failures (run_lines threads.ends.items failed_in status)
       sinks.errors_old sinks.errors_new
-      → RunsStreams means given holds sinks (outcome_of status threads new)
-  runs_streams fronts status_is told = record {
+      → RunsStreams means given holds sinks (objects_of seen circle threads) (outcome_of status threads new)
+  streams_run fronts status_is told = record {
     understood = for_both (λ queries asks. Unit {0}) tt;
     failed = failed_in;
     history = holds_streams;
     events = writes_events fronts;
     replies = answers_sessions;
+    told = tells_history;
     causes = record {
       once = some_sinks (is_write threads.why) (is_failed replied);
       events_failed = events_counted threads.why (is_failed replied) (means.failures sinks.events_old)
@@ -264,6 +301,19 @@ module _ {S K : Type 0} (means : Meanings S K) (given : Settings)
     };
   }
 
+  -- the same with the objects in their lists
+  pub runs_streams : (before stayed left : List O) → circle.members ≡ before
+      → threads.circle.members ≡ stayed → threads.circle.left ≡ left
+      → FrontsHoldAnswers → IsStatusOf threads.ends.items failed_in status
+      → TellsLines means.written means.failures (run_lines threads.ends.items failed_in status)
+      sinks.errors_old sinks.errors_new
+      → RunsStreams means given holds sinks (objects seen before stayed left) (outcome_of status threads new)
+  runs_streams before stayed left befores stays leaves fronts status_is told =
+      subst (λ (all : Objects). RunsStreams means given holds sinks all (outcome_of status threads new))
+      (objects_are seen circle.members before threads.circle.members stayed threads.circle.left left
+      befores stays leaves)
+      (streams_run fronts status_is told)
+
 -- ---- the check
 
 -- what a check answers
@@ -272,7 +322,7 @@ check_outcome status =
     record { status = status; history = []; ends = []; sources = []; sessions = []; replies = None }
 
 -- it has no member in any list
-pub nothing_taken : {S K : Type 0} (status : ℕ) (history : List Entry) (ends : List StreamEnd)
+nothing_taken : {S K : Type 0} (status : ℕ) (history : List Entry) (ends : List StreamEnd)
     (sources : List S) (sessions : List (List AnsweredValue)) → history ≡ [] → ends ≡ [] → sources ≡ []
     → sessions ≡ [] → check_outcome {S = S} {K = K} status ≡ record {
       status = status;
@@ -324,17 +374,17 @@ verdicts_written written failures queries old new (Err e) status all told =
     }
 
 -- the check of queries
-pub runs_check : {S K T E : Type 0} (means : Meanings S K) (given : Settings)
+check_runs : {S K T E : Type 0} (means : Meanings S K) (given : Settings)
     (holds : List ℕ → Option (List ℕ)) (queries : List CompiledValue) (sinks : Sinks K)
-    (result : Result T E) (status : ℕ)
+    (result : Result T E) (status : ℕ) (all : Objects) → LeavesObjects all
     → IfSome (holds given.queries) (λ bytes. HasQueries bytes (definitions_of queries))
     → All IsCompiled queries
     → Tells means.written means.failures (flat_map compiled_line queries) sinks.events_old sinks.events_new result
     → IsStatusOf [] (failed_sinks (is_err result) false) status
     → TellsLines means.written means.failures (run_lines [] (failed_sinks (is_err result) false) status)
     sinks.errors_old sinks.errors_new
-    → RunsCheck {S = S} {K = K} means given holds sinks (check_outcome status)
-runs_check means given holds queries sinks result status has all told status_is lines = record {
+    → RunsCheck {S = S} {K = K} means given holds sinks all (check_outcome status)
+check_runs means given holds queries sinks result status all kept has compiled told status_is lines = record {
   understood = is_queries_file (holds given.queries) (definitions_of queries) has;
   nothing = record { no_history = refl; no_stream = refl; no_session = refl; no_replies = refl };
   no_source = refl;
@@ -342,7 +392,7 @@ runs_check means given holds queries sinks result status has all told status_is 
   text = for_queries (holds given.queries) (definitions_of queries) (λ each.
       WritesWhere (Contains (failed_sinks (is_err result) false) Events) status (AreVerdicts each)
       (means.written sinks.events_old) (means.written sinks.events_new)) has
-      (verdicts_written means.written means.failures queries sinks.events_old sinks.events_new result status all told);
+      (verdicts_written means.written means.failures queries sinks.events_old sinks.events_new result status compiled told);
   causes = record {
     once = some_sinks (is_err result) false;
     events_failed = counts_as (is_err result ≡ true) (Contains (failed_sinks (is_err result) false) Events)
@@ -356,4 +406,31 @@ runs_check means given holds queries sinks result status has all told status_is 
     status_is = status_is;
     told = lines;
   };
+  objects_kept = kept;
 }
+
+-- the same with what it answers in its lists
+pub runs_check : {S K T E : Type 0} (means : Meanings S K) (given : Settings)
+    (holds : List ℕ → Option (List ℕ)) (queries : List CompiledValue) (sinks : Sinks K)
+    (result : Result T E) (status : ℕ) (all : Objects) (history : List Entry) (ends : List StreamEnd)
+    (sources : List S) (sessions : List (List AnsweredValue)) → history ≡ [] → ends ≡ [] → sources ≡ []
+    → sessions ≡ [] → LeavesObjects all
+    → IfSome (holds given.queries) (λ bytes. HasQueries bytes (definitions_of queries))
+    → All IsCompiled queries
+    → Tells means.written means.failures (flat_map compiled_line queries) sinks.events_old sinks.events_new result
+    → IsStatusOf [] (failed_sinks (is_err result) false) status
+    → TellsLines means.written means.failures (run_lines [] (failed_sinks (is_err result) false) status)
+    sinks.errors_old sinks.errors_new
+    → RunsCheck means given holds sinks all (record {
+      status = status;
+      history = history;
+      ends = ends;
+      sources = sources;
+      sessions = sessions;
+      replies = None;
+    })
+runs_check {S} {K} means given holds queries sinks result status all history ends sources sessions
+    no_history no_end no_source no_session kept has compiled told status_is lines =
+    subst (λ (outcome : Outcome S K). RunsCheck means given holds sinks all outcome)
+    (nothing_taken status history ends sources sessions no_history no_end no_source no_session)
+    (check_runs means given holds queries sinks result status all kept has compiled told status_is lines)

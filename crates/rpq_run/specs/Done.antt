@@ -18,13 +18,15 @@ IsWholeStream file = IsSomeAnd file (λ text. (stream_tuples text).end ≡ Whole
 abbrev pub tuple_count : Option (List ℕ) → ℕ
 tuple_count file = unwrap_or (option_map (λ text. length (stream_tuples text).tuples) file) 0
 
--- the bytes of all files are told and have no fault, and the history can hold the streams' tuples
+-- the bytes of all files are told and have no fault, and the history can hold the streams' tuples,
+-- or those that are generated
 pub record CanBeDone (given : Settings) (holds : List ℕ → Option (List ℕ)) : Type 0 where
   pub understood : IsSomeAnd (holds given.queries) IsFaultless
   pub asks : IfSome given.asks (λ name.
       IsSomeAnd (holds name) (AreFaultlessAsks (holds given.queries)))
   pub whole : All IsWholeStream (map holds given.streams)
   pub few : sum (map tuple_count (map holds given.streams)) ≤ given.history
+  pub made : IfSome given.generate (λ count. count ≤ given.history)
 
 -- no count rose that shows a failure: of an opening of one of the files, of a read of a source, or
 -- of a write of the events or the replies

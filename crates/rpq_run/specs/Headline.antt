@@ -1,5 +1,5 @@
 -- What a run over streams that is done comes to, in one piece.
-use Rattle.std.specs.Prelude.{◌≡◌, ℕ, ◌+◌, ◌↔◌, List, [], ◌++◌, length, map, take, All, Option}
+use Rattle.std.specs.Prelude.{◌≡◌, ℕ, ◌+◌, ◌↔◌, ⊤, List, [], ◌++◌, length, map, take, All, Option}
 use Rattle.std.specs.Prelude.{Some, option_map, slice_get, IfSome, MatchOption}
 use Rattle.std.specs.List.{flat_map}
 use Rattle.rpq_base.specs.declared.data.Event.{Event}
@@ -11,12 +11,13 @@ use Rattle.rpq_model.specs.QueryEvents.{AreAllEvents}
 use Rattle.rpq_words.specs.Settings.{Settings}
 use Rattle.ask_text.specs.declared.ask.Ask.{Ask}
 use Rattle.ask_text.specs.Replies.{replies}
+use Rattle.standing.specs.Stood.{HaveStood}
 use Rattle.stream_tuples.specs.History.{IsNumberOf, own_tuples}
 use Rattle.stream_tuples.specs.StreamText.{stream_tuples}
 use Rattle.rpq_text.specs.Text.{blocks_from}
 use Rattle.run_start.specs.Files.{HasQueries, HasSessions}
 use Rattle.rpq_threads.specs.Runs.{AreSessionsOf, asks_answered}
-use Rattle.rpq_run.specs.Outcome.{Meanings, Sinks, Outcome}
+use Rattle.rpq_run.specs.Outcome.{Meanings, Sinks, Objects, Outcome}
 
 -- the bytes of the queries file, of the asks file, if there is one, and of the streams, and those
 -- that stood on the events before
@@ -44,9 +45,10 @@ AreAsked queries file sessions =
 -- what stood on the sink, with each entry its own. After each entry the pairs of a query emitted
 -- and not retracted are exactly its answers over the entries so far. Each session has exactly its
 -- asks answered, each by the answers at a position of the history that never falls within the
--- session; and these replies were written
+-- session; and these replies were written. Each object that stayed heard all events that it wants,
+-- and one that left a front of them
 pub record Headline {S K : Type 0} (means : Meanings S K) (told : Told) (sinks : Sinks K)
-    (outcome : Outcome S K) : Type 0 where
+    (objects : Objects) (outcome : Outcome S K) : Type 0 where
   pub queries : List Query
   pub accepted : HasQueries told.queries queries
   pub sessions : List (List Ask)
@@ -61,6 +63,8 @@ pub record Headline {S K : Type 0} (means : Meanings S K) (told : Told) (sinks :
   pub held : (place : ℕ) (query : Query) → slice_get queries place ≡ Some query
       → (count : ℕ) (pair : Pair) → IsHeld place (flat_map (λ list. list) (take count events)) pair
       ↔ IsAnswer (path_query query) (take count outcome.history) pair
+  pub heard : HaveStood objects.before (flat_map (λ list. list) events) ⊤
+      objects.after.members objects.after.left
   pub readers : AreSessionsOf queries outcome.history (length outcome.history)
       sessions outcome.sessions
   pub all_answered : asks_answered outcome.sessions ≡ sessions

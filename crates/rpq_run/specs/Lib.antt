@@ -3,9 +3,11 @@ pub mod Written
 pub mod Causes
 pub mod RunsStreams
 pub mod RunsCheck
+pub mod RunsGenerated
 pub mod Run
 pub mod Done
 pub mod Failed
+pub mod Ended
 pub mod Replies
 pub mod Asked
 pub mod Room

@@ -4,6 +4,8 @@ use Rattle.std.specs.Global.{Vec}
 use Rattle.rpq_base.specs.declared.data.Entry.{Entry}
 use Rattle.stream_tuples.specs.declared.ends.StreamEnd.{StreamEnd}
 use Rattle.ask_text.specs.Answered.{AnsweredValue}
+use Rattle.standing.specs.Objects.{ObjectValue}
+use Rattle.standing.specs.Circles.{CircleValue}
 use Rattle.rpq_run.specs.declared.report.Report.{Report}
 
 -- the bytes that a source has left, and how often a read of it failed; the bytes that were written
@@ -20,6 +22,11 @@ pub record Sinks (K : Type 0) : Type 0 where
   pub events_new : K
   pub errors_old : K
   pub errors_new : K
+
+-- the objects that a run was handed, and as it leaves them: those that stayed, and those that left
+pub record Objects : Type 0 where
+  pub before : List ObjectValue
+  pub after : CircleValue
 
 -- how often the opening of each name failed, to read and to write, before and after a run
 pub record Openings : Type 0 where
@@ -51,6 +58,13 @@ sinks events_old events_new errors_old errors_new = record {
   errors_new = errors_new;
 }
 
+-- the objects that were handed over, those that stayed and those that left, each as it is seen
+abbrev pub objects : {B : Type 0} → (B → ObjectValue) → List B → List B → List B → Objects
+objects seen before stayed left = record {
+  before = map seen before;
+  after = record { members = map seen stayed; left = map seen left };
+}
+
 abbrev pub openings : (List ℕ → ℕ) → (List ℕ → ℕ) → (List ℕ → ℕ) → (List ℕ → ℕ) → Openings
 openings unread_old unread_new unmade_old unmade_new = record {
   unread_old = unread_old;
@@ -59,7 +73,7 @@ openings unread_old unread_new unmade_old unmade_new = record {
   unmade_new = unmade_new;
 }
 
-abbrev pub outcome : {F S K : Type 0} → Report F S K → Outcome S K
+abbrev pub outcome : {F S K V : Type 0} {W : V → Type 0} → Report F S K V W → Outcome S K
 outcome report = record {
   status = report.status;
   history = report.history.items;

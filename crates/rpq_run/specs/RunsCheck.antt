@@ -6,7 +6,7 @@ use Rattle.rpq_text.specs.declared.ends.SinkName.TheVariants.{Events}
 use Rattle.rpq_text.specs.Verdicts.{AreVerdicts}
 use Rattle.run_start.specs.Files.{IsQueriesFile, ForQueries}
 use Rattle.rpq_run.specs.Causes.{HasCauses}
-use Rattle.rpq_run.specs.Outcome.{Meanings, Sinks, Outcome}
+use Rattle.rpq_run.specs.Outcome.{Meanings, Sinks, Objects, Outcome}
 use Rattle.rpq_run.specs.Written.{WritesWhere}
 
 -- nothing was taken of a stream, and nothing answered
@@ -16,10 +16,16 @@ pub record TakesNothing {S K : Type 0} (outcome : Outcome S K) : Type 0 where
   pub no_session : outcome.sessions ≡ []
   pub no_replies : outcome.replies ≡ None
 
--- the check: the queries file has queries, nothing is taken and no source left, and the verdicts on
--- the queries are written, or a prefix of them
+-- the objects were left as they were
+pub record LeavesObjects (objects : Objects) : Type 0 where
+  pub stayed : objects.after.members ≡ objects.before
+  pub none_left : objects.after.left ≡ []
+
+-- the check: the queries file has queries, nothing is taken and no source left, the verdicts on the
+-- queries are written, or a prefix of them, and the objects are told nothing
 pub record RunsCheck {S K : Type 0} (means : Meanings S K) (given : Settings)
-    (holds : List ℕ → Option (List ℕ)) (sinks : Sinks K) (outcome : Outcome S K) : Type 0 where
+    (holds : List ℕ → Option (List ℕ)) (sinks : Sinks K) (objects : Objects) (outcome : Outcome S K)
+    : Type 0 where
   pub understood : IsQueriesFile (holds given.queries)
   pub nothing : TakesNothing outcome
   pub no_source : outcome.sources ≡ []
@@ -28,3 +34,4 @@ pub record RunsCheck {S K : Type 0} (means : Meanings S K) (given : Settings)
       WritesWhere (Contains failed Events) outcome.status (AreVerdicts queries)
       (means.written sinks.events_old) (means.written sinks.events_new))
   pub causes : HasCauses means failed sinks outcome
+  pub objects_kept : LeavesObjects objects

@@ -10,6 +10,8 @@ use Rattle.rpq_model.specs.Events.{IsHeld}
 use Rattle.rpq_model.specs.Query.{Query, path_query}
 use Rattle.rpq_model.specs.QueryEvents.{AreAllEvents}
 use Rattle.rpq_words.specs.Settings.{Settings}
+use Rattle.history_model.specs.declared.line.Why.{Why}
+use Rattle.history_model.specs.declared.line.Why.TheVariants.{Write, Memory}
 use Rattle.ask_text.specs.Replies.{replies}
 use Rattle.stream_tuples.specs.History.{IsNumberOf, AreStreamsOf}
 use Rattle.rpq_text.specs.declared.ends.SinkName.{SinkName}
@@ -18,8 +20,9 @@ use Rattle.rpq_text.specs.Statuses.{memory_status}
 use Rattle.rpq_text.specs.Text.{IsText}
 use Rattle.run_start.specs.Files.{ForQueries, ForAsked, AreUnderstoodFiles}
 use Rattle.rpq_threads.specs.Runs.{AreSessionsOf}
+use Rattle.rpq_threads.specs.Told.{TellsObjects}
 use Rattle.rpq_run.specs.Causes.{HasCauses}
-use Rattle.rpq_run.specs.Outcome.{Meanings, Sinks, Outcome}
+use Rattle.rpq_run.specs.Outcome.{Meanings, Sinks, Objects, Outcome}
 use Rattle.rpq_run.specs.Written.{WritesWhere}
 
 -- one history: each stream's tuples stand in it, in order, up to the stream's end, and nothing else
@@ -74,12 +77,26 @@ pub record AnswersSessions {S K : Type 0} (means : Meanings S K) (given : Settin
       (λ text. text ≡ replies (map (λ own. map (λ one. one.text) own) outcome.sessions))
       (nothing_told (means.written sink)) (means.written sink))
 
+-- the objects: of the events of the blocks that were written whole, and of no other, they heard
+-- those that they want. These are all blocks, unless a write of the events failed or memory ran out
+pub record TellsHistory {S K : Type 0} (means : Meanings S K) (given : Settings)
+    (holds : List ℕ → Option (List ℕ)) (failed : List SinkName) (sinks : Sinks K)
+    (objects : Objects) (outcome : Outcome S K) : Type 0 where
+  pub why : Option Why
+  pub write : why ≡ Some Write → Contains failed Events
+  pub memory : why ≡ Some Memory → outcome.status ≡ memory_status
+  pub told : ForQueries (holds given.queries) (λ queries. TellsObjects queries outcome.history
+      (means.written sinks.events_old) (means.written sinks.events_new) objects.before why
+      objects.after)
+
 -- the run over streams
 pub record RunsStreams {S K : Type 0} (means : Meanings S K) (given : Settings)
-    (holds : List ℕ → Option (List ℕ)) (sinks : Sinks K) (outcome : Outcome S K) : Type 0 where
+    (holds : List ℕ → Option (List ℕ)) (sinks : Sinks K) (objects : Objects)
+    (outcome : Outcome S K) : Type 0 where
   pub understood : AreUnderstoodFiles given holds
   pub failed : List SinkName
   pub history : HoldsStreams means given holds outcome
   pub events : WritesEvents means given holds failed sinks outcome
   pub replies : AnswersSessions means given holds failed outcome
+  pub told : TellsHistory means given holds failed sinks objects outcome
   pub causes : HasCauses means failed sinks outcome

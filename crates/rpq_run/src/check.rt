@@ -1,14 +1,14 @@
 //! The check of a queries file.
 
-ghost use Rattle.std.specs.Prelude.{◌≡◌, IfSome, List, ℕ, Option, None, is_err};
+ghost use Rattle.std.specs.Prelude.{◌≡◌, [], IfSome, List, ℕ, Option, None, is_err};
 ghost use Rattle.std.specs.List.{flat_map};
 ghost use Rattle.rpq_words.specs.Settings.{Settings};
 ghost use Rattle.rpq_text.specs.Definitions.{compiled_line, definitions_of};
 ghost use Rattle.rpq_text.specs.WordTexts.{verdict_at_end, verdict_front};
 ghost use Rattle.run_start.specs.Files.{HasQueries};
 ghost use Rattle.run_start.specs.Ready.{AreUnderstood};
-ghost use Rattle.rpq_run.specs.Outcome.{meanings, outcome, sinks};
-ghost use Rattle.rpq_run.specs.RunsCheck.{RunsCheck};
+ghost use Rattle.rpq_run.specs.Outcome.{Objects, meanings, outcome, sinks};
+ghost use Rattle.rpq_run.specs.RunsCheck.{LeavesObjects, RunsCheck};
 ghost use Rattle.rpq_run.specs.Written.{Tells};
 
 use crate::errors::tell_end;
@@ -30,10 +30,12 @@ pub fn run_check<F: Files>(
 ) -> Report<F>
     requires { AreUnderstood queries.now }
     ensures start { result.start ≡ None }
+    ensures left { result.left.items ≡ [] }
     ensures runs { (given : Settings) (holds : List ℕ → Option (List ℕ))
+        (objects : Objects) → LeavesObjects objects
         → IfSome (holds given.queries) (λ bytes. HasQueries bytes (definitions_of queries.now))
         → RunsCheck (meanings F.Source.left F.Source.faults F.Sink.written F.Sink.faults)
-        given holds (sinks events.old events.new errors.old errors.new) (outcome result) }
+        given holds (sinks events.old events.new errors.old errors.new) objects (outcome result) }
 {
     let written = write_verdicts(events, queries);
     let failed = failed_sinks(written.is_err(), false);
@@ -48,6 +50,7 @@ pub fn run_check<F: Files>(
         sources: Vec::new(alloc),
         sessions: Vec::new(alloc),
         replies: None,
+        left: Vec::new(alloc),
     }
 }
 

@@ -36,7 +36,6 @@ pub fn tell_start<S: Sink>(errors: &mut S, fault: &StartFault) -> Result<(), Fai
         StartFault::Open(which) => put_line(errors, &opening_line(*which)),
         StartFault::Read(which) => put_line(errors, &read_line(*which)),
         StartFault::Long(which) => put_line(errors, &file_line("rpq: ", *which, ": too long\n")),
-        StartFault::NotYet => put_line(errors, &line_of(&["rpq: not yet\n"])),
         StartFault::Memory => put_line(errors, &line_of(&["rpq: memory\n"])),
     }
 }

@@ -4,7 +4,7 @@ ghost use Rattle.std.specs.Prelude.{◌≡◌, ℕ, List, Option};
 ghost use Rattle.rpq_words.specs.Settings.{Settings};
 ghost use Rattle.rpq_text.specs.Statuses.{done_status};
 ghost use Rattle.rpq_run.specs.Headline.{Headline, IsTold, Told};
-ghost use Rattle.rpq_run.specs.Outcome.{Outcome, Sinks, meanings};
+ghost use Rattle.rpq_run.specs.Outcome.{Objects, Outcome, Sinks, meanings};
 ghost use Rattle.rpq_run.specs.RunsStreams.{RunsStreams};
 
 use query_file::one_outcome;
@@ -12,17 +12,18 @@ use rpq_io::Files;
 
 /// A run over streams that is done, where the files and the sink of the events tell their bytes:
 /// the events written are those of one history that holds each stream's tuples once, in order;
-/// after each entry the pairs emitted and not retracted are the answers; and each reader is told
-/// the answers at positions that never fall.
+/// after each entry the pairs emitted and not retracted are the answers; each object that stayed
+/// heard all events that it wants; and each reader is told the answers at positions that never
+/// fall.
 pub fn headline<F: Files>()
     ensures { (given : Settings) (holds : List ℕ → Option (List ℕ)) (sinks : Sinks F.Sink)
-        (outcome : Outcome F.Source F.Sink) (told : Told)
+        (objects : Objects) (outcome : Outcome F.Source F.Sink) (told : Told)
         → RunsStreams (meanings F.Source.left F.Source.faults F.Sink.written F.Sink.faults)
-        given holds sinks outcome → outcome.status ≡ done_status
+        given holds sinks objects outcome → outcome.status ≡ done_status
         → IsTold (meanings F.Source.left F.Source.faults F.Sink.written F.Sink.faults)
         given holds sinks told
         → Headline (meanings F.Source.left F.Source.faults F.Sink.written F.Sink.faults)
-        told sinks outcome }
+        told sinks objects outcome }
 {
     one_outcome(); // called for its clause
 }

@@ -3,14 +3,19 @@
 //! The contract for the layer above is that of [`run`]: over streams there is one history, in which
 //! each stream's tuples are those of its bytes by the stream's end; what is written on the events
 //! is the text of that history, and what the sessions are told are the answers at positions of it,
-//! or prefixes of these with their cause; where it checks queries it writes what there is to say of
-//! each; or it writes nothing and says why it didn't begin; and what went wrong is told on the
-//! errors. [`headline`] says the same of a run over streams that is done, in one piece.
+//! or prefixes of these with their cause; over generated tuples the history is theirs, and what is
+//! written is its summary; where it checks queries it writes what there is to say of each; or it
+//! writes nothing and says why it didn't begin; and what went wrong is told on the errors. The
+//! objects of the caller are told of the history's events, those of a block once it is written
+//! whole, and come back. [`headline`] says the same of a run over streams that is done, in one
+//! piece.
 #![tactic(auto)]
 
 mod check;
 mod errors;
+mod generated;
 mod laws;
+mod objects;
 mod replies;
 mod report;
 mod room;

@@ -4,13 +4,14 @@ use ask_text::Answered;
 use rpq_base::Entry;
 use rpq_io::Files;
 use rpq_text::StartFault;
+use standing::Standing;
 use stream_tuples::StreamEnd;
 
 /// What a run answers.
 ///
 /// | Status | Where |
 /// |---|---|
-/// | 0 | every stream was read to its end, or the queries were checked |
+/// | 0 | every stream was read to its end, all tuples were generated, or the queries were checked |
 /// | 1 | the words have no settings |
 /// | 2 | the queries file has a fault |
 /// | 3 | the asks file has a fault |
@@ -19,7 +20,6 @@ use stream_tuples::StreamEnd;
 /// | 6 | a write of the events or the replies failed, or the replies couldn't be opened |
 /// | 7 | the history is full, or a file has too many bytes |
 /// | 8 | memory ran out |
-/// | 9 | the settings of the words aren't taken so far |
 ///
 /// After the start it is the first of 8, 6, 7, 5 and 4 that arose, else 0. The numbers have names
 /// in [`status`](crate::status).
@@ -30,7 +30,8 @@ pub struct Report<F: Files> {
     pub start: Option<StartFault>,
     /// The entries that were taken, in order.
     pub history: Vec<Entry>,
-    /// How each stream ended, in order. Where the run didn't begin, or is a check, there is none.
+    /// How each stream ended, in order; generated tuples are one stream. Where the run didn't
+    /// begin, or is a check, there is none.
     pub streams: Vec<StreamEnd>,
     /// The source of each stream, as the run leaves it; where a read of the queries file or the
     /// asks file failed, that file's source.
@@ -39,4 +40,6 @@ pub struct Report<F: Files> {
     pub sessions: Vec<Vec<Answered>>,
     /// The sink of the replies, if there is one, as the run leaves it.
     pub replies: Option<F::Sink>,
+    /// The objects that left, in the order in which they did.
+    pub left: Vec<Box<dyn Standing>>,
 }

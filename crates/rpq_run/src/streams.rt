@@ -4,11 +4,12 @@ ghost use Rattle.std.specs.Prelude.{◌≡◌, List, ℕ, Option, None, Some, Er
 ghost use Rattle.rpq_words.specs.Settings.{Settings};
 ghost use Rattle.rpq_threads.specs.Runs.{IsTask};
 ghost use Rattle.rpq_run.specs.Failed.{failed_sinks, is_failed, is_write};
-ghost use Rattle.rpq_run.specs.Outcome.{meanings, outcome, sinks};
+ghost use Rattle.rpq_run.specs.Outcome.{meanings, objects, outcome, sinks};
 ghost use Rattle.rpq_run.specs.RunsStreams.{RunsStreams};
 ghost use Rattle.rpq_run.specs.Asked.{IsAsked};
 
 use crate::errors::tell_end;
+use crate::objects::{circle_of, put_back};
 use crate::replies::{RepliesFault, write_replies};
 use crate::report::Report;
 use history_model::Why;
@@ -16,16 +17,19 @@ use rpq_base::Memory;
 use rpq_io::{Context, Files, Gate};
 use rpq_text::{SinkName, fronts_hold_answers, run_status};
 use rpq_threads::{Outcome, Task, run_threads};
+use standing::Standing;
 use std::random::RandomSource;
 use std::sync::Wait;
 use std::thread::Threads;
 
-/// The run over streams: takes their tuples and answers the sessions, writes the replies, and tells
-/// what went wrong. The only error is [`Memory`], before anything is written.
+/// The run over streams: takes their tuples, tells the objects of the events, and answers the
+/// sessions; writes the replies, and tells what went wrong. The only error is [`Memory`], before
+/// anything is written or told.
 pub fn run_streams<R: Threads + Wait + RandomSource + Sync, G: Gate, F: Files>(
     context: &Context<'_, R, G>,
     task: Task<F::Source>,
     mut replies: Option<F::Sink>,
+    standing: &mut Vec<Box<dyn Standing>>,
     events: &mut F::Sink,
     errors: &mut F::Sink,
 ) -> Result<Report<F>, Memory>
@@ -34,11 +38,15 @@ pub fn run_streams<R: Threads + Wait + RandomSource + Sync, G: Gate, F: Files>(
     ensures runs { IfOk result (λ report. (given : Settings) (holds : List ℕ → Option (List ℕ))
         → IsAsked F.Source.left F.Sink.written F.Sink.faults given holds task replies
         → RunsStreams (meanings F.Source.left F.Source.faults F.Sink.written F.Sink.faults)
-        given holds (sinks events.old events.new errors.old errors.new) (outcome report)) }
+        given holds (sinks events.old events.new errors.old errors.new)
+        (objects (λ b. seen b) standing.old.items standing.new.items report.left.items)
+        (outcome report)) }
     ensures events_kept { OnErr result (events.new ≡ events.old) }
     ensures errors_kept { OnErr result (errors.new ≡ errors.old) }
+    ensures objects_kept { OnErr result (standing.new.items ≡ standing.old.items) }
 {
     fronts_hold_answers(); // called for its clause
+    let circle = circle_of(context.alloc, standing)?;
     let Outcome {
         history,
         ends,
@@ -46,7 +54,15 @@ pub fn run_streams<R: Threads + Wait + RandomSource + Sync, G: Gate, F: Files>(
         sessions,
         why,
         short_of_memory,
-    } = run_threads(context, task, events)?;
+        circle,
+    } = match run_threads(context, task, events, circle) {
+        Ok(outcome) => outcome,
+        Err((circle, Memory)) => {
+            let _none = put_back(standing, circle);
+            return Err(Memory);
+        }
+    };
+    let left = put_back(standing, circle);
     let replied = write_replies(context.alloc, &mut replies, &sessions);
     let failed = failed_sinks(is_write(why), is_failed(replied));
     let short_of_memory = is_short_of_memory(short_of_memory, why, replied);
@@ -61,6 +77,7 @@ pub fn run_streams<R: Threads + Wait + RandomSource + Sync, G: Gate, F: Files>(
         sources,
         sessions,
         replies,
+        left,
     })
 }
 

@@ -1,42 +1,53 @@
 //! The top call, [`run`].
 
-ghost use Rattle.std.specs.Prelude.{◌≡◌, false, ◌⊎◌, [], None, Some, IsNone, IfSome};
+ghost use Rattle.std.specs.Prelude.{◌≡◌, ◌⊎◌, ℕ, List, [], Option, None, Some};
+ghost use Rattle.std.specs.Prelude.{IsNone, IfSome, IsSomeAnd, IfOk, OnErr};
+ghost use Rattle.rpq_words.specs.Modes.{AreSettings};
 ghost use Rattle.rpq_words.specs.Settings.{settings, texts};
 ghost use Rattle.rpq_text.specs.ErrorLines.{start_line};
 ghost use Rattle.rpq_text.specs.Statuses.{done_status, memory_status, status_of_start};
-ghost use Rattle.run_start.specs.Given.{is_not_yet};
+ghost use Rattle.run_start.specs.Ready.{IsReady};
 ghost use Rattle.run_start.specs.Start.{IsDecided, UsesFiles};
 ghost use Rattle.rpq_run.specs.Done.{CanBeDone, NothingRose, NothingFails};
-ghost use Rattle.rpq_run.specs.Outcome.{meanings, openings, outcome, sinks};
-ghost use Rattle.rpq_run.specs.Run.{IsBegun, Refuses, Runs};
+ghost use Rattle.rpq_run.specs.Outcome.{meanings, objects, openings, outcome, sinks};
+ghost use Rattle.rpq_run.specs.Run.{Refuses, Runs};
 ghost use Rattle.rpq_run.specs.Written.{TellsLines};
 
 use crate::check::run_check;
 use crate::errors::tell_start;
+use crate::generated::run_generated;
 use crate::report::Report;
 use crate::room::Room;
 use crate::streams::run_streams;
+use generated_run::Generation;
 use rpq_base::Memory;
 use rpq_io::{Context, Files, Gate};
 use rpq_text::StartFault;
 use rpq_threads::Task;
+use rpq_words::Chosen;
 use run_start::{Reads, Ready, Refusal, begin, settings_of};
+use standing::Standing;
 use std::alloc::Global;
 use std::random::RandomSource;
 use std::sync::Wait;
 use std::thread::Threads;
 
 /// Reads queries and streams, and writes on `events` how each tuple changes the answers of each
-/// query; answers the asks of sessions meanwhile, and writes the replies; or checks the queries,
-/// and writes on `events` what there is to say of each.
+/// query; answers the asks of sessions meanwhile, and writes the replies; or generates the tuples
+/// and writes a summary; or checks the queries, and writes on `events` what there is to say of
+/// each.
 ///
 /// The words are those of the command line, the program's name first. The queries file is read
 /// whole and understood, then the asks file, then the streams are opened, and at last the replies.
 /// Each stream and each session has a thread of its own, and this thread is the engine's: it takes
-/// the entries of the one history in their order and writes the block of each. With `--check` no
-/// other file is opened. What went wrong is told on `errors`. The gate is told of the engine's
-/// workers and of the replies, and no clause rests on it. The clauses on contents stand where the
-/// files and the sinks tell them.
+/// the entries of the one history in their order and writes the block of each. Then it tells the
+/// standing objects of the entry's events. With `--check` or `--generate` no other file is opened.
+/// What went wrong is told on `errors`. The gate is told of the streams, the engine's workers and
+/// the replies, and no clause rests on it. The clauses on contents stand where the files and the
+/// sinks tell them.
+///
+/// The objects that stayed are in `standing` afterwards, in their order, and those that left in the
+/// report.
 pub fn run<R: Threads + Wait + RandomSource + Sync, F: Files, G: Gate>(
     rt: &R,
     alloc: Global,
@@ -44,18 +55,22 @@ pub fn run<R: Threads + Wait + RandomSource + Sync, F: Files, G: Gate>(
     files: &mut F,
     events: &mut F::Sink,
     errors: &mut F::Sink,
+    standing: &mut Vec<Box<dyn Standing>>,
     gate: &G,
 ) -> Report<F>
-    // A run that begins is the one over streams or the check that its settings ask for; one that
-    // doesn't says why.
-    ensures begun { IsNone result.start → IsBegun (settings (texts words.now)) (λ given.
+    // A run that begins is the one over streams, the one over generated tuples or the check that
+    // its settings ask for; one that doesn't says why.
+    ensures begun { IsNone result.start → IsSomeAnd (settings (texts words.now)) (λ given.
         Runs (meanings F.Source.left F.Source.faults F.Sink.written F.Sink.faults) given
         (F.holds files.old) (sinks events.old events.new errors.old errors.new)
+        (objects (λ b. seen b) standing.old.items standing.new.items result.left.items)
         (outcome result)) }
     ensures refused { IfSome result.start (Refuses
         (meanings F.Source.left F.Source.faults F.Sink.written F.Sink.faults)
         (settings (texts words.now)) (F.holds files.old)
-        (sinks events.old events.new errors.old errors.new) (outcome result)) }
+        (sinks events.old events.new errors.old errors.new)
+        (objects (λ b. seen b) standing.old.items standing.new.items result.left.items)
+        (outcome result)) }
     ensures words { IsDecided (settings (texts words.now)) result.start }
 
     // What it does to the files, and when nothing fails.
@@ -68,10 +83,10 @@ pub fn run<R: Threads + Wait + RandomSource + Sync, F: Files, G: Gate>(
         (F.unmade files.old) (F.unmade files.new))
         (sinks events.old events.new errors.old errors.new) (outcome result) }
 
-    // With settings that are taken so far, all files told and without a fault, tuples that the
-    // history can hold, and no count risen, all is done, unless memory ran out.
-    ensures complete { IfSome (settings (texts words.now)) (λ given. is_not_yet given ≡ false
-        → CanBeDone given (F.holds files.old) → NothingRose
+    // With all files told and without a fault, tuples that the history can hold, and no count
+    // risen, all is done, unless memory ran out.
+    ensures complete { IfSome (settings (texts words.now)) (λ given.
+        CanBeDone given (F.holds files.old) → NothingRose
         (meanings F.Source.left F.Source.faults F.Sink.written F.Sink.faults) given
         (openings (F.unread files.old) (F.unread files.new)
         (F.unmade files.old) (F.unmade files.new))
@@ -85,34 +100,72 @@ pub fn run<R: Threads + Wait + RandomSource + Sync, F: Files, G: Gate>(
     let Ok(room) = Room::new(alloc) else {
         return report_of_refusal(alloc, StartFault::Memory, Vec::new(alloc), errors);
     };
-    let Ready { queries, reads } = match begin(alloc, files, &chosen) {
+    let ready = match begin(alloc, files, &chosen) {
         Ok(ready) => ready,
         Err(Refusal { fault, source }) => {
             return report_of_refusal(alloc, fault, room.of_source(source), errors);
         }
     };
-    let Some(
-        Reads {
-            readers,
-            sessions,
-            replies,
-        },
-    ) = reads
-    else {
-        return run_check(alloc, &queries, events, errors);
-    };
     let context = Context { rt, alloc, gate };
-    let task = Task {
-        queries,
-        workers: chosen.workers,
-        limit: chosen.history,
-        readers,
-        sessions,
-    };
-    match run_streams(&context, task, replies, events, errors) {
+    match run_begun(&context, &chosen, ready, standing, events, errors) {
         Ok(report) => report,
         Err(Memory) => report_of_refusal(alloc, StartFault::Memory, Vec::new(alloc), errors),
     }
+}
+
+/// The run that these settings ask for, with what it begins with. The only error is [`Memory`],
+/// before anything is written or told.
+fn run_begun<R: Threads + Wait + RandomSource + Sync, G: Gate, F: Files>(
+    context: &Context<'_, R, G>,
+    chosen: &Chosen,
+    ready: Ready<F::Source, F::Sink>,
+    standing: &mut Vec<Box<dyn Standing>>,
+    events: &mut F::Sink,
+    errors: &mut F::Sink,
+) -> Result<Report<F>, Memory>
+    requires settings { AreSettings chosen.now }
+    requires ready { (holds : List ℕ → Option (List ℕ)) × IsReady F.Source.left F.Source.faults
+        F.Sink.written F.Sink.faults chosen.now holds ready.queries.items ready.reads }
+    ensures start { IfOk result (λ report. report.start ≡ None) }
+    ensures runs { IfOk result (λ report. (holds : List ℕ → Option (List ℕ))
+        → IsReady F.Source.left F.Source.faults F.Sink.written F.Sink.faults chosen.now holds
+        ready.queries.items ready.reads
+        → Runs (meanings F.Source.left F.Source.faults F.Sink.written F.Sink.faults)
+        chosen.now holds (sinks events.old events.new errors.old errors.new)
+        (objects (λ b. seen b) standing.old.items standing.new.items report.left.items)
+        (outcome report)) }
+    ensures events_kept { OnErr result (events.new ≡ events.old) }
+    ensures errors_kept { OnErr result (errors.new ≡ errors.old) }
+    ensures objects_kept { OnErr result (standing.new.items ≡ standing.old.items) }
+{
+    let Ready { queries, reads } = ready;
+    let workers = chosen.workers;
+    let limit = chosen.history;
+    if let Some(reads) = reads {
+        let Reads {
+            readers,
+            sessions,
+            replies,
+        } = reads;
+        let task = Task {
+            queries,
+            workers,
+            limit,
+            readers,
+            sessions,
+        };
+        return run_streams(context, task, replies, standing, events, errors);
+    }
+    let Some(count) = chosen.generate else {
+        return Ok(run_check(context.alloc, &queries, events, errors));
+    };
+    let generation = Generation {
+        queries,
+        workers,
+        limit,
+        count,
+    };
+    run_generated(context, generation, standing, events, errors)
 }
 
 /// The report of a run that doesn't begin for this cause and leaves these sources, which is told.
@@ -129,6 +182,7 @@ fn report_of_refusal<F: Files>(
     ensures sources { result.sources.items ≡ sources.items }
     ensures sessions { result.sessions.items ≡ [] }
     ensures replies { result.replies ≡ None }
+    ensures left { result.left.items ≡ [] }
     ensures errors { TellsLines F.Sink.written F.Sink.faults (start_line fault)
         errors.old errors.new }
 {
@@ -142,5 +196,6 @@ fn report_of_refusal<F: Files>(
         sources,
         sessions: Vec::new(alloc),
         replies: None,
+        left: Vec::new(alloc),
     }
 }

@@ -100,6 +100,7 @@ pub fn holds_behind<R: Threads + Wait + RandomSource + Sync, G: Gate>(
         &mut files,
         &mut events,
         &mut errors,
+        &mut Vec::new(alloc),
         gate,
     );
     let written = events.bytes() == case.events.as_bytes();

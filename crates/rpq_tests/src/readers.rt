@@ -203,6 +203,7 @@ fn report_of<R: Threads + Wait + RandomSource + Sync, G: Gate>(
         &mut files,
         &mut events,
         &mut errors,
+        &mut Vec::new(alloc),
         gate,
     ))
 }

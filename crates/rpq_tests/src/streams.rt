@@ -43,7 +43,7 @@ impl Gate for MeetingGate {
 
 /// What a run over the files `q`, `s`, `t` and `u` is given, of which the reads of `t` and the writes
 /// of the events with these numbers fail, and its status, its lines on the errors, and how many
-/// entries its history has at most.
+/// entries its history has, unless that is up to the machine.
 #[derive(Clone, Copy)]
 struct Case<'a> {
     words: &'a [&'a str],
@@ -52,7 +52,7 @@ struct Case<'a> {
     failing_writes: &'a [u64],
     status: u8,
     errors: &'a str,
-    entries: usize,
+    entries: Option<usize>,
 }
 
 /// Whether the run of the case answers what it is to, behind this gate.
@@ -77,10 +77,15 @@ fn holds<R: Threads + Wait + RandomSource + Sync, G: Gate>(
         &mut files,
         &mut events,
         &mut errors,
+        &mut Vec::new(alloc),
         gate,
     );
     let told = errors.bytes() == case.errors.as_bytes();
-    Ok(report.status == case.status && told && report.history.len() == case.entries)
+    let as_many = match case.entries {
+        Some(entries) => report.history.len() == entries,
+        None => true,
+    };
+    Ok(report.status == case.status && told && as_many)
 }
 
 #[test]
@@ -96,7 +101,7 @@ fn two_streams_at_the_same_time(rt: HostRuntime) -> Result<(), Fail> {
         failing_writes: &[],
         status: 0,
         errors: "",
-        entries: 5,
+        entries: Some(5),
     };
     assert!(rt; holds(&rt, rt.alloc(), &case, &gate)?);
     assert!(rt; gate.alone.load(SeqCst) == 0);
@@ -114,7 +119,7 @@ fn each_stream_has_its_own_end(rt: HostRuntime) -> Result<(), Fail> {
         failing_writes: &[],
         status: 5,
         errors: "rpq: stream 1 line 2: fields 2\nrpq: read failed: stream 2\n",
-        entries: 5,
+        entries: Some(5),
     };
     // Each has a further tuple when the history is full.
     let full = Case {
@@ -124,10 +129,35 @@ fn each_stream_has_its_own_end(rt: HostRuntime) -> Result<(), Fail> {
         status: 7,
         errors: "rpq: stream 1: history full\nrpq: stream 2: history full\n\
             rpq: stream 3: history full\n",
-        entries: 2,
+        entries: Some(2),
         ..faults
     };
     assert!(rt; holds(&rt, alloc, &faults, &OpenGate)?);
     assert!(rt; holds(&rt, alloc, &full, &OpenGate)?);
+    Ok(())
+}
+
+#[test]
+fn a_failed_write_while_streams_go_on(rt: HostRuntime) -> Result<(), Fail> {
+    // The streams end as they may: each at its end, or closed.
+    let first = Case {
+        words: &["q", "s", "t", "u"],
+        streams: [
+            "1 x a y\n2 y a z\n3\n",
+            "4\n5 x a w\n6\n",
+            "7\n8 x a y\n9\n",
+        ],
+        failing_reads: &[],
+        failing_writes: &[1],
+        status: 6,
+        errors: "rpq: write failed: events\n",
+        entries: None,
+    };
+    let later = Case {
+        failing_writes: &[5],
+        ..first
+    };
+    assert!(rt; holds(&rt, rt.alloc(), &first, &OpenGate)?);
+    assert!(rt; holds(&rt, rt.alloc(), &later, &OpenGate)?);
     Ok(())
 }

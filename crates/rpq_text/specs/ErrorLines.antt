@@ -16,7 +16,7 @@ use Rattle.rpq_text.specs.declared.ends.SinkName.TheVariants.{Events, Replies as
 use Rattle.rpq_text.specs.declared.ends.StartFault.{StartFault}
 use Rattle.rpq_text.specs.declared.ends.StartFault.TheVariants.{Words, Queries as QueriesFault}
 use Rattle.rpq_text.specs.declared.ends.StartFault.TheVariants.{Asks as AsksFault, Open}
-use Rattle.rpq_text.specs.declared.ends.StartFault.TheVariants.{Read as ReadAtStart, Long, NotYet}
+use Rattle.rpq_text.specs.declared.ends.StartFault.TheVariants.{Read as ReadAtStart, Long}
 use Rattle.rpq_text.specs.declared.ends.StartFault.TheVariants.{Memory as MemoryAtStart}
 use Rattle.rpq_text.specs.Statuses.{memory_status}
 
@@ -63,7 +63,6 @@ start_line (AsksFault fault) = asks_text fault.line (ask_kind_text fault.kind)
 start_line (Open which) = opening_line which
 start_line (ReadAtStart which) = read_line which
 start_line (Long which) = codes "rpq: " ++ file_text which ++ codes ": too long\n"
-start_line NotYet = codes "rpq: not yet\n"
 start_line MemoryAtStart = codes "rpq: memory\n"
 
 -- what is said of the line of the stream with these numbers

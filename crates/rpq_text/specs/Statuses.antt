@@ -13,7 +13,7 @@ use Rattle.rpq_text.specs.declared.ends.SinkName.TheVariants.{Events, Replies as
 use Rattle.rpq_text.specs.declared.ends.StartFault.{StartFault}
 use Rattle.rpq_text.specs.declared.ends.StartFault.TheVariants.{Words, Queries as QueriesFault}
 use Rattle.rpq_text.specs.declared.ends.StartFault.TheVariants.{Asks as AsksFault, Open}
-use Rattle.rpq_text.specs.declared.ends.StartFault.TheVariants.{Read as ReadAtStart, Long, NotYet}
+use Rattle.rpq_text.specs.declared.ends.StartFault.TheVariants.{Read as ReadAtStart, Long}
 use Rattle.rpq_text.specs.declared.ends.StartFault.TheVariants.{Memory as MemoryAtStart}
 
 -- all was done
@@ -52,10 +52,6 @@ limit_status = 7
 abbrev pub memory_status : ℕ
 memory_status = 8
 
--- the settings of the words aren't taken so far
-abbrev pub not_yet_status : ℕ
-not_yet_status = 9
-
 -- the status of a run that couldn't open this file: the replies were to be written, and the others
 -- to be read
 abbrev pub status_of_opening : Which → ℕ
@@ -72,7 +68,6 @@ status_of_start (AsksFault fault) = asks_status
 status_of_start (Open which) = status_of_opening which
 status_of_start (ReadAtStart which) = read_status
 status_of_start (Long which) = limit_status
-status_of_start NotYet = not_yet_status
 status_of_start MemoryAtStart = memory_status
 
 -- the status of a run in which nothing but this end of a stream arose

@@ -50,8 +50,6 @@ pub enum StartFault {
     Read(Which),
     /// This file, which is read whole, has too many bytes.
     Long(Which),
-    /// The settings of the words aren't taken so far: they have generated tuples.
-    NotYet,
     /// Memory ran out.
     Memory,
 }
@@ -68,7 +66,6 @@ impl StartFault {
             StartFault::Open(Which::Replies) => status::WRITE,
             StartFault::Open(_) | StartFault::Read(_) => status::READ,
             StartFault::Long(_) => status::LIMIT,
-            StartFault::NotYet => status::NOT_YET,
             StartFault::Memory => status::MEMORY,
         }
     }

@@ -26,6 +26,3 @@ pub const LIMIT: u8 = 7;
 
 /// Memory ran out.
 pub const MEMORY: u8 = 8;
-
-/// The settings of the words aren't taken so far.
-pub const NOT_YET: u8 = 9;

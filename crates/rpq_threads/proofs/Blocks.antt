@@ -1,13 +1,16 @@
 -- The blocks of a history, and of what follows it.
-use Rattle.std.proofs.Common.{◌≡◌, ◌≢◌, ℕ, ◌+◌, ◌<◌, ◌≤◌, List, [], ◌∷◌, ◌++◌, length, map, drop}
-use Rattle.std.proofs.Common.{get_or, Option, refl, ap, sym, subst, ◌∙◌, append_assoc, arith}
+use Rattle.std.proofs.Common.{◌≡◌, ◌≢◌, ℕ, suc, ◌+◌, ◌<◌, ◌≤◌, List, [], ◌∷◌, ◌++◌, length, map}
+use Rattle.std.proofs.Common.{take, drop, get_or, Option, Some, option_map, slice_get}
+use Rattle.std.proofs.Common.{refl, ap, sym, subst, ◌∙◌, append_assoc, arith}
 use Rattle.std.specs.Global.{Vec}
 use Rattle.std.specs.Io.KnownBytes.{append_known}
-use Rattle.std.proofs.lemmas.List.{append-nil, drop_more, drop_all}
+use Rattle.std.proofs.lemmas.List.{append-nil, take-append-drop, length-take-le, take_more}
+use Rattle.std.proofs.lemmas.Option.{slice_get_within, slice_get_read, slice_get-map}
+use Rattle.std.proofs.lemmas.Option.{get_or_from_slice_get}
 use Rattle.rpq_base.specs.declared.data.Entry.{Entry}
 use Rattle.rpq_base.specs.declared.data.Event.{Event}
 use Rattle.rpq_io.specs.Writes.{WritesProperPrefix}
-use Rattle.rpq_io.proofs.Bytes.{append_known-nil, append_known-append}
+use Rattle.rpq_io.proofs.Bytes.{append_known-append}
 use Rattle.rpq_model.specs.Events.{AreEachFrom}
 use Rattle.rpq_model.specs.Query.{Query}
 use Rattle.rpq_model.specs.QueryEvents.{AreEventsUnder, AreAllEventsFrom}
@@ -16,7 +19,7 @@ use Rattle.rpq_text.specs.Text.{block, blocks_from, IsText}
 use Rattle.rpq_threads.specs.Fed.{WritesFront}
 
 -- the lists of some entries, and then those of the entries that follow them
-each_append : (first : List Entry) (lists : List (List Event))
+pub each_append : (first : List Entry) (lists : List (List Event))
     (step : List Entry → List Entry → List Event → Type 0) (before later : List Entry)
     (more : List (List Event)) → AreEachFrom step before first lists →
     AreEachFrom step (before ++ first) later more →
@@ -34,7 +37,7 @@ each_append (next ∷ first) (one ∷ rest) step before later more are then =
     )
 
 -- the blocks of some entries, and then those of the entries that follow them
-blocks_append : (first : List Entry) (lists : List (List Event)) (queries : List Query)
+pub blocks_append : (first : List Entry) (lists : List (List Event)) (queries : List Query)
     (position : ℕ) (later : List Entry) (more : List (List Event)) → length first ≡ length lists →
     blocks_from queries position (first ++ later) (lists ++ more)
     ≡ blocks_from queries position first lists
@@ -74,92 +77,118 @@ text_append queries history text later found is_text brings =
 
 -- ---- one block after another
 
--- of these bytes those before the rest were written
-pub record WritesUpTo (bytes rest : List ℕ) (before after : Option (List ℕ)) : Type 0 where
-  pub front : List ℕ
-  pub cut : bytes ≡ front ++ rest
-  pub written : after ≡ append_known before front
-
 -- the lists of events
 abbrev pub lists_of : List (Vec Event) → List (List Event)
 lists_of found = map (λ (own : Vec Event). own.items) found
 
--- the block at a place, and those after it
-pub blocks_at : (entries : List Entry) (found : List (Vec Event)) (i : ℕ) (queries : List Query)
-    (position : ℕ) (entry : Entry) (own : Vec Event) → i < length entries →
-    length found ≡ length entries → entry ≡ get_or entries i entry → own ≡ get_or found i own →
-    blocks_from queries position (drop i entries) (lists_of (drop i found))
-    ≡ block queries position entry own.items
-    ++ blocks_from queries (position + 1) (drop (i + 1) entries) (lists_of (drop (i + 1) found))
-blocks_at entries found i queries position entry own below many is own_is =
-    let here : drop i entries ≡ entry ∷ drop (i + 1) entries =
-    drop_more entries i entry below ∙ ap (λ (e : Entry). e ∷ drop (i + 1) entries) (sym is) in
-    let there : drop i found ≡ own ∷ drop (i + 1) found =
-    drop_more found i own (omega (arith, below, many))
-    ∙ ap (λ (l : Vec Event). l ∷ drop (i + 1) found) (sym own_is) in
-    ap (λ (es : List Entry). blocks_from queries position es (lists_of (drop i found))) here
-    ∙ ap (λ (fs : List (Vec Event)). blocks_from queries position (entry ∷ drop (i + 1) entries)
-    (lists_of fs)) there
+pub length-lists : (found : List (Vec Event)) → length (lists_of found) ≡ length found
+length-lists [] = refl
+length-lists (own ∷ found) = ap suc (length-lists found)
 
--- nothing is left behind all entries
-pub none_left : (entries : List Entry) (found : List (Vec Event)) (i : ℕ) (queries : List Query)
-    (position : ℕ) → length entries ≤ i →
-    blocks_from queries position (drop i entries) (lists_of (drop i found)) ≡ []
-none_left entries found i queries position all =
-    ap (λ (es : List Entry). blocks_from queries position es (lists_of (drop i found)))
-    (drop_all i entries all)
+-- a list at its place
+pub list_at : (found : List (Vec Event)) (i : ℕ) (own : Vec Event) → i < length found →
+    own ≡ get_or found i own → slice_get (lists_of found) i ≡ Some own.items
+list_at found i own below is =
+    slice_get-map (λ (each : Vec Event). each.items) found i
+    ∙ ap (option_map (λ (each : Vec Event). each.items))
+    (slice_get_read found (length found) i own refl below is)
 
-module _ (bytes ahead next rest : List ℕ) (before between after : Option (List ℕ))
-    (cut : ahead ≡ next ++ rest) (so_far : WritesUpTo bytes ahead before between) where
-  -- the next bytes were written
-  pub up_to_more : after ≡ append_known between next → WritesUpTo bytes rest before after
-  up_to_more written = record {
-    front = so_far.front ++ next;
-    cut = so_far.cut ∙ (ap (λ (b : List ℕ). so_far.front ++ b) cut
-        ∙ sym (append_assoc so_far.front next rest));
-    written = written ∙ (ap (λ (w : Option (List ℕ)). append_known w next) so_far.written
-        ∙ append_known-append before so_far.front next);
-  }
+-- the first elements, and the one behind them
+pub take_with : {X : Type 0} (all : List X) (i : ℕ) (one : X) → slice_get all i ≡ Some one →
+    take (i + 1) all ≡ take i all ++ one ∷ []
+take_with {X} all i one is =
+    take_more all i one (slice_get_within all i one is)
+    ∙ ap (λ (x : X). take i all ++ x ∷ []) (get_or_from_slice_get all i one one is)
 
-  -- a part of them was written, and not all
-  pub proper_more : WritesProperPrefix next between after → WritesProperPrefix bytes before after
-  proper_more part = record {
-    front = so_far.front ++ part.front;
-    rest = part.rest ++ rest;
-    cut = so_far.cut ∙ (ap (λ (b : List ℕ). so_far.front ++ b)
-        (cut ∙ (ap (λ (b : List ℕ). b ++ rest) part.cut ∙ append_assoc part.front part.rest rest))
-        ∙ sym (append_assoc so_far.front part.front (part.rest ++ rest)));
-    proper = not_empty part.rest rest part.proper;
-    written = part.written ∙ (ap (λ (w : Option (List ℕ)). append_known w part.front)
-        so_far.written ∙ append_known-append before so_far.front part.front);
-  }
+-- the blocks of the first entries, and those of the others
+pub blocks_cut : (entries : List Entry) (lists : List (List Event)) (i : ℕ) (queries : List Query)
+    (position : ℕ) → length lists ≡ length entries → i ≤ length entries →
+    blocks_from queries position entries lists
+    ≡ blocks_from queries position (take i entries) (take i lists)
+    ++ blocks_from queries (position + i) (drop i entries) (drop i lists)
+blocks_cut entries lists i queries position many within =
+    let first = length-take-le i entries within in
+    let second = length-take-le i lists (omega (arith, many, within)) in
+    ap (λ (es : List Entry). blocks_from queries position es lists)
+    (sym (take-append-drop i entries))
+    ∙ (ap (λ (ls : List (List Event)). blocks_from queries position
+    (take i entries ++ drop i entries) ls) (sym (take-append-drop i lists))
+    ∙ (blocks_append (take i entries) (take i lists) queries position (drop i entries)
+    (drop i lists) (first ∙ sym second)
+    ∙ ap (λ (n : ℕ). blocks_from queries position (take i entries) (take i lists)
+    ++ blocks_from queries (position + n) (drop i entries) (drop i lists)) first))
+
+-- bytes are written behind those that were written
+pub written_more : (done next : List ℕ) (before between after : Option (List ℕ)) →
+    between ≡ append_known before done → after ≡ append_known between next →
+    after ≡ append_known before (done ++ next)
+written_more done next before between after so_far written =
+    written ∙ (ap (λ (w : Option (List ℕ)). append_known w next) so_far
+    ∙ append_known-append before done next)
+
+-- the entry at a place with its events, of a list with as many lists of events
+module _ (entries : List Entry) (lists : List (List Event)) (i : ℕ) (entry : Entry)
+    (own : List Event) (there : slice_get entries i ≡ Some entry)
+    (are : slice_get lists i ≡ Some own) (many : length lists ≡ length entries)
+    (queries : List Query) (position : ℕ) where
+  within : i < length entries
+  within = slice_get_within entries i entry there
+
+  -- the blocks of the first entries, and the one behind them
+  pub blocks_with : blocks_from queries position (take (i + 1) entries) (take (i + 1) lists)
+      ≡ blocks_from queries position (take i entries) (take i lists)
+      ++ block queries (position + i) entry own
+  blocks_with =
+      let first = length-take-le i entries (omega (arith, within)) in
+      let second = length-take-le i lists (omega (arith, many, within)) in
+      ap (λ (es : List Entry). blocks_from queries position es (take (i + 1) lists))
+      (take_with entries i entry there)
+      ∙ (ap (λ (ls : List (List Event)). blocks_from queries position (take i entries ++ entry ∷ [])
+      ls) (take_with lists i own are)
+      ∙ (blocks_append (take i entries) (take i lists) queries position (entry ∷ []) (own ∷ [])
+      (first ∙ sym second)
+      ∙ (ap (λ (n : ℕ). blocks_from queries position (take i entries) (take i lists)
+      ++ (block queries (position + n) entry own ++ [])) first
+      ∙ ap (λ (b : List ℕ). blocks_from queries position (take i entries) (take i lists) ++ b)
+      (append-nil (block queries (position + i) entry own)))))
+
+  -- a part of that block was written, and not all: then all blocks aren't written
+  pub proper_at : (before between after : Option (List ℕ)) →
+      between ≡ append_known before (blocks_from queries position (take i entries) (take i lists)) →
+      WritesProperPrefix (block queries (position + i) entry own) between after →
+      WritesProperPrefix (blocks_from queries position entries lists) before after
+  proper_at before between after so_far part =
+      let done = blocks_from queries position (take i entries) (take i lists) in
+      let next = block queries (position + i) entry own in
+      let later = blocks_from queries (position + (i + 1)) (drop (i + 1) entries)
+      (drop (i + 1) lists) in
+      record {
+        front = done ++ part.front;
+        rest = part.rest ++ later;
+        cut =
+            blocks_cut entries lists (i + 1) queries position many (omega (arith, within))
+            ∙ (ap (λ (b : List ℕ). b ++ later) blocks_with
+            ∙ (append_assoc done next later
+            ∙ (ap (λ (b : List ℕ). done ++ (b ++ later)) part.cut
+            ∙ (ap (λ (b : List ℕ). done ++ b) (append_assoc part.front part.rest later)
+            ∙ sym (append_assoc done part.front (part.rest ++ later))))));
+        proper = not_empty part.rest later part.proper;
+        written = written_more done part.front before between after so_far part.written;
+      }
     where
       not_empty : (some more : List ℕ) → some ≢ [] → some ++ more ≢ []
       not_empty [] more full is = full refl
       not_empty (first ∷ some) more full is = cc
 
--- at the start none of the blocks is written
-pub none_yet : (entries : List Entry) (found : List (Vec Event)) (queries : List Query)
-    (position : ℕ) (before : Option (List ℕ)) →
-    WritesUpTo (blocks_from queries position entries (lists_of found))
-    (blocks_from queries (position + 0) (drop 0 entries) (lists_of (drop 0 found))) before before
-none_yet entries found queries position before =
-    let here : position ≡ position + 0 = omega arith in
-    record {
-      front = [];
-      cut = ap (λ (n : ℕ). blocks_from queries n entries (lists_of found)) here;
-      written = sym (append_known-nil before);
-    }
-
--- what was written up to a rest is a part at the front
-pub front_of : (bytes rest : List ℕ) (before after : Option (List ℕ)) →
-    WritesUpTo bytes rest before after → WritesFront bytes before after
-front_of bytes rest before after up_to =
-    record { front = up_to.front; rest = rest; cut = up_to.cut; written = up_to.written }
-
--- all is written where nothing is left
-pub all_written : (bytes rest : List ℕ) (before after : Option (List ℕ)) →
-    WritesUpTo bytes rest before after → rest ≡ [] → after ≡ append_known before bytes
-all_written bytes rest before after up_to none =
-    up_to.written ∙ ap (append_known before)
-    (sym (up_to.cut ∙ (ap (λ (b : List ℕ). up_to.front ++ b) none ∙ append-nil up_to.front)))
+-- the blocks of the first entries are a part at the front
+pub front_at : (entries : List Entry) (lists : List (List Event)) (i : ℕ) (queries : List Query)
+    (position : ℕ) → length lists ≡ length entries → i ≤ length entries →
+    (before after : Option (List ℕ)) →
+    after ≡ append_known before (blocks_from queries position (take i entries) (take i lists)) →
+    WritesFront (blocks_from queries position entries lists) before after
+front_at entries lists i queries position many within before after written = record {
+  front = blocks_from queries position (take i entries) (take i lists);
+  rest = blocks_from queries (position + i) (drop i entries) (drop i lists);
+  cut = blocks_cut entries lists i queries position many within;
+  written = written;
+}

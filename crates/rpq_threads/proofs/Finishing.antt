@@ -46,11 +46,14 @@ use Rattle.rpq_workers.proofs.Numbering.{Each, numbered_length, AreInOrder, orde
 use Rattle.rpq_workers.proofs.Numbering.{all_in_order}
 use Rattle.rpq_workers.proofs.Replying.{replies_grow}
 use Rattle.rpq_text.specs.Definitions.{definitions_of}
+use Rattle.standing.specs.Objects.{ObjectValue}
+use Rattle.standing.specs.Circles.{CircleValue, Parts, as_seen}
 use Rattle.rpq_threads.specs.declared.task.Outcome.{Outcome}
 use Rattle.rpq_threads.specs.declared.task.Task.{Task}
 use Rattle.rpq_threads.specs.Written.{Grew, GrewByPrefix, GrewByProperPrefix}
 use Rattle.rpq_threads.specs.Runs.{WritesText, IsAnsweredOf, Rises, AreSessionsOf}
 use Rattle.rpq_threads.specs.Runs.{asks_answered, HasAnswered, Holds}
+use Rattle.rpq_threads.specs.Told.{TellsObjects}
 use Rattle.rpq_threads.specs.Fed.{HasFed}
 use Rattle.rpq_threads.specs.Served.{Given, Gave, IsServed}
 use Rattle.rpq_threads.proofs.Starting.{terms_of}
@@ -197,8 +200,8 @@ module _ (law : LegalIsSound) (fronts : FrontsAreLegal) (terms : Terms) (lines :
   front_is seen starts = is_front lines seen starts fronts terms.streams terms.cap legal
 
   module _ {K : Type 0} (written : K → Option (List ℕ)) (failures : K → ℕ) (history : HistoryValue)
-      (same : history.terms ≡ terms) (before after : K) (engine : Each) (why : Option Why)
-      (fed : HasFed written failures history before after engine why)
+      (same : history.terms ≡ terms) (before after : K) (first last : CircleValue) (engine : Each)
+      (why : Option Why) (fed : HasFed written failures history before after first last engine why)
       (knows : Knows author terms lines engine) where
     closes : (reason : Why) → IsShutFor lines reason → why ≡ Some reason
     closes reason shut =
@@ -232,6 +235,17 @@ module _ (law : LegalIsSound) (fronts : FrontsAreLegal) (terms : Terms) (lines :
           (written before) (written after)) (sym (none_after_shut Memory is)) (fed.text.memory is));
       counted = fed.text.counted;
     }
+
+    all_seen : (reason : Option Why) → why ≡ reason → entries lines ≡ entries engine.seen
+    all_seen None is = no_more is
+    all_seen (Some reason) is = none_after_shut reason is
+
+    pub tells : TellsObjects terms.queries (entries lines) (written before) (written after)
+        first.members why last
+    tells = subst (λ (t : Terms). TellsObjects t.queries (entries lines) (written before)
+        (written after) first.members why last) same
+        (subst (λ (all : List Entry). TellsObjects history.terms.queries all (written before)
+        (written after) first.members why last) (sym (all_seen why refl)) fed.objects)
 
     pub all_published : why ≡ None → 0 < history.readers →
         published lines ≡ length (entries lines)
@@ -460,8 +474,9 @@ module _ (law : LegalIsSound) (fronts : FrontsAreLegal) (terms : Terms) (lines :
       as_many_sources = ap length did.sources_are ∙ (length-sources did.streamed ∙ many);
       as_many_ends = ap length did.ends_are ∙ (length-ends did.streamed ∙ many);
       each = λ place file source end f s e.
-          streams_at written failures history same given.events gave.events did.engine gave.why
-          did.fed engine_knew left faults 1 given.readers did.streamed
+          streams_at written failures history same given.events gave.events given.circle
+          gave.circle did.engine gave.why did.fed engine_knew left faults 1 given.readers
+          did.streamed
           (map (λ (r : Replied). r.pass) did.replied) did.did others_knew place file source end f
           (ap (λ (l : List S). slice_get l place) (sym did.sources_are) ∙ s)
           (ap (λ (l : List StreamEnd). slice_get l place) (sym did.ends_are) ∙ e);
@@ -470,8 +485,8 @@ module _ (law : LegalIsSound) (fronts : FrontsAreLegal) (terms : Terms) (lines :
     pub all_closed : (reason : Why) → Contains gave.ends (Closed reason) → gave.why ≡ Some reason
     all_closed reason there =
         let ends = map (λ (d : Streamed S). d.end) did.streamed in
-        let all = closed_all written failures history same given.events gave.events did.engine
-        gave.why did.fed engine_knew left faults 1 given.readers did.streamed
+        let all = closed_all written failures history same given.events gave.events given.circle
+        gave.circle did.engine gave.why did.fed engine_knew left faults 1 given.readers did.streamed
         (map (λ (r : Replied). r.pass) did.replied) did.did others_knew in
         let is : Contains ends (Closed reason) =
         subst (λ (each : List StreamEnd). Contains each (Closed reason)) did.ends_are there in
@@ -485,16 +500,22 @@ module _ (law : LegalIsSound) (fronts : FrontsAreLegal) (terms : Terms) (lines :
 
     pub all_text : WritesText written failures terms.queries (entries lines) given.events
         gave.events gave.why
-    all_text = writes written failures history same given.events gave.events did.engine gave.why
-        did.fed engine_knew
+    all_text = writes written failures history same given.events gave.events given.circle
+        gave.circle did.engine gave.why did.fed engine_knew
+
+    pub all_told : TellsObjects terms.queries (entries lines) (written given.events)
+        (written gave.events) given.circle.members gave.why gave.circle
+    all_told = tells written failures history same given.events gave.events given.circle
+        gave.circle did.engine gave.why did.fed engine_knew
 
     all_sessions : AreSessionsOf terms.queries (entries lines) (published lines) given.sessions
         gave.answers
     all_sessions =
         subst (AreSessionsOf terms.queries (entries lines) (published lines) given.sessions)
         (sym did.answers_are)
-        (sessions_are written failures history same given.events gave.events did.engine gave.why
-        did.fed engine_knew (1 + history.terms.streams) given.sessions did.replied did.answered_all
+        (sessions_are written failures history same given.events gave.events given.circle
+        gave.circle did.engine gave.why did.fed engine_knew (1 + history.terms.streams)
+        given.sessions did.replied did.answered_all
         (All-behind (Knows author terms lines) (map (λ (d : Streamed S). d.pass) did.streamed)
         (map (λ (r : Replied). r.pass) did.replied) others_knew))
 
@@ -524,7 +545,8 @@ module _ (law : LegalIsSound) (fronts : FrontsAreLegal) (terms : Terms) (lines :
           last = published lines;
           within = sound.behind;
           at_end = λ none. all_published written failures history same given.events gave.events
-              did.engine gave.why did.fed engine_knew none (omega (arith, many));
+              given.circle gave.circle did.engine gave.why did.fed engine_knew none
+              (omega (arith, many));
           sessions = all_sessions;
           all = all_answered;
         }
@@ -535,12 +557,12 @@ module _ (law : LegalIsSound) (fronts : FrontsAreLegal) (terms : Terms) (lines :
     all_replies many = answered_in given.sessions refl many
 
 -- what the threads' passes knew makes what a run's outcome tells
-module _ (law : LegalIsSound) (fronts : FrontsAreLegal) {S K : Type 0}
+module _ (law : LegalIsSound) (fronts : FrontsAreLegal) {S K O : Type 0}
     (left : S → Option (List ℕ)) (faults : S → ℕ) (written : K → Option (List ℕ))
-    (failures : K → ℕ) (task : Task S) (history : HistoryValue)
+    (failures : K → ℕ) (seen : O → ObjectValue) (task : Task S) (history : HistoryValue)
     (same : history.terms ≡ terms_of task) (lines : List Line)
     (legal : IsLegal (length task.readers.items) task.limit lines) (before after : K)
-    (outcome : Outcome S) (passes : List Each) where
+    (circle : Parts O) (outcome : Outcome S O) (passes : List Each) where
   abbrev gave : Gave S K
   gave = record {
     sources = outcome.sources.items;
@@ -549,13 +571,27 @@ module _ (law : LegalIsSound) (fronts : FrontsAreLegal) {S K : Type 0}
     why = outcome.why;
     short_of_memory = outcome.short_of_memory;
     events = after;
+    circle = as_seen seen outcome.circle;
+  }
+
+  abbrev given_of : List (ReaderState S) → List (List Ask) → Given S K
+  given_of readers sessions = record {
+    readers = readers;
+    sessions = sessions;
+    events = before;
+    circle = as_seen seen circle;
   }
 
   pub outcome_holds : outcome.history.items ≡ entries lines →
       (readers : List (ReaderState S)) (sessions : List (List Ask)) →
       readers ≡ task.readers.items → sessions ≡ task.sessions.items →
       IsServed left faults written failures history
-      (record { readers = readers; sessions = sessions; events = before })
+      (record {
+        readers = readers;
+        sessions = sessions;
+        events = before;
+        circle = as_seen seen circle;
+      })
       (record {
         sources = outcome.sources.items;
         ends = outcome.ends.items;
@@ -563,25 +599,19 @@ module _ (law : LegalIsSound) (fronts : FrontsAreLegal) {S K : Type 0}
         why = outcome.why;
         short_of_memory = outcome.short_of_memory;
         events = after;
+        circle = as_seen seen outcome.circle;
       }) passes →
       All (Knows author (terms_of task) lines) passes → length sessions ≡ history.readers →
-      Holds left faults written failures task before after outcome
+      Holds left faults written failures seen task before after circle outcome
   outcome_holds are readers sessions readers_are sessions_are was knows asked =
       let queries = definitions_of task.queries.items in
       let answers = gave.answers in
       let files = map (λ (reader : ReaderState S). left reader.source) task.readers.items in
       let from_entries = sym {A = List Entry} are in
       let did = subst (λ (given : List (ReaderState S)). IsServed left faults written failures
-      history (record {
-        readers = given;
-        sessions = task.sessions.items;
-        events = before;
-      }) gave passes) readers_are
-      (subst (λ (given : List (List Ask)). IsServed left faults written failures history (record {
-        readers = readers;
-        sessions = given;
-        events = before;
-      }) gave passes) sessions_are was) in
+      history (given_of given task.sessions.items) gave passes) readers_are
+      (subst (λ (given : List (List Ask)). IsServed left faults written failures history
+      (given_of readers given) gave passes) sessions_are was) in
       let asked_all = sym (ap length sessions_are) ∙ asked in
       record {
         streams = subst (λ (all : List Entry). AreStreamsOf left faults task.limit files
@@ -603,4 +633,9 @@ module _ (law : LegalIsSound) (fronts : FrontsAreLegal) {S K : Type 0}
             outcome.why outcome.short_of_memory) from_entries
             (all_replies law fronts (terms_of task) lines legal left faults written failures history
             same _ _ passes did knows asked_all);
+        objects = subst (λ (all : List Entry). TellsObjects queries all (written before)
+            (written after) (as_seen seen circle).members outcome.why
+            (as_seen seen outcome.circle)) from_entries
+            (all_told law fronts (terms_of task) lines legal left faults written failures history
+            same _ _ passes did knows);
       }

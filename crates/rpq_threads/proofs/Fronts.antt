@@ -1,8 +1,9 @@
 -- A front of entries that was fed, and what was written of its blocks.
 use Rattle.std.proofs.Common.{◌≡◌, ℕ, ◌+◌, ◌<◌, List, [], ◌∷◌, ◌++◌, length, Option}
 use Rattle.std.proofs.Common.{Result, Ok, Err}
-use Rattle.std.proofs.Common.{suc, refl, ap, sym, subst, ◌∙◌, arith}
-use Rattle.std.specs.Prelude.{OnOk}
+use Rattle.std.proofs.Common.{refl, ap, sym, subst, ◌∙◌, arith}
+use Rattle.std.specs.Prelude.{OnOk, IfErr, ⊤}
+use Rattle.std.specs.Result.{IsErrAnd}
 use Rattle.std.specs.Global.{Vec}
 use Rattle.std.specs.List.{All}
 use Rattle.std.specs.Io.KnownBytes.{append_known}
@@ -15,17 +16,35 @@ use Rattle.rpq_model.specs.QueryEvents.{AreEventsUnder}
 use Rattle.rpq_model.proofs.EachEntry.{each_as_many}
 use Rattle.path_engine.specs.Engine.{EngineValue, StandsFor, definitions}
 use Rattle.path_engine.specs.Feeding.{FeedsFront}
+use Rattle.history_model.specs.declared.line.Why.{Why}
+use Rattle.history_model.specs.declared.line.Why.TheVariants.{Write, Memory}
 use Rattle.rpq_text.specs.Definitions.{definitions_of}
 use Rattle.rpq_text.specs.Text.{blocks_from, IsText}
-use Rattle.rpq_threads.specs.Fed.{WritesFront, GoesOn, Emits}
+use Rattle.standing.specs.Circles.{CircleValue}
+use Rattle.rpq_threads.specs.Told.{all_events}
+use Rattle.rpq_threads.specs.Fed.{WritesFront, TellsOn, WritesAndTells, GoesOn, Emits, Stops}
 use Rattle.rpq_threads.specs.Written.{GrewByPrefix, GrewByProperPrefix}
-use Rattle.rpq_threads.proofs.Blocks.{lists_of, text_append}
+use Rattle.rpq_threads.proofs.Blocks.{lists_of, length-lists, text_append}
 use Rattle.rpq_threads.proofs.Grows.{grew_on, grew_on_by_front, grew_on_by_proper}
+use Rattle.rpq_threads.proofs.Tellings.{hears_all, tells_part}
 
--- from one fact of an answer to another
-pub ok_then : {T E P Q : Type 0} (result : Result T E) → (P → Q) → OnOk result P → OnOk result Q
-ok_then (Ok x) then p = then p
-ok_then (Err e) then p = tt
+-- from two facts of an answer to another
+pub ok_then_both : {T E P Q G : Type 0} (result : Result T E) → (P → Q → G) → OnOk result P →
+    OnOk result Q → OnOk result G
+ok_then_both (Ok x) then p q = then p q
+ok_then_both (Err e) then p q = tt
+
+-- from one fact of a fault to another
+pub err_with : {T E : Type 0} (result : Result T E) (P Q : E → Type 0) →
+    ((fault : E) → result ≡ Err fault → P fault → Q fault) → IfErr result P → IfErr result Q
+err_with (Ok x) P Q then p = tt
+err_with (Err fault) P Q then p = then fault refl p
+
+-- what is so of a fault is so of the answer that hands it on
+pub handed_err : {T E : Type 0} (result : Result T E) (fault : E) (P : E → Type 0) →
+    IsErrAnd result (λ handed. handed ≡ fault) → P fault → IfErr result P
+handed_err (Ok x) fault P hands p = tt
+handed_err (Err other) fault P hands p = subst P (sym hands) p
 
 -- what holds of each list holds of the items of each vector
 each_vector : (P : List Event → Type 0) (found : List (Vec Event)) → All P (lists_of found) →
@@ -35,10 +54,6 @@ each_vector P (own ∷ found) all =
     All-cons (λ (each : Vec Event). P each.items) own found
     (All-head P own.items (lists_of found) all)
     (each_vector P found (All-tail P own.items (lists_of found) all))
-
-length-lists : (found : List (Vec Event)) → length (lists_of found) ≡ length found
-length-lists [] = refl
-length-lists (own ∷ found) = ap suc (length-lists found)
 
 -- the engine was fed the entries, and has these queries
 module _ (old new : EngineValue) (entries : List Entry) (found : List (Vec Event))
@@ -72,11 +87,12 @@ module _ (old new : EngineValue) (entries : List Entry) (found : List (Vec Event
         (text_append (definitions old) before text entries (lists_of found) is_text
         (fed.events before stands)))
 
-    pub emits_all : new.queries ≡ old.queries →
+    pub emits_all : (circle_before circle_after : CircleValue) → new.queries ≡ old.queries →
         written_after ≡ append_known written_before
         (blocks_from (definitions_of queries) position entries (lists_of found)) →
-        Emits old new entries written_before written_after
-    emits_all kept written = record {
+        TellsOn (all_events (lists_of found)) ⊤ circle_before circle_after →
+        Emits old new entries written_before written_after circle_before circle_after
+    emits_all circle_before circle_after kept written tells = record {
       queries = kept;
       position = fed.position;
       stands = fed.stands;
@@ -84,9 +100,12 @@ module _ (old new : EngineValue) (entries : List Entry) (found : List (Vec Event
           grew_on (IsText (definitions old) before) (IsText (definitions old) (before ++ entries))
           (blocks_from (definitions_of queries) position entries (lists_of found)) start
           written_before written_after (next_text before stands) so_far written;
+      heard = λ before stands.
+          hears_all (definitions old) before entries (lists_of found) (fed.events before stands)
+          circle_before circle_after tells;
     }
 
-    pub emits_proper :
+    emits_proper :
         WritesProperPrefix (blocks_from (definitions_of queries) position entries (lists_of found))
         written_before written_after →
         GoesOn old written_before (λ before start.
@@ -97,7 +116,7 @@ module _ (old new : EngineValue) (entries : List Entry) (found : List (Vec Event
         (blocks_from (definitions_of queries) position entries (lists_of found)) start
         written_before written_after (next_text before stands) so_far part
 
-    pub emits_part :
+    emits_part :
         WritesFront (blocks_from (definitions_of queries) position entries (lists_of found))
         written_before written_after →
         GoesOn old written_before (λ before start.
@@ -107,3 +126,30 @@ module _ (old new : EngineValue) (entries : List Entry) (found : List (Vec Event
         (IsText (definitions old) (before ++ entries))
         (blocks_from (definitions_of queries) position entries (lists_of found)) start
         written_before written_after (next_text before stands) so_far part
+
+    -- not all blocks were written, or memory ran out while the objects were told of the events
+    pub emits_stops : (circle_before circle_after : CircleValue) (why : Why) →
+        (why ≡ Write → WritesProperPrefix
+        (blocks_from (definitions_of queries) position entries (lists_of found))
+        written_before written_after) →
+        (why ≡ Memory → WritesFront
+        (blocks_from (definitions_of queries) position entries (lists_of found))
+        written_before written_after) →
+        WritesAndTells (definitions_of queries) position entries (lists_of found) why
+        written_before written_after circle_before circle_after →
+        (before : List Entry) → StandsFor old before →
+        Stops (definitions old) before (before ++ entries) why written_before written_after
+        circle_before circle_after
+    emits_stops circle_before circle_after why proper part tells before stands = record {
+      write = λ is start so_far. emits_proper (proper is) before start stands so_far;
+      memory = λ is start so_far. emits_part (part is) before start stands so_far;
+      told = λ objects heard start so_far.
+          let here : position ≡ length before + 1 = omega (arith, place, stands.counted) in
+          tells_part (definitions old) before entries (lists_of found) (fed.events before stands)
+          circle_before circle_after why written_before written_after
+          (subst (λ (n : ℕ). WritesAndTells (definitions old) n entries (lists_of found) why
+          written_before written_after circle_before circle_after) here
+          (subst (λ (qs : List CompiledValue). WritesAndTells (definitions_of qs) position entries
+          (lists_of found) why written_before written_after circle_before circle_after) same tells))
+          objects heard start so_far;
+    }

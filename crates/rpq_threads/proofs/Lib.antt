@@ -1,5 +1,7 @@
 mod Blocks
 pub mod Grows
+mod Tellings
+mod Stopping
 mod Fronts
 mod Turns
 mod Starting

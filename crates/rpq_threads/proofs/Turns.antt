@@ -28,14 +28,19 @@ use Rattle.stream_history.proofs.Pushes.{calls_push, called, published_push}
 use Rattle.stream_history.proofs.Steps.{still_feeds, going_after}
 use Rattle.stream_history.proofs.Turns.{first_entries}
 use Rattle.rpq_text.specs.Text.{IsText}
+use Rattle.standing.specs.Circles.{CircleValue}
 use Rattle.rpq_workers.specs.Started.{new_pass}
 use Rattle.rpq_workers.proofs.Numbering.{Each, new_is}
 use Rattle.rpq_workers.proofs.Seen.{entries_grow, same_front, take_part, part_fits}
 use Rattle.rpq_workers.proofs.Seen.{none_after, added_starts}
 use Rattle.rpq_threads.specs.declared.evaluator.Evaluator.{Evaluator}
-use Rattle.rpq_threads.specs.Fed.{GoesOn, Onward, Emits, answered, KeepsUp, IsFed, IsWhole, HasFed}
+use Rattle.rpq_threads.specs.Told.{TellsObjects}
+use Rattle.rpq_threads.specs.Fed.{HaveHeardAll, HearsOn, Onward, Emits, Stops, answered}
+use Rattle.rpq_threads.specs.Fed.{KeepsUp, IsFed, IsAtStart, IsWhole, HasFed}
 use Rattle.rpq_threads.specs.Written.{Grew, GrewByPrefix, GrewByProperPrefix}
-use Rattle.rpq_threads.proofs.Grows.{prefix_of_longer, prefix_of_more, proper_of_longer}
+use Rattle.rpq_threads.proofs.Tellings.{heard_nothing, tells_front, tells_of_longer}
+use Rattle.rpq_threads.proofs.Stopping.{prefix_of_them, proper_of_them, stops_before, stops_after}
+use Rattle.rpq_threads.proofs.Stopping.{stops_of_longer}
 
 -- ---- what more is seen
 
@@ -79,6 +84,23 @@ pub fed_seen : (history : HistoryValue) (evaluator : Evaluator) (before after : 
 fed_seen history evaluator before after was seen = record {
   keeps_up = keeps_up_seen history evaluator before after was.keeps_up seen;
   told = λ some. ap published seen.mine ∙ was.told some;
+}
+
+-- after the engine showed a view, which changes nothing of what it stands for
+pub keeps_up_viewed : (history : HistoryValue) (old new : Evaluator) (pass : Each) →
+    new.workers ≡ old.workers → new.engine.queries ≡ old.engine.queries →
+    new.engine.position ≡ old.engine.position →
+    ((seen : List Entry) → StandsFor old.engine seen → StandsFor new.engine seen) →
+    KeepsUp history old pass → KeepsUp history new pass
+keeps_up_viewed history old new pass workers queries position stands was = record {
+  feeds = was.feeds;
+  workers = (omega (arith, workers, was.workers.0), omega (arith, workers, was.workers.1));
+  queries = ap (map (λ (each : CompiledValue). each.def)) queries ∙ was.queries;
+  accepted = was.accepted;
+  few = was.few;
+  there = omega (arith, position, was.there);
+  stands = subst (StandsFor new.engine) (ap (λ (n : ℕ). take n (entries pass.seen)) (sym position))
+      (stands (answered old.engine pass) was.stands);
 }
 
 -- after the answers over all that was answered are published
@@ -165,7 +187,9 @@ module _ (history : HistoryValue) (old : Evaluator) (pass : Each) (was : KeepsUp
 
     -- the engine went on by the front
     module _ (new : Evaluator) (written_before written_after : Option (List ℕ))
-        (did : Emits old.engine new.engine part written_before written_after)
+        (circle_before circle_after : CircleValue)
+        (did : Emits old.engine new.engine part written_before written_after circle_before
+        circle_after)
         (workers : new.workers ≡ old.workers) where
       answered_more : answered old.engine pass ++ part ≡ answered new.engine pass
       answered_more =
@@ -196,41 +220,14 @@ module _ (history : HistoryValue) (old : Evaluator) (pass : Each) (was : KeepsUp
           (subst (λ (qs : List Query). Grew (IsText qs (answered old.engine pass)) start
           written_before) (sym was.queries) so_far)))
 
-    -- what a front that was fed makes of the text, in words that don't name the engine
-    pub onward_of : (written : Option (List ℕ))
-        (Text : (List ℕ → Type 0) → Option (List ℕ) → Type 0) →
-        GoesOn old.engine written (λ before start.
-        Text (IsText (definitions old.engine) (before ++ part)) start) →
-        Onward history.terms.queries (answered old.engine pass) written
-        (λ start. Text (IsText history.terms.queries (answered old.engine pass ++ part)) start)
-    onward_of written Text did start so_far =
-        subst (λ (qs : List Query). Text (IsText qs (answered old.engine pass ++ part)) start)
-        was.queries
-        (did (answered old.engine pass) start was.stands
-        (subst (λ (qs : List Query). Grew (IsText qs (answered old.engine pass)) start written)
-        (sym was.queries) so_far))
-
--- a front of the entries, and all of them
-module _ (have : AcceptedHaveEvents) (queries : List Query) (all : All IsAccepted queries)
-    (front entries : List Entry) (starts : StartsWith entries front)
-    (start now : Option (List ℕ)) where
-  pub prefix_of_all : Grew (IsText queries front) start now →
-      GrewByPrefix (IsText queries entries) start now
-  prefix_of_all whole =
-      subst (λ (history : List Entry). GrewByPrefix (IsText queries history) start now)
-      (sym starts.1) (prefix_of_longer have queries all front starts.0 start now whole)
-
-  pub prefix_of_them : GrewByPrefix (IsText queries front) start now →
-      GrewByPrefix (IsText queries entries) start now
-  prefix_of_them part =
-      subst (λ (history : List Entry). GrewByPrefix (IsText queries history) start now)
-      (sym starts.1) (prefix_of_more have queries all front starts.0 start now part)
-
-  pub proper_of_them : GrewByProperPrefix (IsText queries front) start now →
-      GrewByProperPrefix (IsText queries entries) start now
-  proper_of_them part =
-      subst (λ (history : List Entry). GrewByProperPrefix (IsText queries history) start now)
-      (sym starts.1) (proper_of_longer have queries all front starts.0 start now part)
+      pub hears_emitted : HearsOn history.terms.queries (answered old.engine pass)
+          (answered new.engine pass) circle_before circle_after
+      hears_emitted =
+          subst (λ (h : List Entry). HearsOn history.terms.queries (answered old.engine pass) h
+          circle_before circle_after) answered_more
+          (subst (λ (qs : List Query). HearsOn qs (answered old.engine pass)
+          (answered old.engine pass ++ part) circle_before circle_after) was.queries
+          (did.heard (answered old.engine pass) was.stands))
 
 -- ---- a turn, by its steps
 
@@ -250,14 +247,22 @@ module _ (history : HistoryValue) (old : Evaluator) (before mid : Each)
       subst (λ (h : List Entry). Grew (IsText history.terms.queries h) start written) (sym stays)
       so_far
 
-  -- and is a prefix of that of all entries
-  pub text_begins : AcceptedHaveEvents → (written : Option (List ℕ)) →
-      Onward history.terms.queries (answered old.engine before) written
-      (λ start. GrewByPrefix (IsText history.terms.queries (entries mid.seen)) start written)
-  text_begins have written start so_far =
-      prefix_of_all have history.terms.queries was.keeps_up.accepted (answered old.engine before)
-      (entries mid.seen) (answered_starts history old before mid was.keeps_up seen.seen) start
-      written so_far
+  -- and what was heard are its events
+  pub heard_stays : (circle : CircleValue) →
+      HearsOn history.terms.queries (answered old.engine before) (answered old.engine mid) circle
+      circle
+  heard_stays circle objects heard =
+      subst (λ (h : List Entry). HaveHeardAll history.terms.queries h objects circle) (sym stays)
+      heard
+
+  -- memory ran out before anything more was done
+  pub stops_seen : AcceptedHaveEvents → (written : Option (List ℕ)) (circle : CircleValue) →
+      Stops history.terms.queries (answered old.engine before) (entries mid.seen) Memory written
+      written circle circle
+  stops_seen have written circle =
+      stops_before have history.terms.queries was.keeps_up.accepted (answered old.engine before)
+      (entries mid.seen) (answered_starts history old before mid was.keeps_up seen.seen) written
+      circle
 
   module _ (part : List Entry)
       (is : part ≡ take 256 (drop old.engine.position (entries mid.seen))) where
@@ -277,68 +282,89 @@ module _ (history : HistoryValue) (old : Evaluator) (before mid : Each)
     pub front_is_plain : All IsPlain part
     front_is_plain = part_is_plain history old mid still part is seen.plain
 
-    module _ (have : AcceptedHaveEvents) (written_before written_after : Option (List ℕ)) where
-      pub front_proper : GoesOn old.engine written_before (λ first start.
-          GrewByProperPrefix (IsText (definitions old.engine) (first ++ part)) start
-          written_after) →
-          Onward history.terms.queries (answered old.engine before) written_before (λ start.
-          GrewByProperPrefix (IsText history.terms.queries (entries mid.seen)) start
-          written_after)
-      front_proper did start so_far =
-          proper_of_them have history.terms.queries was.keeps_up.accepted
-          (answered old.engine mid ++ part) (entries mid.seen)
-          (part_starts history old mid still part is) start written_after
-          (onward_of history old mid still part is written_before
-          (λ Is from. GrewByProperPrefix Is from written_after) did start
-          (text_stays written_before start so_far))
+    module _ (written_before written_after : Option (List ℕ))
+        (circle_before circle_after : CircleValue) where
+      -- the engine stopped in the front
+      pub front_stops : AcceptedHaveEvents → (why : Why) →
+          ((first : List Entry) → StandsFor old.engine first →
+          Stops (definitions old.engine) first (first ++ part) why written_before written_after
+          circle_before circle_after) →
+          Stops history.terms.queries (answered old.engine before) (entries mid.seen) why
+          written_before written_after circle_before circle_after
+      front_stops have why did =
+          let here = answered old.engine mid in
+          subst (λ (h : List Entry). Stops history.terms.queries h (entries mid.seen) why
+          written_before written_after circle_before circle_after) stays
+          (stops_of_longer have history.terms.queries was.keeps_up.accepted here (here ++ part)
+          (entries mid.seen) (part_starts history old mid still part is) written_before
+          written_after circle_before circle_after why
+          (subst (λ (qs : List Query). Stops qs here (here ++ part) why written_before
+          written_after circle_before circle_after) was.keeps_up.queries
+          (did here still.stands)))
 
-      pub front_prefix : GoesOn old.engine written_before (λ first start.
-          GrewByPrefix (IsText (definitions old.engine) (first ++ part)) start written_after) →
-          Onward history.terms.queries (answered old.engine before) written_before (λ start.
-          GrewByPrefix (IsText history.terms.queries (entries mid.seen)) start written_after)
-      front_prefix did start so_far =
-          prefix_of_them have history.terms.queries was.keeps_up.accepted
-          (answered old.engine mid ++ part) (entries mid.seen)
-          (part_starts history old mid still part is) start written_after
-          (onward_of history old mid still part is written_before
-          (λ Is from. GrewByPrefix Is from written_after) did start
-          (text_stays written_before start so_far))
+      module _ (new : Evaluator)
+          (did : Emits old.engine new.engine part written_before written_after circle_before
+          circle_after)
+          (workers : new.workers ≡ old.workers) where
+        pub front_keeps_up : KeepsUp history new mid
+        front_keeps_up =
+            keeps_up_emitted history old mid still part is new written_before written_after
+            circle_before circle_after did workers
 
-    module _ (new : Evaluator) (written_before written_after : Option (List ℕ))
-        (did : Emits old.engine new.engine part written_before written_after)
-        (workers : new.workers ≡ old.workers) where
-      pub front_keeps_up : KeepsUp history new mid
-      front_keeps_up =
-          keeps_up_emitted history old mid still part is new written_before written_after did
-          workers
-
-      front_text : Onward history.terms.queries (answered old.engine before) written_before
-          (λ start. Grew (IsText history.terms.queries (answered new.engine mid)) start
-          written_after)
-      front_text start so_far =
-          text_emitted history old mid still part is new written_before written_after did workers
-          start (text_stays written_before start so_far)
-
-      module _ (after : Each) (starts : StartsWith after.seen mid.seen) where
-        pub text_then : Onward history.terms.queries (answered old.engine before) written_before
-            (λ start. Grew (IsText history.terms.queries (answered new.engine after)) start
+        front_text : Onward history.terms.queries (answered old.engine before) written_before
+            (λ start. Grew (IsText history.terms.queries (answered new.engine mid)) start
             written_after)
-        text_then start so_far =
-            subst (λ (h : List Entry). Grew (IsText history.terms.queries h) start written_after)
-            (sym (answered_stays history new mid after front_keeps_up starts))
-            (front_text start so_far)
+        front_text start so_far =
+            text_emitted history old mid still part is new written_before written_after
+            circle_before circle_after did workers start (text_stays written_before start so_far)
 
-        pub prefix_then : AcceptedHaveEvents →
-            Onward history.terms.queries (answered old.engine before) written_before
-            (λ start. GrewByPrefix (IsText history.terms.queries (entries after.seen)) start
-            written_after)
-        prefix_then have start so_far =
-            prefix_of_all have history.terms.queries was.keeps_up.accepted
-            (answered new.engine mid) (entries after.seen)
-            (answered_starts history new mid after front_keeps_up starts) start written_after
-            (front_text start so_far)
+        front_hears : HearsOn history.terms.queries (answered old.engine before)
+            (answered new.engine mid) circle_before circle_after
+        front_hears objects heard =
+            hears_emitted history old mid still part is new written_before written_after
+            circle_before circle_after did workers objects
+            (heard_stays circle_before objects heard)
 
--- ---- the end of the loop
+        -- memory ran out after the front was answered
+        pub stops_then : AcceptedHaveEvents → (after : Each) → StartsWith after.seen mid.seen →
+            Stops history.terms.queries (answered old.engine before) (entries after.seen) Memory
+            written_before written_after circle_before circle_after
+        stops_then have after starts =
+            stops_after have history.terms.queries was.keeps_up.accepted
+            (answered old.engine before) (answered new.engine mid) (entries after.seen)
+            (answered_starts history new mid after front_keeps_up starts) written_before
+            written_after circle_before circle_after front_text front_hears
+
+        -- its answers were published
+        module _ (after : Each) (starts : StartsWith after.seen mid.seen) (last : Evaluator)
+            (place : last.engine.position ≡ new.engine.position) where
+          same_answered : answered new.engine mid ≡ answered last.engine after
+          same_answered =
+              sym (answered_stays history new mid after front_keeps_up starts)
+              ∙ ap (λ (n : ℕ). take n (entries after.seen)) (sym place)
+
+          pub text_then : Onward history.terms.queries (answered old.engine before) written_before
+              (λ start. Grew (IsText history.terms.queries (answered last.engine after)) start
+              written_after)
+          text_then start so_far =
+              subst (λ (h : List Entry). Grew (IsText history.terms.queries h) start written_after)
+              same_answered (front_text start so_far)
+
+          pub hears_then : HearsOn history.terms.queries (answered old.engine before)
+              (answered last.engine after) circle_before circle_after
+          hears_then objects heard =
+              subst (λ (h : List Entry). HaveHeardAll history.terms.queries h objects circle_after)
+              same_answered (front_hears objects heard)
+
+-- ---- the loop
+
+-- at the start the objects have heard all events of what was answered, since that is nothing
+pub first_heard : (history : HistoryValue) (evaluator : Evaluator) (pass : Each)
+    (circle : CircleValue) → IsAtStart history evaluator pass circle →
+    HaveHeardAll history.terms.queries (answered evaluator.engine pass) circle.members circle
+first_heard history evaluator pass circle is =
+    subst (λ (h : List Entry). HaveHeardAll history.terms.queries h circle.members circle)
+    (sym is.none) (heard_nothing history.terms.queries circle is.fresh)
 
 -- a shut that is there is the new one
 shut_said : (lines : List Line) (why other : Why) → (IsShut lines → ⊥) →
@@ -361,29 +387,35 @@ unmet Fault before after never same = record {
 }
 
 module _ {K : Type 0} (written : K → Option (List ℕ)) (faults : K → ℕ) (history : HistoryValue)
-    (start now : K) where
+    (start now : K) (first last : CircleValue) where
   pub fed_whole : (evaluator : Evaluator) (pass : Each) → IsFed history evaluator pass →
       IsWhole history evaluator pass →
       Grew (IsText history.terms.queries (answered evaluator.engine pass)) (written start)
       (written now) →
-      faults now ≡ faults start → HasFed written faults history start now pass None
-  fed_whole evaluator pass fed whole text quiet = record {
-    is = fed.keeps_up.feeds.is.is;
-    number = fed.keeps_up.feeds.is.number;
-    ended = λ _. whole.ended;
-    told = λ _ some. fed.told some ∙ whole.all;
-    shut = λ other shut. absurd (fed.keeps_up.feeds.goes_on (other, shut));
-    seen_shut = λ other is. absurd cc;
-    text = record {
-      whole = λ _. subst (λ (h : List Entry). Grew (IsText history.terms.queries h)
-          (written start) (written now))
-          (take_all evaluator.engine.position (entries pass.seen) (omega (arith, whole.all)))
-          text;
-      write = λ is. absurd cc;
-      memory = λ is. absurd cc;
-      counted = unmet (None ≡ Some Write) (faults start) (faults now) (λ is. cc) quiet;
-    };
-  }
+      HaveHeardAll history.terms.queries (answered evaluator.engine pass) first.members last →
+      faults now ≡ faults start → HasFed written faults history start now first last pass None
+  fed_whole evaluator pass fed whole text heard quiet =
+      let all : answered evaluator.engine pass ≡ entries pass.seen =
+      take_all evaluator.engine.position (entries pass.seen) (omega (arith, whole.all)) in
+      record {
+        is = fed.keeps_up.feeds.is.is;
+        number = fed.keeps_up.feeds.is.number;
+        ended = λ _. whole.ended;
+        told = λ _ some. fed.told some ∙ whole.all;
+        shut = λ other shut. absurd (fed.keeps_up.feeds.goes_on (other, shut));
+        seen_shut = λ other is. absurd cc;
+        text = record {
+          whole = λ _. subst (λ (h : List Entry). Grew (IsText history.terms.queries h)
+              (written start) (written now)) all text;
+          write = λ is. absurd cc;
+          memory = λ is. absurd cc;
+          counted = unmet (None ≡ Some Write) (faults start) (faults now) (λ is. cc) quiet;
+        };
+        objects = tells_front history.terms.queries (answered evaluator.engine pass)
+            (written start) (written now) first.members last heard text None (entries pass.seen)
+            (taken_starts evaluator.engine.position (entries pass.seen))
+            (λ none. ap (λ (h : List Entry). length h) all);
+      }
 
   pub fed_shut : AcceptedHaveEvents → All IsAccepted history.terms.queries → (before after : Each)
       (why : Why) → IsFeedingPass history before → HasAdded history before (shut_line why) after →
@@ -391,9 +423,11 @@ module _ {K : Type 0} (written : K → Option (List ℕ)) (faults : K → ℕ) (
       (written start) (written now)) →
       (why ≡ Memory → GrewByPrefix (IsText history.terms.queries (entries before.seen))
       (written start) (written now)) →
+      TellsObjects history.terms.queries (entries before.seen) (written start) (written now)
+      first.members (Some why) last →
       CountsFault (Some why ≡ Some Write) (faults start) (faults now) →
-      HasFed written faults history start now after (Some why)
-  fed_shut have accepted before after why feeds added proper part counted =
+      HasFed written faults history start now first last after (Some why)
+  fed_shut have accepted before after why feeds added proper part told counted =
       let starts = first_entries after.seen before.seen
       (added_starts history before after (shut_line why) added) in
       record {
@@ -420,4 +454,6 @@ module _ {K : Type 0} (written : K → Option (List ℕ)) (faults : K → ℕ) (
               (entries after.seen) starts (written start) (written now) (part same);
           counted = counted;
         };
+        objects = tells_of_longer history.terms.queries (entries before.seen) (entries after.seen)
+            starts (written start) (written now) first.members why last told;
       }

@@ -1,22 +1,29 @@
 -- What the engine of a run does with the entries of the history. Only private contracts cite this
 -- file.
-use Rattle.std.specs.Prelude.{◌≡◌, ℕ, ◌+◌, ◌<◌, ◌≤◌, ◌^◌, List, ◌++◌, length, take, All}
-use Rattle.std.specs.Prelude.{Option, Some, None}
+use Rattle.std.specs.Prelude.{◌≡◌, ◌≢◌, ℕ, ◌+◌, ◌<◌, ◌≤◌, ◌^◌, ◌⊎◌, List, [], ◌++◌, length, take}
+use Rattle.std.specs.Prelude.{Option, Some, None, All, ⊤, slice_get}
 use Rattle.std.specs.Io.KnownBytes.{append_known}
 use Rattle.containment_laws.specs.Accepted.{IsAccepted}
 use Rattle.rpq_base.specs.declared.data.Entry.{Entry}
+use Rattle.rpq_base.specs.declared.data.Event.{Event}
 use Rattle.rpq_model.specs.Query.{Query}
+use Rattle.rpq_model.specs.QueryEvents.{AreAllEvents}
 use Rattle.path_engine.specs.Engine.{EngineValue, StandsFor, definitions}
 use Rattle.rpq_words.specs.Modes.{IsWithin}
-use Rattle.rpq_text.specs.Text.{IsText}
+use Rattle.rpq_text.specs.Text.{block, blocks_from, IsText}
+use Rattle.standing.specs.Objects.{ObjectValue}
+use Rattle.standing.specs.Circles.{CircleValue}
+use Rattle.standing.specs.Stood.{HaveStood}
 use Rattle.turn_lock.specs.Passes.{PassValue}
 use Rattle.history_model.specs.declared.line.Why.{Why}
+use Rattle.history_model.specs.declared.line.Why.TheVariants.{Write, Memory}
 use Rattle.history_model.specs.declared.line.Line.{Line}
 use Rattle.history_model.specs.Lines.{entries, published, AllEnded, IsShutFor}
 use Rattle.history_model.specs.World.{Terms}
 use Rattle.stream_history.specs.History.{HistoryValue, IsPassOf, IsFeedingPass}
 use Rattle.rpq_threads.specs.declared.evaluator.Evaluator.{Evaluator}
-use Rattle.rpq_threads.specs.Written.{Grew}
+use Rattle.rpq_threads.specs.Written.{Grew, GrewByPrefix, GrewByProperPrefix}
+use Rattle.rpq_threads.specs.Told.{all_events, TellsObjects}
 use Rattle.rpq_threads.specs.Runs.{WritesText}
 
 -- of these bytes a part at their front was written, perhaps all of them
@@ -25,6 +32,53 @@ pub record WritesFront (bytes : List ℕ) (before after : Option (List ℕ)) : T
   pub rest : List ℕ
   pub cut : bytes ≡ front ++ rest
   pub written : after ≡ append_known before front
+
+-- objects that had heard all of some events have heard these behind them: all of them where
+-- `whole`, else a front
+abbrev pub TellsOn : List Event → Type 0 → CircleValue → CircleValue → Type 0
+TellsOn events whole old new =
+    (objects : List ObjectValue) (before : List Event)
+    → HaveStood objects before ⊤ old.members old.left
+    → HaveStood objects (before ++ events) whole new.members new.left
+
+-- the bytes begin the block of the entry behind the first of these entries, so many, and aren't all
+-- of it; the first of them stands at this position
+pub record BeginsNext (queries : List Query) (position : ℕ) (entries : List Entry)
+    (lists : List (List Event)) (count : ℕ) (bytes : List ℕ) : Type 0 where
+  pub entry : Entry
+  pub events : List Event
+  pub more : List ℕ
+  pub there : slice_get entries count ≡ Some entry
+  pub are_events : slice_get lists count ≡ Some events
+  pub cut : block queries (position + count) entry events ≡ bytes ++ more
+  pub proper : more ≢ []
+
+-- of the blocks of these entries so many were written whole, and of the next one a part or nothing;
+-- of the events of these blocks, and of no other, the objects were told: of all of them, unless
+-- memory ran out
+pub record WritesAndTells (queries : List Query) (position : ℕ) (entries : List Entry)
+    (lists : List (List Event)) (why : Why) (written_before written_after : Option (List ℕ))
+    (old new : CircleValue) : Type 0 where
+  pub count : ℕ
+  pub within : count ≤ length entries
+  pub rest : List ℕ
+  pub part : (rest ≡ []) ⊎ BeginsNext queries position entries lists count rest
+  pub written : written_after ≡ append_known written_before
+      (blocks_from queries position (take count entries) (take count lists) ++ rest)
+  pub told : TellsOn (all_events (take count lists)) (why ≢ Memory) old new
+
+-- objects that were handed in have heard the events of all these entries
+pub record HaveHeardAll (queries : List Query) (history : List Entry)
+    (objects : List ObjectValue) (circle : CircleValue) : Type 0 where
+  pub events : List (List Event)
+  pub are_events : AreAllEvents queries history events
+  pub heard : HaveStood objects (all_events events) ⊤ circle.members circle.left
+
+-- objects that had heard the events of the first of these histories have heard those of the second
+abbrev pub HearsOn : List Query → List Entry → List Entry → CircleValue → CircleValue → Type 0
+HearsOn queries first second old new =
+    (objects : List ObjectValue) → HaveHeardAll queries first objects old
+    → HaveHeardAll queries second objects new
 
 -- where the engine stands for a history, and since some start the text of it was written, this is
 -- so of the history and the start
@@ -39,15 +93,32 @@ abbrev pub Onward : List Query → List Entry → Option (List ℕ) → (Option 
 Onward queries front written P =
     (start : Option (List ℕ)) → Grew (IsText queries front) start written → P start
 
--- the engine answered these entries, and what was written since a start, where it was the text of
--- the history before, is now that of the history with them
+-- the engine answered these entries; what was written since a start, where it was the text of the
+-- history before, is now that of the history with them; and the objects have heard their events
 pub record Emits (old new : EngineValue) (later : List Entry)
-    (written_before written_after : Option (List ℕ)) : Type 0 where
+    (written_before written_after : Option (List ℕ)) (circle_before circle_after : CircleValue)
+    : Type 0 where
   pub queries : new.queries ≡ old.queries
   pub position : new.position ≡ old.position + length later
   pub stands : (before : List Entry) → StandsFor old before → StandsFor new (before ++ later)
   pub text : GoesOn old written_before (λ before start.
       Grew (IsText (definitions old) (before ++ later)) start written_after)
+  pub heard : (before : List Entry) → StandsFor old before
+      → HearsOn (definitions old) before (before ++ later) circle_before circle_after
+
+-- for this reason not all entries were answered: what was written since a start, where it was the
+-- text of the first of them, is now a prefix of the text of all, a proper one where a write failed;
+-- and the objects were told of the events of the blocks that were written whole, and of no other
+pub record Stops (queries : List Query) (first all : List Entry) (why : Why)
+    (written_before written_after : Option (List ℕ)) (circle_before circle_after : CircleValue)
+    : Type 0 where
+  pub write : why ≡ Write → Onward queries first written_before (λ start.
+      GrewByProperPrefix (IsText queries all) start written_after)
+  pub memory : why ≡ Memory → Onward queries first written_before (λ start.
+      GrewByPrefix (IsText queries all) start written_after)
+  pub told : (objects : List ObjectValue) → HaveHeardAll queries first objects circle_before
+      → Onward queries first written_before (λ start.
+      TellsObjects queries all start written_after objects (Some why) circle_after)
 
 -- the entries that the engine answered, of those that the pass has seen
 abbrev pub answered : EngineValue → PassValue Line Terms → List Entry
@@ -71,6 +142,14 @@ pub record IsFed (history : HistoryValue) (evaluator : Evaluator) (pass : PassVa
   pub keeps_up : KeepsUp history evaluator pass
   pub told : 0 < history.readers → published pass.mine ≡ evaluator.engine.position
 
+-- the engine keeps up with what its pass has seen, and has answered nothing; and none of the
+-- objects has left
+pub record IsAtStart (history : HistoryValue) (evaluator : Evaluator)
+    (pass : PassValue Line Terms) (circle : CircleValue) : Type 0 where
+  pub fed : IsFed history evaluator pass
+  pub none : answered evaluator.engine pass ≡ []
+  pub fresh : circle.left ≡ []
+
 -- all streams have ended, and the engine answered all entries
 pub record IsWhole (history : HistoryValue) (evaluator : Evaluator) (pass : PassValue Line Terms)
     : Type 0 where
@@ -78,10 +157,11 @@ pub record IsWhole (history : HistoryValue) (evaluator : Evaluator) (pass : Pass
   pub all : evaluator.engine.position ≡ length (entries pass.seen)
 
 -- the engine's loop has ended, without a shut or with one for this reason: the text of all entries
--- was written, or a prefix of it; and a write failed exactly where that is the reason
+-- was written, or a prefix of it; a write failed exactly where that is the reason; and the objects
+-- were told of the events of the blocks that were written whole
 pub record HasFed {K : Type 0} (written : K → Option (List ℕ)) (faults : K → ℕ)
-    (history : HistoryValue) (before after : K) (pass : PassValue Line Terms)
-    (why : Option Why) : Type 0 where
+    (history : HistoryValue) (before after : K) (circle_before circle_after : CircleValue)
+    (pass : PassValue Line Terms) (why : Option Why) : Type 0 where
   pub is : IsPassOf history pass
   pub number : pass.number ≡ 0
   pub ended : why ≡ None → AllEnded history.terms.streams pass.seen
@@ -89,3 +169,5 @@ pub record HasFed {K : Type 0} (written : K → Option (List ℕ)) (faults : K �
   pub shut : (other : Why) → IsShutFor pass.mine other → why ≡ Some other
   pub seen_shut : (other : Why) → why ≡ Some other → IsShutFor pass.seen other
   pub text : WritesText written faults history.terms.queries (entries pass.seen) before after why
+  pub objects : TellsObjects history.terms.queries (entries pass.seen) (written before)
+      (written after) circle_before.members why circle_after

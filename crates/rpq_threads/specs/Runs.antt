@@ -20,10 +20,13 @@ use Rattle.ask_text.specs.declared.ask.Ask.{Ask}
 use Rattle.ask_text.specs.Answered.{AnsweredValue}
 use Rattle.ask_text.specs.Ranges.{IsSession, ended_at}
 use Rattle.ask_text.specs.Reply.{IsReply}
+use Rattle.standing.specs.Objects.{ObjectValue}
+use Rattle.standing.specs.Circles.{Parts, as_seen}
 use Rattle.rpq_threads.specs.declared.task.Task.{Task}
 use Rattle.rpq_threads.specs.declared.task.Outcome.{Outcome}
 use Rattle.rpq_threads.specs.Understood.{AreUnderstood}
 use Rattle.rpq_threads.specs.Written.{Grew, GrewByPrefix, GrewByProperPrefix}
+use Rattle.rpq_threads.specs.Told.{TellsObjects}
 
 -- what is given to the threads of a run: queries, understood; from 1 to 64 workers; new readers of
 -- from 1 to 64 streams; at most 64 sessions about the queries; and how many entries the history
@@ -93,11 +96,11 @@ pub record HasAnswered (queries : List Query) (history : List Entry) (asked : Li
   pub all : short_of_memory ≡ false → asks_answered answers ≡ asked
 
 -- what the threads of a run give, over what they were given: one history, in which each stream's
--- tuples stand up to the stream's end, and nothing else does; its text, written; and the answers of
--- the sessions
-pub record Holds {S K : Type 0} (left : S → Option (List ℕ)) (faults : S → ℕ)
-    (written : K → Option (List ℕ)) (failures : K → ℕ) (task : Task S) (events_old events_new : K)
-    (outcome : Outcome S) : Type 0 where
+-- tuples stand up to the stream's end, and nothing else does; its text, written; the answers of the
+-- sessions; and the objects, which were told of its events
+pub record Holds {S K O : Type 0} (left : S → Option (List ℕ)) (faults : S → ℕ)
+    (written : K → Option (List ℕ)) (failures : K → ℕ) (seen : O → ObjectValue) (task : Task S)
+    (events_old events_new : K) (circle : Parts O) (outcome : Outcome S O) : Type 0 where
   pub streams : AreStreamsOf left faults task.limit
       (map (λ (reader : ReaderState S). left reader.source) task.readers.items)
       outcome.sources.items outcome.history.items outcome.ends.items
@@ -110,3 +113,6 @@ pub record Holds {S K : Type 0} (left : S → Option (List ℕ)) (faults : S →
   pub answers : HasAnswered (definitions_of task.queries.items) outcome.history.items
       task.sessions.items (map (λ (own : Vec AnsweredValue). own.items) outcome.sessions.items)
       outcome.why outcome.short_of_memory
+  pub objects : TellsObjects (definitions_of task.queries.items) outcome.history.items
+      (written events_old) (written events_new) (as_seen seen circle).members outcome.why
+      (as_seen seen outcome.circle)

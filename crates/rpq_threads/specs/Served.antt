@@ -17,24 +17,20 @@ use Rattle.stream_tuples.specs.Progress.{IsNewReader}
 use Rattle.ask_text.specs.declared.ask.Ask.{Ask}
 use Rattle.ask_text.specs.Answered.{AnsweredValue}
 use Rattle.ask_text.specs.Ranges.{IsInRange}
+use Rattle.standing.specs.Objects.{ObjectValue}
+use Rattle.standing.specs.Circles.{CircleValue, Parts, as_seen}
 use Rattle.rpq_workers.specs.declared.session_worker.Replied.{Replied}
 use Rattle.rpq_workers.specs.declared.stream_worker.Streamed.{Streamed}
 use Rattle.rpq_workers.specs.Started.{HaveStreamed, new_pass, new_passes}
 use Rattle.rpq_workers.specs.Readers.{HaveReplied}
 use Rattle.rpq_threads.specs.declared.beside.Waiting.{Waiting}
-use Rattle.rpq_threads.specs.declared.evaluator.Evaluator.{Evaluator}
+use Rattle.rpq_threads.specs.declared.room.Gathered.{Gathered}
 use Rattle.rpq_threads.specs.declared.room.Room.{Room}
 use Rattle.rpq_threads.specs.declared.run.Begun.{Begun}
 use Rattle.rpq_threads.specs.declared.serving.Job.{Job}
 use Rattle.rpq_threads.specs.declared.serving.Served.{Served}
 use Rattle.rpq_threads.specs.declared.task.Task.{Task}
-use Rattle.rpq_threads.specs.Fed.{answered, IsFed, HasFed}
-
--- the engine keeps up with what its pass has seen, and has answered nothing
-pub record IsAtStart (history : HistoryValue) (evaluator : Evaluator)
-    (pass : PassValue Line Terms) : Type 0 where
-  pub fed : IsFed history evaluator pass
-  pub none : answered evaluator.engine pass ≡ []
+use Rattle.rpq_threads.specs.Fed.{IsFed, HasFed}
 
 -- the asks of these sessions are about queries of the history
 abbrev pub AreAbout : HistoryValue → List (List Ask) → Type 0
@@ -49,24 +45,29 @@ pub record AreWaiting (history : HistoryValue) (waiting : Waiting) : Type 0 wher
   pub none : waiting.replied.items ≡ []
   pub room : vec_len waiting.sessions ≤ vec_capacity waiting.replied
 
--- the lists are empty and have room for what the workers give, and for all passes
+-- the lists are empty and have room for what the workers of so many streams and sessions give, and
+-- for the engine's pass
+pub record HasRoomFor {S : Type 0} (streams sessions : ℕ) (gathered : Gathered S) : Type 0 where
+  pub no_passes : gathered.passes.items ≡ []
+  pub no_sources : gathered.sources.items ≡ []
+  pub no_ends : gathered.ends.items ≡ []
+  pub no_answers : gathered.answers.items ≡ []
+  pub passes : 1 + streams + sessions ≤ vec_capacity gathered.passes
+  pub sources : streams ≤ vec_capacity gathered.sources
+  pub ends : streams ≤ vec_capacity gathered.ends
+  pub answers : sessions ≤ vec_capacity gathered.answers
+
+-- the lists are empty and have room for what the workers are started with and give
 pub record HasRoom {S : Type 0} (history : HistoryValue) (room : Room S) : Type 0 where
   pub no_started : room.started.items ≡ []
   pub no_streamed : room.streamed.items ≡ []
   pub no_waiting : room.waiting.items ≡ []
   pub no_replied : room.replied.items ≡ []
-  pub no_passes : room.passes.items ≡ []
-  pub no_sources : room.sources.items ≡ []
-  pub no_ends : room.ends.items ≡ []
-  pub no_answers : room.answers.items ≡ []
   pub started : history.terms.streams ≤ vec_capacity room.started
   pub streamed : history.terms.streams ≤ vec_capacity room.streamed
   pub waiting : history.readers ≤ vec_capacity room.waiting
   pub replied : history.readers ≤ vec_capacity room.replied
-  pub passes : passes_for history.terms history.readers ≤ vec_capacity room.passes
-  pub sources : history.terms.streams ≤ vec_capacity room.sources
-  pub ends : history.terms.streams ≤ vec_capacity room.ends
-  pub answers : history.readers ≤ vec_capacity room.answers
+  pub gathered : HasRoomFor history.terms.streams history.readers room.gathered
 
 -- what the threads of a run work with: the queries of the history, all new passes, an engine at its
 -- start, as many new readers and sessions as the history has streams and readers, and room
@@ -82,6 +83,13 @@ pub record IsJob {S : Type 0} (left : S → Option (List ℕ)) (faults : S → �
   pub asks : AreAbout history job.sessions.items
   pub room : HasRoom history job.room
 
+-- what the threads of a run are given: what they work with, and objects of which none has left
+pub record IsWork {S O : Type 0} (left : S → Option (List ℕ)) (faults : S → ℕ)
+    (history : HistoryValue) (definitions : List Query) (job : Job S) (circle : Parts O)
+    : Type 0 where
+  pub job_is : IsJob left faults history definitions job
+  pub fresh : circle.left ≡ []
+
 -- what was made for a run: a history of its queries and streams, which takes so many entries, and
 -- what its threads work with, among this the readers and the sessions that were given
 pub record IsBegun {S : Type 0} (left : S → Option (List ℕ)) (faults : S → ℕ) (task : Task S)
@@ -95,13 +103,14 @@ pub record IsBegun {S : Type 0} (left : S → Option (List ℕ)) (faults : S →
   pub readers : begun.job.readers.items ≡ task.readers.items
   pub sessions : begun.job.sessions.items ≡ task.sessions.items
 
--- what a run's threads were given, and the sink of the events before it
+-- what a run's threads were given, the sink of the events before it, and the objects
 pub record Given (S K : Type 0) : Type 0 where
   pub readers : List (ReaderState S)
   pub sessions : List (List Ask)
   pub events : K
+  pub circle : CircleValue
 
--- what they gave, and the sink after it
+-- what they gave, the sink after it, and the objects
 pub record Gave (S K : Type 0) : Type 0 where
   pub sources : List S
   pub ends : List StreamEnd
@@ -109,24 +118,27 @@ pub record Gave (S K : Type 0) : Type 0 where
   pub why : Option Why
   pub short_of_memory : Bool
   pub events : K
+  pub circle : CircleValue
 
 -- what a job gives to the threads
-abbrev pub given_by : {S K : Type 0} → Job S → K → Given S K
-given_by job events = record {
+abbrev pub given_by : {S K : Type 0} → Job S → K → CircleValue → Given S K
+given_by job events circle = record {
   readers = job.readers.items;
   sessions = job.sessions.items;
   events = events;
+  circle = circle;
 }
 
 -- what they gave back
-abbrev pub gave_by : {S K : Type 0} → Served S K → Gave S K
-gave_by served = record {
-  sources = served.sources.items;
-  ends = served.ends.items;
-  answers = map (λ (own : Vec AnsweredValue). own.items) served.answers.items;
+abbrev pub gave_by : {S K O : Type 0} → (O → ObjectValue) → Served S K O → Gave S K
+gave_by seen served = record {
+  sources = served.gathered.sources.items;
+  ends = served.gathered.ends.items;
+  answers = map (λ (own : Vec AnsweredValue). own.items) served.gathered.answers.items;
   why = served.why;
   short_of_memory = served.short_of_memory;
   events = served.events.now;
+  circle = as_seen seen served.circle;
 }
 
 -- the workers of the streams and of the sessions and the engine have ended; all passes are back
@@ -138,7 +150,8 @@ pub record IsServed {S K : Type 0} (left : S → Option (List ℕ)) (faults : S 
   pub engine : PassValue Line Terms
   pub did : HaveStreamed left faults history 1 given.readers streamed
   pub answered_all : HaveReplied history (1 + history.terms.streams) given.sessions replied
-  pub fed : HasFed written failures history given.events gave.events engine gave.why
+  pub fed : HasFed written failures history given.events gave.events given.circle gave.circle
+      engine gave.why
   pub passes_are : passes
       ≡ engine ∷ (map (λ d. d.pass) streamed ++ map (λ r. r.pass) replied)
   pub sources_are : gave.sources ≡ map (λ d. d.source) streamed

@@ -5,8 +5,9 @@ ghost use Rattle.std.specs.Vec.{vec_len, vec_capacity};
 ghost use Rattle.std.specs.Thread.{IsSync};
 ghost use Rattle.rpq_workers.specs.Started.{new_pass, new_passes};
 ghost use Rattle.rpq_workers.specs.Readers.{HaveReplied};
-ghost use Rattle.rpq_threads.specs.Fed.{HasFed};
-ghost use Rattle.rpq_threads.specs.Served.{IsAtStart, AreWaiting};
+ghost use Rattle.standing.specs.Circles.{as_seen};
+ghost use Rattle.rpq_threads.specs.Fed.{IsAtStart, HasFed};
+ghost use Rattle.rpq_threads.specs.Served.{AreWaiting};
 
 use crate::evaluator::Evaluator;
 use crate::feeding::feed_all;
@@ -14,16 +15,18 @@ use ask_text::Session;
 use history_model::Why;
 use rpq_io::{Gate, Sink};
 use rpq_workers::{Replied, Shared, beside_session};
+use standing::{Circle, Standing};
 use std::sync::Wait;
 use std::thread::{Scope, Threads};
 use stream_history::{History, Pass};
 
-/// The engine with its pass, and where its events are written.
+/// The engine with its pass, where its events are written, and the objects that are told of them.
 #[derive(Drop)]
-pub struct Feeding<'a, K> {
+pub struct Feeding<'a, K, O> {
     pub pass: Pass,
     pub evaluator: Evaluator,
     pub events: &'a mut K,
+    pub circle: Circle<O>,
 }
 
 /// Sessions whose workers aren't started, with their passes, and room for what the workers give.
@@ -36,26 +39,29 @@ pub struct Waiting {
 
 /// What the engine and the workers of the sessions give back.
 #[derive(Drop)]
-pub struct Beside<'a, K> {
+pub struct Beside<'a, K, O> {
     pub engine: Pass,
     pub why: Option<Why>,
     pub events: &'a mut K,
+    pub circle: Circle<O>,
     pub replied: Vec<Replied>,
 }
 
 /// Runs the engine, and beside it a worker for each session. Where no thread can be made, its work
 /// is done after the engine's.
-pub fn feed_beside<'s, 'e, 'a, K: Sink, G: Gate, R: Threads + Wait + Sync>(
+pub fn feed_beside<'s, 'e, 'a, K: Sink, O: Standing, G: Gate, R: Threads + Wait + Sync>(
     scope: &Scope<'s, &'e ()>,
     shared: &'s Shared<'s, R, G>,
-    feeding: Feeding<'a, K>,
+    feeding: Feeding<'a, K, O>,
     mut waiting: Waiting,
-) -> Beside<'a, K>
-    requires start { IsAtStart shared.now.history.now feeding.evaluator feeding.pass }
+) -> Beside<'a, K, O>
+    requires start { IsAtStart shared.now.history.now feeding.evaluator feeding.pass
+        (as_seen O.seen feeding.circle) }
     requires waiting { AreWaiting shared.now.history.now waiting }
     requires queries { shared.now.queries.now ≡ shared.now.history.now.terms.queries }
     ensures fed { HasFed K.written K.faults shared.now.history.now feeding.entry.events.now
-        result.events.now result.engine result.why }
+        result.events.now (as_seen O.seen feeding.entry.circle) (as_seen O.seen result.circle)
+        result.engine result.why }
     ensures replied { HaveReplied shared.now.history.now
         (1 + shared.now.history.now.terms.streams) waiting.sessions.items result.replied.items }
     ensures many { vec_len result.replied ≡ vec_len waiting.sessions }
@@ -67,14 +73,16 @@ pub fn feed_beside<'s, 'e, 'a, K: Sink, G: Gate, R: Threads + Wait + Sync>(
         return feed_alone(shared, feeding, waiting.replied);
     };
     let number = waiting.sessions.len() as u32 + 1;
-    let rest = move || -> Beside<'_, K>
-        requires start { IsAtStart shared.now.history.now feeding.evaluator feeding.pass }
+    let rest = move || -> Beside<'_, K, O>
+        requires start { IsAtStart shared.now.history.now feeding.evaluator feeding.pass
+            (as_seen O.seen feeding.circle) }
         requires waiting { AreWaiting shared.now.history.now waiting }
         requires queries { shared.now.queries.now ≡ shared.now.history.now.terms.queries }
         requires gate { IsSync G.row }
         requires sync { IsSync R.row }
         ensures fed { HasFed K.written K.faults shared.entry.now.history.now
-            feeding.entry.events.now result.events.now result.engine result.why }
+            feeding.entry.events.now result.events.now (as_seen O.seen feeding.entry.circle)
+            (as_seen O.seen result.circle) result.engine result.why }
         ensures replied { HaveReplied shared.entry.now.history.now
             (1 + shared.entry.now.history.now.terms.streams) waiting.sessions.items
             result.replied.items }
@@ -87,14 +95,16 @@ pub fn feed_beside<'s, 'e, 'a, K: Sink, G: Gate, R: Threads + Wait + Sync>(
 }
 
 /// Runs the engine, with no session left.
-fn feed_alone<'a, K: Sink, G: Gate, R: Threads + Wait + Sync>(
+fn feed_alone<'a, K: Sink, O: Standing, G: Gate, R: Threads + Wait + Sync>(
     shared: &Shared<'_, R, G>,
-    feeding: Feeding<'a, K>,
+    feeding: Feeding<'a, K, O>,
     replied: Vec<Replied>,
-) -> Beside<'a, K>
-    requires { IsAtStart shared.now.history.now feeding.evaluator feeding.pass }
+) -> Beside<'a, K, O>
+    requires { IsAtStart shared.now.history.now feeding.evaluator feeding.pass
+        (as_seen O.seen feeding.circle) }
     ensures fed { HasFed K.written K.faults shared.now.history.now feeding.entry.events.now
-        result.events.now result.engine result.why }
+        result.events.now (as_seen O.seen feeding.entry.circle) (as_seen O.seen result.circle)
+        result.engine result.why }
     ensures replied { result.replied ≡ replied }
     ensures same { result.events.ghost_name ≡ feeding.entry.events.ghost_name }
 {
@@ -102,12 +112,14 @@ fn feed_alone<'a, K: Sink, G: Gate, R: Threads + Wait + Sync>(
         mut pass,
         mut evaluator,
         events,
+        mut circle,
     } = feeding;
-    let why = feed_all(shared, &mut pass, &mut evaluator, events);
+    let why = feed_all(shared, &mut pass, &mut evaluator, events, &mut circle);
     Beside {
         engine: pass,
         why,
         events,
+        circle,
         replied,
     }
 }
@@ -138,11 +150,12 @@ fn next_session(
 }
 
 /// The same, and this reply at the end.
-fn with_reply<'a, K: Sink>(beside: Beside<'a, K>, one: Replied) -> Beside<'a, K>
+fn with_reply<'a, K: Sink, O: Standing>(beside: Beside<'a, K, O>, one: Replied) -> Beside<'a, K, O>
     requires { vec_len beside.replied < vec_capacity beside.replied }
     ensures engine { (result.engine ≡ beside.entry.engine) × (result.why ≡ beside.entry.why) }
     ensures events { (result.events.now ≡ beside.entry.events.now)
         × (result.events.ghost_name ≡ beside.entry.events.ghost_name) }
+    ensures circle { result.circle ≡ beside.entry.circle }
     ensures replied { result.replied.items ≡ beside.entry.replied.items ++ one ∷ [] }
     ensures many { vec_len result.replied ≡ vec_len beside.entry.replied + 1 }
     ensures room { vec_capacity result.replied ≡ vec_capacity beside.entry.replied }
@@ -151,6 +164,7 @@ fn with_reply<'a, K: Sink>(beside: Beside<'a, K>, one: Replied) -> Beside<'a, K>
         engine,
         why,
         events,
+        circle,
         mut replied,
     } = beside;
     replied.push_reserved(one);
@@ -158,6 +172,7 @@ fn with_reply<'a, K: Sink>(beside: Beside<'a, K>, one: Replied) -> Beside<'a, K>
         engine,
         why,
         events,
+        circle,
         replied,
     }
 }

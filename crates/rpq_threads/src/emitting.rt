@@ -1,7 +1,8 @@
-//! Entries are fed to the engine, and their blocks are written.
+//! Entries are fed to the engine, their blocks are written, and the caller's objects are told of
+//! their events.
 
 ghost use Rattle.std.specs.Prelude.{◌≡◌, ◌<◌, ◌≤◌, ◌+◌, ◌^◌, ◌++◌, List, length, map, All};
-ghost use Rattle.std.specs.Prelude.{OnOk, Err};
+ghost use Rattle.std.specs.Prelude.{OnOk, OnErr, IfErr, Err, ⊤};
 ghost use Rattle.std.specs.Io.KnownBytes.{append_known};
 ghost use Rattle.containment_laws.specs.Accepted.{IsAccepted};
 ghost use Rattle.path_engine.specs.Engine.{StandsFor, definitions};
@@ -12,8 +13,9 @@ ghost use Rattle.rpq_io.specs.Writes.{WritesProperPrefix};
 ghost use Rattle.rpq_text.specs.Definitions.{definitions_of};
 ghost use Rattle.rpq_text.specs.Text.{block, blocks_from, IsText};
 ghost use Rattle.rpq_words.specs.Modes.{IsWithin};
-ghost use Rattle.rpq_threads.specs.Fed.{WritesFront, Emits, GoesOn};
-ghost use Rattle.rpq_threads.specs.Written.{GrewByPrefix, GrewByProperPrefix};
+ghost use Rattle.standing.specs.Circles.{as_seen};
+ghost use Rattle.rpq_threads.specs.Fed.{WritesFront, TellsOn, WritesAndTells, Emits, Stops};
+ghost use Rattle.rpq_threads.specs.Told.{all_events};
 
 use crate::evaluator::Evaluator;
 use containment_laws::accepted_queries_have_events;
@@ -23,15 +25,17 @@ use rpq_base::{Entry, Event};
 use rpq_io::{Gate, Sink, put_all};
 use rpq_text::make_block;
 use rpq_workers::Shared;
+use standing::{Circle, Standing};
 use std::thread::Threads;
 
-/// Feeds the entries to the engine, all at once, and then writes the block of each. It answers why
-/// not all of them were written.
-pub fn emit_front<R: Threads + Sync, G: Gate, K: Sink>(
+/// Feeds the entries to the engine, all at once, then writes the block of each, and tells the
+/// objects of its events once it is written. It answers why not all of this was done.
+pub fn emit_front<R: Threads + Sync, G: Gate, K: Sink, O: Standing>(
     shared: &Shared<'_, R, G>,
     evaluator: &mut Evaluator,
     entries: &[Entry],
     events: &mut K,
+    circle: &mut Circle<O>,
 ) -> Result<(), Why>
     requires workers { IsWithin 64 evaluator.old.workers }
     requires accepted { All IsAccepted (definitions evaluator.old.engine) }
@@ -39,15 +43,13 @@ pub fn emit_front<R: Threads + Sync, G: Gate, K: Sink>(
     requires short { evaluator.old.engine.position + length entries.now ≤ 2 ^ 30 }
     requires plain { All IsPlain entries.now }
     ensures ok { OnOk result (Emits evaluator.old.engine evaluator.new.engine entries.now
-        (K.written events.old) (K.written events.new)) }
-    ensures write { result ≡ Err Why.Write
-        → GoesOn evaluator.old.engine (K.written events.old) (λ before start.
-        GrewByProperPrefix (IsText (definitions evaluator.old.engine) (before ++ entries.now)) start
-        (K.written events.new)) }
-    ensures memory { result ≡ Err Why.Memory
-        → GoesOn evaluator.old.engine (K.written events.old) (λ before start.
-        GrewByPrefix (IsText (definitions evaluator.old.engine) (before ++ entries.now)) start
-        (K.written events.new)) }
+        (K.written events.old) (K.written events.new)
+        (as_seen O.seen circle.old) (as_seen O.seen circle.new)) }
+    ensures stops { IfErr result (λ why. (before : List EntryTaken)
+        → StandsFor evaluator.old.engine before
+        → Stops (definitions evaluator.old.engine) before (before ++ entries.now) why
+        (K.written events.old) (K.written events.new)
+        (as_seen O.seen circle.old) (as_seen O.seen circle.new)) }
     ensures counted { CountsFault (result ≡ Err Why.Write)
         (K.faults events.old) (K.faults events.new) }
     ensures workers { evaluator.new.workers ≡ evaluator.old.workers }
@@ -69,18 +71,21 @@ pub fn emit_front<R: Threads + Sync, G: Gate, K: Sink>(
         entries,
         &found,
         events,
+        circle,
     )
 }
 
 /// Writes the block of each of the entries, the first of which stands at this position, counted
-/// from 1, with the events in the entry's place.
-fn write_blocks<K: Sink>(
+/// from 1, with the events in the entry's place. The objects are told of an entry's events as soon
+/// as its block was written whole.
+fn write_blocks<K: Sink, O: Standing>(
     text: &mut Vec<u8>,
     queries: &[Compiled],
     position: u64,
     entries: &[Entry],
     found: &[Vec<Event>],
     events: &mut K,
+    circle: &mut Circle<O>,
 ) -> Result<(), Why>
     requires plain { All IsPlain entries.now }
     requires numbers { All (λ own. All (λ event. event.query < length queries.now) own.items)
@@ -98,9 +103,17 @@ fn write_blocks<K: Sink>(
         (map (λ own. own.items) found.now)) (K.written events.old) (K.written events.new) }
     ensures counted { CountsFault (result ≡ Err Why.Write)
         (K.faults events.old) (K.faults events.new) }
+    ensures told { OnOk result (TellsOn (all_events (map (λ own. own.items) found.now)) ⊤
+        (as_seen O.seen circle.old) (as_seen O.seen circle.new)) }
+    ensures part { IfErr result (λ why. WritesAndTells (definitions_of queries.now) position
+        entries.now (map (λ own. own.items) found.now) why
+        (K.written events.old) (K.written events.new)
+        (as_seen O.seen circle.old) (as_seen O.seen circle.new)) }
 {
     for (i, entry) in entries.iter().enumerate() {
-        write_block(text, queries, position + i as u64, entry, &found[i], events)?;
+        let own = &found[i];
+        write_block(text, queries, position + i as u64, entry, own, events)?;
+        tell(circle, own)?;
     }
     Ok(())
 }
@@ -132,4 +145,18 @@ fn write_block<K: Sink>(
         return Err(Why::Write);
     };
     Ok(())
+}
+
+/// Tells the objects of these events. The only reason is [`Why::Memory`].
+fn tell<O: Standing>(circle: &mut Circle<O>, events: &[Event]) -> Result<(), Why>
+    ensures told { OnOk result (TellsOn events.now ⊤
+        (as_seen O.seen circle.old) (as_seen O.seen circle.new)) }
+    ensures part { OnErr result (TellsOn events.now ⊥
+        (as_seen O.seen circle.old) (as_seen O.seen circle.new)) }
+    ensures cause { IfErr result (λ why. why ≡ Why.Memory) }
+{
+    match circle.tell_each(events) {
+        Ok(()) => Ok(()),
+        Err(_) => Err(Why::Memory),
+    }
 }

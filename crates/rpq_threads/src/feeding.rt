@@ -1,13 +1,15 @@
 //! The engine's loop.
 
-ghost use Rattle.std.specs.Prelude.{◌≡◌, ◌<◌, [], true, OnOk, Ok, Err};
+ghost use Rattle.std.specs.Prelude.{◌≡◌, ◌<◌, true, OnOk, IfErr, Ok, Err};
 ghost use Rattle.rpq_io.specs.Counts.{CountsFault};
 ghost use Rattle.history_model.specs.Lines.{entries, published};
 ghost use Rattle.turn_lock.specs.Lines.{StartsWith};
 ghost use Rattle.stream_history.specs.History.{IsFeedingPass};
 ghost use Rattle.rpq_text.specs.Text.{IsText};
-ghost use Rattle.rpq_threads.specs.Fed.{Onward, KeepsUp, IsFed, IsWhole, HasFed, answered};
-ghost use Rattle.rpq_threads.specs.Written.{Grew, GrewByPrefix, GrewByProperPrefix};
+ghost use Rattle.standing.specs.Circles.{as_seen};
+ghost use Rattle.rpq_threads.specs.Fed.{Onward, HearsOn, Stops, KeepsUp, IsFed, IsAtStart, IsWhole};
+ghost use Rattle.rpq_threads.specs.Fed.{HasFed, answered};
+ghost use Rattle.rpq_threads.specs.Written.{Grew};
 
 use crate::emitting::emit_front;
 use crate::evaluator::Evaluator;
@@ -16,27 +18,29 @@ use history_model::Why;
 use rpq_base::Memory;
 use rpq_io::{Gate, Sink};
 use rpq_workers::Shared;
+use standing::{Circle, Standing};
 use std::sync::Wait;
 use std::thread::Threads;
 use stream_history::{Heard, History, Pass, PublishFault};
 
-/// Feeds the engine with all entries, writes their blocks and publishes the answers, until all
-/// streams have ended and no entry is left. Where memory runs out or a write fails, it shuts the
-/// history and answers why.
-pub fn feed_all<R: Threads + Wait + Sync, G: Gate, K: Sink>(
+/// Feeds the engine with all entries, writes their blocks, tells the objects of their events and
+/// publishes the answers, until all streams have ended and no entry is left. Where memory runs out
+/// or a write fails, it shuts the history and answers why.
+pub fn feed_all<R: Threads + Wait + Sync, G: Gate, K: Sink, O: Standing>(
     shared: &Shared<'_, R, G>,
     pass: &mut Pass,
     evaluator: &mut Evaluator,
     events: &mut K,
+    circle: &mut Circle<O>,
 ) -> Option<Why>
-    requires fed { IsFed shared.now.history.now evaluator.old pass.old }
-    requires none { answered evaluator.old.engine pass.old ≡ [] }
+    requires { IsAtStart shared.now.history.now evaluator.old pass.old
+        (as_seen O.seen circle.old) }
     ensures { HasFed K.written K.faults shared.now.history.now events.old events.new
-        pass.new result }
+        (as_seen O.seen circle.old) (as_seen O.seen circle.new) pass.new result }
 {
     accepted_queries_have_events(); // called for its clause
     for _ in shared.rt.forever() {
-        match turn(shared, pass, evaluator, events) {
+        match turn(shared, pass, evaluator, events, circle) {
             Ok(true) => return None,
             Ok(false) => {}
             Err(why) => {
@@ -48,13 +52,14 @@ pub fn feed_all<R: Threads + Wait + Sync, G: Gate, K: Sink>(
     unreachable!()
 }
 
-/// Takes the next entries, writes their blocks and publishes the answers. It answers whether all
-/// streams have ended and no entry is left, or why it can't go on.
-fn turn<R: Threads + Wait + Sync, G: Gate, K: Sink>(
+/// Takes the next entries, writes their blocks, tells the objects of their events and publishes the
+/// answers. It answers whether all streams have ended and no entry is left, or why it can't go on.
+fn turn<R: Threads + Wait + Sync, G: Gate, K: Sink, O: Standing>(
     shared: &Shared<'_, R, G>,
     pass: &mut Pass,
     evaluator: &mut Evaluator,
     events: &mut K,
+    circle: &mut Circle<O>,
 ) -> Result<bool, Why>
     requires { IsFed shared.now.history.now evaluator.old pass.old }
     ensures feeds { IsFeedingPass shared.now.history.now pass.new }
@@ -64,14 +69,13 @@ fn turn<R: Threads + Wait + Sync, G: Gate, K: Sink>(
         (answered evaluator.old.engine pass.old) (K.written events.old) (λ start.
         Grew (IsText shared.now.history.now.terms.queries
         (answered evaluator.new.engine pass.new)) start (K.written events.new))) }
-    ensures write { result ≡ Err Why.Write → Onward shared.now.history.now.terms.queries
-        (answered evaluator.old.engine pass.old) (K.written events.old) (λ start.
-        GrewByProperPrefix (IsText shared.now.history.now.terms.queries
-        (entries pass.new.seen)) start (K.written events.new)) }
-    ensures memory { result ≡ Err Why.Memory → Onward shared.now.history.now.terms.queries
-        (answered evaluator.old.engine pass.old) (K.written events.old) (λ start.
-        GrewByPrefix (IsText shared.now.history.now.terms.queries
-        (entries pass.new.seen)) start (K.written events.new)) }
+    ensures heard { OnOk result (HearsOn shared.now.history.now.terms.queries
+        (answered evaluator.old.engine pass.old) (answered evaluator.new.engine pass.new)
+        (as_seen O.seen circle.old) (as_seen O.seen circle.new)) }
+    ensures stops { IfErr result (λ why. Stops shared.now.history.now.terms.queries
+        (answered evaluator.old.engine pass.old) (entries pass.new.seen) why
+        (K.written events.old) (K.written events.new)
+        (as_seen O.seen circle.old) (as_seen O.seen circle.new)) }
     ensures counted { CountsFault (result ≡ Err Why.Write)
         (K.faults events.old) (K.faults events.new) }
 {
@@ -86,7 +90,7 @@ fn turn<R: Threads + Wait + Sync, G: Gate, K: Sink>(
         sleep_unless(shared.rt, history, front.all_ended, heard);
         return Ok(front.all_ended);
     }
-    emit_front(shared, evaluator, &front.entries, events)?;
+    emit_front(shared, evaluator, &front.entries, events, circle)?;
     let Ok(()) = publish_answers(shared.rt, history, pass, evaluator) else {
         return Err(Why::Memory);
     };
@@ -106,14 +110,15 @@ fn publish_answers<R: Wait>(
     rt: &R,
     history: &History,
     pass: &mut Pass,
-    evaluator: &Evaluator,
+    evaluator: &mut Evaluator,
 ) -> Result<(), Memory>
-    requires keeps_up { KeepsUp history.now evaluator.now pass.old }
+    requires keeps_up { KeepsUp history.now evaluator.old pass.old }
     requires ahead { 0 < history.now.readers
-        → published pass.old.mine < evaluator.now.engine.position }
+        → published pass.old.mine < evaluator.old.engine.position }
     ensures feeds { IsFeedingPass history.now pass.new }
     ensures seen { StartsWith pass.new.seen pass.old.seen }
-    ensures fed { OnOk result (IsFed history.now evaluator.now pass.new) }
+    ensures fed { OnOk result (IsFed history.now evaluator.new pass.new) }
+    ensures position { evaluator.new.engine.position ≡ evaluator.old.engine.position }
 {
     if history.readers() == 0 {
         return Ok(());

@@ -1,15 +1,19 @@
 //! The threads of a run, which share one history: a worker for each stream, the engine in the
-//! calling thread, and a worker for each session.
+//! calling thread, and a worker for each session. The objects of the caller stand beside the
+//! engine, and are told of the events that it finds.
 //!
 //! The contract for the layer above is that of [`run_threads`]: whatever the threads do, there is
 //! one history in the end, and all that is told is told of it (`specs/Runs`). Each stream's tuples
 //! stand in it up to the stream's end, and nothing else does; what was written on the events is its
-//! text, or a prefix where a write failed or memory ran out; and each reply to a session is the one
-//! over the entries up to its position.
+//! text, or a prefix where a write failed or memory ran out; the objects were told of the events of
+//! the blocks that were written whole, and of no other (`specs/Told`); and each reply to a session
+//! is the one over the entries up to its position.
 //!
-//! The engine takes up to 256 entries at once, writes their blocks one after another, and publishes
-//! the answers after the last of them, where there are sessions. No clause says that the threads
-//! get on, or in which order.
+//! The engine takes up to 256 entries at once, writes their blocks one after another, tells the
+//! objects of each block's events behind it, and publishes the answers after the last of them,
+//! where there are sessions. The objects are told by the engine's thread, outside of any turn of
+//! the history. Want of memory of an object ends the run as that of the engine does. No clause says
+//! that the threads get on, or in which order.
 #![tactic(auto)]
 
 mod beside;

@@ -1,11 +1,11 @@
 //! Room for what the workers give.
 
-ghost use Rattle.std.specs.Prelude.{◌≡◌, ◌≤◌, ◌+◌, ◌++◌, ◌||◌, false, length, map, All, IfOk};
+ghost use Rattle.std.specs.Prelude.{◌≡◌, ◌≤◌, ◌+◌, ◌++◌, ◌∷◌, ◌||◌, false, length, map, All, IfOk};
 ghost use Rattle.std.specs.List.{list_any};
 ghost use Rattle.std.specs.Vec.{vec_len, vec_capacity};
 ghost use Rattle.std.specs.Vec.Iter.{into_iter_items};
 ghost use Rattle.stream_history.specs.History.{passes_for};
-ghost use Rattle.rpq_threads.specs.Served.{HasRoom};
+ghost use Rattle.rpq_threads.specs.Served.{HasRoom, HasRoomFor};
 
 use ask_text::Answered;
 use rpq_base::Memory;
@@ -23,6 +23,13 @@ pub struct Room<S: Source> {
     pub streamed: Vec<Streamed<S>>,
     pub waiting: Vec<Pass>,
     pub replied: Vec<Replied>,
+    pub gathered: Gathered<S>,
+}
+
+/// The passes of all threads, the sources and the ends of the streams, and the answers of the
+/// sessions.
+#[derive(Drop)]
+pub struct Gathered<S> {
     pub passes: Vec<Pass>,
     pub sources: Vec<S>,
     pub ends: Vec<StreamEnd>,
@@ -49,16 +56,44 @@ impl<S: Source + Drop> Room<S> {
             streamed: Vec::with_capacity(alloc, streams)?,
             waiting: Vec::with_capacity(alloc, sessions)?,
             replied: Vec::with_capacity(alloc, sessions)?,
-            passes: Vec::with_capacity(alloc, passes)?,
-            sources: Vec::with_capacity(alloc, streams)?,
-            ends: Vec::with_capacity(alloc, streams)?,
-            answers: Vec::with_capacity(alloc, sessions)?,
+            gathered: Gathered {
+                passes: Vec::with_capacity(alloc, passes)?,
+                sources: Vec::with_capacity(alloc, streams)?,
+                ends: Vec::with_capacity(alloc, streams)?,
+                answers: Vec::with_capacity(alloc, sessions)?,
+            },
         })
     }
 }
 
+/// Puts the engine's pass and what the workers gave into the lists, and answers whether memory ran
+/// out for one of the sessions.
+pub fn put_all<S: Source + Drop>(
+    engine: Pass,
+    streamed: Vec<Streamed<S>>,
+    replied: Vec<Replied>,
+    gathered: &mut Gathered<S>,
+) -> bool
+    requires room { HasRoomFor (vec_len streamed) (vec_len replied) gathered.old }
+    ensures passes { gathered.new.passes.items
+        ≡ engine ∷ (map (λ d. d.pass) streamed.items ++ map (λ r. r.pass) replied.items) }
+    ensures sources { gathered.new.sources.items ≡ map (λ d. d.source) streamed.items }
+    ensures ends { gathered.new.ends.items ≡ map (λ d. d.end) streamed.items }
+    ensures answers { gathered.new.answers.items ≡ map (λ r. r.answers) replied.items }
+    ensures memory { result ≡ list_any (λ r. r.memory) replied.items }
+{
+    gathered.passes.push_reserved(engine);
+    put_streamed(
+        streamed,
+        &mut gathered.passes,
+        &mut gathered.sources,
+        &mut gathered.ends,
+    );
+    put_replied(replied, &mut gathered.passes, &mut gathered.answers)
+}
+
 /// Puts what the workers of the streams gave into lists.
-pub fn put_streamed<S: Source + Drop>(
+fn put_streamed<S: Source + Drop>(
     streamed: Vec<Streamed<S>>,
     passes: &mut Vec<Pass>,
     sources: &mut Vec<S>,
@@ -84,7 +119,7 @@ pub fn put_streamed<S: Source + Drop>(
 
 /// Puts what the workers of the sessions gave into lists, and answers whether memory ran out for
 /// one of them.
-pub fn put_replied(
+fn put_replied(
     replied: Vec<Replied>,
     passes: &mut Vec<Pass>,
     answers: &mut Vec<Vec<Answered>>,

@@ -1,12 +1,12 @@
 //! The run of threads over one history.
 
-ghost use Rattle.std.specs.Prelude.{◌≡◌, IfOk, OnErr};
+ghost use Rattle.std.specs.Prelude.{◌≡◌, [], IfOk, IfErr, OnErr};
 ghost use Rattle.rpq_threads.specs.Runs.{IsTask, Holds};
 ghost use Rattle.rpq_threads.specs.Served.{IsBegun};
 
 use crate::definitions::copied_definitions;
 use crate::evaluator::Evaluator;
-use crate::room::Room;
+use crate::room::{Gathered, Room};
 use crate::serving::{Job, Served, serve};
 use crate::task::{Outcome, Task};
 use history_model::{fronts_are_legal, legal_is_sound};
@@ -14,6 +14,7 @@ use rpq_base::Memory;
 use rpq_io::{Context, Gate, Sink, Source};
 use rpq_model::QueryDef;
 use rpq_workers::Shared;
+use standing::{Circle, Standing};
 use std::random::RandomSource;
 use std::sync::{Arc, Wait};
 use std::thread::Threads;
@@ -21,22 +22,26 @@ use stream_history::{History, first_view};
 
 /// Takes the tuples of all streams into one history, each stream by a thread of its own, as far as
 /// threads can be made. Meanwhile it answers the entries in the calling thread, writes their blocks
-/// on the events, and answers the sessions, each by a thread of its own.
+/// on the events, tells the objects of the events of each block that was written whole, and answers
+/// the sessions, each by a thread of its own.
 ///
 /// It ends when all streams have ended, all entries are answered, and each session has its answers.
-/// A failed write and want of memory end it early. The only error is [`Memory`], before any thread
-/// is started.
-pub fn run_threads<R, G: Gate, S: Source + Send + Drop, K: Sink>(
+/// A failed write and want of memory, also of an object that is told, end it early. The only error
+/// is [`Memory`], before any thread is started. It comes with the objects that were given.
+pub fn run_threads<R, G: Gate, S: Source + Send + Drop, K: Sink, O: Standing>(
     context: &Context<'_, R, G>,
     task: Task<S>,
     events: &mut K,
-) -> Result<Outcome<S>, Memory>
+    circle: Circle<O>,
+) -> Result<Outcome<S, O>, (Circle<O>, Memory)>
 where
     R: Threads + Wait + RandomSource + Sync,
-    requires { IsTask S.left S.faults task }
-    ensures ok { IfOk result
-        (Holds S.left S.faults K.written K.faults task events.old events.new) }
+    requires task { IsTask S.left S.faults task }
+    requires fresh { circle.left ≡ [] }
+    ensures ok { IfOk result (Holds S.left S.faults K.written K.faults O.seen task
+        events.old events.new circle) }
     ensures untouched { OnErr result (events.new ≡ events.old) }
+    ensures given_back { IfErr result (λ refused. refused.0 ≡ circle) }
 {
     legal_is_sound(); // these are called for their clauses
     fronts_are_legal();
@@ -44,7 +49,10 @@ where
         history,
         definitions,
         job,
-    } = begin(context, task)?;
+    } = match begin(context, task) {
+        Ok(begun) => begun,
+        Err(memory) => return Err((circle, memory)),
+    };
     let shared = Shared {
         rt: context.rt,
         alloc: context.alloc,
@@ -53,15 +61,19 @@ where
         queries: &definitions,
     };
     let Served {
+        gathered,
+        short_of_memory,
+        why,
+        events: back,
+        circle,
+    } = serve(&shared, job, events, circle);
+    take_back(back);
+    let Gathered {
         passes,
         sources,
         ends,
         answers,
-        short_of_memory,
-        why,
-        events: back,
-    } = serve(&shared, job, events);
-    take_back(back);
+    } = gathered;
     let journal = history.finish(passes);
     Ok(Outcome {
         history: journal.into_entries(),
@@ -70,6 +82,7 @@ where
         sessions: answers,
         why,
         short_of_memory,
+        circle,
     })
 }
 
@@ -106,7 +119,7 @@ fn begin<R: RandomSource, G: Gate, S: Source + Drop>(
     } = task;
     let alloc = context.alloc;
     let definitions = Arc::new(alloc, copied_definitions(alloc, &queries)?)?;
-    let evaluator = Evaluator::new(context.rt, alloc, queries, workers)?;
+    let mut evaluator = Evaluator::new(context.rt, alloc, queries, workers)?;
     let first = evaluator.engine.view()?;
     let streams = readers.len() as u32;
     let asking = sessions.len() as u32;

@@ -1,19 +1,22 @@
 //! All threads of a run.
 
-ghost use Rattle.std.specs.Prelude.{◌≡◌};
-ghost use Rattle.rpq_threads.specs.Served.{IsJob, IsServed, given_by, gave_by};
+ghost use Rattle.std.specs.Prelude.{◌≡◌, ◌∷◌, ◌++◌, ◌||◌, false, map};
+ghost use Rattle.std.specs.List.{list_any};
+ghost use Rattle.std.specs.Vec.{vec_len};
+ghost use Rattle.standing.specs.Circles.{as_seen};
+ghost use Rattle.rpq_threads.specs.Served.{HasRoomFor, IsWork, IsServed, given_by, gave_by};
 
 use crate::beside::{Beside, Feeding, Waiting, feed_beside};
 use crate::evaluator::Evaluator;
-use crate::room::{Room, put_passes, put_replied, put_streamed};
-use ask_text::{Answered, Session};
+use crate::room::{Gathered, Room, put_all, put_passes};
+use ask_text::Session;
 use history_model::Why;
 use rpq_io::{Gate, LineReader, Sink, Source};
-use rpq_workers::{Shared, join_streams, start_streams};
+use rpq_workers::{Shared, Streamed, join_streams, start_streams};
+use standing::{Circle, Standing};
 use std::sync::Wait;
 use std::thread::{Scope, Threads, scope, scope_env};
 use stream_history::Pass;
-use stream_tuples::StreamEnd;
 
 /// What the threads of a run work with.
 #[derive(Drop)]
@@ -27,37 +30,39 @@ pub struct Job<S: Source> {
 
 /// What the threads of a run gave back.
 #[derive(Drop)]
-pub struct Served<'a, S, K> {
-    pub passes: Vec<Pass>,
-    pub sources: Vec<S>,
-    pub ends: Vec<StreamEnd>,
-    pub answers: Vec<Vec<Answered>>,
+pub struct Served<'a, S, K, O> {
+    pub gathered: Gathered<S>,
     pub short_of_memory: bool,
     pub why: Option<Why>,
     pub events: &'a mut K,
+    pub circle: Circle<O>,
 }
 
 /// Starts the workers, runs the engine and waits for the workers.
-pub fn serve<'a, S: Source + Send + Drop, K: Sink, G: Gate, R: Threads + Wait + Sync>(
+pub fn serve<'a, S: Source + Send + Drop, K: Sink, O: Standing, G: Gate, R: Threads + Wait + Sync>(
     shared: &Shared<'_, R, G>,
     job: Job<S>,
     events: &'a mut K,
-) -> Served<'a, S, K>
-    requires { IsJob S.left S.faults shared.now.history.now shared.now.queries.now job }
+    circle: Circle<O>,
+) -> Served<'a, S, K, O>
+    requires { IsWork S.left S.faults shared.now.history.now shared.now.queries.now job circle }
     ensures served { IsServed S.left S.faults K.written K.faults shared.now.history.now
-        (given_by job events.entry.now) (gave_by result) result.passes.items }
+        (given_by job events.entry.now (as_seen O.seen circle)) (gave_by O.seen result)
+        result.gathered.passes.items }
     ensures same { result.events.ghost_name ≡ events.entry.ghost_name }
 {
     scope(
         scope_env(),
         shared.rt,
-        move |scope| -> Served<'_, S, K>
-            requires { IsJob S.left S.faults shared.now.history.now shared.now.queries.now job }
+        move |scope| -> Served<'_, S, K, O>
+            requires { IsWork S.left S.faults shared.now.history.now shared.now.queries.now job
+                circle }
             ensures served { IsServed S.left S.faults K.written K.faults
                 shared.entry.now.history.now
-                (given_by job events.entry.now) (gave_by result) result.passes.items }
+                (given_by job events.entry.now (as_seen O.seen circle)) (gave_by O.seen result)
+                result.gathered.passes.items }
             ensures same { result.events.ghost_name ≡ events.entry.ghost_name }
-        { serve_within(scope, shared, job, events) },
+        { serve_within(scope, shared, job, events, circle) },
     )
 }
 
@@ -68,6 +73,7 @@ fn serve_within<
     'a,
     S: Source + Send + Drop + 's,
     K: Sink,
+    O: Standing,
     G: Gate,
     R: Threads + Wait + Sync,
 >(
@@ -75,10 +81,12 @@ fn serve_within<
     shared: &'s Shared<'s, R, G>,
     job: Job<S>,
     events: &'a mut K,
-) -> Served<'a, S, K>
-    requires { IsJob S.left S.faults shared.now.history.now shared.now.queries.now job }
+    circle: Circle<O>,
+) -> Served<'a, S, K, O>
+    requires { IsWork S.left S.faults shared.now.history.now shared.now.queries.now job circle }
     ensures served { IsServed S.left S.faults K.written K.faults shared.now.history.now
-        (given_by job events.entry.now) (gave_by result) result.passes.items }
+        (given_by job events.entry.now (as_seen O.seen circle)) (gave_by O.seen result)
+        result.gathered.passes.items }
     ensures same { result.events.ghost_name ≡ events.entry.ghost_name }
 {
     let Job {
@@ -93,10 +101,7 @@ fn serve_within<
         streamed,
         mut waiting,
         replied,
-        passes: mut back,
-        mut sources,
-        mut ends,
-        mut answers,
+        gathered,
     } = room;
     let mut given = passes.into_iter();
     let Some(pass) = given.next() else {
@@ -108,6 +113,7 @@ fn serve_within<
         pass,
         evaluator,
         events,
+        circle,
     };
     let waiting = Waiting {
         passes: waiting,
@@ -116,22 +122,41 @@ fn serve_within<
     };
     let beside = feed_beside(scope, shared, feeding, waiting);
     let streamed = join_streams(shared.rt, started, streamed);
+    gather(beside, streamed, gathered)
+}
+
+/// Puts what the engine and the workers gave together.
+fn gather<'a, S: Source + Drop, K: Sink, O: Standing>(
+    beside: Beside<'a, K, O>,
+    streamed: Vec<Streamed<S>>,
+    mut gathered: Gathered<S>,
+) -> Served<'a, S, K, O>
+    requires { HasRoomFor (vec_len streamed) (vec_len beside.replied) gathered }
+    ensures passes { result.gathered.passes.items ≡ beside.entry.engine
+        ∷ (map (λ d. d.pass) streamed.items ++ map (λ r. r.pass) beside.entry.replied.items) }
+    ensures sources { result.gathered.sources.items ≡ map (λ d. d.source) streamed.items }
+    ensures ends { result.gathered.ends.items ≡ map (λ d. d.end) streamed.items }
+    ensures answers { result.gathered.answers.items
+        ≡ map (λ r. r.answers) beside.entry.replied.items }
+    ensures memory { result.short_of_memory ≡ list_any (λ r. r.memory) beside.entry.replied.items }
+    ensures why { result.why ≡ beside.entry.why }
+    ensures events { (result.events.now ≡ beside.entry.events.now)
+        × (result.events.ghost_name ≡ beside.entry.events.ghost_name) }
+    ensures circle { result.circle ≡ beside.entry.circle }
+{
     let Beside {
         engine,
         why,
         events,
+        circle,
         replied,
     } = beside;
-    back.push_reserved(engine);
-    put_streamed(streamed, &mut back, &mut sources, &mut ends);
-    let short_of_memory = put_replied(replied, &mut back, &mut answers);
+    let short_of_memory = put_all(engine, streamed, replied, &mut gathered);
     Served {
-        passes: back,
-        sources,
-        ends,
-        answers,
+        gathered,
         short_of_memory,
         why,
         events,
+        circle,
     }
 }

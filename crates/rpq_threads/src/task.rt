@@ -5,6 +5,7 @@ use history_model::Why;
 use query_file::Compiled;
 use rpq_base::Entry;
 use rpq_io::{LineReader, Source};
+use standing::Circle;
 use stream_tuples::StreamEnd;
 
 /// What the threads of a run are given.
@@ -24,7 +25,7 @@ pub struct Task<S: Source> {
 
 /// What the threads of a run give.
 #[derive(Drop)]
-pub struct Outcome<S> {
+pub struct Outcome<S, O> {
     /// The entries, in the order in which they were taken.
     pub history: Vec<Entry>,
     /// How each stream ended.
@@ -37,4 +38,6 @@ pub struct Outcome<S> {
     pub why: Option<Why>,
     /// Whether some session has asks that weren't answered, for want of memory.
     pub short_of_memory: bool,
+    /// The objects that were told of the events, and those of them that left.
+    pub circle: Circle<O>,
 }

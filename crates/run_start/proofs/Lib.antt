@@ -1,2 +1,3 @@
+pub mod Modes
 pub mod Using
 pub mod Opening

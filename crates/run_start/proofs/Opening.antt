@@ -15,7 +15,7 @@ use Rattle.rpq_text.specs.declared.ends.Which.TheVariants.{Queries, Asks, Stream
 use Rattle.rpq_text.specs.declared.ends.StartFault.{StartFault}
 use Rattle.rpq_text.specs.declared.ends.StartFault.TheVariants.{Words, Queries as QueriesFault}
 use Rattle.rpq_text.specs.declared.ends.StartFault.TheVariants.{Asks as AsksFault, Open, Read, Long}
-use Rattle.rpq_text.specs.declared.ends.StartFault.TheVariants.{NotYet, Memory}
+use Rattle.rpq_text.specs.declared.ends.StartFault.TheVariants.{Memory}
 use Rattle.run_start.specs.Given.{file_names, names_before, names_up_to, whole_names}
 use Rattle.run_start.specs.Start.{AreOpened, IsOpeningOf}
 use Rattle.run_start.specs.Steps.{AreNamesOfFile, AreOpenedBehind, IsFaultOfFile, OpensFile, UsesMore}
@@ -111,7 +111,6 @@ to_read_only which file (Open one) to_read is other =
     to_read (sym is ∙ same)
 to_read_only which file (Read one) to_read is other = absurd (cc other)
 to_read_only which file (Long one) to_read is other = absurd (cc other)
-to_read_only which file NotYet to_read is other = is
 to_read_only which file Memory to_read is other = absurd (cc other)
 
 -- the name of the file that couldn't be opened
@@ -127,7 +126,6 @@ is_opening given which before name file (Open one) at is any opening =
     (same, at.named any (subst (λ (f : StartFault). IsOpeningOf given any f) same opening))
 is_opening given which before name file (Read one) at is any opening = absurd opening
 is_opening given which before name file (Long one) at is any opening = absurd opening
-is_opening given which before name file NotYet at is any opening = absurd opening
 is_opening given which before name file Memory at is any opening = absurd opening
 
 -- the names that were opened are those of a run that doesn't begin for this
@@ -145,7 +143,6 @@ opened_to given which before name file (Read one) names at is are =
     ap (λ (ns : List (List ℕ)). before ++ ns) are ∙ (sym at.up_to ∙ ap (λ w. names_up_to given w) (sym is))
 opened_to given which before name file (Long one) names at is are =
     ap (λ (ns : List (List ℕ)). before ++ ns) are ∙ (sym at.up_to ∙ ap (λ w. names_up_to given w) (sym is.0))
-opened_to given which before name file NotYet names at is are = absurd is
 opened_to given which before name file Memory names at is are = record {
   rest = are.rest ++ at.front.rest;
   cut = at.front.cut ∙ (ap (λ (ns : List (List ℕ)). (before ++ ns) ++ at.front.rest) are.cut
@@ -170,7 +167,6 @@ quietly given which before name file (Read one) old new at is counts any none =
     counts.quiet (λ opens. absurd (cc opens)) any
 quietly given which before name file (Long one) old new at is counts any none =
     counts.quiet (λ opens. absurd (cc opens)) any
-quietly given which before name file NotYet old new at is counts any none = absurd is
 quietly given which before name file Memory old new at is counts any none =
     counts.quiet (λ opens. absurd (cc opens)) any
 

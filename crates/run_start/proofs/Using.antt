@@ -9,7 +9,7 @@ use Rattle.rpq_text.specs.declared.ends.Which.TheVariants.{Queries, Asks, Stream
 use Rattle.rpq_text.specs.declared.ends.StartFault.{StartFault}
 use Rattle.rpq_text.specs.declared.ends.StartFault.TheVariants.{Words, Queries as QueriesFault}
 use Rattle.rpq_text.specs.declared.ends.StartFault.TheVariants.{Asks as AsksFault, Open, Read, Long}
-use Rattle.rpq_text.specs.declared.ends.StartFault.TheVariants.{NotYet, Memory}
+use Rattle.rpq_text.specs.declared.ends.StartFault.TheVariants.{Memory}
 use Rattle.run_start.specs.Given.{file_names, sink_names}
 use Rattle.run_start.specs.Start.{AreMade, AreOpened, IsMakingOf, IsOpeningOf, Opens, UsesFiles}
 use Rattle.run_start.specs.Steps.{AreMadeThen, AreOpenedBehind, UsesMore}
@@ -22,7 +22,6 @@ none_made given (AsksFault fault) = refl
 none_made given (Open which) = refl
 none_made given (Read which) = refl
 none_made given (Long which) = refl
-none_made given NotYet = refl
 none_made given Memory = record { rest = sink_names given; cut = refl }
 
 none_made_then : (given : Settings) (start : Option StartFault) → AreMadeThen given [] start []
@@ -41,7 +40,6 @@ no_making given name (Open (Stream number)) other making = making
 no_making given name (Open Replies) other making = other refl
 no_making given name (Read which) other making = making
 no_making given name (Long which) other making = making
-no_making given name NotYet other making = making
 no_making given name Memory other making = making
 
 -- a step that only reads
@@ -134,7 +132,6 @@ IsFoundLater (AsksFault fault) = Unit {0}
 IsFoundLater (Open which) = ⊥
 IsFoundLater (Read which) = ⊥
 IsFoundLater (Long which) = ⊥
-IsFoundLater NotYet = ⊥
 IsFoundLater Memory = Unit {0}
 
 -- a step after which the run doesn't begin
@@ -177,7 +174,6 @@ then_refused {F} {holds} {opened} {made} {unread} {unmade} {given} {before} {own
     no_opening (Open which) is name opening = is
     no_opening (Read which) is name opening = opening
     no_opening (Long which) is name opening = opening
-    no_opening NotYet is name opening = opening
     no_opening Memory is name opening = opening
 
     none_later : (f : StartFault) → IsFoundLater f → (name : List ℕ) → IsMakingOf given name f → ⊥
@@ -187,7 +183,6 @@ then_refused {F} {holds} {opened} {made} {unread} {unmade} {given} {before} {own
     none_later (Open which) is name making = is
     none_later (Read which) is name making = making
     none_later (Long which) is name making = making
-    none_later NotYet is name making = making
     none_later Memory is name making = making
 
 -- what a step opens of its own is told only where the run goes on

@@ -1,13 +1,9 @@
 -- What a run makes of the settings that its words are.
-use Rattle.std.specs.Prelude.{ℕ, zero, suc, Bool, List, [], ◌∷◌, ◌++◌, take, Option, None, is_some}
-use Rattle.std.specs.Prelude.{slice_get, option_to_list}
+use Rattle.std.specs.Prelude.{ℕ, zero, suc, List, [], ◌∷◌, ◌++◌, take, Option, None, slice_get}
+use Rattle.std.specs.Prelude.{option_to_list}
 use Rattle.rpq_words.specs.Settings.{Settings}
 use Rattle.rpq_text.specs.declared.ends.Which.{Which}
 use Rattle.rpq_text.specs.declared.ends.Which.TheVariants.{Queries, Asks, Stream, Replies}
-
--- whether something is wanted that isn't done so far: generated tuples
-abbrev pub is_not_yet : Settings → Bool
-is_not_yet given = is_some given.generate
 
 -- the name of the stream with this number, from 1
 abbrev pub stream_name : Settings → ℕ → Option (List ℕ)

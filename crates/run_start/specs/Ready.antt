@@ -1,30 +1,22 @@
 -- What a run begins with, and why its words alone begin none.
 use Rattle.std.specs.Prelude.{◌≡◌, ℕ, ◌≤◌, true, false, List, [], length, map, All, Option, Some}
-use Rattle.std.specs.Prelude.{None, is_some, option_map, IsSomeAnd, IfSome, MatchOption, Result}
-use Rattle.std.specs.Prelude.{Ok, Err}
+use Rattle.std.specs.Prelude.{None, is_some, option_map, IfSome, MatchOption, Result, Ok, Err}
 use Rattle.containment_laws.specs.Accepted.{IsAccepted}
 use Rattle.rpq_io.specs.Files.{IsNewSink}
 use Rattle.query_file.specs.Compiled.{CompiledValue, IsCompiled}
 use Rattle.ask_text.specs.Ranges.{IsSession}
-use Rattle.rpq_words.specs.Modes.{AreSettings}
-use Rattle.rpq_words.specs.Settings.{Settings}
+use Rattle.rpq_words.specs.Settings.{Settings, reads_none}
 use Rattle.stream_tuples.specs.Progress.{IsNewReader}
 use Rattle.rpq_text.specs.Definitions.{definitions_of}
 use Rattle.rpq_text.specs.Limits.{query_limit}
 use Rattle.rpq_text.specs.declared.ends.StartFault.{StartFault}
 use Rattle.rpq_text.specs.declared.ends.StartFault.TheVariants.{Words, Queries, Asks, Open, Read}
-use Rattle.rpq_text.specs.declared.ends.StartFault.TheVariants.{Long, NotYet, Memory}
+use Rattle.rpq_text.specs.declared.ends.StartFault.TheVariants.{Long, Memory}
 use Rattle.run_start.specs.Files.{ForSessions, HasQueries}
-use Rattle.run_start.specs.Given.{is_not_yet}
 use Rattle.run_start.specs.declared.ready.Reads.{Reads}
 use Rattle.run_start.specs.declared.refusal.Refusal.{Refusal}
 
--- settings of words, with nothing that isn't done so far
-pub record AreTaken (given : Settings) : Type 0 where
-  pub settings : AreSettings given
-  pub so_far : is_not_yet given ≡ false
-
--- why the words alone begin no run, by their settings, if they have any; or memory ran out
+-- why the words alone begin no run: they have no settings, or memory ran out
 abbrev pub IsWordsCause : Option Settings → StartFault → Type 0
 IsWordsCause words Words = words ≡ None
 IsWordsCause words (Queries fault) = ⊥
@@ -32,7 +24,6 @@ IsWordsCause words (Asks fault) = ⊥
 IsWordsCause words (Open which) = ⊥
 IsWordsCause words (Read which) = ⊥
 IsWordsCause words (Long which) = ⊥
-IsWordsCause words NotYet = IsSomeAnd words (λ given. is_not_yet given ≡ true)
 IsWordsCause words Memory = Unit {0}
 
 -- the queries of a file: some, not too many, all accepted, and each with its own automaton and
@@ -43,14 +34,14 @@ pub record AreUnderstood (queries : List CompiledValue) : Type 0 where
   pub accepted : All (λ each. IsAccepted each.def) queries
   pub compiled : All IsCompiled queries
 
--- what is read and answered in a run that isn't a check: a new reader of each stream, in order; the
+-- what is read and answered in a run over streams: a new reader of each stream, in order; the
 -- sessions of the asks file, not too many, each about the queries; and where replies are wanted, a
 -- new sink for them
 pub record IsReading {S K : Type 0} (left : S → Option (List ℕ)) (faults : S → ℕ)
     (written : K → Option (List ℕ)) (failures : K → ℕ) (given : Settings)
     (holds : List ℕ → Option (List ℕ)) (queries : List CompiledValue) (reading : Reads S K)
     : Type 0 where
-  pub unchecked : given.check ≡ false
+  pub reads_some : reads_none given ≡ false
   pub contents : map holds given.streams ≡ map (λ reader. left reader.source) reading.readers.items
   pub fresh : All (IsNewReader left faults) reading.readers.items
   pub asked : ForSessions given holds (definitions_of queries)
@@ -61,14 +52,14 @@ pub record IsReading {S K : Type 0} (left : S → Option (List ℕ)) (faults : S
   pub unwritten : IfSome reading.replies (IsNewSink written failures)
 
 -- what a run begins with: the queries of its file, understood, and what is read and answered, or
--- nothing where the queries are only checked
+-- nothing where the queries are only checked, or tuples are generated
 pub record IsReady {S K : Type 0} (left : S → Option (List ℕ)) (faults : S → ℕ)
     (written : K → Option (List ℕ)) (failures : K → ℕ) (given : Settings)
     (holds : List ℕ → Option (List ℕ)) (queries : List CompiledValue)
     (reading : Option (Reads S K)) : Type 0 where
   pub has : IfSome (holds given.queries) (λ bytes. HasQueries bytes (definitions_of queries))
   pub understood : AreUnderstood queries
-  pub reads : MatchOption reading (given.check ≡ true)
+  pub reads : MatchOption reading (reads_none given ≡ true)
       (IsReading left faults written failures given holds queries)
 
 -- all bytes of a file were taken, by reads of which none failed

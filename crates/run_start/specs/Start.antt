@@ -1,6 +1,6 @@
 -- Why a run doesn't begin, and what its beginning does to the files.
-use Rattle.std.specs.Prelude.{◌≡◌, ◌≢◌, ℕ, true, MatchBool, ◌⊎◌, List, [], ◌∷◌, ◌++◌, length}
-use Rattle.std.specs.Prelude.{Option, Some, None, IsSomeAnd, option_and_then}
+use Rattle.std.specs.Prelude.{◌≡◌, ◌≢◌, ℕ, ◌⊎◌, List, [], ◌∷◌, ◌++◌, length, Option, Some, None}
+use Rattle.std.specs.Prelude.{IsSomeAnd, option_and_then}
 use Rattle.rpq_io.specs.Counts.{Rose, CountsFault}
 use Rattle.rpq_words.specs.Settings.{Settings}
 use Rattle.rpq_text.specs.declared.ends.Which.{Which}
@@ -8,12 +8,12 @@ use Rattle.rpq_text.specs.declared.ends.Which.TheVariants.{Queries, Asks, Stream
 use Rattle.rpq_text.specs.declared.ends.StartFault.{StartFault}
 use Rattle.rpq_text.specs.declared.ends.StartFault.TheVariants.{Words, Queries as QueriesFault}
 use Rattle.rpq_text.specs.declared.ends.StartFault.TheVariants.{Asks as AsksFault, Open, Read, Long}
-use Rattle.rpq_text.specs.declared.ends.StartFault.TheVariants.{NotYet, Memory}
+use Rattle.rpq_text.specs.declared.ends.StartFault.TheVariants.{Memory}
 use Rattle.stream_tuples.specs.History.{IsNumberOf, IsPrefix}
 use Rattle.run_start.specs.Files.{AreFaultyAsks, AreUnderstoodFiles, IsFaultyFile, IsQueriesFile}
 use Rattle.run_start.specs.Files.{IsRestOf, IsTooLong}
-use Rattle.run_start.specs.Given.{is_not_yet, stream_name, whole_names, file_names, sink_names}
-use Rattle.run_start.specs.Given.{names_before, names_up_to}
+use Rattle.run_start.specs.Given.{stream_name, whole_names, file_names, sink_names, names_before}
+use Rattle.run_start.specs.Given.{names_up_to}
 
 -- where each cause of a refusal may come that isn't one of the words, by what the files hold: a
 -- file is looked at only where all that come before it are understood, and only one that is given
@@ -39,15 +39,13 @@ IsRefusedFor given holds (Long Asks) =
     IsSomeAnd given.asks (λ name. IsQueriesFile (holds given.queries) × IsTooLong (holds name))
 IsRefusedFor given holds (Long (Stream number)) = ⊥
 IsRefusedFor given holds (Long Replies) = ⊥
-IsRefusedFor given holds NotYet = ⊥
 IsRefusedFor given holds Memory = Unit {0}
 
--- why a run doesn't begin, by the settings of its words, if they have any: they have none, or such
--- as aren't taken so far, or a file is the cause; or memory ran out
+-- why a run doesn't begin, by the settings of its words, if they have any: they have none, or a
+-- file is the cause; or memory ran out
 abbrev pub IsCause : Option Settings → (List ℕ → Option (List ℕ)) → StartFault → Type 0
 IsCause None holds fault = (fault ≡ Words) ⊎ (fault ≡ Memory)
-IsCause (Some given) holds fault = MatchBool (is_not_yet given)
-    ((fault ≡ NotYet) ⊎ (fault ≡ Memory)) (IsRefusedFor given holds fault)
+IsCause (Some given) holds fault = IsRefusedFor given holds fault
 
 -- the cause is that the file of this name couldn't be opened to read
 abbrev pub IsOpeningOf : Settings → List ℕ → StartFault → Type 0
@@ -60,7 +58,6 @@ IsOpeningOf given name (Open (Stream number)) = stream_name given number ≡ Som
 IsOpeningOf given name (Open Replies) = ⊥
 IsOpeningOf given name (Read which) = ⊥
 IsOpeningOf given name (Long which) = ⊥
-IsOpeningOf given name NotYet = ⊥
 IsOpeningOf given name Memory = ⊥
 
 -- the cause is that the file of this name couldn't be opened to write
@@ -74,7 +71,6 @@ IsMakingOf given name (Open (Stream number)) = ⊥
 IsMakingOf given name (Open Replies) = given.replies ≡ Some name
 IsMakingOf given name (Read which) = ⊥
 IsMakingOf given name (Long which) = ⊥
-IsMakingOf given name NotYet = ⊥
 IsMakingOf given name Memory = ⊥
 
 -- what the file holds that is read as this one, where the words have settings that name it
@@ -96,15 +92,12 @@ AreSourcesOf {S} left faults held (Open which) sources = sources ≡ []
 AreSourcesOf {S} left faults held (Read which) sources = (source : S) × (sources ≡ source ∷ [])
     × Rose 0 (faults source) × IsRestOf (held which) (left source)
 AreSourcesOf {S} left faults held (Long which) sources = sources ≡ []
-AreSourcesOf {S} left faults held NotYet sources = sources ≡ []
 AreSourcesOf {S} left faults held Memory sources = sources ≡ []
 
--- what the words alone decide: none that have no settings, and none whose settings aren't taken so
--- far, begin a run
+-- what the words alone decide: none that have no settings begin a run
 abbrev pub IsDecided : Option Settings → Option StartFault → Type 0
 IsDecided None start = (start ≡ Some Words) ⊎ (start ≡ Some Memory)
-IsDecided (Some given) start =
-    is_not_yet given ≡ true → (start ≡ Some NotYet) ⊎ (start ≡ Some Memory)
+IsDecided (Some given) start = Unit {0}
 
 -- the names of the files that a run opened to read, in order, by why it didn't begin, if it didn't
 abbrev pub AreOpened : Settings → Option StartFault → List (List ℕ) → Type 0
@@ -115,7 +108,6 @@ AreOpened given (Some (AsksFault fault)) names = names ≡ whole_names given
 AreOpened given (Some (Open which)) names = names ≡ names_before given which
 AreOpened given (Some (Read which)) names = names ≡ names_up_to given which
 AreOpened given (Some (Long which)) names = names ≡ names_up_to given which
-AreOpened given (Some NotYet) names = names ≡ []
 AreOpened given (Some Memory) names = IsPrefix names (file_names given)
 
 -- the names of the files that a run opened to write, by why it didn't begin, if it didn't
@@ -127,7 +119,6 @@ AreMade given (Some (AsksFault fault)) names = names ≡ []
 AreMade given (Some (Open which)) names = names ≡ []
 AreMade given (Some (Read which)) names = names ≡ []
 AreMade given (Some (Long which)) names = names ≡ []
-AreMade given (Some NotYet) names = names ≡ []
 AreMade given (Some Memory) names = IsPrefix names (sink_names given)
 
 -- the names that were opened to read, where words without settings open none

@@ -12,7 +12,7 @@ use Rattle.rpq_text.specs.declared.ends.Which.{Which}
 use Rattle.rpq_text.specs.declared.ends.Which.TheVariants.{Stream}
 use Rattle.rpq_text.specs.declared.ends.StartFault.{StartFault}
 use Rattle.rpq_text.specs.declared.ends.StartFault.TheVariants.{Words, Queries, Asks, Open, Read}
-use Rattle.rpq_text.specs.declared.ends.StartFault.TheVariants.{Long, NotYet, Memory}
+use Rattle.rpq_text.specs.declared.ends.StartFault.TheVariants.{Long, Memory}
 use Rattle.run_start.specs.Files.{IsTooLong}
 use Rattle.run_start.specs.Start.{AreMade, AreOpened, AreSourcesOf, IsMakingOf, IsOpeningOf}
 use Rattle.run_start.specs.Start.{IsRefusedFor, Opens, file_held}
@@ -26,7 +26,6 @@ IsFaultOfFile which file (Asks fault) = ⊥
 IsFaultOfFile which file (Open other) = other ≡ which
 IsFaultOfFile which file (Read other) = other ≡ which
 IsFaultOfFile which file (Long other) = (other ≡ which) × IsTooLong file
-IsFaultOfFile which file NotYet = ⊥
 IsFaultOfFile which file Memory = Unit {0}
 
 -- the names that were opened to read for the file of this name, by why it wasn't taken, if it
@@ -39,7 +38,6 @@ AreNamesOfFile name (Some (Asks fault)) names = names ≡ name ∷ []
 AreNamesOfFile name (Some (Open which)) names = names ≡ []
 AreNamesOfFile name (Some (Read which)) names = names ≡ name ∷ []
 AreNamesOfFile name (Some (Long which)) names = names ≡ name ∷ []
-AreNamesOfFile name (Some NotYet) names = names ≡ []
 AreNamesOfFile name (Some Memory) names = IsPrefix names (name ∷ [])
 
 -- a call opens the file of this name, once, to read it as this one, or doesn't take it for this
@@ -63,7 +61,6 @@ IsFaultOfAsks queries bytes (Asks fault) =
 IsFaultOfAsks queries bytes (Open which) = ⊥
 IsFaultOfAsks queries bytes (Read which) = ⊥
 IsFaultOfAsks queries bytes (Long which) = ⊥
-IsFaultOfAsks queries bytes NotYet = ⊥
 IsFaultOfAsks queries bytes Memory = Unit {0}
 
 -- a step refuses the run for a cause that may come there, and leaves the sources of that

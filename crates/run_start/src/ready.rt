@@ -2,11 +2,13 @@
 
 ghost use Rattle.std.specs.Prelude.{◌≡◌, ◌∷◌, ◌++◌, [], false, Some, option_to_list, IfOk, IfErr};
 ghost use Rattle.std.specs.Prelude.{IfSome};
+ghost use Rattle.rpq_words.specs.Modes.{AreSettings};
+ghost use Rattle.rpq_words.specs.Settings.{reads_none};
 ghost use Rattle.rpq_text.specs.Definitions.{definitions_of};
 ghost use Rattle.run_start.specs.Files.{HasQueries};
 ghost use Rattle.run_start.specs.Given.{sink_names};
-ghost use Rattle.run_start.specs.Ready.{AreReadWhole, AreTaken, AreUnderstood, IsReading};
-ghost use Rattle.run_start.specs.Ready.{IsReady, IsReadWhole, fault_of};
+ghost use Rattle.run_start.specs.Ready.{AreReadWhole, AreUnderstood, IsReading, IsReady};
+ghost use Rattle.run_start.specs.Ready.{IsReadWhole, fault_of};
 ghost use Rattle.run_start.specs.Start.{AreSourcesOf, IsRefusedFor, UsesFiles, file_held};
 ghost use Rattle.run_start.specs.Steps.{IsRefusal, UsesMore};
 
@@ -25,7 +27,7 @@ use std::alloc::Global;
 #[derive(Drop)]
 pub struct Ready<S: Source, K: Sink> {
     pub queries: Vec<Compiled>,
-    /// What is read and answered; none where the queries are only checked.
+    /// What is read and answered; none where the queries are only checked, or tuples are generated.
     pub reads: Option<Reads<S, K>>,
 }
 
@@ -41,14 +43,14 @@ pub struct Reads<S: Source, K: Sink> {
 }
 
 /// Reads the queries file whole and understands it; then the asks file, if there is one; opens the
-/// streams in their order; and opens the sink of the replies, if there is one. For a check only the
-/// queries file is opened. The first of these that fails ends it.
+/// streams in their order; and opens the sink of the replies, if there is one. For a check, and for
+/// generated tuples, only the queries file is opened. The first of these that fails ends it.
 pub fn begin<F: Files>(
     alloc: Global,
     files: &mut F,
     chosen: &Chosen,
 ) -> Result<Ready<F::Source, F::Sink>, Refusal<F::Source>>
-    requires { AreTaken chosen.now }
+    requires { AreSettings chosen.now }
     ensures ready { IfOk result (λ ready. IsReady F.Source.left F.Source.faults
         F.Sink.written F.Sink.faults chosen.now (F.holds files.old)
         ready.queries.items ready.reads) }
@@ -63,7 +65,7 @@ pub fn begin<F: Files>(
         (Some chosen.now) (fault_of result) files.old files.new }
 {
     let queries = queries_of_file(alloc, files, chosen)?;
-    if chosen.check {
+    if reads_none(chosen) {
         return Ok(Ready {
             queries,
             reads: None,
@@ -76,6 +78,13 @@ pub fn begin<F: Files>(
     })
 }
 
+/// Whether no stream is to be read: the queries are checked alone, or tuples are generated.
+fn reads_none(chosen: &Chosen) -> bool
+    ensures { result ≡ reads_none chosen.now }
+{
+    chosen.check || chosen.generate.is_some()
+}
+
 /// Reads the asks file and opens the streams and the replies, in a run with these queries, which
 /// are those of its queries file.
 fn begin_reading<F: Files>(
@@ -84,8 +93,8 @@ fn begin_reading<F: Files>(
     chosen: &Chosen,
     queries: &[Compiled],
 ) -> Result<Reads<F::Source, F::Sink>, Refusal<F::Source>>
-    requires taken { AreTaken chosen.now }
-    requires unchecked { chosen.now.check ≡ false }
+    requires settings { AreSettings chosen.now }
+    requires reads_some { reads_none chosen.now ≡ false }
     requires understood { AreUnderstood queries.now }
     requires has { IfSome (F.holds files.old chosen.now.queries)
         (λ bytes. HasQueries bytes (definitions_of queries.now)) }

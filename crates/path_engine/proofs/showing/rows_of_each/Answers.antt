@@ -1,6 +1,6 @@
-use Rattle.std.proofs.Common.{◌+◌, List, take, sym, subst}
+use Rattle.std.proofs.Common.{◌≡◌, ◌+◌, ◌<◌, List, [], length, get_or, take, sym, subst, arith}
 use Rattle.std.specs.List.{AllZip}
-use Rattle.std.proofs.lemmas.List.{take_all}
+use Rattle.std.proofs.lemmas.List.{get_or_default, take_all}
 use Rattle.rpq_base.specs.declared.data.Entry.{Entry}
 use Rattle.rpq_model.specs.Query.{path_query}
 use Rattle.answer_rows.specs.Answers.{Answer}
@@ -10,34 +10,95 @@ use Rattle.path_engine.specs.declared.index.Index.{Index}
 use Rattle.path_engine.specs.Answering.{HasHistory}
 use Rattle.path_engine.specs.Engine.{IsIndexFor}
 use Rattle.path_engine.proofs.Each.{zip_at, zip_more}
+use Rattle.path_engine.proofs.Still.{all_still, histories_more, still_more}
 use Rattle.path_engine.proofs.showing.rows_of_each.Goals as goal
 
-abbrev Have : List Entry → CompiledValue → List Answer → Type 0
-Have history query own = AreRowsOf (path_query query.def) history own
+-- the rows are those of the queries
+abbrev Have : List Entry → List CompiledValue → List (List Answer) → Type 0
+Have history queries rows = AllZip (λ (query : CompiledValue) (own : List Answer).
+    AreRowsOf (path_query query.def) history own) queries rows
+
+pub loop-place-init : goal.loop-place-init
+loop-place-init c = record {
+  have = c.requires.indexes;
+  still = all_still c.args.queries.now c.args.names.now c.args.indexes.now;
+  shown = λ history are.
+      subst (Have history []) (sym {A = List (List Answer)} c.in_ok-rows.ensures.items) tt;
+}
 
 pub rows_of-requires-clause-index : goal.rows_of-requires-clause-index
 rows_of-requires-clause-index c =
-    zip_at (λ (query : CompiledValue) (index : Index). HasHistory query c.args.names.now index)
-    c.args.queries.now c.args.indexes.now c.loop-place.place c.index-queries-place.result
-    c.index-indexes-place.result c.requires.indexes c.loop-place-test.true
-    c.index-queries-place.is c.index-indexes-place.is
+    let found = c.index-indexes-place.result in
+    let query = c.index-queries-place.result in
+    subst (HasHistory query c.args.names.now) c.index-indexes-place.is
+    (zip_at (λ (each : CompiledValue) (index : Index). HasHistory each c.args.names.now index)
+    c.args.queries.now c.loop-place.indexes c.loop-place.place query found
+    c.loop-place.invariant.have
+    (omega (arith, c.requires.as_many, c.loop-place-test.true)) c.index-queries-place.is
+    c.index-indexes-place.is)
+
+pub returns-in_err-own-clause-kept : goal.returns-in_err-own-clause-kept
+returns-in_err-own-clause-kept c =
+    let current = c.loop-place.indexes in
+    let place = c.loop-place.place in
+    let found = c.index-indexes-place.result in
+    let within : place < length current =
+    omega (arith, c.loop-place.auto.indexes, c.loop-place-test.true) in
+    still_more c.args.queries.now c.args.names.now c.args.indexes.now current place
+    c.index-queries-place.result (get_or current place found) c.rows_of.new.index
+    (omega (arith, c.requires.as_many, c.loop-place-test.true)) within c.index-queries-place.is
+    (get_or_default current place found (get_or current place found) within)
+    c.rows_of.ensures.kept c.loop-place.invariant.still
+
+pub returns-in_err-push-clause-kept : goal.returns-in_err-push-clause-kept
+returns-in_err-push-clause-kept c =
+    let current = c.loop-place.indexes in
+    let place = c.loop-place.place in
+    let found = c.index-indexes-place.result in
+    let within : place < length current =
+    omega (arith, c.loop-place.auto.indexes, c.loop-place-test.true) in
+    still_more c.args.queries.now c.args.names.now c.args.indexes.now current place
+    c.index-queries-place.result (get_or current place found) c.rows_of.new.index
+    (omega (arith, c.requires.as_many, c.loop-place-test.true)) within c.index-queries-place.is
+    (get_or_default current place found (get_or current place found) within)
+    c.rows_of.ensures.kept c.loop-place.invariant.still
 
 pub loop-place-preserved : goal.loop-place-preserved
-loop-place-preserved c = λ history are.
+loop-place-preserved c =
     let queries = c.args.queries.now in
+    let names = c.args.names.now in
+    let olds = c.args.indexes.now in
+    let current = c.loop-place.indexes in
     let place = c.loop-place.place in
-    let is = zip_at (λ (query : CompiledValue) (index : Index).
-    IsIndexFor query history c.args.names.now index) queries c.args.indexes.now place
-    c.index-queries-place.result c.index-indexes-place.result are c.loop-place-test.true
-    c.index-queries-place.is c.index-indexes-place.is in
-    subst (λ (all : List (List Answer)). AllZip (Have history) (take (place + 1) queries) all)
-    (sym {A = List (List Answer)} c.in_ok-push.ensures.items)
-    (zip_more (Have history) queries c.loop-place.rows.items place c.index-queries-place.result
-    c.in_ok-rows_of.field-0 c.loop-place-test.true c.index-queries-place.is
-    (c.loop-place.invariant history are) (c.in_ok-rows_of.ensures history is))
+    let found = c.index-indexes-place.result in
+    let query = c.index-queries-place.result in
+    let old = get_or current place found in
+    let was = c.loop-place.invariant in
+    let inside : place < length queries =
+    omega (arith, c.requires.as_many, c.loop-place-test.true) in
+    let within : place < length current =
+    omega (arith, c.loop-place.auto.indexes, c.loop-place-test.true) in
+    let old_is : old ≡ get_or current place old = get_or_default current place found old within in
+    record {
+      have = histories_more queries names olds current place query old c.rows_of.new.index inside
+          within c.index-queries-place.is old_is c.rows_of.ensures.kept was.have;
+      still = still_more queries names olds current place query old c.rows_of.new.index inside
+          within c.index-queries-place.is old_is c.rows_of.ensures.kept was.still;
+      shown = λ history are.
+          let is = zip_at (λ (each : CompiledValue) (index : Index).
+          IsIndexFor each history names index) queries current place query old
+          (was.still.stand history are) inside c.index-queries-place.is old_is in
+          subst (Have history (take (place + 1) queries))
+          (sym {A = List (List Answer)} c.in_ok-push.ensures.items)
+          (zip_more (λ (each : CompiledValue) (own : List Answer).
+          AreRowsOf (path_query each.def) history own) queries c.loop-place.rows.items place query
+          c.in_ok-own.own inside c.index-queries-place.is (was.shown history are)
+          (c.in_ok-own.ensures.rows history is));
+    }
 
-pub returns : goal.returns
-returns c = λ history are.
-    subst (λ (all : List CompiledValue). AllZip (Have history) all c.loop-place.rows.items)
-    (take_all c.loop-place.place c.args.queries.now c.loop-place-test.false)
-    (c.loop-place.invariant history are)
+pub returns-clause-rows : goal.returns-clause-rows
+returns-clause-rows c = λ history are.
+    subst (λ (all : List CompiledValue). Have history all c.loop-place.rows.items)
+    (take_all c.loop-place.place c.args.queries.now
+    (omega (arith, c.requires.as_many, c.loop-place-test.false)))
+    (c.loop-place.invariant.shown history are)

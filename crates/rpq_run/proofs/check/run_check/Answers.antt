@@ -6,15 +6,14 @@ use Rattle.rpq_text.specs.declared.ends.SinkName.{SinkName}
 use Rattle.rpq_text.specs.ErrorLines.{run_lines}
 use Rattle.rpq_text.specs.Statuses.{first_status}
 use Rattle.rpq_run.specs.Failed.{failed_sinks}
-use Rattle.rpq_run.specs.Outcome.{Outcome, meanings, sinks}
-use Rattle.rpq_run.specs.RunsCheck.{RunsCheck}
+use Rattle.rpq_run.specs.Outcome.{meanings, sinks}
 use Rattle.rpq_run.specs.Written.{TellsLines}
 use Rattle.rpq_run.proofs.ErrorTexts.{told_lines}
-use Rattle.rpq_run.proofs.Running.{nothing_taken, runs_check}
+use Rattle.rpq_run.proofs.Running.{runs_check}
 use Rattle.rpq_run.proofs.check.run_check.Goals as goal
 
 pub returns-clause-runs : goal.returns-clause-runs
-returns-clause-runs g c = λ given holds has.
+returns-clause-runs g c = λ given holds kept leaves has.
     let left = g.F.Source.Source.left in
     let faults = g.F.Source.Source.faults in
     let written = g.F.Sink.Sink.written in
@@ -24,7 +23,6 @@ returns-clause-runs g c = λ given holds has.
     let errors = c.args.errors.now in
     let errors' = c.tell_end.new.errors in
     let all = sinks c.args.events.now c.write_verdicts-written.new.events errors errors' in
-    let means = meanings left faults written failures in
     let failed = failed_sinks (is_err result) false in
     let failed_are : c.failed_sinks-failed.result.now ≡ failed =
     c.failed_sinks-failed.ensures ∙ ap (λ e. failed_sinks e false) c.is_err.ensures.value in
@@ -33,11 +31,10 @@ returns-clause-runs g c = λ given holds has.
     let told = subst (λ (fs : List SinkName). TellsLines written failures (run_lines [] fs status) errors errors')
     failed_are (told_lines written failures (run_lines [] c.failed_sinks-failed.result.now status)
     errors errors' c.tell_end.result c.tell_end.ensures) in
-    subst (λ (o : Outcome g.row.F-Source.Denot g.row.F-Sink.Denot). RunsCheck means given holds all o)
-    (nothing_taken status c.new.result.items c.new-2.result.items c.new-3.result.items
+    runs_check (meanings left faults written failures) given holds c.args.queries.now all result status kept
+    c.new.result.items c.new-2.result.items c.new-3.result.items
     (map (λ (own : Vec AnsweredValue). own.items) c.new-4.result.items)
     c.new.ensures.items c.new-2.ensures.items c.new-3.ensures.items
-    (ap (map (λ (own : Vec AnsweredValue). own.items)) c.new-4.ensures.items))
-    (runs_check means given holds c.args.queries.now all result status has c.requires.compiled
-    c.write_verdicts-written.ensures (record { memory = λ eight. status_is ∙ eight; others = λ other. status_is })
-    told)
+    (ap (map (λ (own : Vec AnsweredValue). own.items)) c.new-4.ensures.items) leaves
+    has c.requires.compiled c.write_verdicts-written.ensures
+    (record { memory = λ eight. status_is ∙ eight; others = λ other. status_is }) told

@@ -18,8 +18,5 @@ returns-in-Read g c = tells_as (c.read_line.ensures ∙ ap start_line (sym c.in-
 pub returns-in-Long : goal.returns-in-Long
 returns-in-Long g c = tells_as (c.file_line.ensures ∙ ap start_line (sym c.in-Long.is)) c.put_line-in-Long.ensures
 
-pub returns-in-NotYet : goal.returns-in-NotYet
-returns-in-NotYet g c = tells_as (c.line_of-in-NotYet.ensures ∙ ap start_line (sym c.in-NotYet.is)) c.put_line-in-NotYet.ensures
-
 pub returns-in-Memory : goal.returns-in-Memory
 returns-in-Memory g c = tells_as (c.line_of-in-Memory.ensures ∙ ap start_line (sym c.in-Memory.is)) c.put_line-in-Memory.ensures

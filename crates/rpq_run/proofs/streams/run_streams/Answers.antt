@@ -1,4 +1,4 @@
-use Rattle.std.proofs.Common.{◌≡◌, List, length, ap, ap₂, subst, ◌∙◌, arith}
+use Rattle.std.proofs.Common.{◌≡◌, List, length, ap, ap₂, sym, subst, ◌∙◌, arith}
 use Rattle.std.specs.Prelude.{map}
 use Rattle.std.specs.Global.{Vec}
 use Rattle.std.proofs.lemmas.List.{length-map}
@@ -22,8 +22,8 @@ use Rattle.rpq_run.proofs.streams.run_streams.Goals as goal
 pub write_replies-replied-requires : goal.write_replies-replied-requires
 write_replies-replied-requires g c =
     let own : Vec AnsweredValue → List AnsweredValue = λ session. session.items in
-    let threads = c.in_ok-history.field-0 in
-    let answers = c.in_ok-history.ensures.ok.answers in
+    let threads = c.in-Ok.outcome in
+    let answers = c.in-Ok.ensures.ok.answers in
     let as_many = AllZip-long (IsSessionOf (definitions_of c.args.task.queries.items) threads.history.items answers.last)
     c.args.task.sessions.items (map own threads.sessions.items) answers.sessions in
     omega (
@@ -41,8 +41,8 @@ returns-clause-runs g c = λ given holds asked.
     let written = g.F.Sink.Sink.written in
     let failures = g.F.Sink.Sink.faults in
     let own : Vec AnsweredValue → List AnsweredValue = λ session. session.items in
-    let threads = c.in_ok-history.field-0 in
-    let held = c.in_ok-history.ensures.ok in
+    let threads = c.in-Ok.outcome in
+    let held = c.in-Ok.ensures.ok in
     let replied = c.write_replies-replied.result in
     let status = c.run_status-status.result in
     let errors = c.args.errors.now in
@@ -65,8 +65,11 @@ returns-clause-runs g c = λ given holds asked.
     errors errors' c.tell_end.result c.tell_end.ensures) in
     runs_streams (meanings left faults written failures) given holds c.args.task c.args.replies
     c.write_replies-replied.new.sink
-    (sinks c.args.events.now c.run_threads.new.events errors errors') threads replied status asked held wrote
+    (sinks c.args.events.now c.run_threads.new.events errors errors') _ c.in_ok-circle.circle threads replied
+    status asked held wrote
     (λ is. c.run_status-status.ensures.memory (short.sessions is))
     (λ is. c.run_status-status.ensures.memory (short.engine is))
     (λ is. c.run_status-status.ensures.memory (short.replies is))
+    c.args.standing.now.items c.put_back-left.new.standing.items c.put_back-left.result.items
+    c.in_ok-circle.ensures.members (sym c.put_back-left.ensures.stayed) (sym c.put_back-left.ensures.left)
     c.fronts_hold_answers.ensures status_is told

@@ -1,35 +1,59 @@
-use Rattle.std.proofs.Common.{◌≡◌, ℕ, Ok, Err, true, ap, subst, ◌∙◌, arith, rules}
+use Rattle.std.proofs.Common.{◌≡◌, ℕ, List, Ok, Err, true, refl, ap, sym, subst, ◌∙◌, arith, rules}
+use Rattle.rpq_base.specs.declared.data.Entry.{Entry}
 use Rattle.rpq_io.specs.Counts.{Rose}
 use Rattle.history_model.specs.declared.line.Why.{Why}
 use Rattle.history_model.specs.declared.line.Why.TheVariants.{Write}
-use Rattle.rpq_threads.proofs.Turns.{fed_whole, fed_shut}
+use Rattle.rpq_text.specs.Text.{IsText}
+use Rattle.standing.specs.Circles.{as_seen}
+use Rattle.rpq_threads.specs.Written.{Grew}
+use Rattle.rpq_threads.proofs.Grows.{begins}
+use Rattle.rpq_threads.proofs.Turns.{first_heard, fed_whole, fed_shut}
 use Rattle.rpq_threads.proofs.feeding.feed_all.Goals as goal
+
+pub loop-init : goal.loop-init
+loop-init g c = record {
+  fed = c.requires.fed;
+  text = subst (λ (h : List Entry). Grew (IsText c.args.shared.now.history.now.terms.queries h)
+      (g.K.Sink.written c.args.events.now) (g.K.Sink.written c.args.events.now))
+      (sym c.requires.none)
+      (begins c.args.shared.now.history.now.terms.queries (g.K.Sink.written c.args.events.now));
+  heard = first_heard c.args.shared.now.history.now c.args.evaluator.now c.args.pass.now
+      (as_seen g.O.Standing.seen c.args.circle.now) c.requires;
+  quiet = refl;
+}
 
 pub returns-in-Ok-true : goal.returns-in-Ok-true
 returns-in-Ok-true g c =
     let was = c.loop.invariant in
     let did = c.turn.ensures in
     let said : c.turn.result ≡ Ok true = search rules in
+    let seen = g.O.Standing.seen in
+    let first = as_seen seen c.args.circle.now in
     fed_whole g.K.Sink.written g.K.Sink.faults c.args.shared.now.history.now c.args.events.now
-    c.turn.new.events c.turn.new.evaluator c.turn.new.pass c.in-Ok-true.ensures.fed
-    (did.over said)
+    c.turn.new.events first (as_seen seen c.turn.new.circle) c.turn.new.evaluator c.turn.new.pass
+    c.in-Ok-true.ensures.fed (did.over said)
     (c.in-Ok-true.ensures.text (g.K.Sink.written c.args.events.now) was.text)
+    (c.in-Ok-true.ensures.heard first.members was.heard)
     (did.counted.quiet (λ is. cc) ∙ was.quiet)
 
 pub returns-in-Err : goal.returns-in-Err
 returns-in-Err g c =
     let was = c.loop.invariant in
     let did = c.turn.ensures in
+    let stops = c.in-Err.ensures.stops in
     let faults = g.K.Sink.faults in
     let why = c.in-Err.why in
     let start = g.K.Sink.written c.args.events.now in
+    let seen = g.O.Standing.seen in
+    let first = as_seen seen c.args.circle.now in
     let by : (other : Why) → why ≡ other → c.turn.result ≡ Err other =
     λ other same. c.in-Err.is ∙ ap (λ (w : Why). Err w) same in
     fed_shut g.K.Sink.written faults c.args.shared.now.history.now c.args.events.now
-    c.turn.new.events c.accepted_queries_have_events.ensures.steps
-    c.requires.fed.keeps_up.accepted c.turn.new.pass c.shut.new.pass why did.feeds c.shut.ensures
-    (λ is. did.write (c.in-Err.is ∙ ap (λ (w : Why). Err w) is) start was.text)
-    (λ is. did.memory (c.in-Err.is ∙ ap (λ (w : Why). Err w) is) start was.text)
+    c.turn.new.events first (as_seen seen c.turn.new.circle)
+    c.accepted_queries_have_events.ensures.steps c.requires.fed.keeps_up.accepted
+    c.turn.new.pass c.shut.new.pass why did.feeds c.shut.ensures
+    (λ is. stops.write is start was.text) (λ is. stops.memory is start was.text)
+    (stops.told first.members was.heard start was.text)
     (record {
       never_falls = omega (arith, did.counted.never_falls, was.quiet);
       rose = λ is. subst (λ (n : ℕ). Rose n (faults c.turn.new.events)) was.quiet

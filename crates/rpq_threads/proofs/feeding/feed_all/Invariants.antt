@@ -1,14 +1,17 @@
 use Rattle.std.proofs.Common.{◌≡◌}
 use Rattle.rpq_text.specs.Text.{IsText}
-use Rattle.rpq_threads.specs.Fed.{answered, IsFed}
+use Rattle.standing.specs.Circles.{as_seen}
+use Rattle.rpq_threads.specs.Fed.{answered, HaveHeardAll, IsFed}
 use Rattle.rpq_threads.specs.Written.{Grew}
 use Rattle.rpq_threads.proofs.feeding.feed_all.Given as goal
 
--- the engine keeps up with what is published, and its text is written
+-- the engine keeps up with what is published, its text is written, and the objects were told of it
 abbrev pub invariant-loop : goal.invariant-loop
 invariant-loop g l = record {
   fed : IsFed l.shared.history.now l.evaluator l.pass;
   text : Grew (IsText l.shared.history.now.terms.queries (answered l.evaluator.engine l.pass))
       (g.K.Sink.written l.fn.events) (g.K.Sink.written l.events);
+  heard : HaveHeardAll l.shared.history.now.terms.queries (answered l.evaluator.engine l.pass)
+      (as_seen g.O.Standing.seen l.fn.circle).members (as_seen g.O.Standing.seen l.circle);
   quiet : g.K.Sink.faults l.events ≡ g.K.Sink.faults l.fn.events;
 }

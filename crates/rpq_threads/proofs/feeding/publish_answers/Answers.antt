@@ -1,8 +1,9 @@
-use Rattle.std.proofs.Common.{◌≡◌, ◌<◌, Err, ap, ◌∙◌, arith}
+use Rattle.std.proofs.Common.{◌≡◌, ◌<◌, refl, Err, sym, ap, ◌∙◌, arith}
 use Rattle.stream_history.specs.declared.fault.PublishFault.{PublishFault}
 use Rattle.stream_history.specs.declared.fault.PublishFault.TheVariants.{Behind}
+use Rattle.rpq_threads.specs.declared.evaluator.Evaluator.{Evaluator}
 use Rattle.rpq_threads.specs.Fed.{answered}
-use Rattle.rpq_threads.proofs.Turns.{view_place, fed_published}
+use Rattle.rpq_threads.proofs.Turns.{view_place, keeps_up_viewed, fed_published}
 use Rattle.rpq_threads.proofs.feeding.publish_answers.Goals as goal
 
 pub unreachable-requires : goal.unreachable-requires
@@ -12,7 +13,7 @@ unreachable-requires g c =
     let pass = c.args.pass.now in
     let was = c.requires.keeps_up in
     let view = c.in_ok-view.view.value in
-    let shows = c.in_ok-view.ensures (answered evaluator.engine pass) was.stands in
+    let shows = c.in_ok-view.ensures.view (answered evaluator.engine pass) was.stands in
     let last = c.in-Err-Behind.field-0-0 in
     let said : c.publish.result ≡ Err (Behind last) =
     c.in-Err-Behind.is ∙ ap (λ (fault : PublishFault). Err fault) c.in-Err-Behind.field-0-is in
@@ -29,10 +30,14 @@ unreachable-requires g c =
 pub returns-in-Ok-clause-fed : goal.returns-in-Ok-clause-fed
 returns-in-Ok-clause-fed g c =
     let history = c.args.history.now in
-    let evaluator = c.args.evaluator.now in
+    let old = c.args.evaluator.now in
     let pass = c.args.pass.now in
     let was = c.requires.keeps_up in
     let view = c.in_ok-view.view.value in
-    let shows = c.in_ok-view.ensures (answered evaluator.engine pass) was.stands in
-    fed_published history evaluator pass c.publish.new.pass was view.position
-    (view_place history evaluator pass was view shows) c.in-Ok.ensures.line
+    let kept = c.view.ensures in
+    let shows = c.in_ok-view.ensures.view (answered old.engine pass) was.stands in
+    let new : Evaluator = record old { engine = c.view.new.self } in
+    fed_published history new pass c.publish.new.pass
+    (keeps_up_viewed history old new pass refl kept.queries kept.position kept.stands was)
+    view.position (view_place history old pass was view shows ∙ sym kept.position)
+    c.in-Ok.ensures.line

@@ -1,18 +1,17 @@
-use Rattle.std.proofs.Common.{◌≡◌, ℕ, Err, take, drop, length, ap, ◌∙◌, rules}
-use Rattle.rpq_base.proofs.Outcomes.{handed_on}
-use Rattle.history_model.specs.declared.line.Why.{Why}
-use Rattle.history_model.specs.declared.line.Why.TheVariants.{Write, Memory}
+use Rattle.std.proofs.Common.{◌≡◌, ℕ, take, drop, length, ap, ◌∙◌, rules}
 use Rattle.history_model.specs.Lines.{entries}
-use Rattle.rpq_threads.proofs.Turns.{fed_seen, text_stays, text_begins, none_is_left}
-use Rattle.rpq_threads.proofs.Turns.{front_is_short, front_is_plain, front_proper, front_prefix}
-use Rattle.rpq_threads.proofs.Turns.{front_keeps_up, text_then, prefix_then}
+use Rattle.standing.specs.Circles.{as_seen}
+use Rattle.rpq_threads.proofs.Fronts.{handed_err}
+use Rattle.rpq_threads.proofs.Turns.{fed_seen, text_stays, heard_stays, stops_seen, none_is_left}
+use Rattle.rpq_threads.proofs.Turns.{front_is_short, front_is_plain, front_stops}
+use Rattle.rpq_threads.proofs.Turns.{front_keeps_up, stops_then, text_then, hears_then}
 use Rattle.rpq_threads.proofs.feeding.turn.Goals as goal
 
-pub returns-in_default-clause-memory : goal.returns-in_default-clause-memory
-returns-in_default-clause-memory g c = λ _.
-    text_begins c.args.shared.now.history.now c.args.evaluator.now c.args.pass.now
+pub returns-in_default-clause-stops : goal.returns-in_default-clause-stops
+returns-in_default-clause-stops g c =
+    stops_seen c.args.shared.now.history.now c.args.evaluator.now c.args.pass.now
     c.after.new.pass c.requires c.after.ensures.pass c.accepted_queries_have_events.ensures.steps
-    (g.K.Sink.written c.args.events.now)
+    (g.K.Sink.written c.args.events.now) (as_seen g.O.Standing.seen c.args.circle.now)
 
 pub returns-then-is_empty-clause-fed : goal.returns-then-is_empty-clause-fed
 returns-then-is_empty-clause-fed g c =
@@ -37,6 +36,12 @@ returns-then-is_empty-clause-text g c =
     text_stays c.args.shared.now.history.now c.args.evaluator.now c.args.pass.now
     c.after.new.pass c.requires c.after.ensures.pass (g.K.Sink.written c.args.events.now)
 
+pub returns-then-is_empty-clause-heard : goal.returns-then-is_empty-clause-heard
+returns-then-is_empty-clause-heard g c =
+    heard_stays c.args.shared.now.history.now c.args.evaluator.now c.args.pass.now
+    c.after.new.pass c.requires c.after.ensures.pass
+    (as_seen g.O.Standing.seen c.args.circle.now)
+
 pub emit_front-requires-clause-short : goal.emit_front-requires-clause-short
 emit_front-requires-clause-short g c = λ _ _.
     let mid = c.after.new.pass in
@@ -53,63 +58,71 @@ emit_front-requires-clause-plain g c = λ _ _.
     (c.deref.ensures.value ∙ (c.in-Ok.ensures.entries
     ∙ ap (λ (n : ℕ). take 256 (drop n (entries mid.seen))) c.position-position.ensures))
 
-pub returns-in_err-emit_front-clause-write : goal.returns-in_err-emit_front-clause-write
-returns-in_err-emit_front-clause-write g c = λ is.
+pub returns-in_err-emit_front-clause-stops : goal.returns-in_err-emit_front-clause-stops
+returns-in_err-emit_front-clause-stops g c =
     let mid = c.after.new.pass in
-    let fault = handed_on c.from_residual.result c.in_err-emit_front.field-0.0 Write
-    c.from_residual.ensures.1 is in
-    front_proper c.args.shared.now.history.now c.args.evaluator.now c.args.pass.now mid
+    let seen = g.O.Standing.seen in
+    let fault = c.in_err-emit_front.field-0.0 in
+    handed_err c.from_residual.result fault _ c.from_residual.ensures.1
+    (front_stops c.args.shared.now.history.now c.args.evaluator.now c.args.pass.now mid
     c.requires c.after.ensures.pass c.deref.result.now
     (c.deref.ensures.value ∙ (c.in-Ok.ensures.entries
     ∙ ap (λ (n : ℕ). take 256 (drop n (entries mid.seen))) c.position-position.ensures))
-    c.accepted_queries_have_events.ensures.steps (g.K.Sink.written c.args.events.now)
-    (g.K.Sink.written c.emit_front.new.events)
-    (c.in_err-emit_front.ensures.write (ap (λ (why : Why). Err why) fault))
-
-pub returns-in_err-emit_front-clause-memory : goal.returns-in_err-emit_front-clause-memory
-returns-in_err-emit_front-clause-memory g c = λ is.
-    let mid = c.after.new.pass in
-    let fault = handed_on c.from_residual.result c.in_err-emit_front.field-0.0 Memory
-    c.from_residual.ensures.1 is in
-    front_prefix c.args.shared.now.history.now c.args.evaluator.now c.args.pass.now mid
-    c.requires c.after.ensures.pass c.deref.result.now
-    (c.deref.ensures.value ∙ (c.in-Ok.ensures.entries
-    ∙ ap (λ (n : ℕ). take 256 (drop n (entries mid.seen))) c.position-position.ensures))
-    c.accepted_queries_have_events.ensures.steps (g.K.Sink.written c.args.events.now)
-    (g.K.Sink.written c.emit_front.new.events)
-    (c.in_err-emit_front.ensures.memory (ap (λ (why : Why). Err why) fault))
+    (g.K.Sink.written c.args.events.now) (g.K.Sink.written c.emit_front.new.events)
+    (as_seen seen c.args.circle.now) (as_seen seen c.emit_front.new.circle)
+    c.accepted_queries_have_events.ensures.steps fault c.in_err-emit_front.ensures.stops)
 
 pub publish_answers-requires-clause-keeps_up : goal.publish_answers-requires-clause-keeps_up
 publish_answers-requires-clause-keeps_up g c =
     let mid = c.after.new.pass in
+    let seen = g.O.Standing.seen in
     front_keeps_up c.args.shared.now.history.now c.args.evaluator.now c.args.pass.now mid
     c.requires c.after.ensures.pass c.deref.result.now
     (c.deref.ensures.value ∙ (c.in-Ok.ensures.entries
     ∙ ap (λ (n : ℕ). take 256 (drop n (entries mid.seen))) c.position-position.ensures))
-    c.emit_front.new.evaluator (g.K.Sink.written c.args.events.now)
-    (g.K.Sink.written c.emit_front.new.events) c.in_ok-emit_front.ensures.ok
-    c.emit_front.ensures.workers
+    (g.K.Sink.written c.args.events.now) (g.K.Sink.written c.emit_front.new.events)
+    (as_seen seen c.args.circle.now) (as_seen seen c.emit_front.new.circle)
+    c.emit_front.new.evaluator c.in_ok-emit_front.ensures.ok c.emit_front.ensures.workers
 
-pub returns-in_default-publish_answers-clause-memory :
-    goal.returns-in_default-publish_answers-clause-memory
-returns-in_default-publish_answers-clause-memory g c = λ _.
+pub returns-in_default-publish_answers-clause-stops :
+    goal.returns-in_default-publish_answers-clause-stops
+returns-in_default-publish_answers-clause-stops g c =
     let mid = c.after.new.pass in
-    prefix_then c.args.shared.now.history.now c.args.evaluator.now c.args.pass.now mid
+    let seen = g.O.Standing.seen in
+    stops_then c.args.shared.now.history.now c.args.evaluator.now c.args.pass.now mid
     c.requires c.after.ensures.pass c.deref.result.now
     (c.deref.ensures.value ∙ (c.in-Ok.ensures.entries
     ∙ ap (λ (n : ℕ). take 256 (drop n (entries mid.seen))) c.position-position.ensures))
-    c.emit_front.new.evaluator (g.K.Sink.written c.args.events.now)
-    (g.K.Sink.written c.emit_front.new.events) c.in_ok-emit_front.ensures.ok
-    c.emit_front.ensures.workers c.publish_answers.new.pass c.publish_answers.ensures.seen
-    c.accepted_queries_have_events.ensures.steps
+    (g.K.Sink.written c.args.events.now) (g.K.Sink.written c.emit_front.new.events)
+    (as_seen seen c.args.circle.now) (as_seen seen c.emit_front.new.circle)
+    c.emit_front.new.evaluator c.in_ok-emit_front.ensures.ok c.emit_front.ensures.workers
+    c.accepted_queries_have_events.ensures.steps c.publish_answers.new.pass
+    c.publish_answers.ensures.seen
 
 pub returns-clause-text : goal.returns-clause-text
 returns-clause-text g c =
     let mid = c.after.new.pass in
+    let seen = g.O.Standing.seen in
     text_then c.args.shared.now.history.now c.args.evaluator.now c.args.pass.now mid
     c.requires c.after.ensures.pass c.deref.result.now
     (c.deref.ensures.value ∙ (c.in-Ok.ensures.entries
     ∙ ap (λ (n : ℕ). take 256 (drop n (entries mid.seen))) c.position-position.ensures))
-    c.emit_front.new.evaluator (g.K.Sink.written c.args.events.now)
-    (g.K.Sink.written c.emit_front.new.events) c.in_ok-emit_front.ensures.ok
-    c.emit_front.ensures.workers c.publish_answers.new.pass c.publish_answers.ensures.seen
+    (g.K.Sink.written c.args.events.now) (g.K.Sink.written c.emit_front.new.events)
+    (as_seen seen c.args.circle.now) (as_seen seen c.emit_front.new.circle)
+    c.emit_front.new.evaluator c.in_ok-emit_front.ensures.ok c.emit_front.ensures.workers
+    c.publish_answers.new.pass c.publish_answers.ensures.seen c.publish_answers.new.evaluator
+    c.publish_answers.ensures.position
+
+pub returns-clause-heard : goal.returns-clause-heard
+returns-clause-heard g c =
+    let mid = c.after.new.pass in
+    let seen = g.O.Standing.seen in
+    hears_then c.args.shared.now.history.now c.args.evaluator.now c.args.pass.now mid
+    c.requires c.after.ensures.pass c.deref.result.now
+    (c.deref.ensures.value ∙ (c.in-Ok.ensures.entries
+    ∙ ap (λ (n : ℕ). take 256 (drop n (entries mid.seen))) c.position-position.ensures))
+    (g.K.Sink.written c.args.events.now) (g.K.Sink.written c.emit_front.new.events)
+    (as_seen seen c.args.circle.now) (as_seen seen c.emit_front.new.circle)
+    c.emit_front.new.evaluator c.in_ok-emit_front.ensures.ok c.emit_front.ensures.workers
+    c.publish_answers.new.pass c.publish_answers.ensures.seen c.publish_answers.new.evaluator
+    c.publish_answers.ensures.position

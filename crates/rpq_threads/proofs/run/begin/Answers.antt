@@ -1,7 +1,8 @@
-use Rattle.std.proofs.Common.{◌≡◌, length, refl, sym, ap, ◌∙◌, arith, rules}
+use Rattle.std.proofs.Common.{◌≡◌, [], length, refl, sym, ap, ◌∙◌, arith, rules}
 use Rattle.history_model.specs.World.{Terms}
 use Rattle.rpq_text.specs.Definitions.{definitions_of}
 use Rattle.rpq_workers.proofs.Numbering.{new_length}
+use Rattle.rpq_threads.specs.declared.evaluator.Evaluator.{Evaluator}
 use Rattle.rpq_threads.proofs.Starting.{terms_of, begun_fed, begun_asks}
 use Rattle.rpq_threads.proofs.run.begin.Goals as goal
 
@@ -33,6 +34,9 @@ returns g c =
       task.sessions.ok.0,
       c.requires.few,
     ) in
+    let kept = c.view.ensures in
+    let evaluator : Evaluator =
+    record c.in_ok-evaluator.evaluator { engine = c.view.new.self } in
     let queries : c.in_ok-given.given.value.items ≡ definitions_of task.queries.items =
     search rules in
     let terms : history.terms ≡ terms_of task =
@@ -44,8 +48,8 @@ returns g c =
         passes = made.passes;
         count = made.count;
         fed = begun_fed g.S.Source.left g.S.Source.faults task c.requires history terms
-            c.in_ok-evaluator.evaluator c.in_ok-evaluator.ensures.queries
-            c.in_ok-evaluator.ensures.workers c.in_ok-evaluator.ensures.stands;
+            evaluator (kept.queries ∙ c.in_ok-evaluator.ensures.queries)
+            c.in_ok-evaluator.ensures.workers (kept.stands [] c.in_ok-evaluator.ensures.stands);
         streams = sym (ap (λ (t : Terms). t.streams) terms);
         fresh = c.requires.fresh;
         readers = sym (made.readers ∙ asking);

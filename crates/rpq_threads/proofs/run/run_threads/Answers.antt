@@ -12,17 +12,17 @@ use Rattle.rpq_threads.proofs.run.run_threads.Goals as goal
 
 pub finish-journal-requires-clause-all : goal.finish-journal-requires-clause-all
 finish-journal-requires-clause-all g c =
-    let begun = c.in_ok-history.field-0 in
-    let is = c.in_ok-history.ensures in
+    let begun = c.in-Ok.begun in
+    let is = c.in-Ok.ensures in
     all_are_back g.S.Source.left g.S.Source.faults g.K.Sink.written g.K.Sink.faults begun.history
-    _ _ _ c.serve-passes.ensures.served is.job.streams is.job.readers is.job.count
+    _ _ _ c.serve-gathered.ensures.served is.job.streams is.job.readers is.job.count
 
 pub finish-journal-requires-clause-passes : goal.finish-journal-requires-clause-passes
 finish-journal-requires-clause-passes g c =
-    let begun = c.in_ok-history.field-0 in
-    let is = c.in_ok-history.ensures in
+    let begun = c.in-Ok.begun in
+    let is = c.in-Ok.ensures in
     all_are_passes g.S.Source.left g.S.Source.faults g.K.Sink.written g.K.Sink.faults begun.history
-    _ _ _ c.serve-passes.ensures.served is.job.streams is.job.readers
+    _ _ _ c.serve-gathered.ensures.served is.job.streams is.job.readers
 
 pub returns-clause-ok : goal.returns-clause-ok
 returns-clause-ok g c =
@@ -31,10 +31,10 @@ returns-clause-ok g c =
     let written = g.K.Sink.written in
     let failures = g.K.Sink.faults in
     let task = c.args.task in
-    let begun = c.in_ok-history.field-0 in
-    let is = c.in_ok-history.ensures in
-    let served = c.serve-passes.result in
-    let passes = served.passes.items in
+    let begun = c.in-Ok.begun in
+    let is = c.in-Ok.ensures in
+    let served = c.serve-gathered.result in
+    let passes = served.gathered.passes.items in
     let journal = c.finish-journal.result in
     let finished = c.finish-journal.ensures in
     let same : journal.terms ≡ terms_of task = finished.terms ∙ is.terms in
@@ -42,17 +42,21 @@ returns-clause-ok g c =
     finished.sound.legal in
     let knows = subst (λ (t : Terms). All (Knows author t journal.lines) passes) same
     finished.passes in
-    let outcome : Outcome _ = record {
+    let outcome : Outcome _ _ = record {
       history = c.into_entries.result;
-      ends = served.ends;
-      sources = served.sources;
-      sessions = served.answers;
+      ends = served.gathered.ends;
+      sources = served.gathered.sources;
+      sessions = served.gathered.answers;
       why = served.why;
       short_of_memory = served.short_of_memory;
+      circle = served.circle;
     } in
-    subst (λ events. Holds left faults written failures task c.args.events.now events outcome)
+    let seen = g.O.Standing.seen in
+    subst (λ events. Holds left faults written failures seen task c.args.events.now events
+    c.args.circle outcome)
     (search rules)
     (outcome_holds c.legal_is_sound.ensures c.fronts_are_legal.ensures left faults written failures
-    task begun.history is.terms journal.lines legal c.args.events.now served.events.now outcome
-    passes c.into_entries.ensures begun.job.readers.items begun.job.sessions.items is.readers
-    is.sessions c.serve-passes.ensures.served knows is.job.readers)
+    seen task begun.history is.terms journal.lines legal c.args.events.now served.events.now
+    c.args.circle outcome passes c.into_entries.ensures begun.job.readers.items
+    begun.job.sessions.items is.readers is.sessions c.serve-gathered.ensures.served knows
+    is.job.readers)

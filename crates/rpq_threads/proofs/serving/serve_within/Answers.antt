@@ -1,6 +1,7 @@
-use Rattle.std.proofs.Common.{◌≡◌, ℕ, zero, suc, refl, take, ◌+◌, List, [], ◌∷◌, ◌++◌, length}
-use Rattle.std.proofs.Common.{map, sym, ap, subst, ◌∙◌, arith}
+use Rattle.std.proofs.Common.{◌≡◌, ℕ, zero, suc, refl, take, ◌+◌, ◌≤◌, List, [], ◌∷◌, ◌++◌, length}
+use Rattle.std.proofs.Common.{Option, map, sym, ap, subst, ◌∙◌, arith}
 use Rattle.std.specs.Global.{Vec}
+use Rattle.std.specs.Vec.{vec_len, vec_capacity}
 use Rattle.std.specs.Vec.Iter.{into_iter_items}
 use Rattle.rpq_base.specs.declared.data.Entry.{Entry}
 use Rattle.ask_text.specs.Answered.{AnsweredValue}
@@ -9,7 +10,9 @@ use Rattle.rpq_workers.specs.declared.stream_worker.Streamed.{Streamed}
 use Rattle.rpq_workers.specs.Streams.{HasStreamed}
 use Rattle.rpq_workers.specs.Started.{IsStarted, Gives, new_pass, new_passes}
 use Rattle.rpq_workers.proofs.Numbering.{Each, numbered_then, next_new, new_length}
-use Rattle.rpq_threads.specs.Fed.{answered, IsFed}
+use Rattle.history_model.specs.declared.line.Why.{Why}
+use Rattle.standing.specs.Circles.{Parts, as_seen}
+use Rattle.rpq_threads.specs.Fed.{answered, IsFed, HasFed}
 use Rattle.rpq_threads.proofs.serving.serve_within.Goals as goal
 
 items_of : (replied : List Replied) → map (λ (own : Vec AnsweredValue). own.items)
@@ -31,8 +34,8 @@ unreachable-requires g c =
       none.0,
       c.into_iter-given.ensures.len,
       c.args.job.passes.ok.0,
-      ap length c.requires.passes ∙ new_length history 0 history.turns.passes,
-      c.requires.count,
+      ap length c.requires.job_is.passes ∙ new_length history 0 history.turns.passes,
+      c.requires.job_is.count,
     ))
 
 pub start_streams-started-requires-clause-passes :
@@ -40,8 +43,8 @@ pub start_streams-started-requires-clause-passes :
 start_streams-started-requires-clause-passes g c κs within =
     let history = c.args.shared.now.history.now in
     (next_new history 0 history.turns.passes (history.terms.streams + history.readers) _ _ _
-    (c.into_iter-given.ensures.rest ∙ c.requires.passes) c.in-Some.ensures.cases.0
-    (omega (arith, c.requires.count))).1
+    (c.into_iter-given.ensures.rest ∙ c.requires.job_is.passes) c.in-Some.ensures.cases.0
+    (omega (arith, c.requires.job_is.count))).1
 
 pub feed_beside-beside-requires-clause-start : goal.feed_beside-beside-requires-clause-start
 feed_beside-beside-requires-clause-start g c κs within =
@@ -50,18 +53,19 @@ feed_beside-beside-requires-clause-start g c κs within =
     let first : c.in-Some.pass ≡ new_pass history 0 =
     (next_new history 0 history.turns.passes (history.terms.streams + history.readers)
     (into_iter_items c.into_iter-given.result) (into_iter_items c.next.new.self) c.in-Some.pass
-    (c.into_iter-given.ensures.rest ∙ c.requires.passes) c.in-Some.ensures.cases.0
-    (omega (arith, c.requires.count))).0 in
+    (c.into_iter-given.ensures.rest ∙ c.requires.job_is.passes) c.in-Some.ensures.cases.0
+    (omega (arith, c.requires.job_is.count))).0 in
     record {
-      fed = subst (IsFed history evaluator) (sym first) c.requires.fed;
+      fed = subst (IsFed history evaluator) (sym first) c.requires.job_is.fed;
       none = ap (λ (pass : Each). answered evaluator.engine pass) first
           ∙ nothing evaluator.engine.position;
+      fresh = ap (map g.O.Standing.seen) c.requires.fresh;
     }
 
 pub feed_beside-beside-requires-clause-waiting : goal.feed_beside-beside-requires-clause-waiting
 feed_beside-beside-requires-clause-waiting g c κs within =
     let history = c.args.shared.now.history.now in
-    let job = c.requires in
+    let job = c.requires.job_is in
     record {
       passes =
           c.put_passes.ensures.items
@@ -73,28 +77,48 @@ feed_beside-beside-requires-clause-waiting g c κs within =
       room = omega (arith, c.args.job.sessions.ok.0, job.readers, job.room.replied);
     }
 
-pub put_streamed-requires-clause-passes : goal.put_streamed-requires-clause-passes
-put_streamed-requires-clause-passes g c =
-    let job = c.requires in
-    omega (
+pub gather-requires : goal.gather-requires
+gather-requires g c =
+    let job = c.requires.job_is in
+    let room = job.room.gathered in
+    let streams : vec_len c.join_streams-streamed.result
+    ≡ c.args.shared.now.history.now.terms.streams = omega (
       arith,
-      c.push_reserved.ensures.len,
-      c.push_reserved.ensures.capacity,
-      ap length job.room.no_passes,
-      c.args.job.room.passes.ok.0,
-      job.room.passes,
       c.join_streams-streamed.ensures.many,
       c.start_streams-started.ensures.many,
       c.args.job.readers.ok.0,
       job.streams,
-    )
+    ) in
+    let sessions : vec_len c.feed_beside-beside.result.replied
+    ≡ c.args.shared.now.history.now.readers = omega (
+      arith,
+      c.feed_beside-beside.ensures.many,
+      c.args.job.sessions.ok.0,
+      job.readers,
+    ) in
+    record {
+      no_passes = room.no_passes;
+      no_sources = room.no_sources;
+      no_ends = room.no_ends;
+      no_answers = room.no_answers;
+      passes = omega (arith, streams, sessions, room.passes);
+      sources = omega (arith, streams, room.sources);
+      ends = omega (arith, streams, room.ends);
+      answers = omega (arith, sessions, room.answers);
+    }
 
 pub returns-clause-served : goal.returns-clause-served
 returns-clause-served g c =
     let history = c.args.shared.now.history.now in
-    let room = c.requires.room in
     let left = g.S.Source.left in
     let faults = g.S.Source.faults in
+    let gathered = c.gather.ensures in
+    let served = c.gather.result in
+    let seen = g.O.Standing.seen in
+    let written = g.K.Sink.written in
+    let failures = g.K.Sink.faults in
+    let before = c.args.events.now in
+    let first = as_seen seen c.args.circle in
     let streamed = c.join_streams-streamed.result.items in
     let beside = c.feed_beside-beside.result in
     let replied = beside.replied.items in
@@ -111,20 +135,18 @@ returns-clause-served g c =
           (λ n m x y z r k. k history x (new_pass history n) r) 1 0 _ _ _
           c.start_streams-started.ensures.started c.join_streams-streamed.ensures.gives;
       answered_all = c.feed_beside-beside.ensures.replied;
-      fed = c.feed_beside-beside.ensures.fed;
-      passes_are =
-          c.put_replied-short_of_memory.ensures.passes
-          ∙ (ap (λ l. l ++ map (λ (r : Replied). r.pass) replied)
-          (c.put_streamed.ensures.passes ∙ (ap (λ l. l ++ map (λ d. d.pass) streamed)
-          (c.push_reserved.ensures.items ∙ ap (λ l. l ++ beside.engine ∷ []) room.no_passes))));
-      sources_are = c.put_streamed.ensures.sources
-          ∙ ap (λ l. l ++ map (λ d. d.source) streamed) room.no_sources;
-      ends_are = c.put_streamed.ensures.ends
-          ∙ ap (λ l. l ++ map (λ d. d.end) streamed) room.no_ends;
+      fed =
+          subst (λ (events : _). HasFed written failures history before events first
+          (as_seen seen served.circle) beside.engine served.why) (sym gathered.events.0)
+          (subst (λ (circle : Parts _). HasFed written failures history before beside.events.now
+          first (as_seen seen circle) beside.engine served.why) (sym gathered.circle)
+          (subst (λ (why : Option Why). HasFed written failures history before beside.events.now
+          first (as_seen seen beside.circle) beside.engine why) (sym gathered.why)
+          c.feed_beside-beside.ensures.fed));
+      passes_are = gathered.passes;
+      sources_are = gathered.sources;
+      ends_are = gathered.ends;
       answers_are =
-          ap (map (λ (own : Vec AnsweredValue). own.items))
-          (c.put_replied-short_of_memory.ensures.answers
-          ∙ ap (λ l. l ++ map (λ (r : Replied). r.answers) replied) room.no_answers)
-          ∙ items_of replied;
-      memory_is = c.put_replied-short_of_memory.ensures.memory;
+          ap (map (λ (own : Vec AnsweredValue). own.items)) gathered.answers ∙ items_of replied;
+      memory_is = gathered.memory;
     }

@@ -1,0 +1,6 @@
+mod Histories
+mod Told
+mod Answering
+mod Running
+mod Lines
+mod OneText

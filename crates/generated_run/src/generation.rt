@@ -1,0 +1,29 @@
+//! What a run over generated tuples is given, and what it gives.
+
+use query_file::Compiled;
+use rpq_base::Entry;
+use standing::Circle;
+
+/// What a run over generated tuples is given.
+#[derive(Drop)]
+pub struct Generation {
+    /// The queries, in the order of their file.
+    pub queries: Vec<Compiled>,
+    /// How many workers the engine has.
+    pub workers: u32,
+    /// How many entries the history may have.
+    pub limit: u64,
+    /// How many tuples are wanted.
+    pub count: u64,
+}
+
+/// What a run over generated tuples gives.
+#[derive(Drop)]
+pub struct Generated<O> {
+    /// The entries, in the order in which they were made.
+    pub history: Vec<Entry>,
+    /// The text of the summary; none where memory ran out.
+    pub summary: Option<Vec<u8>>,
+    /// The objects that were told of the events, and those of them that left.
+    pub circle: Circle<O>,
+}

@@ -1,0 +1,62 @@
+-- What the run over generated tuples does.
+use Rattle.std.specs.Prelude.{◌≡◌, ◌≢◌, ℕ, ◌≤◌, ◌<◌, ◌⊎◌, ◌↔◌, List, [], ◌∷◌, Option, None}
+use Rattle.std.specs.Prelude.{Contains}
+use Rattle.rpq_model.specs.Query.{Query}
+use Rattle.rpq_words.specs.Settings.{Settings}
+use Rattle.stream_tuples.specs.declared.ends.StreamEnd.{StreamEnd}
+use Rattle.stream_tuples.specs.declared.ends.StreamEnd.TheVariants.{Whole, Full, Memory}
+use Rattle.tuple_generator.specs.Generator.{generated_history}
+use Rattle.generated_run.specs.Generates.{AreTold, said_by}
+use Rattle.generated_run.specs.Summary.{IsSummary}
+use Rattle.rpq_text.specs.declared.ends.SinkName.{SinkName}
+use Rattle.rpq_text.specs.declared.ends.SinkName.TheVariants.{Events}
+use Rattle.rpq_text.specs.Statuses.{memory_status}
+use Rattle.rpq_threads.specs.Written.{Grew, GrewByProperPrefix}
+use Rattle.run_start.specs.Files.{IsQueriesFile, ForQueries}
+use Rattle.rpq_run.specs.Causes.{HasCauses}
+use Rattle.rpq_run.specs.Outcome.{Meanings, Sinks, Objects, Outcome}
+
+-- the history has the first generated tuples, in order, as stream 1: all that are wanted, or as
+-- many as it may have, unless memory ran out. The stream's end says which
+pub record HoldsGenerated {S K : Type 0} (given : Settings) (count : ℕ) (outcome : Outcome S K)
+    : Type 0 where
+  pub made : ℕ
+  pub within : (made ≤ count) × (made ≤ given.history)
+  pub history : outcome.history ≡ generated_history made
+  pub end : StreamEnd
+  pub one_stream : outcome.ends ≡ end ∷ []
+  pub one_of : (end ≡ Whole) ⊎ ((end ≡ Full) ⊎ (end ≡ Memory))
+  pub whole : end ≡ Whole → made ≡ count
+  pub full : end ≡ Full → (made ≡ given.history) × (made < count)
+  pub memory : (end ≡ Memory) ↔ (outcome.status ≡ memory_status)
+
+-- the summary of the run was written; less than the whole of it where a write failed, and nothing
+-- where memory ran out
+pub record WritesSummary {S K : Type 0} (means : Meanings S K) (queries : List Query)
+    (failed : List SinkName) (sinks : Sinks K) (objects : Objects) (outcome : Outcome S K)
+    : Type 0 where
+  pub whole : (Contains failed Events → ⊥) → outcome.status ≢ memory_status
+      → Grew (IsSummary queries outcome.history (said_by objects.after))
+      (means.written sinks.events_old) (means.written sinks.events_new)
+  pub part : Contains failed Events
+      → GrewByProperPrefix (IsSummary queries outcome.history (said_by objects.after))
+      (means.written sinks.events_old) (means.written sinks.events_new)
+  pub nothing : outcome.status ≡ memory_status
+      → means.written sinks.events_new ≡ means.written sinks.events_old
+
+-- the run over so many generated tuples: no stream is opened, nobody asks, and no reply is written;
+-- the objects were told of the events of the history, of all of them unless memory ran out
+pub record RunsGenerated {S K : Type 0} (means : Meanings S K) (given : Settings) (count : ℕ)
+    (holds : List ℕ → Option (List ℕ)) (sinks : Sinks K) (objects : Objects)
+    (outcome : Outcome S K) : Type 0 where
+  pub understood : IsQueriesFile (holds given.queries)
+  pub no_source : outcome.sources ≡ []
+  pub no_session : outcome.sessions ≡ []
+  pub no_replies : outcome.replies ≡ None
+  pub failed : List SinkName
+  pub history : HoldsGenerated given count outcome
+  pub summary : ForQueries (holds given.queries) (λ queries.
+      WritesSummary means queries failed sinks objects outcome)
+  pub told : ForQueries (holds given.queries) (λ queries. AreTold queries outcome.history
+      objects.before (outcome.status ≢ memory_status) objects.after)
+  pub causes : HasCauses means failed sinks outcome
