@@ -44,6 +44,7 @@ impl Standing for FirstAlert {
 
 fn main(rt: HostRuntime) -> anyhow::Result<()> {
     let alloc = rt.alloc();
+    let words: Vec<String> = env::args(&rt)?.collect(alloc)?;
     let alert = FirstAlert {
         event: Tail::new(alloc, (0..1).collect(alloc)?)?,
         is_gone: false,
@@ -54,7 +55,7 @@ fn main(rt: HostRuntime) -> anyhow::Result<()> {
     let report = run(
         &rt,
         alloc,
-        &env::args(&rt)?.collect(alloc)?,
+        &words,
         &mut HostFiles::new(alloc, &rt),
         &mut HostSink::new(Place::Output(rt.stdout())),
         &mut HostSink::new(Place::Errors(rt.stderr())),
