@@ -178,14 +178,16 @@ impl Gate for HoldingGate {
     }
 }
 
-/// The report of a run over the watched files.
-fn report_of<R: Threads + Wait + RandomSource + Sync, G: Gate>(
+/// Whether the one session of a run over the watched files, behind this gate, is answered so, and the
+/// run is done.
+fn is_answered<R: Threads + Wait + RandomSource + Sync, G: Gate>(
     rt: &R,
     alloc: Global,
     asks: &'static str,
     replies: &Arc<AtomicU64>,
     gate: &G,
-) -> Result<Report<WatchedFiles>, Fail> {
+    wanted: [&[u8]; 2],
+) -> Result<bool, Fail> {
     let words = words_of(alloc, &["--asks", "a", "--replies", "r", "q", "s"])?;
     let mut files = WatchedFiles {
         alloc,
@@ -196,7 +198,7 @@ fn report_of<R: Threads + Wait + RandomSource + Sync, G: Gate>(
     };
     let mut events = HostSink::new(Taking);
     let mut errors = HostSink::new(Taking);
-    Ok(run(
+    let report = run(
         rt,
         alloc,
         &words,
@@ -205,16 +207,17 @@ fn report_of<R: Threads + Wait + RandomSource + Sync, G: Gate>(
         &mut errors,
         &mut Vec::new(alloc),
         gate,
-    ))
+    );
+    Ok(has_answers(&report, wanted))
 }
 
 /// Whether the one session of a run that is done was answered so.
-fn is_answered<F: Files>(report: &Report<F>, first: &[u8], second: &[u8]) -> bool {
+fn has_answers<F: Files>(report: &Report<F>, wanted: [&[u8]; 2]) -> bool {
     match report.sessions.as_slice() {
         [answers] => match answers.as_slice() {
             [one, two] => report.status == 0
-                && one.text.as_slice() == first
-                && two.text.as_slice() == second,
+                && one.text.as_slice() == wanted[0]
+                && two.text.as_slice() == wanted[1],
             _ => false,
         },
         _ => false,
@@ -228,8 +231,9 @@ fn a_reply_before_the_next_line(rt: HostRuntime) -> Result<(), Fail> {
     let gate = CountingGate {
         replies: Arc::try_clone(&replies)?,
     };
-    let report = report_of(&rt, alloc, "session\nwait 1\nwait 2\n", &replies, &gate)?;
-    assert!(rt; is_answered(&report, b"@1 wait 1\n", b"@2 wait 2\n"));
+    let wanted = [b"@1 wait 1\n".as_slice(), b"@2 wait 2\n".as_slice()];
+    let asks = "session\nwait 1\nwait 2\n";
+    assert!(rt; is_answered(&rt, alloc, asks, &replies, &gate, wanted)?);
     Ok(())
 }
 
@@ -242,8 +246,9 @@ fn a_reader_beside_the_engine(rt: HostRuntime) -> Result<(), Fail> {
         passes: AtomicU64::new(0),
         alone: AtomicU64::new(0),
     };
-    let report = report_of(&rt, alloc, "session\nwait 1\ncount q\n", &replies, &gate)?;
-    assert!(rt; is_answered(&report, b"@1 wait 1\n", b"@1 count q 0\n"));
+    let wanted = [b"@1 wait 1\n".as_slice(), b"@1 count q 0\n".as_slice()];
+    let asks = "session\nwait 1\ncount q\n";
+    assert!(rt; is_answered(&rt, alloc, asks, &replies, &gate, wanted)?);
     assert!(rt; gate.alone.load(SeqCst) == 0);
     Ok(())
 }
