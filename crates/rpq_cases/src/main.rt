@@ -44,11 +44,6 @@
 //!   read in pieces of this length: its status, how many entries its history has of each of the
 //!   streams 1 to 4, and how many in all; behind `|` what it tells on the errors, and behind another
 //!   `|` what on the replies. All are opened under these names, a stream as often as it is named.
-//! - `objects WORDS OBJECTS QUERIES STREAM`: a run over the files `q` and `s` with standing objects,
-//!   `;` between them: `tally`, `roll:QUERIES` and `tail:QUERIES`, which keeps two events, with the
-//!   numbers of the queries that they want, `,` between them. Its status, what it writes on the
-//!   events, behind `|` what it tells on the errors, behind another `|` what each object says that
-//!   stayed, `;` behind each, and behind a third one the same of those that left.
 //! - `live SIZE SLIDE CLOCK TUPLES`: the places of the live entries, from 0, with their edges.
 //! - `clock TUPLES`: the clock of the history.
 //! - `tuple LINE`: the tuple of a line as it is written, `nothing`, or the fault of the line.
@@ -75,7 +70,6 @@ mod engines;
 mod expressions;
 mod fields;
 mod files;
-mod objects;
 mod output;
 mod queries;
 mod readers;
@@ -118,7 +112,6 @@ fn answer<R: RandomSource + Threads + Wait + Sync>(
         Request::View => views::answer_view(alloc, out, fields),
         Request::Run => runs::answer_run(rt, alloc, out, fields),
         Request::Readers => readers::answer_readers(rt, alloc, out, fields),
-        Request::Objects => objects::answer_objects(rt, alloc, out, fields),
         Request::Engine => engines::answer_engine(rt, alloc, out, fields),
         Request::Front => engines::answer_front(rt, alloc, out, fields),
         Request::Live => queries::answer_live(alloc, out, fields),
