@@ -51,6 +51,8 @@ fn main(rt: HostRuntime) -> anyhow::Result<()> {
     };
     let mut standing: Vec<Box<dyn Standing>> = Vec::new(alloc);
     standing.push(Box::new(alloc, Roll::new(alloc, (0..1).collect(alloc)?))?)?;
+    standing.push(Box::new(alloc, Roll::new(alloc, (1..2).collect(alloc)?))?)?;
+    standing.push(Box::new(alloc, Tail::<2>::new(alloc, (0..1).collect(alloc)?)?)?)?;
     standing.push(Box::new(alloc, alert)?)?;
     let report = run(
         &rt,
