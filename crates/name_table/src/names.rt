@@ -61,6 +61,17 @@ impl Names {
         })
     }
 
+    /// Forgets all names: the table is as a new one with the same keys. It takes no memory, and
+    /// gives back that of the names.
+    pub fn clear(&mut self)
+        ensures { self.new ≡ [] }
+    {
+        let hash = *self.names.hasher();
+        self.names = IndexMap::with_hasher(self.alloc, hash);
+        self.ranks = Vec::new(self.alloc);
+        self.told = 0;
+    }
+
     /// The number of the name, which a new name gets now: the number of those before it. There are
     /// fewer than 2^32 - 1 names. The only error is [`Memory`], after which the table is as before.
     pub fn number(&mut self, name: &Name) -> Result<u32, Memory>

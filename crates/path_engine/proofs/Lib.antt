@@ -11,3 +11,4 @@ pub mod Starting
 pub mod Still
 pub mod Feeding
 pub mod Fronts
+pub mod Anew

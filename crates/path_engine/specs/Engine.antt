@@ -15,7 +15,7 @@ use Rattle.path_engine.specs.declared.index.Index.{Index}
 use Rattle.path_engine.specs.Shown.{HasRows}
 
 -- the queries of an engine; how many entries it answered; whether memory ran out, after which it
--- answers none; the names that have numbers; and for each query its index
+-- answers none until it is rebuilt; the names that have numbers; and for each query its index
 pub record EngineValue : Type 0 where
   pub queries : List CompiledValue
   pub position : ℕ

@@ -38,7 +38,7 @@ pub record FeedsFront (old : EngineValue) (entries : List Entry) (new : EngineVa
       All (λ (event : Event). event.query < length old.queries) answer) answers
   pub position : new.position ≡ old.position + length entries
 
--- the engine answers no more, and counts no entry more
+-- the engine answers no more until it is rebuilt, and counts no entry more
 pub record Spends (old new : EngineValue) : Type 0 where
   pub spent : new.spent ≡ true
   pub position : new.position ≡ old.position

@@ -1,7 +1,7 @@
 //! The engine.
 
 ghost use Rattle.std.specs.Prelude.{◌≡◌, ◌≤◌, ◌<◌, ◌+◌, ◌^◌, ◌↔◌, [], List, true, false};
-ghost use Rattle.std.specs.Prelude.{length, map, Err, IfOk, Some, slice_get};
+ghost use Rattle.std.specs.Prelude.{length, map, Err, IfOk, OnErr, OnOk, Some, slice_get};
 ghost use Rattle.std.specs.List.{AllZip};
 ghost use Rattle.rpq_base.specs.declared.data.Entry.{Entry as EntryTaken};
 ghost use Rattle.rpq_model.specs.Query.{path_query};
@@ -16,6 +16,7 @@ use crate::ends::{ends_for, ends_for_all};
 use crate::fault::FeedFault;
 use crate::front::{answer_front, told_in};
 use crate::index::{Index, indexes_of};
+use crate::rebuilding::feed_all;
 use crate::showing::rows_of_each;
 use answer_rows::Rows;
 use answer_view::View;
@@ -35,7 +36,7 @@ use std::thread::Threads;
 ///
 /// Contracts see its queries, the number of entries that it answered, whether it is spent, and what
 /// it keeps of the history, of which only `StandsFor` speaks. Where memory runs out, it is spent,
-/// and answers no entry any more.
+/// and answers no entry until it is rebuilt.
 #[derive(Drop)]
 pub struct Engine {
     alloc: Global,
@@ -109,8 +110,9 @@ impl Engine {
     /// the next, by at most this many workers, which pass the gate.
     ///
     /// The errors are [`FeedFault::Memory`], after which the engine is spent, and
-    /// [`FeedFault::Spent`] at each call after it, which changes nothing. It costs what the entry
-    /// changes in the forest of each query; the workers share large changes alone.
+    /// [`FeedFault::Spent`] at each call after it, which changes nothing, until the engine is
+    /// rebuilt. It costs what the entry changes in the forest of each query; the workers share
+    /// large changes alone.
     pub fn feed<R: Threads + Sync, G: Gate>(
         &mut self,
         rt: &R,
@@ -256,6 +258,71 @@ impl Engine {
         Ok(events)
     }
 
+    /// Evaluates these entries from nothing, whatever the engine stood for before, and also where
+    /// it was spent: it stands for just these entries afterwards. At most this many workers do it,
+    /// and they pass the gate.
+    ///
+    /// What the engine held is given back first, so that there is memory for what comes. The only
+    /// error is [`Memory`], after which the engine is spent, at the position that it had. It costs
+    /// what feeding the entries costs. The events that they bring are dropped, front by front.
+    pub fn rebuild<R: Threads + Sync, G: Gate>(
+        &mut self,
+        rt: &R,
+        entries: &[Entry],
+        workers: u32,
+        gate: &G,
+    ) -> Result<(), Memory>
+        requires short { length entries.now ≤ 2 ^ 30 }
+        requires some { 1 ≤ workers }
+        requires few { workers ≤ 64 }
+        ensures stands { OnOk result (StandsFor self.new entries.now) }
+        ensures queries { self.new.queries ≡ self.old.queries }
+        ensures memory { OnErr result (Spends self.old self.new) }
+    {
+        let position = self.position;
+        match self.evaluate(rt, entries, workers, gate) {
+            Ok(()) => Ok(()),
+            Err(Memory) => {
+                self.position = position;
+                self.spent = true;
+                Err(Memory)
+            }
+        }
+    }
+
+    /// [`Engine::rebuild`], but for the position of an engine that is spent by it.
+    fn evaluate<R: Threads + Sync, G: Gate>(
+        &mut self,
+        rt: &R,
+        entries: &[Entry],
+        workers: u32,
+        gate: &G,
+    ) -> Result<(), Memory>
+        requires short { length entries.now ≤ 2 ^ 30 }
+        requires some { 1 ≤ workers }
+        requires few { workers ≤ 64 }
+        ensures stands { OnOk result (StandsFor self.new entries.now) }
+        ensures queries { self.new.queries ≡ self.old.queries }
+    {
+        self.start_anew()?;
+        feed_all(self, rt, entries, workers, gate)
+    }
+
+    /// Gives back what the engine held, and makes it stand for the empty history.
+    fn start_anew(&mut self) -> Result<(), Memory>
+        ensures stands { OnOk result (StandsFor self.new []) }
+        ensures queries { self.new.queries ≡ self.old.queries }
+    {
+        self.spent = true; // until there are new indexes
+        self.indexes = Vec::new(self.alloc);
+        self.names.clear();
+        self.named = 0;
+        self.indexes = indexes_of(self.alloc, &self.queries)?;
+        self.position = 0;
+        self.spent = false;
+        Ok(())
+    }
+
     /// Counts the events that were told, for the ranks of the names.
     fn note_told(&mut self, events: usize)
         ensures { self.new ≡ self.old }
@@ -270,7 +337,8 @@ impl Engine {
         &self.queries
     }
 
-    /// Whether memory ran out in a call before, so that no entry is answered any more.
+    /// Whether memory ran out in a call before, so that no entry is answered until the engine is
+    /// rebuilt.
     pub fn is_spent(&self) -> bool
         ensures { result ≡ self.now.spent }
     {

@@ -10,7 +10,7 @@ use rpq_base::Memory;
 pub enum FeedFault {
     /// Memory ran out, and the engine is spent.
     Memory,
-    /// The engine was spent before.
+    /// The engine was spent before, and wasn't rebuilt since.
     Spent,
 }
 

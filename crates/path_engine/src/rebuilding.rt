@@ -1,0 +1,36 @@
+//! The entries that an engine is rebuilt from.
+
+ghost use Rattle.std.specs.Prelude.{◌≡◌, ◌≤◌, ◌^◌, [], length, OnOk};
+ghost use Rattle.path_engine.specs.Engine.{StandsFor};
+
+use crate::engine::Engine;
+use rpq_base::{Entry, Memory};
+use rpq_io::Gate;
+use std::thread::Threads;
+
+/// How many entries are fed at once. The events of so many are held at a time.
+const FRONT: usize = 256;
+
+/// Feeds all entries to an engine over the empty history, front by front, and drops the events that
+/// they bring. The only error is [`Memory`].
+pub(crate) fn feed_all<R: Threads + Sync, G: Gate>(
+    engine: &mut Engine,
+    rt: &R,
+    entries: &[Entry],
+    workers: u32,
+    gate: &G,
+) -> Result<(), Memory>
+    requires starts { StandsFor engine.old [] }
+    requires short { length entries.now ≤ 2 ^ 30 }
+    requires some { 1 ≤ workers }
+    requires few { workers ≤ 64 }
+    ensures stands { OnOk result (StandsFor engine.new entries.now) }
+    ensures queries { engine.new.queries ≡ engine.old.queries }
+{
+    for front in entries.chunks(FRONT) {
+        let Ok(_) = engine.feed_front(rt, front, workers, gate) else {
+            return Err(Memory);
+        };
+    }
+    Ok(())
+}
