@@ -1,7 +1,7 @@
 -- A front of entries that was fed, and what was written of its blocks.
 use Rattle.std.proofs.Common.{◌≡◌, ℕ, ◌+◌, ◌<◌, List, [], ◌∷◌, ◌++◌, length, Option}
 use Rattle.std.proofs.Common.{Result, Ok, Err}
-use Rattle.std.proofs.Common.{refl, ap, sym, subst, ◌∙◌, arith}
+use Rattle.std.proofs.Common.{refl, sym, subst, ◌∙◌, arith, length-append}
 use Rattle.std.specs.Prelude.{OnOk, IfErr, ⊤}
 use Rattle.std.specs.Result.{IsErrAnd}
 use Rattle.std.specs.Global.{Vec}
@@ -12,18 +12,16 @@ use Rattle.rpq_base.specs.declared.data.Entry.{Entry}
 use Rattle.rpq_base.specs.declared.data.Event.{Event}
 use Rattle.rpq_io.specs.Writes.{WritesProperPrefix}
 use Rattle.query_file.specs.Compiled.{CompiledValue}
-use Rattle.rpq_model.specs.QueryEvents.{AreEventsUnder}
+use Rattle.rpq_model.specs.QueryEvents.{AreEventsUnder, AreAllEventsFrom}
 use Rattle.rpq_model.proofs.EachEntry.{each_as_many}
 use Rattle.path_engine.specs.Engine.{EngineValue, StandsFor, definitions}
-use Rattle.path_engine.specs.Feeding.{FeedsFront}
 use Rattle.history_model.specs.declared.line.Why.{Why}
 use Rattle.history_model.specs.declared.line.Why.TheVariants.{Write, Memory}
 use Rattle.rpq_text.specs.Definitions.{definitions_of}
 use Rattle.rpq_text.specs.Text.{blocks_from, IsText}
 use Rattle.standing.specs.Circles.{CircleValue}
 use Rattle.rpq_threads.specs.Told.{all_events}
-use Rattle.rpq_threads.specs.Fed.{WritesFront, TellsOn, WritesAndTells, GoesOn, Emits, Stops}
-use Rattle.rpq_threads.specs.Written.{GrewByPrefix, GrewByProperPrefix}
+use Rattle.rpq_threads.specs.Fed.{WritesFront, TellsOn, WritesAndTells, Finds, Emits, Stops}
 use Rattle.rpq_threads.proofs.Blocks.{lists_of, length-lists, text_append}
 use Rattle.rpq_threads.proofs.Grows.{grew_on, grew_on_by_front, grew_on_by_proper}
 use Rattle.rpq_threads.proofs.Tellings.{hears_all, tells_part}
@@ -55,77 +53,60 @@ each_vector P (own ∷ found) all =
     (All-head P own.items (lists_of found) all)
     (each_vector P found (All-tail P own.items (lists_of found) all))
 
--- the engine was fed the entries, and has these queries
-module _ (old new : EngineValue) (entries : List Entry) (found : List (Vec Event))
-    (fed : FeedsFront old entries new (lists_of found)) (queries : List CompiledValue)
-    (same : queries ≡ old.queries) where
+-- behind a history the engine answered the entries, and it has these queries
+module _ (before : List Entry) (old new : EngineValue) (entries : List Entry)
+    (found : List (Vec Event)) (finds : Finds before new entries (lists_of found))
+    (kept : new.queries ≡ old.queries) (queries : List CompiledValue)
+    (same : queries ≡ new.queries) where
+  -- the events, by the queries that the engine had before
+  events_found : AreAllEventsFrom (definitions old) before entries (lists_of found)
+  events_found =
+      subst (λ (qs : List CompiledValue). AreAllEventsFrom (definitions_of qs) before entries
+      (lists_of found)) kept finds.events
+
   pub numbers_found : All (λ (own : Vec Event). All (λ (event : Event).
       event.query < length queries) own.items) found
   numbers_found = each_vector (λ (own : List Event). All (λ (event : Event).
       event.query < length queries) own) found
       (subst (λ (qs : List CompiledValue). All (λ (own : List Event). All (λ (event : Event).
-      event.query < length qs) own) (lists_of found)) (sym same) fed.numbers)
+      event.query < length qs) own) (lists_of found)) (sym same) finds.numbers)
 
-  pub many_found : (before : List Entry) → StandsFor old before → length found ≡ length entries
-  many_found before stands =
+  pub many_found : length found ≡ length entries
+  many_found =
       sym (length-lists found)
-      ∙ each_as_many entries before (AreEventsUnder 0 (definitions old)) (lists_of found)
-      (fed.events before stands)
+      ∙ each_as_many entries before (AreEventsUnder 0 (definitions new)) (lists_of found)
+      finds.events
 
-  module _ (position : ℕ) (place : position ≡ old.position + 1)
+  module _ (is : StandsFor old before) (position : ℕ) (place : position ≡ old.position + 1)
       (written_before written_after : Option (List ℕ)) where
-    next_text : (before : List Entry) → StandsFor old before → (text : List ℕ) →
-        IsText (definitions old) before text →
+    next_text : (text : List ℕ) → IsText (definitions old) before text →
         IsText (definitions old) (before ++ entries)
         (text ++ blocks_from (definitions_of queries) position entries (lists_of found))
-    next_text before stands text is_text =
-        let number : length before + 1 ≡ position = omega (arith, place, stands.counted) in
+    next_text text is_text =
+        let number : length before + 1 ≡ position = omega (arith, place, is.counted) in
         subst (λ (qs : List CompiledValue). IsText (definitions old) (before ++ entries)
-        (text ++ blocks_from (definitions_of qs) position entries (lists_of found))) (sym same)
+        (text ++ blocks_from (definitions_of qs) position entries (lists_of found)))
+        (sym (same ∙ kept))
         (subst (λ (n : ℕ). IsText (definitions old) (before ++ entries)
         (text ++ blocks_from (definitions old) n entries (lists_of found))) number
-        (text_append (definitions old) before text entries (lists_of found) is_text
-        (fed.events before stands)))
+        (text_append (definitions old) before text entries (lists_of found) is_text events_found))
 
-    pub emits_all : (circle_before circle_after : CircleValue) → new.queries ≡ old.queries →
+    pub emits_all : (circle_before circle_after : CircleValue) →
         written_after ≡ append_known written_before
         (blocks_from (definitions_of queries) position entries (lists_of found)) →
         TellsOn (all_events (lists_of found)) ⊤ circle_before circle_after →
-        Emits old new entries written_before written_after circle_before circle_after
-    emits_all circle_before circle_after kept written tells = record {
+        Emits before old new entries written_before written_after circle_before circle_after
+    emits_all circle_before circle_after written tells = record {
       queries = kept;
-      position = fed.position;
-      stands = fed.stands;
-      text = λ before start stands so_far.
+      position = omega (arith, finds.stands.counted, is.counted, length-append before entries);
+      stands = finds.stands;
+      text = λ start so_far.
           grew_on (IsText (definitions old) before) (IsText (definitions old) (before ++ entries))
           (blocks_from (definitions_of queries) position entries (lists_of found)) start
-          written_before written_after (next_text before stands) so_far written;
-      heard = λ before stands.
-          hears_all (definitions old) before entries (lists_of found) (fed.events before stands)
+          written_before written_after next_text so_far written;
+      heard = hears_all (definitions old) before entries (lists_of found) events_found
           circle_before circle_after tells;
     }
-
-    emits_proper :
-        WritesProperPrefix (blocks_from (definitions_of queries) position entries (lists_of found))
-        written_before written_after →
-        GoesOn old written_before (λ before start.
-        GrewByProperPrefix (IsText (definitions old) (before ++ entries)) start written_after)
-    emits_proper part before start stands so_far =
-        grew_on_by_proper (IsText (definitions old) before)
-        (IsText (definitions old) (before ++ entries))
-        (blocks_from (definitions_of queries) position entries (lists_of found)) start
-        written_before written_after (next_text before stands) so_far part
-
-    emits_part :
-        WritesFront (blocks_from (definitions_of queries) position entries (lists_of found))
-        written_before written_after →
-        GoesOn old written_before (λ before start.
-        GrewByPrefix (IsText (definitions old) (before ++ entries)) start written_after)
-    emits_part part before start stands so_far =
-        grew_on_by_front (IsText (definitions old) before)
-        (IsText (definitions old) (before ++ entries))
-        (blocks_from (definitions_of queries) position entries (lists_of found)) start
-        written_before written_after (next_text before stands) so_far part
 
     -- not all blocks were written, or memory ran out while the objects were told of the events
     pub emits_stops : (circle_before circle_after : CircleValue) (why : Why) →
@@ -137,19 +118,27 @@ module _ (old new : EngineValue) (entries : List Entry) (found : List (Vec Event
         written_before written_after) →
         WritesAndTells (definitions_of queries) position entries (lists_of found) why
         written_before written_after circle_before circle_after →
-        (before : List Entry) → StandsFor old before →
         Stops (definitions old) before (before ++ entries) why written_before written_after
         circle_before circle_after
-    emits_stops circle_before circle_after why proper part tells before stands = record {
-      write = λ is start so_far. emits_proper (proper is) before start stands so_far;
-      memory = λ is start so_far. emits_part (part is) before start stands so_far;
+    emits_stops circle_before circle_after why proper part tells = record {
+      write = λ why_is start so_far.
+          grew_on_by_proper (IsText (definitions old) before)
+          (IsText (definitions old) (before ++ entries))
+          (blocks_from (definitions_of queries) position entries (lists_of found)) start
+          written_before written_after next_text so_far (proper why_is);
+      memory = λ why_is start so_far.
+          grew_on_by_front (IsText (definitions old) before)
+          (IsText (definitions old) (before ++ entries))
+          (blocks_from (definitions_of queries) position entries (lists_of found)) start
+          written_before written_after next_text so_far (part why_is);
       told = λ objects heard start so_far.
-          let here : position ≡ length before + 1 = omega (arith, place, stands.counted) in
-          tells_part (definitions old) before entries (lists_of found) (fed.events before stands)
-          circle_before circle_after why written_before written_after
+          let here : position ≡ length before + 1 = omega (arith, place, is.counted) in
+          tells_part (definitions old) before entries (lists_of found) events_found circle_before
+          circle_after why written_before written_after
           (subst (λ (n : ℕ). WritesAndTells (definitions old) n entries (lists_of found) why
           written_before written_after circle_before circle_after) here
           (subst (λ (qs : List CompiledValue). WritesAndTells (definitions_of qs) position entries
-          (lists_of found) why written_before written_after circle_before circle_after) same tells))
+          (lists_of found) why written_before written_after circle_before circle_after)
+          (same ∙ kept) tells))
           objects heard start so_far;
     }

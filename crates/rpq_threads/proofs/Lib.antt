@@ -4,5 +4,6 @@ mod Tellings
 mod Stopping
 mod Fronts
 mod Turns
+mod Rebuilt
 mod Starting
 mod Finishing

@@ -32,11 +32,11 @@ use Rattle.standing.specs.Circles.{CircleValue}
 use Rattle.rpq_workers.specs.Started.{new_pass}
 use Rattle.rpq_workers.proofs.Numbering.{Each, new_is}
 use Rattle.rpq_workers.proofs.Seen.{entries_grow, same_front, take_part, part_fits}
-use Rattle.rpq_workers.proofs.Seen.{none_after, added_starts}
+use Rattle.rpq_workers.proofs.Seen.{none_after, starts_then, added_starts}
 use Rattle.rpq_threads.specs.declared.evaluator.Evaluator.{Evaluator}
 use Rattle.rpq_threads.specs.Told.{TellsObjects}
 use Rattle.rpq_threads.specs.Fed.{HaveHeardAll, HearsOn, Onward, Emits, Stops, answered}
-use Rattle.rpq_threads.specs.Fed.{KeepsUp, IsFed, IsAtStart, IsWhole, HasFed}
+use Rattle.rpq_threads.specs.Fed.{KeepsUp, IsFed, LooksOn, IsAtStart, IsWhole, HasFed}
 use Rattle.rpq_threads.specs.Written.{Grew, GrewByPrefix, GrewByProperPrefix}
 use Rattle.rpq_threads.proofs.Tellings.{heard_nothing, tells_front, tells_of_longer}
 use Rattle.rpq_threads.proofs.Stopping.{prefix_of_them, proper_of_them, stops_before, stops_after}
@@ -188,8 +188,8 @@ module _ (history : HistoryValue) (old : Evaluator) (pass : Each) (was : KeepsUp
     -- the engine went on by the front
     module _ (new : Evaluator) (written_before written_after : Option (List ℕ))
         (circle_before circle_after : CircleValue)
-        (did : Emits old.engine new.engine part written_before written_after circle_before
-        circle_after)
+        (did : Emits (answered old.engine pass) old.engine new.engine part written_before
+        written_after circle_before circle_after)
         (workers : new.workers ≡ old.workers) where
       answered_more : answered old.engine pass ++ part ≡ answered new.engine pass
       answered_more =
@@ -204,8 +204,7 @@ module _ (history : HistoryValue) (old : Evaluator) (pass : Each) (was : KeepsUp
         accepted = was.accepted;
         few = was.few;
         there = omega (arith, did.position, part_within);
-        stands = subst (StandsFor new.engine) answered_more
-            (did.stands (answered old.engine pass) was.stands);
+        stands = subst (StandsFor new.engine) answered_more did.stands;
       }
 
       pub text_emitted : Onward history.terms.queries (answered old.engine pass) written_before
@@ -216,7 +215,7 @@ module _ (history : HistoryValue) (old : Evaluator) (pass : Each) (was : KeepsUp
           answered_more
           (subst (λ (qs : List Query). Grew (IsText qs (answered old.engine pass ++ part)) start
           written_after) was.queries
-          (did.text (answered old.engine pass) start was.stands
+          (did.text start
           (subst (λ (qs : List Query). Grew (IsText qs (answered old.engine pass)) start
           written_before) (sym was.queries) so_far)))
 
@@ -226,8 +225,7 @@ module _ (history : HistoryValue) (old : Evaluator) (pass : Each) (was : KeepsUp
           subst (λ (h : List Entry). HearsOn history.terms.queries (answered old.engine pass) h
           circle_before circle_after) answered_more
           (subst (λ (qs : List Query). HearsOn qs (answered old.engine pass)
-          (answered old.engine pass ++ part) circle_before circle_after) was.queries
-          (did.heard (answered old.engine pass) was.stands))
+          (answered old.engine pass ++ part) circle_before circle_after) was.queries did.heard)
 
 -- ---- a turn, by its steps
 
@@ -285,31 +283,37 @@ module _ (history : HistoryValue) (old : Evaluator) (before mid : Each)
     module _ (written_before written_after : Option (List ℕ))
         (circle_before circle_after : CircleValue) where
       -- the engine stopped in the front
-      pub front_stops : AcceptedHaveEvents → (why : Why) →
-          ((first : List Entry) → StandsFor old.engine first →
-          Stops (definitions old.engine) first (first ++ part) why written_before written_after
-          circle_before circle_after) →
-          Stops history.terms.queries (answered old.engine before) (entries mid.seen) why
+      pub front_stops : AcceptedHaveEvents → (after : Each) → StartsWith after.seen mid.seen →
+          (why : Why) →
+          Stops (definitions old.engine) (answered old.engine mid)
+          (answered old.engine mid ++ part) why written_before written_after circle_before
+          circle_after →
+          Stops history.terms.queries (answered old.engine before) (entries after.seen) why
           written_before written_after circle_before circle_after
-      front_stops have why did =
+      front_stops have after starts why did =
           let here = answered old.engine mid in
-          subst (λ (h : List Entry). Stops history.terms.queries h (entries mid.seen) why
+          subst (λ (h : List Entry). Stops history.terms.queries h (entries after.seen) why
           written_before written_after circle_before circle_after) stays
           (stops_of_longer have history.terms.queries was.keeps_up.accepted here (here ++ part)
-          (entries mid.seen) (part_starts history old mid still part is) written_before
-          written_after circle_before circle_after why
+          (entries after.seen)
+          (starts_then (entries after.seen) (entries mid.seen) (here ++ part)
+          (first_entries after.seen mid.seen starts) (part_starts history old mid still part is))
+          written_before written_after circle_before circle_after why
           (subst (λ (qs : List Query). Stops qs here (here ++ part) why written_before
-          written_after circle_before circle_after) was.keeps_up.queries
-          (did here still.stands)))
+          written_after circle_before circle_after) was.keeps_up.queries did))
 
       module _ (new : Evaluator)
-          (did : Emits old.engine new.engine part written_before written_after circle_before
-          circle_after)
+          (did : Emits (answered old.engine mid) old.engine new.engine part written_before
+          written_after circle_before circle_after)
           (workers : new.workers ≡ old.workers) where
-        pub front_keeps_up : KeepsUp history new mid
-        front_keeps_up =
+        front_is_kept : KeepsUp history new mid
+        front_is_kept =
             keeps_up_emitted history old mid still part is new written_before written_after
             circle_before circle_after did workers
+
+        pub front_keeps_up : (after : Each) → LooksOn history mid after → KeepsUp history new after
+        front_keeps_up after looks =
+            keeps_up_then history new mid after front_is_kept looks.seen looks.feeds
 
         front_text : Onward history.terms.queries (answered old.engine before) written_before
             (λ start. Grew (IsText history.terms.queries (answered new.engine mid)) start
@@ -332,7 +336,7 @@ module _ (history : HistoryValue) (old : Evaluator) (before mid : Each)
         stops_then have after starts =
             stops_after have history.terms.queries was.keeps_up.accepted
             (answered old.engine before) (answered new.engine mid) (entries after.seen)
-            (answered_starts history new mid after front_keeps_up starts) written_before
+            (answered_starts history new mid after front_is_kept starts) written_before
             written_after circle_before circle_after front_text front_hears
 
         -- its answers were published
@@ -340,7 +344,7 @@ module _ (history : HistoryValue) (old : Evaluator) (before mid : Each)
             (place : last.engine.position ≡ new.engine.position) where
           same_answered : answered new.engine mid ≡ answered last.engine after
           same_answered =
-              sym (answered_stays history new mid after front_keeps_up starts)
+              sym (answered_stays history new mid after front_is_kept starts)
               ∙ ap (λ (n : ℕ). take n (entries after.seen)) (sym place)
 
           pub text_then : Onward history.terms.queries (answered old.engine before) written_before

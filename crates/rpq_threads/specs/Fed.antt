@@ -7,13 +7,14 @@ use Rattle.containment_laws.specs.Accepted.{IsAccepted}
 use Rattle.rpq_base.specs.declared.data.Entry.{Entry}
 use Rattle.rpq_base.specs.declared.data.Event.{Event}
 use Rattle.rpq_model.specs.Query.{Query}
-use Rattle.rpq_model.specs.QueryEvents.{AreAllEvents}
+use Rattle.rpq_model.specs.QueryEvents.{AreAllEvents, AreAllEventsFrom}
 use Rattle.path_engine.specs.Engine.{EngineValue, StandsFor, definitions}
 use Rattle.rpq_words.specs.Modes.{IsWithin}
 use Rattle.rpq_text.specs.Text.{block, blocks_from, IsText}
 use Rattle.standing.specs.Objects.{ObjectValue}
 use Rattle.standing.specs.Circles.{CircleValue}
 use Rattle.standing.specs.Stood.{HaveStood}
+use Rattle.turn_lock.specs.Lines.{StartsWith}
 use Rattle.turn_lock.specs.Passes.{PassValue}
 use Rattle.history_model.specs.declared.line.Why.{Why}
 use Rattle.history_model.specs.declared.line.Why.TheVariants.{Write, Memory}
@@ -80,31 +81,32 @@ HearsOn queries first second old new =
     (objects : List ObjectValue) → HaveHeardAll queries first objects old
     → HaveHeardAll queries second objects new
 
--- where the engine stands for a history, and since some start the text of it was written, this is
--- so of the history and the start
-abbrev pub GoesOn : EngineValue → Option (List ℕ) → (List Entry → Option (List ℕ) → Type 0) →
-    Type 0
-GoesOn engine written P =
-    (before : List Entry) (start : Option (List ℕ)) → StandsFor engine before
-    → Grew (IsText (definitions engine) before) start written → P before start
-
 -- where what was written since some start is the text of these entries, this is so of the start
 abbrev pub Onward : List Query → List Entry → Option (List ℕ) → (Option (List ℕ) → Type 0) → Type 0
 Onward queries front written P =
     (start : Option (List ℕ)) → Grew (IsText queries front) start written → P start
 
--- the engine answered these entries; what was written since a start, where it was the text of the
--- history before, is now that of the history with them; and the objects have heard their events
-pub record Emits (old new : EngineValue) (later : List Entry)
+-- behind this history the engine answered these entries, each by the events in its place, and now
+-- it stands for all of them; each event has the number of a query
+pub record Finds (before : List Entry) (engine : EngineValue) (later : List Entry)
+    (lists : List (List Event)) : Type 0 where
+  pub stands : StandsFor engine (before ++ later)
+  pub events : AreAllEventsFrom (definitions engine) before later lists
+  pub numbers : All (λ (own : List Event).
+      All (λ (event : Event). event.query < length engine.queries) own) lists
+
+-- behind this history the engine answered these entries; what was written since a start, where it
+-- was the text of the history, is now that of the history with them; and the objects have heard
+-- their events
+pub record Emits (before : List Entry) (old new : EngineValue) (later : List Entry)
     (written_before written_after : Option (List ℕ)) (circle_before circle_after : CircleValue)
     : Type 0 where
   pub queries : new.queries ≡ old.queries
   pub position : new.position ≡ old.position + length later
-  pub stands : (before : List Entry) → StandsFor old before → StandsFor new (before ++ later)
-  pub text : GoesOn old written_before (λ before start.
+  pub stands : StandsFor new (before ++ later)
+  pub text : Onward (definitions old) before written_before (λ start.
       Grew (IsText (definitions old) (before ++ later)) start written_after)
-  pub heard : (before : List Entry) → StandsFor old before
-      → HearsOn (definitions old) before (before ++ later) circle_before circle_after
+  pub heard : HearsOn (definitions old) before (before ++ later) circle_before circle_after
 
 -- for this reason not all entries were answered: what was written since a start, where it was the
 -- text of the first of them, is now a prefix of the text of all, a proper one where a write failed;
@@ -141,6 +143,26 @@ pub record IsFed (history : HistoryValue) (evaluator : Evaluator) (pass : PassVa
     : Type 0 where
   pub keeps_up : KeepsUp history evaluator pass
   pub told : 0 < history.readers → published pass.mine ≡ evaluator.engine.position
+
+-- the pass is the engine's, and may ask for the entries up to this position, which isn't too far:
+-- it has seen so many, and published as many where the history has readers
+pub record MayAskTo (history : HistoryValue) (position : ℕ) (pass : PassValue Line Terms)
+    : Type 0 where
+  pub feeds : IsFeedingPass history pass
+  pub there : position ≤ length (entries pass.seen)
+  pub short : position ≤ 2 ^ 30
+  pub told : 0 < history.readers → position ≤ published pass.mine
+
+-- the pass, still the engine's, has added no line: it has seen what it had seen, and maybe more
+pub record LooksOn (history : HistoryValue) (before after : PassValue Line Terms) : Type 0 where
+  pub feeds : IsFeedingPass history after
+  pub seen : StartsWith after.seen before.seen
+  pub mine : after.mine ≡ before.mine
+
+-- the queries and the workers stay
+pub record KeepsSetup (old new : Evaluator) : Type 0 where
+  pub queries : new.engine.queries ≡ old.engine.queries
+  pub workers : new.workers ≡ old.workers
 
 -- the engine keeps up with what its pass has seen, and has answered nothing; and none of the
 -- objects has left

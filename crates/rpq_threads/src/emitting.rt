@@ -1,23 +1,22 @@
 //! Entries are fed to the engine, their blocks are written, and the caller's objects are told of
 //! their events.
 
-ghost use Rattle.std.specs.Prelude.{◌≡◌, ◌<◌, ◌≤◌, ◌+◌, ◌^◌, ◌++◌, List, length, map, All};
+ghost use Rattle.std.specs.Prelude.{◌≡◌, ◌<◌, ◌≤◌, ◌+◌, ◌^◌, ◌++◌, length, map, All};
 ghost use Rattle.std.specs.Prelude.{OnOk, OnErr, IfErr, Err, ⊤};
 ghost use Rattle.std.specs.Io.KnownBytes.{append_known};
-ghost use Rattle.containment_laws.specs.Accepted.{IsAccepted};
-ghost use Rattle.path_engine.specs.Engine.{StandsFor, definitions};
-ghost use Rattle.rpq_base.specs.declared.data.Entry.{Entry as EntryTaken};
+ghost use Rattle.path_engine.specs.Engine.{definitions};
 ghost use Rattle.rpq_base.specs.Plain.{IsPlain};
 ghost use Rattle.rpq_io.specs.Counts.{CountsFault};
 ghost use Rattle.rpq_io.specs.Writes.{WritesProperPrefix};
 ghost use Rattle.rpq_text.specs.Definitions.{definitions_of};
 ghost use Rattle.rpq_text.specs.Text.{block, blocks_from, IsText};
-ghost use Rattle.rpq_words.specs.Modes.{IsWithin};
 ghost use Rattle.standing.specs.Circles.{as_seen};
-ghost use Rattle.rpq_threads.specs.Fed.{WritesFront, TellsOn, WritesAndTells, Emits, Stops};
+ghost use Rattle.rpq_threads.specs.Fed.{IsFed, LooksOn, answered, Emits, Stops};
+ghost use Rattle.rpq_threads.specs.Fed.{WritesFront, TellsOn, WritesAndTells};
 ghost use Rattle.rpq_threads.specs.Told.{all_events};
 
 use crate::evaluator::Evaluator;
+use crate::rebuilding::find_events;
 use containment_laws::accepted_queries_have_events;
 use history_model::Why;
 use query_file::Compiled;
@@ -26,28 +25,31 @@ use rpq_io::{Gate, Sink, put_all};
 use rpq_text::make_block;
 use rpq_workers::Shared;
 use standing::{Circle, Standing};
+use std::sync::Wait;
 use std::thread::Threads;
+use stream_history::Pass;
 
 /// Feeds the entries to the engine, all at once, then writes the block of each, and tells the
 /// objects of its events once it is written. It answers why not all of this was done.
-pub fn emit_front<R: Threads + Sync, G: Gate, K: Sink, O: Standing>(
+pub fn emit_front<R: Threads + Wait + Sync, G: Gate, K: Sink, O: Standing>(
     shared: &Shared<'_, R, G>,
+    pass: &mut Pass,
     evaluator: &mut Evaluator,
     entries: &[Entry],
     events: &mut K,
     circle: &mut Circle<O>,
 ) -> Result<(), Why>
-    requires workers { IsWithin 64 evaluator.old.workers }
-    requires accepted { All IsAccepted (definitions evaluator.old.engine) }
-    requires stands { (history : List EntryTaken) × StandsFor evaluator.old.engine history }
+    requires fed { IsFed shared.now.history.now evaluator.old pass.old }
     requires short { evaluator.old.engine.position + length entries.now ≤ 2 ^ 30 }
     requires plain { All IsPlain entries.now }
-    ensures ok { OnOk result (Emits evaluator.old.engine evaluator.new.engine entries.now
+    ensures looks_on { LooksOn shared.now.history.now pass.old pass.new }
+    ensures ok { OnOk result (Emits (answered evaluator.old.engine pass.old)
+        evaluator.old.engine evaluator.new.engine entries.now
         (K.written events.old) (K.written events.new)
         (as_seen O.seen circle.old) (as_seen O.seen circle.new)) }
-    ensures stops { IfErr result (λ why. (before : List EntryTaken)
-        → StandsFor evaluator.old.engine before
-        → Stops (definitions evaluator.old.engine) before (before ++ entries.now) why
+    ensures stops { IfErr result (λ why. Stops (definitions evaluator.old.engine)
+        (answered evaluator.old.engine pass.old)
+        (answered evaluator.old.engine pass.old ++ entries.now) why
         (K.written events.old) (K.written events.new)
         (as_seen O.seen circle.old) (as_seen O.seen circle.new)) }
     ensures counted { CountsFault (result ≡ Err Why.Write)
@@ -56,11 +58,7 @@ pub fn emit_front<R: Threads + Sync, G: Gate, K: Sink, O: Standing>(
 {
     accepted_queries_have_events(); // called for its clause
     let position = evaluator.engine.position() + 1;
-    let workers = evaluator.workers;
-    let fed = evaluator
-        .engine
-        .feed_front(shared.rt, entries, workers, shared.gate);
-    let Ok(found) = fed else {
+    let Ok(found) = find_events(shared, pass, evaluator, entries) else {
         return Err(Why::Memory);
     };
     let queries = evaluator.engine.queries();

@@ -17,6 +17,8 @@ pub struct Evaluator {
     pub engine: Engine,
     pub workers: u32,
     pub block: Vec<u8>,
+    /// Whether the engine was rebuilt in this run.
+    pub rebuilt: bool,
 }
 
 impl Evaluator {
@@ -36,6 +38,7 @@ impl Evaluator {
             engine: Engine::new(rt, alloc, queries)?,
             workers,
             block: Vec::new(alloc),
+            rebuilt: false,
         })
     }
 }

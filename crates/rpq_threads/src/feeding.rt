@@ -90,7 +90,7 @@ fn turn<R: Threads + Wait + Sync, G: Gate, K: Sink, O: Standing>(
         sleep_unless(shared.rt, history, front.all_ended, heard);
         return Ok(front.all_ended);
     }
-    emit_front(shared, evaluator, &front.entries, events, circle)?;
+    emit_front(shared, pass, evaluator, &front.entries, events, circle)?;
     let Ok(()) = publish_answers(shared.rt, history, pass, evaluator) else {
         return Err(Why::Memory);
     };

@@ -12,8 +12,12 @@
 //! The engine takes up to 256 entries at once, writes their blocks one after another, tells the
 //! objects of each block's events behind it, and publishes the answers after the last of them,
 //! where there are sessions. The objects are told by the engine's thread, outside of any turn of
-//! the history. Want of memory of an object ends the run as that of the engine does. No clause says
-//! that the threads get on, or in which order.
+//! the history. No clause says that the threads get on, or in which order.
+//!
+//! Where memory runs out for the first time in a run while the engine answers entries, its thread
+//! rebuilds it over the entries that it had answered, which the history gives once more, and feeds
+//! it the new ones again. Any other want of memory in this thread ends the run, also that of an
+//! object.
 #![tactic(auto)]
 
 mod beside;
@@ -21,6 +25,7 @@ mod definitions;
 mod emitting;
 mod evaluator;
 mod feeding;
+mod rebuilding;
 mod room;
 mod run;
 mod serving;

@@ -26,8 +26,10 @@ use stream_history::{History, first_view};
 /// the sessions, each by a thread of its own.
 ///
 /// It ends when all streams have ended, all entries are answered, and each session has its answers.
-/// A failed write and want of memory, also of an object that is told, end it early. The only error
-/// is [`Memory`], before any thread is started. It comes with the objects that were given.
+/// A failed write and want of memory, also of an object that is told, end it early; but the first
+/// time that memory runs out while the engine answers entries, it is rebuilt, and the run goes on.
+/// The only error is [`Memory`], before any thread is started. It comes with the objects that were
+/// given.
 pub fn run_threads<R, G: Gate, S: Source + Send + Drop, K: Sink, O: Standing>(
     context: &Context<'_, R, G>,
     task: Task<S>,

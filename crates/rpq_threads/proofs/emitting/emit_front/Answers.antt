@@ -1,11 +1,12 @@
 use Rattle.std.proofs.Common.{◌+◌, List, ◌++◌, Err, refl, sym, ap, subst, ◌∙◌}
 use Rattle.std.specs.Global.{Vec}
+use Rattle.std.proofs.lemmas.List.Elements.{All-same}
+use Rattle.containment_laws.specs.Accepted.{IsAccepted}
 use Rattle.rpq_base.specs.declared.data.Event.{Event}
-use Rattle.query_file.specs.Compiled.{CompiledValue}
 use Rattle.path_engine.specs.Engine.{definitions}
-use Rattle.path_engine.specs.Feeding.{FeedsFront}
 use Rattle.history_model.specs.declared.line.Why.{Why}
 use Rattle.standing.specs.Circles.{as_seen}
+use Rattle.rpq_threads.specs.Fed.{Finds, answered}
 use Rattle.rpq_threads.proofs.Blocks.{lists_of}
 use Rattle.rpq_threads.proofs.Fronts.{ok_then_both, err_with, numbers_found, many_found}
 use Rattle.rpq_threads.proofs.Fronts.{emits_all, emits_stops}
@@ -13,57 +14,65 @@ use Rattle.rpq_threads.proofs.Stopping.{stops_before}
 use Rattle.rpq_threads.proofs.emitting.emit_front.Goals as goal
 
 pub returns-in_default-clause-stops : goal.returns-in_default-clause-stops
-returns-in_default-clause-stops g c = λ before stands.
+returns-in_default-clause-stops g c =
+    let was = c.requires.fed.keeps_up in
+    let engine = c.args.evaluator.now.engine in
+    let before = answered engine c.args.pass.now in
     let entries = c.args.entries.now in
-    stops_before c.accepted_queries_have_events.ensures.steps
-    (definitions c.args.evaluator.now.engine) c.requires.accepted before (before ++ entries)
-    (entries, refl) (g.K.Sink.written c.args.events.now)
-    (as_seen g.O.Standing.seen c.args.circle.now)
+    stops_before c.accepted_queries_have_events.ensures.steps (definitions engine)
+    (All-same IsAccepted (definitions engine) c.args.shared.now.history.now.terms.queries
+    was.queries was.accepted) before (before ++ entries) (entries, refl)
+    (g.K.Sink.written c.args.events.now) (as_seen g.O.Standing.seen c.args.circle.now)
 
 pub write_blocks-requires-clause-numbers : goal.write_blocks-requires-clause-numbers
 write_blocks-requires-clause-numbers g c =
     let old = c.args.evaluator.now.engine in
-    let new = c.feed_front-fed.new.self in
-    let fed = subst (λ (found : List (Vec Event)). FeedsFront old c.args.entries.now new
-    (lists_of found)) (sym c.deref.ensures.value) c.in-Ok.ensures.feeds in
-    numbers_found old new c.args.entries.now c.deref.result.now fed c.queries-queries.result.now
-    (◌∙◌ {A = List CompiledValue} c.queries-queries.ensures c.feed_front-fed.ensures.queries)
+    let new = c.find_events.new.evaluator.engine in
+    let before = answered old c.args.pass.now in
+    let finds = subst (λ (found : List (Vec Event)). Finds before new c.args.entries.now
+    (lists_of found)) (sym c.deref.ensures.value) c.in-Ok.ensures.finds in
+    numbers_found before old new c.args.entries.now c.deref.result.now finds
+    c.find_events.ensures.keeps.queries c.queries-queries.result.now c.queries-queries.ensures
 
 pub write_blocks-requires-clause-as_many : goal.write_blocks-requires-clause-as_many
 write_blocks-requires-clause-as_many g c =
     let old = c.args.evaluator.now.engine in
-    let new = c.feed_front-fed.new.self in
-    let fed = subst (λ (found : List (Vec Event)). FeedsFront old c.args.entries.now new
-    (lists_of found)) (sym c.deref.ensures.value) c.in-Ok.ensures.feeds in
-    many_found old new c.args.entries.now c.deref.result.now fed c.queries-queries.result.now
-    (◌∙◌ {A = List CompiledValue} c.queries-queries.ensures c.feed_front-fed.ensures.queries)
-    c.requires.stands.0 c.requires.stands.1
+    let new = c.find_events.new.evaluator.engine in
+    let before = answered old c.args.pass.now in
+    let finds = subst (λ (found : List (Vec Event)). Finds before new c.args.entries.now
+    (lists_of found)) (sym c.deref.ensures.value) c.in-Ok.ensures.finds in
+    many_found before old new c.args.entries.now c.deref.result.now finds
+    c.find_events.ensures.keeps.queries c.queries-queries.result.now c.queries-queries.ensures
 
 pub returns-clause-ok : goal.returns-clause-ok
 returns-clause-ok g c =
     let old = c.args.evaluator.now.engine in
-    let new = c.feed_front-fed.new.self in
+    let new = c.find_events.new.evaluator.engine in
+    let before = answered old c.args.pass.now in
     let seen = g.O.Standing.seen in
-    let fed = subst (λ (found : List (Vec Event)). FeedsFront old c.args.entries.now new
-    (lists_of found)) (sym c.deref.ensures.value) c.in-Ok.ensures.feeds in
+    let finds = subst (λ (found : List (Vec Event)). Finds before new c.args.entries.now
+    (lists_of found)) (sym c.deref.ensures.value) c.in-Ok.ensures.finds in
     ok_then_both c.write_blocks.result
-    (emits_all old new c.args.entries.now c.deref.result.now fed c.queries-queries.result.now
-    (◌∙◌ {A = List CompiledValue} c.queries-queries.ensures c.feed_front-fed.ensures.queries)
+    (emits_all before old new c.args.entries.now c.deref.result.now finds
+    c.find_events.ensures.keeps.queries c.queries-queries.result.now c.queries-queries.ensures
+    c.requires.fed.keeps_up.stands
     (c.position-position.result + 1) (ap (λ n. n + 1) c.position-position.ensures)
     (g.K.Sink.written c.args.events.now) (g.K.Sink.written c.write_blocks.new.events)
-    (as_seen seen c.args.circle.now) (as_seen seen c.write_blocks.new.circle)
-    c.feed_front-fed.ensures.queries) c.write_blocks.ensures.ok c.write_blocks.ensures.told
+    (as_seen seen c.args.circle.now) (as_seen seen c.write_blocks.new.circle))
+    c.write_blocks.ensures.ok c.write_blocks.ensures.told
 
 pub returns-clause-stops : goal.returns-clause-stops
 returns-clause-stops g c =
     let old = c.args.evaluator.now.engine in
-    let new = c.feed_front-fed.new.self in
+    let new = c.find_events.new.evaluator.engine in
+    let before = answered old c.args.pass.now in
     let seen = g.O.Standing.seen in
-    let fed = subst (λ (found : List (Vec Event)). FeedsFront old c.args.entries.now new
-    (lists_of found)) (sym c.deref.ensures.value) c.in-Ok.ensures.feeds in
+    let finds = subst (λ (found : List (Vec Event)). Finds before new c.args.entries.now
+    (lists_of found)) (sym c.deref.ensures.value) c.in-Ok.ensures.finds in
     err_with c.write_blocks.result _ _ (λ why is.
-    emits_stops old new c.args.entries.now c.deref.result.now fed c.queries-queries.result.now
-    (◌∙◌ {A = List CompiledValue} c.queries-queries.ensures c.feed_front-fed.ensures.queries)
+    emits_stops before old new c.args.entries.now c.deref.result.now finds
+    c.find_events.ensures.keeps.queries c.queries-queries.result.now c.queries-queries.ensures
+    c.requires.fed.keeps_up.stands
     (c.position-position.result + 1) (ap (λ n. n + 1) c.position-position.ensures)
     (g.K.Sink.written c.args.events.now) (g.K.Sink.written c.write_blocks.new.events)
     (as_seen seen c.args.circle.now) (as_seen seen c.write_blocks.new.circle) why

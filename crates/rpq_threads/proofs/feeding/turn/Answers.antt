@@ -1,5 +1,6 @@
 use Rattle.std.proofs.Common.{◌≡◌, ℕ, take, drop, length, ap, ◌∙◌, rules}
 use Rattle.history_model.specs.Lines.{entries}
+use Rattle.rpq_workers.proofs.Seen.{starts_then}
 use Rattle.standing.specs.Circles.{as_seen}
 use Rattle.rpq_threads.proofs.Fronts.{handed_err}
 use Rattle.rpq_threads.proofs.Turns.{fed_seen, text_stays, heard_stays, stops_seen, none_is_left}
@@ -42,6 +43,11 @@ returns-then-is_empty-clause-heard g c =
     c.after.new.pass c.requires c.after.ensures.pass
     (as_seen g.O.Standing.seen c.args.circle.now)
 
+pub emit_front-requires-clause-fed : goal.emit_front-requires-clause-fed
+emit_front-requires-clause-fed g c = λ _ _.
+    fed_seen c.args.shared.now.history.now c.args.evaluator.now c.args.pass.now c.after.new.pass
+    c.requires c.after.ensures.pass
+
 pub emit_front-requires-clause-short : goal.emit_front-requires-clause-short
 emit_front-requires-clause-short g c = λ _ _.
     let mid = c.after.new.pass in
@@ -70,7 +76,8 @@ returns-in_err-emit_front-clause-stops g c =
     ∙ ap (λ (n : ℕ). take 256 (drop n (entries mid.seen))) c.position-position.ensures))
     (g.K.Sink.written c.args.events.now) (g.K.Sink.written c.emit_front.new.events)
     (as_seen seen c.args.circle.now) (as_seen seen c.emit_front.new.circle)
-    c.accepted_queries_have_events.ensures.steps fault c.in_err-emit_front.ensures.stops)
+    c.accepted_queries_have_events.ensures.steps c.emit_front.new.pass
+    c.emit_front.ensures.looks_on.seen fault c.in_err-emit_front.ensures.stops)
 
 pub publish_answers-requires-clause-keeps_up : goal.publish_answers-requires-clause-keeps_up
 publish_answers-requires-clause-keeps_up g c =
@@ -83,6 +90,7 @@ publish_answers-requires-clause-keeps_up g c =
     (g.K.Sink.written c.args.events.now) (g.K.Sink.written c.emit_front.new.events)
     (as_seen seen c.args.circle.now) (as_seen seen c.emit_front.new.circle)
     c.emit_front.new.evaluator c.in_ok-emit_front.ensures.ok c.emit_front.ensures.workers
+    c.emit_front.new.pass c.emit_front.ensures.looks_on
 
 pub returns-in_default-publish_answers-clause-stops :
     goal.returns-in_default-publish_answers-clause-stops
@@ -97,7 +105,8 @@ returns-in_default-publish_answers-clause-stops g c =
     (as_seen seen c.args.circle.now) (as_seen seen c.emit_front.new.circle)
     c.emit_front.new.evaluator c.in_ok-emit_front.ensures.ok c.emit_front.ensures.workers
     c.accepted_queries_have_events.ensures.steps c.publish_answers.new.pass
-    c.publish_answers.ensures.seen
+    (starts_then c.publish_answers.new.pass.seen c.emit_front.new.pass.seen mid.seen
+    c.publish_answers.ensures.seen c.emit_front.ensures.looks_on.seen)
 
 pub returns-clause-text : goal.returns-clause-text
 returns-clause-text g c =
@@ -110,7 +119,10 @@ returns-clause-text g c =
     (g.K.Sink.written c.args.events.now) (g.K.Sink.written c.emit_front.new.events)
     (as_seen seen c.args.circle.now) (as_seen seen c.emit_front.new.circle)
     c.emit_front.new.evaluator c.in_ok-emit_front.ensures.ok c.emit_front.ensures.workers
-    c.publish_answers.new.pass c.publish_answers.ensures.seen c.publish_answers.new.evaluator
+    c.publish_answers.new.pass
+    (starts_then c.publish_answers.new.pass.seen c.emit_front.new.pass.seen mid.seen
+    c.publish_answers.ensures.seen c.emit_front.ensures.looks_on.seen)
+    c.publish_answers.new.evaluator
     c.publish_answers.ensures.position
 
 pub returns-clause-heard : goal.returns-clause-heard
@@ -124,5 +136,8 @@ returns-clause-heard g c =
     (g.K.Sink.written c.args.events.now) (g.K.Sink.written c.emit_front.new.events)
     (as_seen seen c.args.circle.now) (as_seen seen c.emit_front.new.circle)
     c.emit_front.new.evaluator c.in_ok-emit_front.ensures.ok c.emit_front.ensures.workers
-    c.publish_answers.new.pass c.publish_answers.ensures.seen c.publish_answers.new.evaluator
+    c.publish_answers.new.pass
+    (starts_then c.publish_answers.new.pass.seen c.emit_front.new.pass.seen mid.seen
+    c.publish_answers.ensures.seen c.emit_front.ensures.looks_on.seen)
+    c.publish_answers.new.evaluator
     c.publish_answers.ensures.position
