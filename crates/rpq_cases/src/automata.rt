@@ -5,8 +5,7 @@ ghost use Rattle.path_syntax.specs.Expression.{expression};
 ghost use Rattle.path_syntax.specs.Size.{nodes};
 
 use crate::expressions::{read, word_of};
-use crate::fields::{Fields, parts};
-use crate::output::Output;
+use case_lines::{Fields, Output, parts};
 use dfa_build::{BuildFault, Positions, positions, subset};
 use dfa_table::Dfa;
 use path_syntax::{Expr, accepts};

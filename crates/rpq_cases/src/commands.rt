@@ -1,18 +1,8 @@
 //! Words of command lines.
 
-use crate::fields::{Fields, decoded, parts};
-use crate::output::Output;
+use case_lines::{Fields, Output, words_of};
 use rpq_words::{Chosen, FileWord, read_words};
 use std::alloc::Global;
-
-/// The words that parts of a request are.
-pub fn words_of(alloc: Global, text: &[u8]) -> anyhow::Result<Vec<String>> {
-    let mut words = Vec::new(alloc);
-    for part in &parts(alloc, text, b';')? {
-        words.push(String::from_utf8(decoded(alloc, part)?)?)?;
-    }
-    Ok(words)
-}
 
 /// The settings of a command line, or why its words aren't taken.
 pub fn answer_command(alloc: Global, out: &mut Output, fields: Fields) -> anyhow::Result<()> {

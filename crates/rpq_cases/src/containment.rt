@@ -2,8 +2,7 @@
 
 use crate::automata::automaton;
 use crate::expressions::read;
-use crate::fields::Fields;
-use crate::output::Output;
+use case_lines::{Fields, Output};
 use containment_test::{Verdict, contained};
 use rpq_base::{Copied, Word};
 use std::alloc::Global;

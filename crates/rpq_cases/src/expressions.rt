@@ -6,8 +6,7 @@ ghost use Rattle.path_syntax.specs.Expression.{expression};
 ghost use Rattle.path_syntax.specs.Plain.{IsPlainExpression};
 ghost use Rattle.path_syntax.specs.Size.{nodes};
 
-use crate::fields::{Fields, decoded, parts};
-use crate::output::Output;
+use case_lines::{Fields, Output, decoded, parts};
 use path_syntax::{BadExpr, Expr, has_empty_word, occurrences, read_expr, write_expr, write_word};
 use rpq_base::{Copied, Label, Name, Word};
 use std::alloc::Global;

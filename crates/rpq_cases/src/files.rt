@@ -2,8 +2,7 @@
 
 use crate::automata::put_automaton;
 use crate::containment::put_verdict;
-use crate::fields::{Fields, decoded};
-use crate::output::Output;
+use case_lines::{Fields, Output, decoded};
 use query_file::{Compiled, read_queries};
 use rpq_model::Mode;
 use std::alloc::Global;

@@ -1,13 +1,7 @@
-//! A program that asks the libraries, so that what they answer can be compared with what it
-//! should be. `stdin` has some 2,000 requests, and `stdout` the answers, which an evaluator from
-//! outside gave.
-//!
-//! A request is a line of its own: a keyword, and what is asked about. One line is printed for
-//! each. A line of another first word, as one that begins with `#`, is printed as it stands.
-//!
-//! Fields end with a space, and the last one of a request with its line. A field stands for
-//! bytes: `%` and two hexadecimal digits for one byte, and each other byte for itself. In what is
-//! printed the bytes that can't be seen, and `%`, stand so too.
+//! A program that asks the libraries below the engine, so that what they answer can be compared
+//! with what it should be. `stdin` has some 1,900 requests, and `stdout` the answers, which an
+//! evaluator from outside gave. `run_cases` has the requests to the engine and to whole runs, and
+//! `case_lines` says what a line and its fields are.
 //!
 //! - `read EXPR`: the expression as it is written, how many labels stand in it, and `+` where it
 //!   has the empty word, else `-`; or the fault of the text.
@@ -30,20 +24,9 @@
 //! - `events SIZE SLIDE MODE EXPR TUPLES`: what each tuple changes of them, `;` behind each.
 //! - `rows SIZE SLIDE MODE EXPR TUPLES`: the answers after each tuple with their ends, `;` behind
 //!   each.
-//! - `engine WORKERS TEXT TUPLES`: what each tuple changes of the answers of the queries of a
-//!   queries file, `;` behind each, for an engine with this number of workers; then its position,
-//!   and for each query `|` and the answers with their ends.
-//! - `front WORKERS TEXT TUPLES`: the same, for an engine that takes all tuples at once, as a front.
 //! - `view SIZE SLIDE MODE EXPR FROM TO TUPLES`: the view after each tuple, `;` behind each: its
 //!   position, the number of answers, `+` where the pair of both names is one, else `-`, its end,
 //!   and behind `|` the targets of the first name with their ends.
-//! - `run PIECE OPENING WORDS QUERIES STREAM`: a run over the files `q` and `s`, read in pieces of
-//!   this length, where the opening of this number fails: its status, what it writes on the events,
-//!   and behind `|` what it tells on the errors.
-//! - `readers PIECE WORDS QUERIES ASKS STREAM STREAM`: a run over the files `q`, `a`, `s` and `t`,
-//!   read in pieces of this length: its status, how many entries its history has of each of the
-//!   streams 1 to 4, and how many in all; behind `|` what it tells on the errors, and behind another
-//!   `|` what on the replies. All are opened under these names, a stream as often as it is named.
 //! - `live SIZE SLIDE CLOCK TUPLES`: the places of the live entries, from 0, with their edges.
 //! - `clock TUPLES`: the clock of the history.
 //! - `tuple LINE`: the tuple of a line as it is written, `nothing`, or the fault of the line.
@@ -66,36 +49,20 @@
 mod automata;
 mod commands;
 mod containment;
-mod engines;
 mod expressions;
-mod fields;
 mod files;
-mod output;
 mod queries;
-mod readers;
 mod request;
-mod runs;
 mod sources;
 mod texts;
 mod views;
 
-use fields::Fields;
-use output::Output;
+use case_lines::{Fields, Output, answer_lines};
 use request::Request;
 use std::alloc::Global;
-use std::io::{BufRead, BufReader};
-use std::random::RandomSource;
-use std::sync::Wait;
-use std::thread::Threads;
 
 /// Answers one request.
-fn answer<R: RandomSource + Threads + Wait + Sync>(
-    rt: &R,
-    alloc: Global,
-    out: &mut Output,
-    request: Request,
-    fields: Fields,
-) -> anyhow::Result<()> {
+fn answer(alloc: Global, out: &mut Output, request: Request, fields: Fields) -> anyhow::Result<()> {
     match request {
         Request::Read => expressions::answer_read(alloc, out, fields),
         Request::Copy => expressions::answer_copy(alloc, out, fields),
@@ -110,10 +77,6 @@ fn answer<R: RandomSource + Threads + Wait + Sync>(
         Request::Events => queries::answer_events(alloc, out, fields),
         Request::Rows => queries::answer_rows(alloc, out, fields),
         Request::View => views::answer_view(alloc, out, fields),
-        Request::Run => runs::answer_run(rt, alloc, out, fields),
-        Request::Readers => readers::answer_readers(rt, alloc, out, fields),
-        Request::Engine => engines::answer_engine(rt, alloc, out, fields),
-        Request::Front => engines::answer_front(rt, alloc, out, fields),
         Request::Live => queries::answer_live(alloc, out, fields),
         Request::Clock => queries::answer_clock(alloc, out, fields),
         Request::Tuple => texts::answer_tuple(alloc, out, fields),
@@ -129,27 +92,25 @@ fn answer<R: RandomSource + Threads + Wait + Sync>(
     }
 }
 
-/// Answers one line.
-fn answer_line<R: RandomSource + Threads + Wait + Sync>(
-    rt: &R,
+/// Answers the request of this keyword, if there is one. Whether there is.
+fn answer_keyword(
     alloc: Global,
     out: &mut Output,
-    line: &[u8],
-) -> anyhow::Result<()> {
-    let mut fields = Fields::new(line);
-    match Request::named(fields.next()) {
-        Some(request) => answer(rt, alloc, out, request, fields)?,
-        None => out.put_bytes(line)?,
+    keyword: &[u8],
+    fields: Fields,
+) -> anyhow::Result<bool> {
+    match Request::named(keyword) {
+        Some(request) => {
+            answer(alloc, out, request, fields)?;
+            Ok(true)
+        }
+        None => Ok(false),
     }
-    out.put("\n")
 }
 
 fn main(rt: HostRuntime) -> anyhow::Result<()> {
     let alloc = rt.alloc();
-    let mut out = Output::new(alloc);
-    for line in BufReader::new(alloc, rt.reader())?.lines(alloc) {
-        answer_line(&rt, alloc, &mut out, line?.as_bytes())?;
-    }
-    rt.print(out.as_str())?;
-    Ok(())
+    answer_lines(&rt, alloc, |out, keyword, fields| {
+        answer_keyword(alloc, out, keyword, fields)
+    })
 }

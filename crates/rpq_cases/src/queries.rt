@@ -4,15 +4,13 @@ ghost use Rattle.std.specs.Prelude.{◌≤◌};
 ghost use Rattle.rpq_base.specs.declared.data.TheConstants.{MAX_TIME};
 
 use crate::expressions::read;
-use crate::fields::{Fields, decoded, parts};
-use crate::output::Output;
 use anyhow::ensure;
-use rpq_base::{Act, Edge, Entry, Event, MAX_TIME, Name, Pair, copy_all};
+use case_lines::{Fields, Output, entries_of, put_events, put_pair};
+use rpq_base::{Act, Edge, Entry, MAX_TIME, Name, Pair, copy_all};
 use rpq_model::{
     Ended, Mode, QueryDef, Window, changes, clock, live_entries, plain_answers, plain_rows,
 };
 use std::alloc::Global;
-use tuple_text::read_tuple;
 
 /// The window of the next two fields.
 fn window_of(fields: &mut Fields) -> anyhow::Result<Window> {
@@ -39,17 +37,6 @@ pub fn query_of(alloc: Global, fields: &mut Fields) -> anyhow::Result<QueryDef> 
     })
 }
 
-/// The entries of stream 1 that tuples are.
-pub fn entries_of(alloc: Global, tuples: &[u8]) -> anyhow::Result<Vec<Entry>> {
-    let mut entries = Vec::new(alloc);
-    for line in &parts(alloc, tuples, b';')? {
-        if let Some(tuple) = read_tuple(alloc, &decoded(alloc, line)?)? {
-            entries.push(Entry { stream: 1, tuple })?;
-        }
-    }
-    Ok(entries)
-}
-
 /// The answers of a query after each tuple.
 pub fn answer_answers(alloc: Global, out: &mut Output, mut fields: Fields) -> anyhow::Result<()> {
     let query = query_of(alloc, &mut fields)?.copy(alloc)?;
@@ -66,12 +53,6 @@ fn put_pairs(out: &mut Output, pairs: &[Pair]) -> anyhow::Result<()> {
         put_pair(out, pair)?;
     }
     out.put(";")
-}
-
-pub fn put_pair(out: &mut Output, pair: &Pair) -> anyhow::Result<()> {
-    out.put_bytes(pair.from.as_bytes())?;
-    out.put(">")?;
-    out.put_bytes(pair.to.as_bytes())
 }
 
 /// The answers of a query with their ends, after each tuple.
@@ -104,16 +85,6 @@ pub fn answer_events(alloc: Global, out: &mut Output, mut fields: Fields) -> any
         put_events(out, &copy_all(alloc, &changes(alloc, 7, &old, &new)?)?)?;
     }
     Ok(())
-}
-
-pub fn put_events(out: &mut Output, events: &[Event]) -> anyhow::Result<()> {
-    for event in events {
-        out.put(if event.added { " +" } else { " -" })?;
-        out.put_shown(&event.query)?;
-        out.put(":")?;
-        put_pair(out, &event.pair)?;
-    }
-    out.put(";")
 }
 
 /// The entries that are live at a clock.

@@ -2,9 +2,8 @@
 
 ghost use Rattle.std.specs.Prelude.{◌≤◌};
 
-use crate::fields::{Fields, decoded};
-use crate::output::Output;
 use anyhow::{bail, ensure};
+use case_lines::{Fields, Output, decoded};
 use rpq_io::{LineReader, MemorySource, Source, read_all};
 use std::alloc::Global;
 

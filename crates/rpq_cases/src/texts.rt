@@ -1,7 +1,6 @@
 //! Lines, fields, numbers, names and tuples.
 
-use crate::fields::{Fields, decoded};
-use crate::output::Output;
+use case_lines::{Fields, Output, decoded};
 use rpq_base::Name;
 use std::alloc::Global;
 use std::cmp::Ordering;

@@ -2,12 +2,11 @@
 
 ghost use Rattle.std.specs.Prelude.{◌<◌, length};
 
-use crate::fields::{Fields, decoded};
-use crate::output::Output;
-use crate::queries::{entries_of, query_of};
+use crate::queries::query_of;
 use answer_rows::Target;
 use answer_view::{View, plain_view};
 use anyhow::ensure;
+use case_lines::{Fields, Output, decoded, entries_of};
 use rpq_base::{Entry, Name};
 use rpq_model::QueryDef;
 use std::alloc::Global;

@@ -15,6 +15,8 @@ mod edge;
 #[cfg(test)]
 mod faults;
 #[cfg(test)]
+mod objects;
+#[cfg(test)]
 mod readers;
 #[cfg(test)]
 mod streams;

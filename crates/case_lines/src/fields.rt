@@ -40,7 +40,7 @@ impl<'a> Fields<'a> {
 }
 
 /// What stands before the first such byte, and what stands after it.
-pub fn cut(text: &[u8], separator: u8) -> (&[u8], &[u8]) {
+fn cut(text: &[u8], separator: u8) -> (&[u8], &[u8]) {
     let mut parts = text.splitn(2, |byte| *byte == separator);
     let front = parts.next().unwrap_or(&[]);
     (front, parts.next().unwrap_or(&[]))

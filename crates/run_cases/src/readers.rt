@@ -2,9 +2,7 @@
 
 ghost use Rattle.std.specs.Prelude.{◌≤◌};
 
-use crate::commands::words_of;
-use crate::fields::{Fields, decoded};
-use crate::output::Output;
+use case_lines::{Fields, Output, decoded, words_of};
 use rpq_base::Entry;
 use rpq_io::{MemoryFiles, MemorySink, OpenGate};
 use rpq_run::{Report, run};

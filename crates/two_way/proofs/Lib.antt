@@ -1,0 +1,9 @@
+mod BothWays
+mod EventOrder
+mod Examples
+mod Families
+mod Forwards
+mod NetDifference
+mod PlainWords
+mod Staying
+mod TwoWayEvents

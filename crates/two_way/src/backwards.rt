@@ -1,0 +1,60 @@
+//! Entries of edges that are taken backwards.
+
+ghost use Rattle.std.specs.Prelude.{◌≡◌, ◌↔◌, ◌∷◌, IfOk, None};
+ghost use Rattle.std.specs.Option.{option_to_list};
+ghost use Rattle.rpq_base.specs.Plain.{IsPlain};
+ghost use Rattle.rpq_base.specs.declared.data.Act.TheVariants.{Tick};
+ghost use Rattle.two_way.specs.Doubled.{inverse_edge, inverse_act, inverse_entry, doubled_by};
+
+use rpq_base::{Act, Copied, Edge, Entry, Label, Memory, Tuple};
+
+/// The edge from the target, by the inverse label, to the source.
+fn inverse_edge(edge: &Edge) -> Result<Edge, Memory>
+    ensures { IfOk result (λ inverse. inverse ≡ inverse_edge edge.now) }
+{
+    Ok(Edge {
+        from: edge.to.copy()?,
+        label: Label {
+            name: edge.label.name.copy()?,
+            back: true,
+        },
+        to: edge.from.copy()?,
+    })
+}
+
+/// The same act on the edge taken backwards; none for a tick.
+fn inverse_act(act: &Act) -> Result<Option<Act>, Memory>
+    ensures { IfOk result (λ inverse. inverse ≡ inverse_act act.now) }
+{
+    match act {
+        Act::Insert { edge, until } => Ok(Some(Act::Insert {
+            edge: inverse_edge(edge)?,
+            until: *until,
+        })),
+        Act::Delete(edge) => Ok(Some(Act::Delete(inverse_edge(edge)?))),
+        Act::Tick => Ok(None),
+    }
+}
+
+/// The same entry of the edge taken backwards, or none for a tick: what stands behind the entry in
+/// a doubled history. The entry's label points forwards. The only error is [`Memory`].
+///
+/// Stream, time and own end stay; the three names of the edge are copied.
+pub fn inverse(entry: &Entry) -> Result<Option<Entry>, Memory>
+    requires { IsPlain entry.now }
+    ensures inverse { IfOk result (λ inverse. inverse ≡ inverse_entry entry.now) }
+    ensures tick { IfOk result (λ inverse. (inverse ≡ None) ↔ (entry.now.tuple.act ≡ Tick)) }
+    ensures doubled { IfOk result
+        (λ inverse. doubled_by entry.now ≡ entry.now ∷ option_to_list inverse) }
+{
+    let Some(act) = inverse_act(&entry.tuple.act)? else {
+        return Ok(None);
+    };
+    Ok(Some(Entry {
+        stream: entry.stream,
+        tuple: Tuple {
+            time: entry.tuple.time,
+            act,
+        },
+    }))
+}
