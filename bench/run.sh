@@ -7,7 +7,10 @@
 #   bench/run.sh [--fast] --fronts    fronts of entries, by the program bench/fronts.rattle
 #   bench/run.sh [--fast] --live ..   several streams and readers, by bench/live.py, which says what
 #                                     its words are: --idle, --delay, --before OTHER
-#   bench/run.sh [--fast] NAME ..     the program NAME.rattle with these words: edge_store, fronts
+#   bench/run.sh [--fast] --refused   each allocation refused in turn, by tools/refused-allocations.py:
+#                                     rpq, the embedding example and bench/rebuilds.rattle
+#   bench/run.sh [--fast] NAME ..     the program NAME.rattle with these words: edge_store, fronts,
+#                                     rebuilds
 # Words of measure.py can follow a form, as --kinds uniform,so --tuples 10000.
 #
 # The programs are proved and built by `rt run`, or with --fast built by tools/fast-build.sh, which
@@ -55,7 +58,14 @@ case "${1:-}" in
             build "$place" fronts_bench "$place/fronts" "$queries" /dev/null 1 1
             set -- --fronts "$place/fronts" "$@"
         fi
-        if [ "${1:-}" = --live ]; then
+        if [ "${1:-}" = --refused ]; then
+            shift
+            build "$top" first_alert "$place/first_alert" "$queries" /dev/null
+            copy_with rebuilds
+            build "$place" rebuilds_bench "$place/rebuilds" "$queries" /dev/null
+            "$top/tools/refused-allocations.py" "$place/rpq" --embedding "$place/first_alert" \
+                --engine "$place/rebuilds" "$@"
+        elif [ "${1:-}" = --live ]; then
             shift
             python3 "$top/bench/live.py" "$place/rpq" "$@"
         else

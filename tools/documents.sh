@@ -10,6 +10,8 @@
 # - Whether docs/architecture.md has each crate, and docs/proved.md each law.
 # - What `main` makes of words that aren't UTF-8, of too many words, of options with three streams
 #   and readers, and of a closed output: no contract says it.
+# - That a file which a run reads isn't opened to write, and what stands on the output where a
+#   signal ends the program.
 #
 # The commands of a document run one after another in a copy of examples/, those of the README in
 # the folder above it. Small stand-ins are there for the packages of the machine, a collector, the
@@ -221,6 +223,32 @@ for number in 1 2 3; do
 done
 grep -q '^session 2$' "$place/replies"
 count $? "three streams: no second session in the replies"
+
+# A file that the run reads isn't opened to write: the run is refused, and the file stays.
+mkdir "$place/files"
+cp "$queries" "$place/files/queries"
+cp "$stream" "$place/files/stream"
+printf 'session\nwait 2\n' > "$place/files/asks"
+cp -r "$place/files" "$place/kept"
+cd "$place/files" || exit 1
+for name in queries asks stream; do
+    ends_with 6 "rpq: write failed: replies" "replies into the file $name" \
+        rpq --asks asks --replies "$name" queries stream
+    cmp -s "$name" "$place/kept/$name"
+    count $? "replies into the file $name: the file is another one"
+done
+
+# Where a signal ends the program, the blocks of the lines that came stand there whole.
+mkfifo live
+for signal in INT TERM; do
+    { cat stream; /bin/sleep 4; } > live 2> /dev/null &
+    timeout --preserve-status -s "$signal" 2 bash -c 'exec rpq queries live > events' 2> errors
+    [ $? -eq $((128 + $(kill -l "$signal"))) ] && [ ! -s errors ]
+    count $? "SIG$signal: no end by the signal"
+    cmp -s events <(rpq queries stream)
+    count $? "SIG$signal: the events aren't the blocks of the lines that came"
+    wait
+done
 
 echo "$passed passed, $failed failed"
 [ "$failed" -eq 0 ]

@@ -24,6 +24,16 @@ fn tally(alloc: Global) -> Result<Box<Tally>, Memory> {
     Ok(Box::new(alloc, Tally::all(alloc)?)?)
 }
 
+/// The end of the program where there is no memory for its words and its tally, with the line that
+/// a run says for want of memory.
+fn out_of_memory(rt: &HostRuntime) -> ExitCode
+    ensures { exit_status result ≡ 8 }
+{
+    // Where the line can't be written, the status says it.
+    let _ = eprintln!(rt; "rpq: memory");
+    ExitCode::from(status::MEMORY)
+}
+
 /// The end of the program with the report's status.
 fn exit_code<F: Files>(report: Report<F>) -> ExitCode
     ensures { exit_status result ≡ report.status }
@@ -35,9 +45,7 @@ fn main(rt: HostRuntime) -> ExitCode {
     let alloc = rt.alloc();
     let words = match words(&rt, alloc) {
         Ok(words) => words,
-        Err(error) if error.kind() == ErrorKind::OutOfMemory => {
-            return ExitCode::from(status::MEMORY);
-        }
+        Err(error) if error.kind() == ErrorKind::OutOfMemory => return out_of_memory(&rt),
         // A word that isn't UTF-8 can't be handed on: the run refuses the words, as it does none.
         Err(_) => Vec::new(alloc),
     };
@@ -47,7 +55,7 @@ fn main(rt: HostRuntime) -> ExitCode {
         Err(Memory) => false,
     };
     if !is_counted {
-        return ExitCode::from(status::MEMORY);
+        return out_of_memory(&rt);
     }
     let mut files = HostFiles::new(alloc, &rt);
     let mut events = HostSink::new(Place::Output(rt.stdout()));
