@@ -1,0 +1,9 @@
+mod Clocks
+mod Continues
+mod Example
+mod Few
+mod Kept
+mod Plain
+mod Reaching
+mod SameEdges
+mod Texts

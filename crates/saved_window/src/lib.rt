@@ -1,0 +1,26 @@
+//! What a later run needs of an earlier one: the window that it left.
+//!
+//! A run ends where its history is full or its machine stops. Of what it was fed, a later run needs
+//! the tuples that a query still sees, and the clock: [`saved`] gives these, and no others.
+//! [`saved_text`] writes them as a stream, line by line, and a [`Then`] of that text and of a
+//! stream of its own is what the later run reads.
+//!
+//! The contract for the layers above is that nobody can tell the saved tuples from the history:
+//! whatever entries follow, each query has the same answers with the same ends, and each further
+//! entry brings the same events ([`saved_continues`]). There are at most as many tuples as the
+//! history has entries, their text is read back as these tuples ([`saved_text_is_read`]), and a
+//! [`Then`] is a source as any other.
+//!
+//! Saving goes through the history once, whatever the number of queries, and copies what it gives.
+#![tactic(auto)]
+
+mod laws;
+mod reach;
+mod saving;
+mod text;
+mod then;
+
+pub use laws::{saved_continues, saved_example, saved_text_is_read};
+pub use saving::saved;
+pub use text::{push_saved, saved_text};
+pub use then::Then;
