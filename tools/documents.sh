@@ -4,14 +4,15 @@
 # Runs what the documents say, with PROGRAM as `rpq`, and compares what comes out.
 #
 # - Each command of README.md, docs/examples.md, docs/your-data.md, docs/formats.md and
-#   docs/scale.md, which is an indented line behind `$ `. What follows it, up to a blank line or the next command, is what it
-#   writes; a line `...` there is any further lines.
+#   docs/scale.md, which is an indented line behind `$ `. What follows it, up to a blank line or the
+#   next command, is what it writes; a line `...` there is any further lines.
 # - The example of the README's first screen, and the files *-events.txt of examples/.
 # - Whether docs/architecture.md has each crate, and docs/proved.md each law.
 # - What `main` makes of words that aren't UTF-8, of too many words, of options with three streams
 #   and readers, and of a closed output: no contract says it.
-# - That a file which a run reads isn't opened to write, and what stands on the output where a
-#   signal ends the program.
+# - That a file which a run reads isn't opened to write, what stands on the output where a signal
+#   ends the program, and that ten runs, each going on with the window of the one before, write what
+#   one run writes.
 #
 # The commands of a document run one after another in a copy of examples/, those of the README in
 # the folder above it. Small stand-ins are there for the packages of the machine, a collector, the
@@ -238,7 +239,51 @@ for name in queries asks stream; do
     count $? "replies into the file $name: the file is another one"
 done
 
+printf '1 x a y\n' > window
+cp window "$place/kept/window"
+for name in queries stream; do
+    ends_with 6 "rpq: write failed: save" "a window saved into the file $name" \
+        rpq --save "$name" --from window queries stream
+    cmp -s "$name" "$place/kept/$name"
+    count $? "a window saved into the file $name: the file is another one"
+done
+ends_with 1 "rpq: words" "a window saved into its own file" \
+    rpq --save window --from window queries stream
+cmp -s window "$place/kept/window"
+count $? "a window saved into its own file: the file is another one"
+ends_with 6 "rpq: write failed: save" "a window saved into the file of the replies" \
+    rpq --asks asks --replies both --save both queries stream
+saving() { rpq --save "$@" > /dev/null; }
+ends_with 6 "rpq: write failed: save" "a window saved on a full device" \
+    saving /dev/full queries stream
+ends_with 5 "rpq: read failed: from" "no saved window" rpq --from nowhere queries stream
+
+# Ten runs, each of which goes on with the window of the one before, write what one run writes.
+mkdir "$place/continued"
+cd "$place/continued" || exit 1
+awk 'BEGIN {
+    srand(7); split("a b c", labels, " ")
+    for (line = 0; line < 100000; line++) {
+        time += rand() < 0.4
+        at = time - int(rand() * 3); if (at < 0) at = 0
+        edge = "v" int(rand() * 3000) " " labels[1 + int(rand() * 3)] " v" int(rand() * 3000)
+        kind = rand()
+        if (kind < 0.05) print at
+        else if (kind < 0.1) print at, edge, "-"
+        else if (kind < 0.2) print at, edge, "until", at + int(rand() * 900)
+        else print at, edge
+    }
+}' > log
+printf 'query %s\n' 'p window 700 slide 50 arbitrary: a/b' 'r window 300 slide 40 simple: c+' > queries
+rpq queries log > one
+count $? "one run of 100,000 tuples: the status isn't 0"
+sh "$top/examples/continue.sh" 10000 queries log state
+count $? "continue.sh: the status isn't 0"
+cmp -s one <(cat state/events.*)
+count $? "continue.sh: ten runs write another text than one"
+
 # Where a signal ends the program, the blocks of the lines that came stand there whole.
+cd "$place/files" || exit 1
 mkfifo live
 for signal in INT TERM; do
     { cat stream; /bin/sleep 4; } > live 2> /dev/null &

@@ -4,11 +4,13 @@
     hostile-runs.py PROGRAM [--runs 10000] [--seed 1]
 
 Each run takes a queries file, an asks file and one or two streams, of which some bytes are changed,
-left out, repeated or put in from elsewhere, or which are random altogether; sometimes it checks or
-generates instead. It is to end within 5 seconds, by no signal, with a status that docs/formats.md
-has, and with lines on standard error of the forms that it has. What runs ended with which status is
-printed, and the first runs that did otherwise, whose files stay. The last line is `N passed, M
-failed`; the status is 0 where none failed.
+left out, repeated or put in from elsewhere, or which are random altogether; sometimes it begins with
+a saved window, which is such bytes too, or it checks or generates instead. It is to end within 5
+seconds, by no signal, with a status that docs/formats.md has, and with lines on standard error of
+the forms that it has. A window that it saves is to be taken by a further run over no stream, which
+is to end with status 0 and save the same bytes. What runs ended with which status is printed, and
+the first runs that did otherwise, whose files stay. The last line is `N passed, M failed`; the
+status is 0 where none failed.
 """
 
 import argparse
@@ -37,7 +39,8 @@ STREAMS = [
     b"5 u a v until 9\n4 v b u\n6 v b u -\n\n# a comment\n8\r\n9 w a w",
 ]
 # Each file with how often it is left as it is.
-FILES = [("q", QUERIES, 0.7), ("a", ASKS, 0.5), ("s", STREAMS, 0.2), ("t", STREAMS, 0.2)]
+FILES = [("q", QUERIES, 0.7), ("a", ASKS, 0.5), ("s", STREAMS, 0.2), ("t", STREAMS, 0.2),
+         ("w", STREAMS, 0.4)]
 PIECES = [
     b"query ", b"window ", b"slide ", b"arbitrary: ", b"simple: ", b"session\n", b"wait ", b"until ",
     b"from ", b"(", b")", b"*", b"+", b"?", b"/", b"|", b"^", b'"', b"%", b"\n", b"\r\n", b"\0", b"\xff",
@@ -46,7 +49,7 @@ PIECES = [
 ]
 LINE = re.compile(
     rb"rpq: (words|memory|(queries|asks) line \d+: .*|(queries|asks): too long"
-    rb"|read failed: (queries|asks|stream \d+)|write failed: (events|replies)"
+    rb"|read failed: (queries|asks|from|stream \d+)|write failed: (events|replies|save)"
     rb"|stream \d+ line \d+: .*|stream \d+: (history full|too long))|usage: rpq .*")
 
 
@@ -83,7 +86,22 @@ def words_of(chance):
     words = ["--workers", str(chance.choice([1, 2, 64, 65]))] if chance.random() < 0.3 else []
     words += ["--history", str(chance.choice([1, 3, 1000]))] if chance.random() < 0.2 else []
     words += ["--asks", "a", "--replies", "r"] if chance.random() < 0.6 else []
+    words += ["--save", "v"] if chance.random() < 0.4 else []
+    if chance.random() < 0.3:
+        return words + ["--from", "w", "q", "s"]
     return words + ["q", "s"] + (["t"] if chance.random() < 0.4 else [])
+
+
+def taken_again(program, folder):
+    """What was wrong with a run that begins with a saved window and reads an empty stream."""
+    window = os.path.join(folder, "v")
+    with open(os.path.join(folder, "none"), "wb"):
+        pass
+    done = subprocess.run([program, "--from", "v", "--save", "again", "q", "none"], cwd=folder,
+                          capture_output=True, stdin=subprocess.DEVNULL, timeout=SECONDS, check=False)
+    with open(window, "rb") as old, open(os.path.join(folder, "again"), "rb") as new:
+        same = old.read() == new.read()
+    return None if done.returncode == 0 and same else f"{done.returncode}, the same: {same}"
 
 
 def one_run(program, seed, place):
@@ -110,6 +128,11 @@ def one_run(program, seed, place):
     for line in done.stderr.split(b"\n")[:-1]:
         if not LINE.fullmatch(line):
             return f"seed {seed}: {words} writes {line[:200]} on its errors", status
+    # A run that didn't begin has emptied no file but perhaps that of the replies.
+    if "--save" in words and status in (0, 4, 5, 7) and os.path.exists(os.path.join(folder, "v")):
+        wrong = taken_again(program, folder)
+        if wrong:
+            return f"seed {seed}: {words} saves a window with which a run ends with {wrong}", status
     shutil.rmtree(folder)
     return None, status
 

@@ -6,6 +6,7 @@ against the one history that its own `@` lines spell:
 
 - each stream's tuples stand there in their order, once, up to the stream's end;
 - after each line the events are the pairs lost and gained, found from scratch by the definitions;
+- the window that it saves is what the history leaves;
 - each reply is what the history has at the reply's position, positions never fall within a session,
   and a wait is answered as ended exactly where the history ended before its position;
 - the status and the lines on errors are those of the streams' ends.
@@ -162,6 +163,25 @@ def ends_of(query, history):
     return ends
 
 
+def saved_of(queries, history):
+    """The text of what a later run needs of the history."""
+    if not history:
+        return ""
+    clock, lines, times = clock_of(history), [], set()
+    for place, entry in enumerate(history):
+        if entry["act"] != "+" or all(deadline(query, entry) <= clock for query in queries):
+            continue
+        later = history[place + 1:]
+        if any(late["act"] == "-" and late["edge"] == entry["edge"] for late in later):
+            continue
+        line = "%d %s %s %s +" % ((entry["time"],) + entry["edge"])
+        lines.append(line if entry["until"] is None else line + " until %d" % entry["until"])
+        times.add(entry["time"])
+    if clock not in times:
+        lines.append(str(clock))
+    return "".join(line + "\n" for line in lines)
+
+
 # ---- a random case
 
 def random_stream(rng, queries):
@@ -215,9 +235,18 @@ def random_case(rng):
                 ("count", query), ("until", query) + pair,
                 ("wait", str(rng.randrange(total + 3))), ("wait", str(rng.randrange(total + 3)))]))
         sessions.append(asks)
+    window = random_stream(rng, queries) if len(streams) == 1 and rng.random() < 0.5 else None
+    if window is not None and window["fault"] is None:
+        # The one stream is the window and then its file.
+        own = streams[0]
+        streams[0] = {"entries": window["entries"] + own["entries"], "lines": own["lines"],
+                      "fault": own["fault"] and own["fault"] + len(window["lines"])}
+        total += len(window["entries"])
+    else:
+        window = None
     limit = rng.randrange(1, total + 2) if rng.random() < 0.2 else None
     return {"queries": queries, "streams": streams, "sessions": sessions, "limit": limit,
-            "workers": rng.choice([1, 2, 4, 8])}
+            "window": window, "saves": rng.random() < 0.5, "workers": rng.choice([1, 2, 4, 8])}
 
 
 # ---- a run
@@ -250,6 +279,12 @@ def run(program, case, folder, seed):
         with open(folder + "/asks.txt", "w") as out:
             for asks in case["sessions"]:
                 out.write("session\n" + "".join(" ".join(ask) + "\n" for ask in asks))
+    if case["saves"]:
+        words += ["--save", "saved.txt"]
+    if case["window"] is not None:
+        words += ["--from", "window.txt"]
+        with open(folder + "/window.txt", "w") as out:
+            out.write("".join(line + "\n" for line in case["window"]["lines"]))
     words.append("queries.txt")
     feeders = []
     for number, stream in enumerate(case["streams"], 1):
@@ -267,10 +302,12 @@ def run(program, case, folder, seed):
                           capture_output=True, timeout=60)
     for feeder in feeders:
         feeder.join(10)
-    replies = None
+    replies = saved = None
     if case["sessions"] and os.path.exists(folder + "/replies.txt"):
         replies = open(folder + "/replies.txt").read()
-    return done.returncode, done.stdout.decode(), done.stderr.decode(), replies
+    if case["saves"] and os.path.exists(folder + "/saved.txt"):
+        saved = open(folder + "/saved.txt").read()
+    return done.returncode, done.stdout.decode(), done.stderr.decode(), replies, saved
 
 
 # ---- what the run has to be
@@ -352,7 +389,7 @@ def check_replies(case, history, ends, replies):
     return None if replies == "" else "text behind the last session"
 
 
-def check(case, status, events, errors, replies):
+def check(case, status, events, errors, replies, saved):
     history, numbers, blocks = [], [], []
     for line in events.splitlines():
         if line[0] == "@":
@@ -379,6 +416,8 @@ def check(case, status, events, errors, replies):
     due_status, due_errors = expected_errors(case, history, numbers)
     if (status, errors) != (due_status, due_errors):
         return "status %d, errors %r; due %d, %r" % (status, errors, due_status, due_errors)
+    if case["saves"] and saved != saved_of(case["queries"], history):
+        return "the saved window %r, due %r" % (saved, saved_of(case["queries"], history))
     if case["sessions"]:
         return "no replies" if replies is None else check_replies(case, history, ends, replies)
     return None

@@ -8,6 +8,7 @@ pub mod Meaning
 pub mod NonemptyWords
 pub mod Nullable
 pub mod OneFault
+pub mod OneWay
 pub mod Readable
 pub mod Readiness
 pub mod ShortNames

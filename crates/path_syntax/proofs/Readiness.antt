@@ -1,12 +1,12 @@
 -- The name that stands directly before the next byte stays a name as far as it goes.
-use Rattle.std.proofs.Common.{◌≡◌, ◌≢◌, ℕ, ◌≤◌, true, List, [], ◌∷◌, ◌++◌, length, Some, refl, arith}
+use Rattle.std.proofs.Common.{◌≡◌, ◌≢◌, ℕ, Bool, ◌≤◌, true, List, [], ◌∷◌, ◌++◌, length, Some, refl, arith}
 use Rattle.std.proofs.lemmas.List.{length_push}
 use Rattle.std.proofs.lemmas.Bool.{and_parts, and_from, le-leb}
 use Rattle.rpq_base.specs.Names.{is_name_byte, is_name, IsName}
 use Rattle.path_syntax.specs.Grammar.{AreNameBytes}
 use Rattle.path_syntax.specs.Reading.{FrameValue, ModeValue, StateValue, step, IsReady, name_length}
 use Rattle.path_syntax.proofs.Meaning.{bare_is_named}
-use Rattle.path_syntax.proofs.Steps.{Leads, OperandBlank, OperandOpen, OperandQuote, OperandBare, BareMore, QuotedMore, QuotedBackslash, QuotedEnd, EscapeQuote, EscapeBackslash, PrimaryBlank, PrimaryStar, PrimaryPlus, PrimaryOpt, ElementBlank, ElementSlash, ElementBar, ElementClose, step_leads}
+use Rattle.path_syntax.proofs.Steps.{Leads, OperandBlank, OperandOpen, OperandCaret, OperandQuote, OperandBare, BareMore, QuotedMore, QuotedBackslash, QuotedEnd, EscapeQuote, EscapeBackslash, PrimaryBlank, PrimaryStar, PrimaryPlus, PrimaryOpt, ElementBlank, ElementSlash, ElementBar, ElementClose, step_leads}
 use Rattle.path_syntax.proofs.Soundness.{all_push}
 
 name_push : (name : List ℕ) (byte : ℕ) → AreNameBytes name → is_name_byte byte ≡ true → length (name ++ byte ∷ []) ≤ 255 → IsName (name ++ byte ∷ [])
@@ -23,12 +23,13 @@ so_far : (name : List ℕ) → (name ≢ [] → IsName name) → AreNameBytes na
 so_far [] is = refl
 so_far (byte ∷ name) is = name_bytes (byte ∷ name) (is (λ h. cc))
 
-ready_lead : {outer : List FrameValue} {frame : FrameValue} {mode : ModeValue} {byte : ℕ} {after : StateValue} → Leads outer frame mode byte after →
+ready_lead : {inverses : Bool} {outer : List FrameValue} {frame : FrameValue} {mode : ModeValue} {byte : ℕ} {after : StateValue} → Leads inverses outer frame mode byte after →
     IsReady mode → name_length after.mode ≤ 255 → IsReady after.mode
-ready_lead (OperandBlank outer frame byte blank) ready short = tt
+ready_lead (OperandBlank outer frame back byte blank) ready short = tt
 ready_lead (OperandOpen outer frame) ready short = tt
-ready_lead (OperandQuote outer frame) ready short = λ some. absurd (some refl)
-ready_lead (OperandBare outer frame byte bare) ready short = name_push [] byte refl (bare_is_named byte bare) (omega arith)
+ready_lead (OperandCaret outer frame taken) ready short = tt
+ready_lead (OperandQuote outer frame back) ready short = λ some. absurd (some refl)
+ready_lead (OperandBare outer frame back byte bare) ready short = name_push [] byte refl (bare_is_named byte bare) (omega arith)
 ready_lead (BareMore outer frame name back byte bare) ready short = name_push name byte (name_bytes name ready) (bare_is_named byte bare) short
 ready_lead (QuotedMore outer frame name back byte named quote backslash) ready short = λ _. name_push name byte (so_far name ready) named short
 ready_lead (QuotedBackslash outer frame name back) ready short = ready
@@ -44,6 +45,6 @@ ready_lead (ElementSlash outer frame mode e ends) ready short = tt
 ready_lead (ElementBar outer frame mode e ends) ready short = tt
 ready_lead (ElementClose other outer frame mode e ends) ready short = tt
 
-pub stays_ready : (state : StateValue) (byte : ℕ) (after : StateValue) → step state byte ≡ Some after → IsReady state.mode →
+pub stays_ready : (inverses : Bool) (state : StateValue) (byte : ℕ) (after : StateValue) → step inverses state byte ≡ Some after → IsReady state.mode →
     name_length after.mode ≤ 255 → IsReady after.mode
-stays_ready state byte after e ready short = ready_lead (step_leads state byte after e) ready short
+stays_ready inverses state byte after e ready short = ready_lead (step_leads inverses state byte after e) ready short

@@ -1,13 +1,13 @@
 -- Names that the reader has gone through stand in the expression at the end.
-use Rattle.std.proofs.Common.{◌≡◌, ℕ, ◌≤◌, List, [], ◌∷◌, ◌++◌, length, Option, Some, None, option_map, refl, sym, ◌∙◌, ap, subst, arith}
+use Rattle.std.proofs.Common.{◌≡◌, ℕ, Bool, ◌≤◌, List, [], ◌∷◌, ◌++◌, length, Option, Some, None, option_map, refl, sym, ◌∙◌, ap, subst, arith}
 use Rattle.std.proofs.lemmas.List.{length_push}
 use Rattle.std.proofs.lemmas.Option.{option_and_then_some}
 use Rattle.path_syntax.specs.Expression.{Expression, Atom}
-use Rattle.path_syntax.specs.Grammar.{one_way, label_with, IsText}
+use Rattle.path_syntax.specs.Grammar.{label_with, IsAlternative}
 use Rattle.path_syntax.specs.Faults.{HasLongName}
 use Rattle.path_syntax.specs.GrammarLaws.{HasShortNames}
 use Rattle.path_syntax.specs.Reading.{FrameValue, ModeValue, Operand, BareLabel, QuotedLabel, Escape, Primary, Element, StateValue, state_with, initial, in_sequence, in_alternatives, whole_with, step, element_of, whole_in, name_length}
-use Rattle.path_syntax.proofs.Steps.{Leads, OperandBlank, OperandOpen, OperandQuote, OperandBare, BareMore, QuotedMore, QuotedBackslash, QuotedEnd, EscapeQuote, EscapeBackslash, PrimaryBlank, PrimaryStar, PrimaryPlus, PrimaryOpt, ElementBlank, ElementSlash, ElementBar, ElementClose, step_leads, run, run_from}
+use Rattle.path_syntax.proofs.Steps.{Leads, OperandBlank, OperandOpen, OperandCaret, OperandQuote, OperandBare, BareMore, QuotedMore, QuotedBackslash, QuotedEnd, EscapeQuote, EscapeBackslash, PrimaryBlank, PrimaryStar, PrimaryPlus, PrimaryOpt, ElementBlank, ElementSlash, ElementBar, ElementClose, step_leads, run, run_from}
 use Rattle.path_syntax.proofs.Completeness.{primary_ends, complete}
 use Rattle.path_syntax.proofs.Fronts.{takes_operand_there}
 use Rattle.path_syntax.proofs.Limits.{begins_run}
@@ -25,7 +25,7 @@ ShortFrames [] = Unit {0}
 ShortFrames (frame ∷ outer) = ShortFrame frame × ShortFrames outer
 
 abbrev ShortMode : ModeValue → Type 0
-ShortMode Operand = Unit {0}
+ShortMode (Operand back) = Unit {0}
 ShortMode (BareLabel name back) = length name ≤ 255
 ShortMode (QuotedLabel name back) = length name ≤ 255
 ShortMode (Escape name back) = length name ≤ 255
@@ -38,7 +38,7 @@ record ShortState (outer : List FrameValue) (frame : FrameValue) (mode : ModeVal
   last : ShortMode mode
 
 short_mode : (mode : ModeValue) → ShortMode mode → name_length mode ≤ 255
-short_mode Operand s = omega arith
+short_mode (Operand back) s = omega arith
 short_mode (BareLabel name back) s = s
 short_mode (QuotedLabel name back) s = s
 short_mode (Escape name back) s = s
@@ -46,7 +46,7 @@ short_mode (Primary e) s = omega arith
 short_mode (Element e) s = omega arith
 
 of_element : (mode : ModeValue) (e : Expression) → element_of mode ≡ Some e → HasShortNames e → ShortMode mode
-of_element Operand e ends s = tt
+of_element (Operand back) e ends s = tt
 of_element (BareLabel name back) e ends s = let same : e ≡ Atom (label_with name back) = cc in subst HasShortNames same s
 of_element (QuotedLabel name back) e ends s = absurd cc
 of_element (Escape name back) e ends s = absurd cc
@@ -76,12 +76,13 @@ less : (name : List ℕ) (byte : ℕ) → length (name ++ byte ∷ []) ≤ 255 �
 less name byte s = omega (arith, length_push name byte)
 
 -- what is short after a step was short before it
-short_before : {outer : List FrameValue} {frame : FrameValue} {mode : ModeValue} {byte : ℕ} {after : StateValue} → Leads outer frame mode byte after →
+short_before : {inverses : Bool} {outer : List FrameValue} {frame : FrameValue} {mode : ModeValue} {byte : ℕ} {after : StateValue} → Leads inverses outer frame mode byte after →
     ShortState after.outer after.frame after.mode → ShortState outer frame mode
-short_before (OperandBlank outer frame byte blank) s = s
+short_before (OperandBlank outer frame back byte blank) s = s
 short_before (OperandOpen outer frame) s = record { outside = s.outside.1; inside = s.outside.0; last = tt }
-short_before (OperandQuote outer frame) s = record { outside = s.outside; inside = s.inside; last = tt }
-short_before (OperandBare outer frame byte bare) s = record { outside = s.outside; inside = s.inside; last = tt }
+short_before (OperandCaret outer frame taken) s = record { outside = s.outside; inside = s.inside; last = tt }
+short_before (OperandQuote outer frame back) s = record { outside = s.outside; inside = s.inside; last = tt }
+short_before (OperandBare outer frame back byte bare) s = record { outside = s.outside; inside = s.inside; last = tt }
 short_before (BareMore outer frame name back byte bare) s = record { outside = s.outside; inside = s.inside; last = less name byte s.last }
 short_before (QuotedMore outer frame name back byte named quote backslash) s = record { outside = s.outside; inside = s.inside; last = less name byte s.last }
 short_before (QuotedBackslash outer frame name back) s = record { outside = s.outside; inside = s.inside; last = s.last }
@@ -111,12 +112,12 @@ short_before (ElementClose other outer frame mode e ends) s =
     let parts = of_whole frame e s.last in
     record { outside = (s.inside, s.outside); inside = parts.inside; last = of_element mode e ends parts.last }
 
-back_run : (bytes : List ℕ) (state after : StateValue) → run bytes state ≡ Some after → ShortState after.outer after.frame after.mode →
+back_run : (inverses : Bool) (bytes : List ℕ) (state after : StateValue) → run inverses bytes state ≡ Some after → ShortState after.outer after.frame after.mode →
     ShortState state.outer state.frame state.mode
-back_run [] state after e s = let same : after ≡ state = cc in subst (λ t. ShortState t.outer t.frame t.mode) same s
-back_run (byte ∷ bytes) state after e s =
-    option_and_then_some {P = ShortState state.outer state.frame state.mode} (run bytes) (step state byte) after e (λ middle first rest.
-    short_before (step_leads state byte middle first) (back_run bytes middle after rest s))
+back_run inverses [] state after e s = let same : after ≡ state = cc in subst (λ t. ShortState t.outer t.frame t.mode) same s
+back_run inverses (byte ∷ bytes) state after e s =
+    option_and_then_some {P = ShortState state.outer state.frame state.mode} (run inverses bytes) (step inverses state byte) after e (λ middle first rest.
+    short_before (step_leads inverses state byte middle first) (back_run inverses bytes middle after rest s))
 
 at_whole : (outer : List FrameValue) (frame : FrameValue) (mode : ModeValue) (e : Expression) → whole_in outer frame mode ≡ Some e → HasShortNames e →
     ShortState outer frame mode
@@ -130,15 +131,15 @@ at_whole [] frame mode e whole s = by (element_of mode) refl whole
         let parts = of_whole frame f (subst HasShortNames same s) in
         record { outside = tt; inside = parts.inside; last = of_element mode f ends parts.last }
 
-pub short_names : (bytes : List ℕ) (e : Expression) → IsText bytes e → HasShortNames e → (at : ℕ) → HasLongName one_way bytes at → ⊥
-short_names bytes e text short at h =
-    let r = complete bytes e text in
-    let t = takes_operand_there h.before h.stands in
-    let l = begins_run h.begins t.outer t.frame in
-    let there : run (h.before ++ h.label) initial ≡ Some (state_with t.outer t.frame l.mode) = run_from h.before h.label initial _ t.ran ∙ l.ran in
-    let whole : run (h.before ++ h.label ++ h.after) initial ≡ Some r.state = ap (λ b. run b initial) (sym h.split) ∙ r.ran in
-    let rest : run h.after (state_with t.outer t.frame l.mode) ≡ Some r.state = sym (run_from (h.before ++ h.label) h.after initial _ there) ∙ whole in
-    let s = back_run h.after (state_with t.outer t.frame l.mode) r.state rest (at_whole r.state.outer r.state.frame r.state.mode e r.whole short) in
+pub short_names : (inverses : Bool) (bytes : List ℕ) (e : Expression) → IsAlternative inverses bytes e → HasShortNames e → (at : ℕ) → HasLongName inverses bytes at → ⊥
+short_names inverses bytes e text short at h =
+    let r = complete inverses bytes e text in
+    let t = takes_operand_there inverses h.before h.stands in
+    let l = begins_run inverses h.begins t.back t.outer t.frame in
+    let there : run inverses (h.before ++ h.label) initial ≡ Some (state_with t.outer t.frame l.mode) = run_from inverses h.before h.label initial _ t.ran ∙ l.ran in
+    let whole : run inverses (h.before ++ h.label ++ h.after) initial ≡ Some r.state = ap (λ b. run inverses b initial) (sym h.split) ∙ r.ran in
+    let rest : run inverses h.after (state_with t.outer t.frame l.mode) ≡ Some r.state = sym (run_from inverses (h.before ++ h.label) h.after initial _ there) ∙ whole in
+    let s = back_run inverses h.after (state_with t.outer t.frame l.mode) r.state rest (at_whole r.state.outer r.state.frame r.state.mode e r.whole short) in
     let bound : name_length l.mode ≤ 255 = short_mode l.mode s.last in
     let size : name_length l.mode ≡ length h.name = l.size in
     let long : length h.name ≡ 256 = h.long in

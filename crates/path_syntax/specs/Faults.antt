@@ -7,7 +7,7 @@ use Rattle.path_syntax.specs.declared.read.BadExpr.TheVariants.{Unexpected, Ende
 use Rattle.path_syntax.specs.declared.read.BadExpr.TheVariants.{LongName, Memory}
 use Rattle.path_syntax.specs.Expression.{Expression}
 use Rattle.path_syntax.specs.Grammar.{IsBare, AreNameBytes, quoted, IsLabel, IsAlternative, CanGoOn}
-use Rattle.path_syntax.specs.Grammar.{one_way}
+use Rattle.path_syntax.specs.Grammar.{one_way, two_way}
 
 -- The bytes outside quoted labels; of those from a quote on; of those from behind a backslash
 -- within quotes on.
@@ -123,6 +123,10 @@ pub data IsOutcomeOf (inverses : Bool) (bytes : List ℕ) : Result Expression Ba
 -- the outcome where no label is taken backwards
 abbrev pub IsOutcome : List ℕ → Result Expression BadExpr → Type 0
 IsOutcome = IsOutcomeOf one_way
+
+-- the outcome where a '^' before a label takes it backwards
+abbrev pub IsTwoWayOutcome : List ℕ → Result Expression BadExpr → Type 0
+IsTwoWayOutcome = IsOutcomeOf two_way
 
 -- the fault is answered exactly where the bytes have it, unless memory runs out
 pub record Tells {T : Type 0} (result : Result T BadExpr) (fault : BadExpr)

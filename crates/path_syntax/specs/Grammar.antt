@@ -95,13 +95,21 @@ mutual
         AreBlanks before → IsAlternative inverses inside e → AreBlanks after →
         IsPrimary inverses (before ++ codes "(" ++ inside ++ codes ")" ++ after) e
 
--- no label is taken backwards: what is read today
+-- no label is taken backwards
 abbrev pub one_way : Bool
 one_way = false
+
+-- a '^' before a label takes it backwards
+abbrev pub two_way : Bool
+two_way = true
 
 -- the bytes are the text of the expression, whose labels point forwards
 abbrev pub IsText : List ℕ → Expression → Type 0
 IsText = IsAlternative one_way
+
+-- the bytes are the text of the expression, whose labels may be taken backwards
+abbrev pub IsTwoWayText : List ℕ → Expression → Type 0
+IsTwoWayText = IsAlternative two_way
 
 -- some text of an expression begins with these bytes
 pub record CanGoOn (inverses : Bool) (front : List ℕ) : Type 0 where

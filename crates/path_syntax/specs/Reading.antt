@@ -1,8 +1,8 @@
 -- How the reader goes through the bytes, one by one: a step for each. No public contract cites
 -- this.
-use Rattle.std.specs.Prelude.{◌≡◌, ◌≢◌, ℕ, ◌+◌, Bool, true, false, ◌&&◌, ◌==◌, nat_lt, List, []}
-use Rattle.std.specs.Prelude.{◌∷◌, ◌++◌, length, Option, Some, None, option_map, Result, Ok, Err}
-use Rattle.std.specs.Prelude.{if◌then◌else◌}
+use Rattle.std.specs.Prelude.{◌≡◌, ◌≢◌, ℕ, ◌+◌, Bool, true, false, not, ◌&&◌, ◌==◌, nat_lt}
+use Rattle.std.specs.Prelude.{List, [], ◌∷◌, ◌++◌, length, Option, Some, None, option_map, Result}
+use Rattle.std.specs.Prelude.{Ok, Err, if◌then◌else◌}
 use Rattle.rpq_base.specs.Names.{is_name_byte, IsName}
 use Rattle.path_syntax.specs.declared.read.BadExpr.{BadExpr}
 use Rattle.path_syntax.specs.declared.read.BadExpr.TheVariants.{Unexpected, Ended, TooLarge}
@@ -38,9 +38,9 @@ pub record FrameValue : Type 0 where
   pub sequence : Option Expression
 
 -- what stands directly before the next byte; of a label the name so far, and whether it is taken
--- backwards
+-- backwards; where an operand is to come, whether a '^' stands before it, so that it is a label
 pub data ModeValue : Type 0 where
-  Operand : ModeValue
+  Operand : Bool → ModeValue
   BareLabel : List ℕ → Bool → ModeValue
   QuotedLabel : List ℕ → Bool → ModeValue
   Escape : List ℕ → Bool → ModeValue
@@ -61,7 +61,7 @@ abbrev pub empty_frame : FrameValue
 empty_frame = record { alternatives = None; sequence = None }
 
 abbrev pub initial : StateValue
-initial = state_with [] empty_frame Operand
+initial = state_with [] empty_frame (Operand false)
 
 -- the sequence of what stands before and an element
 abbrev pub in_sequence : Option Expression → Expression → Expression
@@ -87,10 +87,10 @@ abbrev pub after_element : List FrameValue → FrameValue → Expression → Kin
 after_element outer frame e Blank = Some (state_with outer frame (Element e))
 after_element outer frame e Slash =
     Some (state_with outer
-    (record frame { sequence = Some (in_sequence frame.sequence e) }) Operand)
+    (record frame { sequence = Some (in_sequence frame.sequence e) }) (Operand false))
 after_element outer frame e Bar =
     Some (state_with outer
-    (record { alternatives = Some (whole_with frame e); sequence = None }) Operand)
+    (record { alternatives = Some (whole_with frame e); sequence = None }) (Operand false))
 after_element outer frame e Close = closed outer (whole_with frame e)
 after_element outer frame e _ = None
 
@@ -102,13 +102,18 @@ after_primary outer frame e PlusSign = Some (state_with outer frame (Element (Pl
 after_primary outer frame e QuestionMark = Some (state_with outer frame (Element (Opt e)))
 after_primary outer frame e kind = after_element outer frame e kind
 
--- what may stand where an operand is to come
-abbrev pub in_operand : List FrameValue → FrameValue → Kind → ℕ → Option StateValue
-in_operand outer frame Blank byte = Some (state_with outer frame Operand)
-in_operand outer frame Open byte = Some (state_with (frame ∷ outer) empty_frame Operand)
-in_operand outer frame Quote byte = Some (state_with outer frame (QuotedLabel [] false))
-in_operand outer frame Bare byte = Some (state_with outer frame (BareLabel (byte ∷ []) false))
-in_operand outer frame _ byte = None
+-- what may stand where an operand is to come, behind a '^' or not
+abbrev pub in_operand : Bool → List FrameValue → FrameValue → Bool → Kind → ℕ → Option StateValue
+in_operand inverses outer frame back Blank byte = Some (state_with outer frame (Operand back))
+in_operand inverses outer frame back Open byte =
+    if back then None else Some (state_with (frame ∷ outer) empty_frame (Operand false))
+in_operand inverses outer frame back Caret byte =
+    if inverses && not back then Some (state_with outer frame (Operand true)) else None
+in_operand inverses outer frame back Quote byte =
+    Some (state_with outer frame (QuotedLabel [] back))
+in_operand inverses outer frame back Bare byte =
+    Some (state_with outer frame (BareLabel (byte ∷ []) back))
+in_operand inverses outer frame back _ byte = None
 
 -- what may stand within quotes: any byte of a name; a quote ends the label, if it has a name
 abbrev pub ended_label : List FrameValue → FrameValue → List ℕ → Bool → Option StateValue
@@ -139,21 +144,28 @@ in_bare outer frame name back Bare byte =
 in_bare outer frame name back kind byte =
     after_primary outer frame (Atom (label_with name back)) kind
 
-abbrev pub step_by : List FrameValue → FrameValue → ModeValue → Kind → ℕ → Option StateValue
-step_by outer frame Operand kind byte = in_operand outer frame kind byte
-step_by outer frame (BareLabel name back) kind byte = in_bare outer frame name back kind byte
-step_by outer frame (QuotedLabel name back) kind byte = in_quotes outer frame name back kind byte
-step_by outer frame (Escape name back) kind byte = in_escape outer frame name back kind byte
-step_by outer frame (Primary e) kind byte = after_primary outer frame e kind
-step_by outer frame (Element e) kind byte = after_element outer frame e kind
+-- In what follows `inverses` says whether a '^' before a label takes it backwards.
+abbrev pub step_by : Bool → List FrameValue → FrameValue → ModeValue → Kind → ℕ →
+    Option StateValue
+step_by inverses outer frame (Operand back) kind byte =
+    in_operand inverses outer frame back kind byte
+step_by inverses outer frame (BareLabel name back) kind byte =
+    in_bare outer frame name back kind byte
+step_by inverses outer frame (QuotedLabel name back) kind byte =
+    in_quotes outer frame name back kind byte
+step_by inverses outer frame (Escape name back) kind byte =
+    in_escape outer frame name back kind byte
+step_by inverses outer frame (Primary e) kind byte = after_primary outer frame e kind
+step_by inverses outer frame (Element e) kind byte = after_element outer frame e kind
 
 -- the state after a byte, if it can go on
-abbrev pub step : StateValue → ℕ → Option StateValue
-step state byte = step_by state.outer state.frame state.mode (kind_of byte) byte
+abbrev pub step : Bool → StateValue → ℕ → Option StateValue
+step inverses state byte =
+    step_by inverses state.outer state.frame state.mode (kind_of byte) byte
 
 -- the expression that ends here, if one does
 abbrev pub element_of : ModeValue → Option Expression
-element_of Operand = None
+element_of (Operand back) = None
 element_of (BareLabel name back) = Some (Atom (label_with name back))
 element_of (QuotedLabel name back) = None
 element_of (Escape name back) = None
@@ -169,7 +181,7 @@ whole_of state = whole_in state.outer state.frame state.mode
 
 -- how long the name is that stands directly before
 abbrev pub name_length : ModeValue → ℕ
-name_length Operand = 0
+name_length (Operand back) = 0
 name_length (BareLabel name back) = length name
 name_length (QuotedLabel name back) = length name
 name_length (Escape name back) = length name
@@ -178,7 +190,7 @@ name_length (Element e) = 0
 
 -- the name that stands directly before is one as far as it goes
 abbrev pub IsReady : ModeValue → Type 0
-IsReady Operand = Unit {0}
+IsReady (Operand back) = Unit {0}
 IsReady (BareLabel name back) = IsName name
 IsReady (QuotedLabel name back) = name ≢ [] → IsName name
 IsReady (Escape name back) = name ≢ [] → IsName name
@@ -187,7 +199,7 @@ IsReady (Element e) = Unit {0}
 
 -- an operand is to come
 abbrev pub takes_operand : ModeValue → Bool
-takes_operand Operand = true
+takes_operand (Operand back) = true
 takes_operand _ = false
 
 -- not within quotes
@@ -231,8 +243,8 @@ after_step reader byte (Some state) =
     within_limits state (label_place_after reader) (signs_after reader byte) (reader.place + 1)
 
 -- the reader after a byte, or the fault that shows at it
-unfoldable pub read_byte : ReaderValue → ℕ → Result ReaderValue BadExpr
-read_byte reader byte = after_step reader byte (step reader.state byte)
+unfoldable pub read_byte : Bool → ReaderValue → ℕ → Result ReaderValue BadExpr
+read_byte inverses reader byte = after_step reader byte (step inverses reader.state byte)
 
 infixl 10 ◌>>=◌
 abbrev pub ◌>>=◌ : {A B : Type 0} → Result A BadExpr → (A → Result B BadExpr) → Result B BadExpr
@@ -240,17 +252,19 @@ abbrev pub ◌>>=◌ : {A B : Type 0} → Result A BadExpr → (A → Result B B
 (Err fault) >>= f = Err fault
 
 -- the reader after all the bytes, or the first fault
-abbrev pub read_all : List ℕ → ReaderValue → Result ReaderValue BadExpr
-read_all [] reader = Ok reader
-read_all (byte ∷ bytes) reader = read_byte reader byte >>= read_all bytes
+abbrev pub read_all : Bool → List ℕ → ReaderValue → Result ReaderValue BadExpr
+read_all inverses [] reader = Ok reader
+read_all inverses (byte ∷ bytes) reader =
+    read_byte inverses reader byte >>= read_all inverses bytes
 
 -- the whole expression at the end of the bytes
 abbrev pub ended_by : Option Expression → Result Expression BadExpr
 ended_by None = Err Ended
 ended_by (Some e) = Ok e
 
-unfoldable pub reading : List ℕ → Result Expression BadExpr
-reading bytes = read_all bytes start >>= λ reader. ended_by (whole_of reader.state)
+unfoldable pub reading : Bool → List ℕ → Result Expression BadExpr
+reading inverses bytes =
+    read_all inverses bytes start >>= λ reader. ended_by (whole_of reader.state)
 
 -- what a function of the code returned, seen by view, is what reading gives, unless memory ran out
 abbrev pub Fails : {Y : Type 0} → BadExpr → Result Y BadExpr → Type 0

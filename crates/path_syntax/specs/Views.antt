@@ -22,7 +22,7 @@ abbrev pub frames_of : List Frame → List FrameValue
 frames_of frames = map frame_of (reverse frames)
 
 abbrev pub mode_of : Mode → ModeValue
-mode_of at.Operand = Operand
+mode_of (at.Operand back) = Operand back
 mode_of (at.BareLabel label) = BareLabel label.name.items label.back
 mode_of (at.QuotedLabel label) = QuotedLabel label.name.items label.back
 mode_of (at.Escape label) = Escape label.name.items label.back

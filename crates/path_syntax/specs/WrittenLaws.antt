@@ -4,7 +4,8 @@ use Rattle.std.specs.Prelude.{◌≡◌, ℕ, ◌+◌, ◌≤◌, ◌^◌, not, 
 use Rattle.std.specs.Prelude.{if◌then◌else◌}
 use Rattle.path_syntax.specs.Expression.{Expression, Atom, Seq, Alt, Star, Plus, Opt}
 use Rattle.path_syntax.specs.Plain.{IsPlainExpression}
-use Rattle.path_syntax.specs.Grammar.{one_way, label_named, IsText}
+use Rattle.path_syntax.specs.Grammar.{one_way, two_way, label_named, inverse_named, IsText}
+use Rattle.path_syntax.specs.Grammar.{IsTwoWayText}
 use Rattle.path_syntax.specs.Faults.{signs, IsWithinLimits}
 use Rattle.path_syntax.specs.Written.{is_atom, is_seq, is_alt, written_expression, written_word}
 use Rattle.path_syntax.specs.Written.{IsNamed}
@@ -28,11 +29,14 @@ pub record WrittenExamples : Type 0 where
   pub in_quotes : written_expression (Atom (label_named (codes "\"^\\"))) ≡ codes "\"\\\"^\\\\\""
   pub of_a_word : written_word (label_named (codes "a") ∷ label_named (codes "x/y") ∷ []) ≡
       codes "a/\"x/y\""
+  pub backwards : written_expression (Star (Atom (inverse_named (codes "a")))) ≡ codes "^a*"
 
--- the written form of an expression whose labels are named and point forwards is a text of it
-abbrev pub WrittenIsSpelled : Type 0
-WrittenIsSpelled =
-    (e : Expression) → IsPlainExpression e → IsNamed e → IsText (written_expression e) e
+-- the written form of an expression whose labels are named is a text of it: with inverses, and
+-- also without them where all labels point forwards
+pub record WrittenIsSpelled : Type 0 where
+  pub with_inverses : (e : Expression) → IsNamed e → IsTwoWayText (written_expression e) e
+  pub without : (e : Expression) → IsPlainExpression e → IsNamed e →
+      IsText (written_expression e) e
 
 -- one more for a parenthesis that is wanted
 abbrev pub grouped_signs : Bool → ℕ → ℕ
@@ -56,11 +60,13 @@ abbrev pub WrittenHasSigns : Type 0
 WrittenHasSigns = (e : Expression) → signs (written_expression e) ≡ written_signs e
 
 -- a written form that is short enough to be handed to the reader, and in which no limit is passed
-pub record IsReadable (e : Expression) : Type 0 where
+pub record IsReadable (inverses : Bool) (e : Expression) : Type 0 where
   pub short : length (written_expression e) ≤ 2 ^ 24
-  pub limits : IsWithinLimits one_way (written_expression e)
+  pub limits : IsWithinLimits inverses (written_expression e)
 
--- with at most 512 signs it is so
-abbrev pub WrittenIsReadable : Type 0
-WrittenIsReadable =
-    (e : Expression) → IsNamed e → IsPlainExpression e → written_signs e ≤ 512 → IsReadable e
+-- with at most 512 signs it is so: with inverses, and also without them where all labels point
+-- forwards
+pub record WrittenIsReadable : Type 0 where
+  pub with_inverses : (e : Expression) → IsNamed e → written_signs e ≤ 512 → IsReadable two_way e
+  pub without : (e : Expression) → IsNamed e → IsPlainExpression e → written_signs e ≤ 512 →
+      IsReadable one_way e

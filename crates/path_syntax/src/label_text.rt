@@ -1,9 +1,8 @@
 //! Labels and words of labels as they are written.
 
-ghost use Rattle.std.specs.Prelude.{◌≡◌, ◌++◌, All, IfOk, OnOk};
+ghost use Rattle.std.specs.Prelude.{◌≡◌, ◌++◌, IfOk, OnOk};
 ghost use Rattle.std.specs.List.{list_all};
 ghost use Rattle.rpq_base.specs.Names.{IsName};
-ghost use Rattle.rpq_base.specs.Plain.{IsPlainLabel};
 ghost use Rattle.path_syntax.specs.Grammar.{is_bare_byte, quoted};
 ghost use Rattle.path_syntax.specs.Written.{written_name, written_label, written_word};
 
@@ -14,7 +13,6 @@ use std::alloc::Global;
 /// The text of a word: its labels in their written form, joined by `/`, and `()` for the empty
 /// word.
 pub fn write_word(alloc: Global, word: &[Label]) -> Result<Vec<u8>, Memory>
-    requires { All IsPlainLabel word.now }
     ensures { IfOk result (λ text. text.items ≡ written_word word.now) }
 {
     let mut text = Vec::new(alloc);

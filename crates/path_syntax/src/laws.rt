@@ -1,4 +1,4 @@
-//! Laws of the definitions. The functions do nothing, but for the last one: their contracts are the
+//! Laws of the definitions. The functions do nothing, but for the last two: their contracts are the
 //! laws.
 
 ghost use Rattle.std.specs.Prelude.{◌≡◌, ◌≤◌, List, MatchResult};
@@ -10,7 +10,7 @@ ghost use Rattle.path_syntax.specs.WrittenLaws.{WrittenIsReadable, written_signs
 ghost use Rattle.path_syntax.specs.Plain.{IsPlainExpression};
 
 use crate::expr::Expr;
-use crate::read::{BadExpr, read_expr};
+use crate::read::{BadExpr, read_expr, read_two_way};
 use crate::write::write_expr;
 use std::alloc::Global;
 
@@ -34,7 +34,8 @@ pub fn written_examples()
     ensures { WrittenExamples }
 {}
 
-/// The written form of an expression is a text of it in the grammar.
+/// The written form of an expression is a text of it in the grammar: in that with inverses, and in
+/// that without them where all its labels point forwards.
 pub fn written_is_spelled()
     ensures { WrittenIsSpelled }
 {}
@@ -47,13 +48,14 @@ pub fn written_has_signs()
 /// The written form of an expression is within the limits of what is read, where it has at most 512
 /// signs.
 ///
-/// With [`written_is_spelled`], and with what `write_expr` and `read_expr` say, an expression that
-/// is written is read again.
+/// With [`written_is_spelled`], and with what `write_expr` and the two readers say, an expression
+/// that is written is read again.
 pub fn written_is_readable()
     ensures { WrittenIsReadable }
 {}
 
-/// What is written is read again, by what the two calls and the laws say alone.
+/// What is written is read again, where all labels point forwards, by what the two calls and the
+/// laws say alone.
 ///
 /// The expression is written and its text read, so that this law is seen by a caller.
 pub fn written_is_read_again(alloc: Global, expr: &Expr) -> Result<Expr, BadExpr>
@@ -67,4 +69,17 @@ pub fn written_is_read_again(alloc: Global, expr: &Expr) -> Result<Expr, BadExpr
     written_is_readable();
     let text = write_expr(alloc, expr)?;
     read_expr(alloc, &text)
+}
+
+/// What is written is read again with inverses, whichever labels are taken backwards.
+pub fn written_two_way_is_read_again(alloc: Global, expr: &Expr) -> Result<Expr, BadExpr>
+    requires few { written_signs (expression expr.now) ≤ 512 }
+    ensures { MatchResult result
+        (λ again. expression again ≡ expression expr.now)
+        (λ fault. fault ≡ BadExpr.Memory) }
+{
+    written_is_spelled();
+    written_is_readable();
+    let text = write_expr(alloc, expr)?;
+    read_two_way(alloc, &text)
 }

@@ -7,9 +7,8 @@
 //! [`write_expr`] writes the one form of an expression without blanks, and [`accepts`] decides
 //! whether a word is in the language.
 //!
-//! A label that is taken backwards stands in the type, and none is read yet: the sign `^` is
-//! refused where an operand is to come. That place, [`read_expr`]'s step from an operand, is where
-//! it will be read.
+//! [`read_two_way`] reads `^` before a label too, which takes the label backwards. It is the
+//! inverse path of SPARQL 1.1, before a label alone: the inverse of a group has no text.
 #![tactic(auto)]
 
 mod byte_kind;
@@ -28,15 +27,17 @@ mod write;
 pub use empty_word::has_empty_word;
 pub use expr::Expr;
 pub use grammar_laws::{
-    fault_examples, grammar_examples, one_expression, one_outcome, short_names_are_short,
+    fault_examples, grammar_examples, one_expression, one_outcome, one_way_is_plain,
+    short_names_are_short, two_way_examples,
 };
 pub use label_text::write_word;
 pub use language::Language;
 pub use laws::{
     each_has_a_word, nullable_has_empty_word, repetitions_by_cases, written_examples,
     written_has_signs, written_is_read_again, written_is_readable, written_is_spelled,
+    written_two_way_is_read_again,
 };
 pub use matcher::accepts;
-pub use read::{BadExpr, read_expr};
+pub use read::{BadExpr, read_expr, read_two_way};
 pub use size::occurrences;
 pub use write::write_expr;

@@ -9,8 +9,9 @@ ghost use Rattle.path_syntax.specs.declared.read.BadExpr.{BadExpr};
 ghost use Rattle.path_syntax.specs.Views.{state_of, mode_of, reader_of};
 ghost use Rattle.path_syntax.specs.Expression.{Expression, expression};
 ghost use Rattle.path_syntax.specs.Faults.{is_sign, IsWithinLimits, IsFault, IsOutcome, Tells};
+ghost use Rattle.path_syntax.specs.Faults.{IsTwoWayOutcome};
 ghost use Rattle.path_syntax.specs.FaultTexts.{bad_expr_text};
-ghost use Rattle.path_syntax.specs.Grammar.{one_way, IsText};
+ghost use Rattle.path_syntax.specs.Grammar.{one_way, two_way, IsText, IsTwoWayText};
 ghost use Rattle.path_syntax.specs.Plain.{IsPlainExpression};
 ghost use Rattle.path_syntax.specs.Size.{nodes};
 
@@ -144,11 +145,11 @@ impl Reader {
 
     /// The reader after one more byte.
     #[tactic(auto, unfolding(crate::specs::Reading::read_byte))]
-    fn next(self, alloc: Global, byte: u8) -> Result<Reader, BadExpr>
+    fn next(self, alloc: Global, inverses: bool, byte: u8) -> Result<Reader, BadExpr>
         requires ready { IsReady (mode_of self.state.mode) }
         requires place { self.place < 2 ^ 24 }
         requires signs { self.signs ≤ 512 }
-        ensures exact { Gives reader_of result (read_byte (reader_of self) byte) }
+        ensures exact { Gives reader_of result (read_byte inverses (reader_of self) byte) }
         ensures ready { IfOk result (λ reader. IsReady (mode_of reader.state.mode)) }
         ensures place { IfOk result (λ reader. reader.place ≡ self.place + 1) }
         ensures signs { IfOk result (λ reader. reader.signs ≤ 512) }
@@ -156,7 +157,7 @@ impl Reader {
         let label_place = self.label_place_after();
         let signs = self.signs_after(byte);
         let place = self.place + 1;
-        match self.state.step(alloc, byte)? {
+        match self.state.step(alloc, inverses, byte)? {
             Some(state) => within_limits(state, label_place, signs, place),
             None => Err(BadExpr::Unexpected(place)),
         }
@@ -175,29 +176,30 @@ impl Reader {
 }
 
 /// The reader after all the bytes.
-fn read_all(alloc: Global, bytes: &[u8]) -> Result<Reader, BadExpr>
+fn read_all(alloc: Global, inverses: bool, bytes: &[u8]) -> Result<Reader, BadExpr>
     requires { length bytes.now < 2 ^ 24 + 1 }
-    ensures exact { Gives reader_of result (read_all bytes.now start) }
+    ensures exact { Gives reader_of result (read_all inverses bytes.now start) }
     ensures ready { IfOk result (λ reader. IsReady (mode_of reader.state.mode)) }
 {
     let mut reader = Reader::new(alloc);
     for byte in bytes {
-        reader = reader.next(alloc, *byte)?;
+        reader = reader.next(alloc, inverses, *byte)?;
     }
     Ok(reader)
 }
 
-/// The expression of these bytes, or the first fault.
+/// The expression of these bytes, or the first fault. A `^` before a label takes it backwards where
+/// inverses are read, and is refused else.
 #[tactic(auto, unfolding(crate::specs::Reading::reading))]
-fn read(alloc: Global, bytes: &[u8]) -> Result<Expr, BadExpr>
+fn read(alloc: Global, inverses: bool, bytes: &[u8]) -> Result<Expr, BadExpr>
     requires { length bytes.now < 2 ^ 24 + 1 }
-    ensures { Gives expression result (reading bytes.now) }
+    ensures { Gives expression result (reading inverses bytes.now) }
 {
-    read_all(alloc, bytes)?.end(alloc)
+    read_all(alloc, inverses, bytes)?.end(alloc)
 }
 
 /// The expression that these bytes are the text of, or the fault that shows first as they are read
-/// from left to right.
+/// from left to right. No label is taken backwards.
 ///
 /// It goes through the bytes once and keeps what stands before each open parenthesis, without
 /// recursion.
@@ -219,5 +221,30 @@ pub fn read_expr(alloc: Global, bytes: &[u8]) -> Result<Expr, BadExpr>
     ensures fault { (fault : BadExpr) → fault ≢ BadExpr.Memory →
         Tells result fault (IsFault one_way fault bytes.now) }
 {
-    read(alloc, bytes)
+    read(alloc, false, bytes)
+}
+
+/// The expression that these bytes are the text of, as [`read_expr`] reads it, where a `^` before a
+/// label takes it backwards.
+///
+/// Blanks may follow the `^`, and it isn't counted among the signs. What `read_expr` reads is read
+/// as the same expression.
+pub fn read_two_way(alloc: Global, bytes: &[u8]) -> Result<Expr, BadExpr>
+    requires { length bytes.now < 2 ^ 24 + 1 }
+    // The answer is the outcome of these bytes, unless memory runs out.
+    ensures outcome { MatchResult result
+        (λ found. IsTwoWayOutcome bytes.now (Ok (expression found)))
+        (λ fault. fault ≢ BadExpr.Memory → IsTwoWayOutcome bytes.now (Err fault)) }
+    // So what is read has this text, and no fault shows in it.
+    ensures found { IfOk result (λ found. IsTwoWayText bytes.now (expression found)) }
+    ensures within { OnOk result (IsWithinLimits two_way bytes.now) }
+    ensures small { IfOk result (λ found. nodes (expression found) < 2 ^ 32) }
+    // Each text of an expression that is within the limits is read, unless memory runs out.
+    ensures whole { (e : Expression) → IsTwoWayText bytes.now e → IsWithinLimits two_way bytes.now →
+        MatchResult result (λ found. expression found ≡ e) (λ fault. fault ≡ BadExpr.Memory) }
+    // Each fault comes exactly where it shows first, unless memory runs out.
+    ensures fault { (fault : BadExpr) → fault ≢ BadExpr.Memory →
+        Tells result fault (IsFault two_way fault bytes.now) }
+{
+    read(alloc, true, bytes)
 }

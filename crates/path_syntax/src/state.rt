@@ -1,7 +1,7 @@
 //! Where the reader of an expression stands, and the step that a byte makes.
 
-ghost use Rattle.std.specs.Prelude.{◌≡◌, ◌≢◌, false, List, [], ◌∷◌, ◌++◌, None, Some, IfOk};
-ghost use Rattle.std.specs.Prelude.{option_map};
+ghost use Rattle.std.specs.Prelude.{◌≡◌, ◌≢◌, List, [], ◌∷◌, ◌++◌, None, Some, IfOk};
+ghost use Rattle.std.specs.Prelude.{option_map, false};
 ghost use Rattle.rpq_base.specs.Names.{IsName};
 ghost use Rattle.path_syntax.specs.Expression.{expression, Atom};
 ghost use Rattle.path_syntax.specs.Grammar.{label_with};
@@ -9,7 +9,7 @@ ghost use Rattle.path_syntax.specs.Reading.{in_sequence, in_alternatives, whole_
 ghost use Rattle.path_syntax.specs.Reading.{after_element, after_primary, in_operand, in_bare};
 ghost use Rattle.path_syntax.specs.Reading.{in_quotes, in_escape, ended_label, step, name_length};
 ghost use Rattle.path_syntax.specs.Reading.{takes_operand, is_outside, closed, whole_of, initial};
-ghost use Rattle.path_syntax.specs.Reading.{IsReady};
+ghost use Rattle.path_syntax.specs.Reading.{IsReady, Operand, state_with, empty_frame};
 ghost use Rattle.path_syntax.specs.Views.{frame_of, frames_of, state_of, mode_of, before_of};
 
 use crate::byte_kind::{Kind, kind_of};
@@ -38,8 +38,8 @@ pub(crate) struct BegunLabel {
 /// What stands directly before the byte that is read next.
 #[derive(Debug, Drop)]
 pub(crate) enum Mode {
-    /// A sign behind which an operand is to come, or nothing.
-    Operand,
+    /// A sign behind which an operand is to come, or nothing. Behind a `^` it is a label.
+    Operand { back: bool },
     /// A bare label, which may go on.
     BareLabel(BegunLabel),
     /// A quote and the label so far.
@@ -117,8 +117,14 @@ fn after_element(
 {
     let (frame, mode) = match kind {
         Kind::Blank => (frame, Mode::Element(element)),
-        Kind::Slash => (with_element(alloc, frame, element)?, Mode::Operand),
-        Kind::Bar => (with_sequence(alloc, frame, element)?, Mode::Operand),
+        Kind::Slash => (
+            with_element(alloc, frame, element)?,
+            Mode::Operand { back: false },
+        ),
+        Kind::Bar => (
+            with_sequence(alloc, frame, element)?,
+            Mode::Operand { back: false },
+        ),
         Kind::Close => return Ok(closed(outer, whole_with(alloc, frame, element)?)),
         _ => return Ok(None),
     };
@@ -173,46 +179,56 @@ fn after_primary(
     Ok(Some(State { outer, frame, mode }))
 }
 
-/// What may stand where an operand is to come: a blank, `(` or the beginning of a label.
+/// What may stand where an operand is to come: a blank, the beginning of a label, `(`, and `^`
+/// where inverses are read. Behind `^` it is a blank or the beginning of a label alone.
 fn in_operand(
     alloc: Global,
-    mut outer: Vec<Frame>,
+    inverses: bool,
+    outer: Vec<Frame>,
     frame: Frame,
+    back: bool,
     kind: Kind,
     byte: u8,
 ) -> Result<Option<State>, Memory>
     ensures { IfOk result (λ next. option_map state_of next ≡
-        in_operand (frames_of outer.items) (frame_of frame) kind byte) }
+        in_operand inverses (frames_of outer.items) (frame_of frame) back kind byte) }
 {
     let mode = match kind {
-        Kind::Blank => Mode::Operand,
-        Kind::Quote => Mode::QuotedLabel(BegunLabel::new(alloc)),
-        Kind::Bare => Mode::BareLabel(BegunLabel::new(alloc).with_byte(byte)?),
-        Kind::Open => {
-            outer.push(frame)?;
-            return Ok(Some(State {
-                outer,
-                frame: Frame {
-                    alternatives: None,
-                    sequence: None,
-                },
-                mode: Mode::Operand,
-            }));
-        }
+        Kind::Blank => Mode::Operand { back },
+        Kind::Quote => Mode::QuotedLabel(BegunLabel::new(alloc, back)),
+        Kind::Bare => Mode::BareLabel(BegunLabel::new(alloc, back).with_byte(byte)?),
+        Kind::Open if !back => return Ok(Some(opened(outer, frame)?)),
+        Kind::Caret if inverses && !back => Mode::Operand { back: true },
         _ => return Ok(None),
     };
     Ok(Some(State { outer, frame, mode }))
 }
 
+/// The state behind a `(`.
+fn opened(mut outer: Vec<Frame>, frame: Frame) -> Result<State, Memory>
+    ensures { IfOk result (λ next. state_of next ≡
+        state_with (frame_of frame ∷ frames_of outer.items) empty_frame (Operand false)) }
+{
+    outer.push(frame)?;
+    Ok(State {
+        outer,
+        frame: Frame {
+            alternatives: None,
+            sequence: None,
+        },
+        mode: Mode::Operand { back: false },
+    })
+}
+
 impl BegunLabel {
-    /// No byte of a label that points forwards.
-    fn new(alloc: Global) -> BegunLabel
+    /// No byte of a label yet.
+    fn new(alloc: Global, back: bool) -> BegunLabel
         ensures name { result.name.items ≡ [] }
-        ensures back { result.back ≡ false }
+        ensures back { result.back ≡ back }
     {
         BegunLabel {
             name: Vec::new(alloc),
-            back: false,
+            back,
         }
     }
 
@@ -340,19 +356,25 @@ impl State {
                 alternatives: None,
                 sequence: None,
             },
-            mode: Mode::Operand,
+            mode: Mode::Operand { back: false },
         }
     }
 
     /// The state after one more byte, if it can go on.
-    pub(crate) fn step(self, alloc: Global, byte: u8) -> Result<Option<State>, Memory>
+    pub(crate) fn step(
+        self,
+        alloc: Global,
+        inverses: bool,
+        byte: u8,
+    ) -> Result<Option<State>, Memory>
         requires { IsReady (mode_of self.mode) }
-        ensures { IfOk result (λ next. option_map state_of next ≡ step (state_of self) byte) }
+        ensures { IfOk result (λ next. option_map state_of next ≡
+            step inverses (state_of self) byte) }
     {
         let State { outer, frame, mode } = self;
         let kind = kind_of(byte);
         match mode {
-            Mode::Operand => in_operand(alloc, outer, frame, kind, byte),
+            Mode::Operand { back } => in_operand(alloc, inverses, outer, frame, back, kind, byte),
             Mode::BareLabel(label) => in_bare(alloc, outer, frame, label, kind, byte),
             Mode::QuotedLabel(label) => in_quotes(alloc, outer, frame, label, kind, byte),
             Mode::Escape(label) => in_escape(outer, frame, label, kind, byte),
@@ -376,7 +398,7 @@ impl State {
     pub(crate) fn takes_operand(&self) -> bool
         ensures { result ≡ takes_operand (mode_of self.now.mode) }
     {
-        matches!(self.mode, Mode::Operand)
+        matches!(self.mode, Mode::Operand { .. })
     }
 
     /// Whether the next byte stands outside quotes.

@@ -2,7 +2,6 @@
 
 ghost use Rattle.std.specs.Prelude.{◌≡◌, ◌∷◌, [], ◌++◌, not, IfOk, OnOk};
 ghost use Rattle.path_syntax.specs.Expression.{expression};
-ghost use Rattle.path_syntax.specs.Plain.{IsPlainExpression};
 ghost use Rattle.path_syntax.specs.Written.{is_atom, is_seq, is_alt, grouped, written_expression};
 ghost use Rattle.path_syntax.specs.Written.{IsNamed};
 
@@ -11,11 +10,10 @@ use crate::label_text::push_label;
 use rpq_base::Memory;
 use std::alloc::Global;
 
-/// The written form of an expression: no blanks, quotes only round labels that need them,
-/// parentheses only where the operators wouldn't group so without them. Goes over the expression
-/// once.
+/// The written form of an expression: no blanks, `^` before a label that is taken backwards, quotes
+/// only round labels that need them, parentheses only where the operators wouldn't group so without
+/// them. Goes over the expression once.
 pub fn write_expr(alloc: Global, expr: &Expr) -> Result<Vec<u8>, Memory>
-    requires { IsPlainExpression (expression expr.now) }
     ensures text { IfOk result (λ text. text.items ≡ written_expression (expression expr.now)) }
     ensures named { OnOk result (IsNamed (expression expr.now)) }
 {

@@ -7,6 +7,7 @@ use Rattle.text_parts.specs.Numbers.{number_within}
 use Rattle.rpq_base.specs.Names.{is_name}
 use Rattle.rpq_base.proofs.Members.{cons_members, none_in}
 use Rattle.path_syntax.specs.Reading.{kind_of, read_byte, reading}
+use Rattle.path_syntax.specs.Grammar.{one_way}
 use Rattle.path_syntax.specs.Faults.{IsOutcome, Faulty}
 use Rattle.path_syntax.specs.declared.read.BadExpr.TheVariants.{Unexpected, Ended}
 use Rattle.path_syntax.proofs.Answering.{has_fault}
@@ -38,7 +39,7 @@ line_parts slide mode expr are = record {
 }
 
 -- there is room for one query
-first_room : (parts : LineParts) → HasLengths parts → HasRoom [] parts
+pub first_room : (parts : LineParts) → HasLengths parts → HasRoom [] parts
 first_room parts has = record {
   name = record { lengths = has; new = λ taken. none_in parts.name taken };
   room = omega arith;
@@ -57,21 +58,21 @@ examples = record {
   greatest = refl;
   beyond = refl;
   zeros = refl;
-  number = λ before. first_fault before (codes "query q window 10 slide 0 simple:") Number
+  number = λ before. first_fault one_way before (codes "query q window 10 slide 0 simple:") Number
       (_, line_parts (codes "0") Simple [] refl, λ lengths. absurd (false≢true lengths.slide));
-  twice = λ query is. first_fault (query ∷ []) (codes "query q window 10 slide 2 arbitrary: ||") (Twice (codes "q"))
+  twice = λ query is. first_fault one_way (query ∷ []) (codes "query q window 10 slide 2 arbitrary: ||") (Twice (codes "q"))
       (_, line_parts (codes "2") Arbitrary (codes " ||") refl, (record { size = refl; slide = refl }, refl, (cons_members query.name [] (codes "q")).1 (inl is)));
-  place = first_fault [] (codes "query q window 10 slide 2 arbitrary: a||b") (Expr (Unexpected 4))
-      (_, line_parts (codes "2") Arbitrary (codes " a||b") refl, (first_room _ (record { size = refl; slide = refl }), Faulty (Unexpected 4) (has_fault (codes " a||b") (Unexpected 4) refl)));
-  empty = first_fault [] (codes "query q window 10 slide 2 arbitrary:") (Expr Ended)
-      (_, line_parts (codes "2") Arbitrary [] refl, (first_room _ (record { size = refl; slide = refl }), Faulty Ended (has_fault [] Ended refl)));
-  refused = (_, line_parts (codes "5") Simple (codes " a/b") refl, (a_then_b, refl, outcome (codes " a/b"), least_of_two));
+  place = first_fault one_way [] (codes "query q window 10 slide 2 arbitrary: a||b") (Expr (Unexpected 4))
+      (_, line_parts (codes "2") Arbitrary (codes " a||b") refl, (first_room _ (record { size = refl; slide = refl }), Faulty (Unexpected 4) (has_fault one_way (codes " a||b") (Unexpected 4) refl)));
+  empty = first_fault one_way [] (codes "query q window 10 slide 2 arbitrary:") (Expr Ended)
+      (_, line_parts (codes "2") Arbitrary [] refl, (first_room _ (record { size = refl; slide = refl }), Faulty Ended (has_fault one_way [] Ended refl)));
+  refused = (_, line_parts (codes "5") Simple (codes " a/b") refl, (a_then_b, refl, outcome one_way (codes " a/b"), least_of_two));
   accepted = λ p q w fault.
       let (e, simple, read, least) =
       at_parts (codes "query q window 10 slide 5 simple: a+") (λ parts. (e : Expression) × (parts.mode ≡ Simple) × IsOutcome parts.expr (Ok e)
       × IsLeastTriple (In e) p q w) _ (line_parts (codes "5") Simple (codes " a+") refl) fault in
       contained_has_none (In some_a) p q w some_a_contained
-      (subst (λ (f : Expression). IsLeastTriple (In f) p q w) (one_expression (codes " a+") e some_a read (outcome (codes " a+"))) least);
+      (subst (λ (f : Expression). IsLeastTriple (In f) p q w) (one_expression one_way (codes " a+") e some_a read (outcome one_way (codes " a+"))) least);
   lacking = PassedOver [] 0 [] (codes " # no query" ∷ []) (Err (fault_at 2 NoQuery)) (inl refl)
       (PassedOver [] 1 (codes " # no query") [] (Err (fault_at 2 NoQuery)) (inr refl) (NoneAtEnd 2));
   last = λ before line e f. omega (arith, e, f);

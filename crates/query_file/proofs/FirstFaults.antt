@@ -1,9 +1,9 @@
 -- The first fault of a line is the first in the order of the kinds.
-use Rattle.std.proofs.Common.{◌≡◌, ℕ, ◌<◌, ◌≤◌, ◌⊎◌, inl, inr, List, Option, Some, None, Ok, Err, refl, sym, subst, arith}
+use Rattle.std.proofs.Common.{Bool, ◌≡◌, ℕ, ◌<◌, ◌≤◌, ◌⊎◌, inl, inr, List, Option, Some, None, Ok, Err, refl, sym, subst, arith}
 use Rattle.std.specs.Prelude.{IsSome}
 use Rattle.std.proofs.lemmas.Bool.{false≢true, cases_lt}
 use Rattle.path_syntax.specs.Expression.{Expression}
-use Rattle.path_syntax.specs.Faults.{IsOutcome}
+use Rattle.path_syntax.specs.Faults.{IsOutcomeOf}
 use Rattle.path_syntax.specs.Size.{atoms}
 use Rattle.path_syntax.specs.declared.read.BadExpr.{BadExpr}
 use Rattle.path_syntax.proofs.Answering.{one_outcome}
@@ -25,19 +25,19 @@ pub at_parts : (line : List ℕ) (P : LineParts → Type 0) (parts : LineParts) 
 at_parts line P parts has (others, was, p) = subst P (one_parts line others parts was has) p
 
 -- a text is that of one expression
-pub one_expression : (text : List ℕ) (e f : Expression) → IsOutcome text (Ok e) → IsOutcome text (Ok f) → e ≡ f
-one_expression text e f one other = let same = (one_outcome text).one (Ok e) (Ok f) one other in cc same
+pub one_expression : (inverses : Bool) (text : List ℕ) (e f : Expression) → IsOutcomeOf inverses text (Ok e) → IsOutcomeOf inverses text (Ok f) → e ≡ f
+one_expression inverses text e f one other = let same = (one_outcome inverses text).one (Ok e) (Ok f) one other in cc same
 
 -- a text with an expression has no fault
-pub no_fault_of : (text : List ℕ) (e : Expression) (fault : BadExpr) → IsOutcome text (Ok e) → IsOutcome text (Err fault) → ⊥
-no_fault_of text e fault one other = let same = (one_outcome text).one (Ok e) (Err fault) one other in absurd (cc same)
+pub no_fault_of : (inverses : Bool) (text : List ℕ) (e : Expression) (fault : BadExpr) → IsOutcomeOf inverses text (Ok e) → IsOutcomeOf inverses text (Err fault) → ⊥
+no_fault_of inverses text e fault one other = let same = (one_outcome inverses text).one (Ok e) (Err fault) one other in absurd (cc same)
 
 -- what holds of some expression of the line holds of the one that is known
-pub at_expression : (line : List ℕ) (P : Expression → Type 0) (parts : LineParts) (e : Expression) → HasParts line parts → IsOutcome parts.expr (Ok e) →
-    ForExpression line P → P e
-at_expression line P parts e has outcome for_one =
-    let found = at_parts line (λ p. (f : Expression) × IsOutcome p.expr (Ok f) × P f) parts has for_one in
-    subst P (one_expression parts.expr found.0 e found.1 outcome) found.2
+pub at_expression : (inverses : Bool) (line : List ℕ) (P : Expression → Type 0) (parts : LineParts) (e : Expression) → HasParts line parts → IsOutcomeOf inverses parts.expr (Ok e) →
+    ForExpression inverses line P → P e
+at_expression inverses line P parts e has outcome for_one =
+    let found = at_parts line (λ p. (f : Expression) × IsOutcomeOf inverses p.expr (Ok f) × P f) parts has for_one in
+    subst P (one_expression inverses parts.expr found.0 e found.1 outcome) found.2
 
 none_from : (found : Option ℕ) → (IsSome found → ⊥) → found ≡ None
 none_from None no_some = refl
@@ -54,20 +54,20 @@ contained_has_none language p q w contained least =
 -- ---- which faults are left
 
 -- what is known of a line with these parts that has no fault of a number below n
-record Facts (before : List Query) (parts : LineParts) (n : ℕ) : Type 0 where
+record Facts (inverses : Bool) (before : List Query) (parts : LineParts) (n : ℕ) : Type 0 where
   lengths : 2 < n → HasLengths parts
   name : 3 < n → HasNewName before parts
   room : 4 < n → HasRoom before parts
-  expression : 6 < n → (e : Expression) × HasExpression before parts e
-  labels : 7 < n → (e : Expression) × HasFewLabels before parts e
-  states : 8 < n → (e : Expression) × HasFewStates before parts e
-  accepted : 9 < n → (e : Expression) × IsOutcome parts.expr (Ok e) × (parts.mode ≡ Simple → Contained (In e))
+  expression : 6 < n → (e : Expression) × HasExpression inverses before parts e
+  labels : 7 < n → (e : Expression) × HasFewLabels inverses before parts e
+  states : 8 < n → (e : Expression) × HasFewStates inverses before parts e
+  accepted : 9 < n → (e : Expression) × IsOutcomeOf inverses parts.expr (Ok e) × (parts.mode ≡ Simple → Contained (In e))
 
 -- then each of its faults has a number from n on
-left : (before : List Query) (line : List ℕ) (parts : LineParts) (n : ℕ) → HasParts line parts → Facts before parts n →
-    (other : QueryKind) → HasFault before line other → n ≤ number_of other
-left before line parts n has facts Shape fault = absurd (fault parts has)
-left before line parts n has facts Number fault = elim (cases_lt 2 n) [
+left : (inverses : Bool) (before : List Query) (line : List ℕ) (parts : LineParts) (n : ℕ) → HasParts line parts → Facts inverses before parts n →
+    (other : QueryKind) → HasFault inverses before line other → n ≤ number_of other
+left inverses before line parts n has facts Shape fault = absurd (fault parts has)
+left inverses before line parts n has facts Number fault = elim (cases_lt 2 n) [
   | inr done ↦ done
   | inl less ↦
       let lengths = facts.lengths less in
@@ -76,47 +76,47 @@ left before line parts n has facts Number fault = elim (cases_lt 2 n) [
         | inr none ↦ absurd (some_not_none (length_of parts.slide) lengths.slide none)
       ]
 ]
-left before line parts n has facts (Twice name) fault = elim (cases_lt 3 n) [
+left inverses before line parts n has facts (Twice name) fault = elim (cases_lt 3 n) [
   | inr done ↦ done
   | inl less ↦
       let both = at_parts line (λ p. (p.name ≡ name) × IsTaken before name) parts has fault in
       absurd ((facts.name less).new (subst (IsTaken before) (sym both.0) both.1))
 ]
-left before line parts n has facts TooMany fault = elim (cases_lt 4 n) [
+left inverses before line parts n has facts TooMany fault = elim (cases_lt 4 n) [
   | inr done ↦ done
   | inl less ↦ let room = (facts.room less).room in absurd (omega (arith, room, fault))
 ]
-left before line parts n has facts NoQuery fault = absurd fault
-left before line parts n has facts (Expr bad) fault = elim (cases_lt 6 n) [
+left inverses before line parts n has facts NoQuery fault = absurd fault
+left inverses before line parts n has facts (Expr bad) fault = elim (cases_lt 6 n) [
   | inr done ↦ done
   | inl less ↦
       let known = facts.expression less in
-      absurd (no_fault_of parts.expr known.0 bad known.1.outcome (at_parts line (λ p. IsOutcome p.expr (Err bad)) parts has fault))
+      absurd (no_fault_of inverses parts.expr known.0 bad known.1.outcome (at_parts line (λ p. IsOutcomeOf inverses p.expr (Err bad)) parts has fault))
 ]
-left before line parts n has facts (TooManyLabels count) fault = elim (cases_lt 7 n) [
+left inverses before line parts n has facts (TooManyLabels count) fault = elim (cases_lt 7 n) [
   | inr done ↦ done
   | inl less ↦
       let known = facts.labels less in
       let few = known.1.few in
-      let both = at_expression line (λ e. (atoms e ≡ count) × (64 < count)) parts known.0 has known.1.expression.outcome fault in
+      let both = at_expression inverses line (λ e. (atoms e ≡ count) × (64 < count)) parts known.0 has known.1.expression.outcome fault in
       absurd (omega (arith, few, both.0, both.1))
 ]
-left before line parts n has facts TooManyStates fault = elim (cases_lt 8 n) [
+left inverses before line parts n has facts TooManyStates fault = elim (cases_lt 8 n) [
   | inr done ↦ done
   | inl less ↦
       let known = facts.states less in
-      absurd (known.1.few (at_expression line NeedsManyStates parts known.0 has known.1.labels.expression.outcome fault))
+      absurd (known.1.few (at_expression inverses line NeedsManyStates parts known.0 has known.1.labels.expression.outcome fault))
 ]
-left before line parts n has facts (NotContained p q w) fault = elim (cases_lt 9 n) [
+left inverses before line parts n has facts (NotContained p q w) fault = elim (cases_lt 9 n) [
   | inr done ↦ done
   | inl less ↦
       let (e, outcome, contained) = facts.accepted less in
       let (f, simple, other, least) =
-      at_parts line (λ part. (f : Expression) × (part.mode ≡ Simple) × IsOutcome part.expr (Ok f) × IsLeastTriple (In f) p q w) parts has fault in
+      at_parts line (λ part. (f : Expression) × (part.mode ≡ Simple) × IsOutcomeOf inverses part.expr (Ok f) × IsLeastTriple (In f) p q w) parts has fault in
       absurd (contained_has_none (In e) p q w (contained simple)
-      (subst (λ (g : Expression). IsLeastTriple (In g) p q w) (one_expression parts.expr f e other outcome) least))
+      (subst (λ (g : Expression). IsLeastTriple (In g) p q w) (one_expression inverses parts.expr f e other outcome) least))
 ]
-left before line parts n has facts Memory fault = absurd fault
+left inverses before line parts n has facts Memory fault = absurd fault
 
 -- each kind has a number from 1 to 10
 least_number : (kind : QueryKind) → 1 ≤ number_of kind
@@ -145,8 +145,8 @@ greatest_number Memory = omega arith
 
 -- ---- from the order
 
-known_lengths : (before : List Query) (parts : LineParts) → HasLengths parts → Facts before parts 3
-known_lengths before parts has = record {
+known_lengths : (inverses : Bool) (before : List Query) (parts : LineParts) → HasLengths parts → Facts inverses before parts 3
+known_lengths inverses before parts has = record {
   lengths = λ less. has;
   name = λ less. absurd (omega (arith, less));
   room = λ less. absurd (omega (arith, less));
@@ -156,8 +156,8 @@ known_lengths before parts has = record {
   accepted = λ less. absurd (omega (arith, less));
 }
 
-known_name : (before : List Query) (parts : LineParts) → HasNewName before parts → Facts before parts 4
-known_name before parts has = record {
+known_name : (inverses : Bool) (before : List Query) (parts : LineParts) → HasNewName before parts → Facts inverses before parts 4
+known_name inverses before parts has = record {
   lengths = λ less. has.lengths;
   name = λ less. has;
   room = λ less. absurd (omega (arith, less));
@@ -167,8 +167,8 @@ known_name before parts has = record {
   accepted = λ less. absurd (omega (arith, less));
 }
 
-known_room : (before : List Query) (parts : LineParts) → HasRoom before parts → Facts before parts 6
-known_room before parts has = record {
+known_room : (inverses : Bool) (before : List Query) (parts : LineParts) → HasRoom before parts → Facts inverses before parts 6
+known_room inverses before parts has = record {
   lengths = λ less. has.name.lengths;
   name = λ less. has.name;
   room = λ less. has;
@@ -178,8 +178,8 @@ known_room before parts has = record {
   accepted = λ less. absurd (omega (arith, less));
 }
 
-known_expression : (before : List Query) (parts : LineParts) (e : Expression) → HasExpression before parts e → Facts before parts 7
-known_expression before parts e has = record {
+known_expression : (inverses : Bool) (before : List Query) (parts : LineParts) (e : Expression) → HasExpression inverses before parts e → Facts inverses before parts 7
+known_expression inverses before parts e has = record {
   lengths = λ less. has.room.name.lengths;
   name = λ less. has.room.name;
   room = λ less. has.room;
@@ -189,8 +189,8 @@ known_expression before parts e has = record {
   accepted = λ less. absurd (omega (arith, less));
 }
 
-known_labels : (before : List Query) (parts : LineParts) (e : Expression) → HasFewLabels before parts e → Facts before parts 8
-known_labels before parts e has = record {
+known_labels : (inverses : Bool) (before : List Query) (parts : LineParts) (e : Expression) → HasFewLabels inverses before parts e → Facts inverses before parts 8
+known_labels inverses before parts e has = record {
   lengths = λ less. has.expression.room.name.lengths;
   name = λ less. has.expression.room.name;
   room = λ less. has.expression.room;
@@ -200,9 +200,9 @@ known_labels before parts e has = record {
   accepted = λ less. absurd (omega (arith, less));
 }
 
-known_states : (before : List Query) (parts : LineParts) (e : Expression) (n : ℕ) → HasFewStates before parts e →
-    (9 < n → parts.mode ≡ Simple → Contained (In e)) → Facts before parts n
-known_states before parts e n has contained = record {
+known_states : (inverses : Bool) (before : List Query) (parts : LineParts) (e : Expression) (n : ℕ) → HasFewStates inverses before parts e →
+    (9 < n → parts.mode ≡ Simple → Contained (In e)) → Facts inverses before parts n
+known_states inverses before parts e n has contained = record {
   lengths = λ less. has.labels.expression.room.name.lengths;
   name = λ less. has.labels.expression.room.name;
   room = λ less. has.labels.expression.room;
@@ -221,11 +221,11 @@ no_length parts none = by (length_of parts.size) refl
     by (Some time) is = inr (none_from (length_of parts.slide) (λ slide. none (record { size = subst IsSome (sym is) refl; slide = slide })))
 
 -- the first in the order is the first fault
-pub first_fault : (before : List Query) (line : List ℕ) (kind : QueryKind) → IsFirstInOrder before line kind → IsFirstFault before line kind
-first_fault before line Shape none = record { has = none; least = λ other fault. least_number other }
-first_fault before line Number (parts, has, none) = record {
+pub first_fault : (inverses : Bool) (before : List Query) (line : List ℕ) (kind : QueryKind) → IsFirstInOrder inverses before line kind → IsFirstFault inverses before line kind
+first_fault inverses before line Shape none = record { has = none; least = λ other fault. least_number other }
+first_fault inverses before line Number (parts, has, none) = record {
   has = (parts, has, no_length parts none);
-  least = left before line parts 2 has (record {
+  least = left inverses before line parts 2 has (record {
     lengths = λ less. absurd (omega (arith, less));
     name = λ less. absurd (omega (arith, less));
     room = λ less. absurd (omega (arith, less));
@@ -235,38 +235,38 @@ first_fault before line Number (parts, has, none) = record {
     accepted = λ less. absurd (omega (arith, less));
   });
 }
-first_fault before line (Twice name) (parts, has, (lengths, is, taken)) = record {
+first_fault inverses before line (Twice name) (parts, has, (lengths, is, taken)) = record {
   has = (parts, has, (is, taken));
-  least = left before line parts 3 has (known_lengths before parts lengths);
+  least = left inverses before line parts 3 has (known_lengths inverses before parts lengths);
 }
-first_fault before line TooMany (parts, has, (new, many)) = record {
+first_fault inverses before line TooMany (parts, has, (new, many)) = record {
   has = many;
-  least = left before line parts 4 has (known_name before parts new);
+  least = left inverses before line parts 4 has (known_name inverses before parts new);
 }
-first_fault before line NoQuery none = absurd none
-first_fault before line (Expr fault) (parts, has, (room, outcome)) = record {
+first_fault inverses before line NoQuery none = absurd none
+first_fault inverses before line (Expr fault) (parts, has, (room, outcome)) = record {
   has = (parts, has, outcome);
-  least = left before line parts 6 has (known_room before parts room);
+  least = left inverses before line parts 6 has (known_room inverses before parts room);
 }
-first_fault before line (TooManyLabels count) (parts, has, (e, expression, are, many)) = record {
+first_fault inverses before line (TooManyLabels count) (parts, has, (e, expression, are, many)) = record {
   has = (parts, has, (e, expression.outcome, (are, many)));
-  least = left before line parts 7 has (known_expression before parts e expression);
+  least = left inverses before line parts 7 has (known_expression inverses before parts e expression);
 }
-first_fault before line TooManyStates (parts, has, (e, labels, many)) = record {
+first_fault inverses before line TooManyStates (parts, has, (e, labels, many)) = record {
   has = (parts, has, (e, labels.expression.outcome, many));
-  least = left before line parts 8 has (known_labels before parts e labels);
+  least = left inverses before line parts 8 has (known_labels inverses before parts e labels);
 }
-first_fault before line (NotContained p q w) (parts, has, (e, states, simple, least)) = record {
+first_fault inverses before line (NotContained p q w) (parts, has, (e, states, simple, least)) = record {
   has = (parts, has, (e, simple, states.labels.expression.outcome, least));
-  least = left before line parts 9 has (known_states before parts e 9 states (λ less. absurd (omega (arith, less))));
+  least = left inverses before line parts 9 has (known_states inverses before parts e 9 states (λ less. absurd (omega (arith, less))));
 }
-first_fault before line Memory none = absurd none
+first_fault inverses before line Memory none = absurd none
 
 -- a line without a fault in the order has none
-pub line_of : (before : List Query) (line : List ℕ) (query : Query) → IsLineInOrder before line query → IsLineOf before line query
-line_of before line query is = record {
+pub line_of : (inverses : Bool) (before : List Query) (line : List ℕ) (query : Query) → IsLineInOrder inverses before line query → IsLineOf inverses before line query
+line_of inverses before line query is = record {
   no_fault = λ kind fault.
-      let above = left before line is.parts 11 is.has (known_states before is.parts query.expr 11 is.states (λ less. is.contained)) kind fault in
+      let above = left inverses before line is.parts 11 is.has (known_states inverses before is.parts query.expr 11 is.states (λ less. is.contained)) kind fault in
       let most = greatest_number kind in
       absurd (omega (arith, above, most));
   parts = is.parts;

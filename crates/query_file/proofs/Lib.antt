@@ -14,4 +14,5 @@ pub mod SimpleExamples
 pub mod Taken
 pub mod Taking
 pub mod Texts
+pub mod TwoWayExamples
 pub mod Verdicts

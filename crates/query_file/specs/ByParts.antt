@@ -1,11 +1,12 @@
--- What a queries file gives, by its parts: without going through it line by line.
+-- What a queries file gives, by its parts: without going through it line by line. Whether a '^'
+-- before a label takes it backwards is said by `inverses`.
 use Rattle.std.specs.Prelude.{◌≡◌, ◌≢◌, ℕ, ◌+◌, Bool, not, ◌||◌, ◌⊎◌, ◌↔◌, List, [], ◌∷◌, ◌++◌}
 use Rattle.std.specs.Prelude.{length, take, filter, Some, slice_get, Ok, Err}
 use Rattle.text_parts.specs.Lines.{lines, is_blank_line, is_comment}
 use Rattle.rpq_model.specs.Query.{Query}
 use Rattle.query_file.specs.declared.fault.QueryFault.{QueryFault}
 use Rattle.query_file.specs.declared.fault.QueryKind.TheVariants.{NoQuery}
-use Rattle.query_file.specs.Queries.{IsQueryLine, fault_at, Queries}
+use Rattle.query_file.specs.Queries.{IsQueryLine, fault_at, QueriesOf}
 use Rattle.query_file.specs.QueryLine.{IsFirstFault, IsLineOf}
 
 -- whether a line is neither blank nor a comment
@@ -18,23 +19,25 @@ query_lines all = filter is_query_line all
 
 -- the queries of these lines: one for each that is neither blank nor a comment, in their order;
 -- each line has no fault behind the queries before its own
-pub record AreQueriesOf (all : List (List ℕ)) (queries : List Query) : Type 0 where
+pub record AreQueriesOf (inverses : Bool) (all : List (List ℕ))
+    (queries : List Query) : Type 0 where
   pub as_many : length queries ≡ length (query_lines all)
   pub each : (place : ℕ) (line : List ℕ) (query : Query) →
       slice_get (query_lines all) place ≡ Some line → slice_get queries place ≡ Some query →
-      IsLineOf (take place queries) line query
+      IsLineOf inverses (take place queries) line query
 
 -- the fault is that of a line; the lines in front of it have none, and give these queries
-pub record HasFirstFault (all : List (List ℕ)) (fault : QueryFault) : Type 0 where
+pub record HasFirstFault (inverses : Bool) (all : List (List ℕ))
+    (fault : QueryFault) : Type 0 where
   pub front : List (List ℕ)
   pub line : List ℕ
   pub rest : List (List ℕ)
   pub queries : List Query
   pub split : all ≡ front ++ line ∷ rest
-  pub good : AreQueriesOf front queries
+  pub good : AreQueriesOf inverses front queries
   pub is_one : IsQueryLine line
   pub number : fault.line ≡ length front + 1
-  pub first : IsFirstFault queries line fault.kind
+  pub first : IsFirstFault inverses queries line fault.kind
 
 -- no line is a query, which is the fault
 abbrev pub LacksQuery : List (List ℕ) → QueryFault → Type 0
@@ -42,9 +45,10 @@ LacksQuery all fault = (query_lines all ≡ []) × (fault ≡ fault_at (length a
 
 -- a file gives the queries of its lines, if there are any; or the first fault of a line, or that
 -- no line is a query
-pub record QueriesByParts : Type 0 where
+pub record QueriesByParts (inverses : Bool) : Type 0 where
   pub ok : (bytes : List ℕ) (queries : List Query) →
-      Queries bytes (Ok queries) ↔ ((queries ≢ []) × AreQueriesOf (lines bytes) queries)
+      QueriesOf inverses bytes (Ok queries)
+      ↔ ((queries ≢ []) × AreQueriesOf inverses (lines bytes) queries)
   pub err : (bytes : List ℕ) (fault : QueryFault) →
-      Queries bytes (Err fault)
-      ↔ (HasFirstFault (lines bytes) fault ⊎ LacksQuery (lines bytes) fault)
+      QueriesOf inverses bytes (Err fault)
+      ↔ (HasFirstFault inverses (lines bytes) fault ⊎ LacksQuery (lines bytes) fault)

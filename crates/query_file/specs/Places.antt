@@ -1,6 +1,6 @@
 -- What the reader of a line knows before it makes the automaton. No public contract cites this
 -- file.
-use Rattle.std.specs.Prelude.{◌≡◌, ℕ, ◌≤◌, List, length, Some}
+use Rattle.std.specs.Prelude.{◌≡◌, ℕ, ◌≤◌, Bool, List, length, Some}
 use Rattle.rpq_base.specs.declared.data.Label.{Label}
 use Rattle.containment_test.specs.Containment.{IsLeastTriple}
 use Rattle.rpq_model.specs.declared.mode.Mode.{Mode}
@@ -35,10 +35,11 @@ IsRefusedBy language mode Memory = Unit {0}
 IsRefusedBy language mode _ = ⊥
 
 -- the line, which follows these queries, defines the query, whatever its mode and its automaton
-pub record IsDefinitionOf (before : List Query) (line : List ℕ) (query : Query) : Type 0 where
+pub record IsDefinitionOf (inverses : Bool) (before : List Query) (line : List ℕ)
+    (query : Query) : Type 0 where
   pub parts : LineParts
   pub has : HasParts line parts
-  pub expression : HasExpression before parts query.expr
+  pub expression : HasExpression inverses before parts query.expr
   pub name : query.name ≡ parts.name
   pub size : length_of parts.size ≡ Some query.window.size
   pub slide : length_of parts.slide ≡ Some query.window.slide

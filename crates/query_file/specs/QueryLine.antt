@@ -1,6 +1,7 @@
 -- A query line, `query NAME window SIZE slide SLIDE MODE EXPR`, and what may be wrong with it.
+-- Whether a '^' before a label takes it backwards is said by `inverses`.
 use Rattle.std.specs.Prelude.{◌≡◌, ℕ, ◌<◌, ◌≤◌, nat_le, ◌⊎◌, true, List, [], ◌∷◌, ◌++◌, length, map}
-use Rattle.std.specs.Prelude.{Contains, Option, Some, None, Ok, Err, codes, if◌then◌else◌}
+use Rattle.std.specs.Prelude.{Bool, Contains, Option, Some, None, Ok, Err, codes, if◌then◌else◌}
 use Rattle.std.specs.Option.{option_and_then}
 use Rattle.text_parts.specs.Lines.{is_blank}
 use Rattle.text_parts.specs.Fields.{fields}
@@ -8,7 +9,7 @@ use Rattle.text_parts.specs.Numbers.{number_within}
 use Rattle.rpq_base.specs.Names.{IsName}
 use Rattle.rpq_base.specs.declared.data.TheConstants.{MAX_TIME}
 use Rattle.path_syntax.specs.Expression.{Expression}
-use Rattle.path_syntax.specs.Faults.{IsOutcome}
+use Rattle.path_syntax.specs.Faults.{IsOutcomeOf}
 use Rattle.path_syntax.specs.Language.{In}
 use Rattle.path_syntax.specs.Size.{atoms}
 use Rattle.dfa_build.specs.Marked.{ArePositionsOf}
@@ -64,9 +65,9 @@ abbrev pub ForParts : List ℕ → (LineParts → Type 0) → Type 0
 ForParts line P = (parts : LineParts) × HasParts line parts × P parts
 
 -- the line has parts, and its expression, of which this holds, has no fault
-abbrev pub ForExpression : List ℕ → (Expression → Type 0) → Type 0
-ForExpression line P =
-    ForParts line (λ parts. (e : Expression) × IsOutcome parts.expr (Ok e) × P e)
+abbrev pub ForExpression : Bool → List ℕ → (Expression → Type 0) → Type 0
+ForExpression inverses line P =
+    ForParts line (λ parts. (e : Expression) × IsOutcomeOf inverses parts.expr (Ok e) × P e)
 
 -- words reach too many sets of the expression's positions
 abbrev pub NeedsManyStates : Expression → Type 0
@@ -74,22 +75,23 @@ NeedsManyStates e =
     (positions : PositionsValue) × ArePositionsOf e positions × HasManySets positions
 
 -- the line, which follows these queries, has the fault of this kind
-abbrev pub HasFault : List Query → List ℕ → QueryKind → Type 0
-HasFault before line Shape = (parts : LineParts) → HasParts line parts → ⊥
-HasFault before line Number = ForParts line (λ parts.
+abbrev pub HasFault : Bool → List Query → List ℕ → QueryKind → Type 0
+HasFault inverses before line Shape = (parts : LineParts) → HasParts line parts → ⊥
+HasFault inverses before line Number = ForParts line (λ parts.
     (length_of parts.size ≡ None) ⊎ (length_of parts.slide ≡ None))
-HasFault before line (Twice name) = ForParts line (λ parts.
+HasFault inverses before line (Twice name) = ForParts line (λ parts.
     (parts.name ≡ name) × Contains (map (λ query. query.name) before) name)
-HasFault before line TooMany = 64 ≤ length before
-HasFault before line NoQuery = ⊥
-HasFault before line (Expr fault) = ForParts line (λ parts. IsOutcome parts.expr (Err fault))
-HasFault before line (TooManyLabels count) =
-    ForExpression line (λ e. (atoms e ≡ count) × (64 < count))
-HasFault before line TooManyStates = ForExpression line NeedsManyStates
-HasFault before line (NotContained p q w) = ForParts line (λ parts.
-    (e : Expression) × (parts.mode ≡ Simple) × IsOutcome parts.expr (Ok e)
+HasFault inverses before line TooMany = 64 ≤ length before
+HasFault inverses before line NoQuery = ⊥
+HasFault inverses before line (Expr fault) =
+    ForParts line (λ parts. IsOutcomeOf inverses parts.expr (Err fault))
+HasFault inverses before line (TooManyLabels count) =
+    ForExpression inverses line (λ e. (atoms e ≡ count) × (64 < count))
+HasFault inverses before line TooManyStates = ForExpression inverses line NeedsManyStates
+HasFault inverses before line (NotContained p q w) = ForParts line (λ parts.
+    (e : Expression) × (parts.mode ≡ Simple) × IsOutcomeOf inverses parts.expr (Ok e)
     × IsLeastTriple (In e) p q w)
-HasFault before line Memory = ⊥
+HasFault inverses before line Memory = ⊥
 
 -- the number of the kind: of the faults of a line the one of the least number is told
 abbrev pub number_of : QueryKind → ℕ
@@ -105,17 +107,20 @@ number_of (NotContained p q w) = 9
 number_of Memory = 10
 
 -- the line has the fault, and none of a lesser number
-pub record IsFirstFault (before : List Query) (line : List ℕ) (kind : QueryKind) : Type 0 where
-  pub has : HasFault before line kind
-  pub least : (other : QueryKind) → HasFault before line other → number_of kind ≤ number_of other
+pub record IsFirstFault (inverses : Bool) (before : List Query) (line : List ℕ)
+    (kind : QueryKind) : Type 0 where
+  pub has : HasFault inverses before line kind
+  pub least : (other : QueryKind) → HasFault inverses before line other →
+      number_of kind ≤ number_of other
 
 -- the line, which follows these queries, has no fault, and is that of this query
-pub record IsLineOf (before : List Query) (line : List ℕ) (query : Query) : Type 0 where
-  pub no_fault : (kind : QueryKind) → HasFault before line kind → ⊥
+pub record IsLineOf (inverses : Bool) (before : List Query) (line : List ℕ)
+    (query : Query) : Type 0 where
+  pub no_fault : (kind : QueryKind) → HasFault inverses before line kind → ⊥
   pub parts : LineParts
   pub has : HasParts line parts
   pub name : query.name ≡ parts.name
   pub size : length_of parts.size ≡ Some query.window.size
   pub slide : length_of parts.slide ≡ Some query.window.slide
   pub mode : query.mode ≡ parts.mode
-  pub expr : IsOutcome parts.expr (Ok query.expr)
+  pub expr : IsOutcomeOf inverses parts.expr (Ok query.expr)

@@ -1,5 +1,5 @@
 -- One line after another. No public contract cites this file.
-use Rattle.std.specs.Prelude.{ℕ, List, [], ◌∷◌, ◌++◌, map, Result}
+use Rattle.std.specs.Prelude.{ℕ, Bool, List, [], ◌∷◌, ◌++◌, map, Result}
 use Rattle.rpq_model.specs.Query.{Query}
 use Rattle.query_file.specs.declared.fault.QueryFault.{QueryFault}
 use Rattle.query_file.specs.Compiled.{CompiledValue}
@@ -12,13 +12,13 @@ defs list = map (λ each. each.def) list
 
 -- the queries after one more line: those before it, where it is passed over, and its own behind
 -- them otherwise
-pub data Takes (before : List Query) (line : List ℕ) : List Query → Type 0 where
-  PassesOver : IsPassedOver line → Takes before line before
-  TakesOne : (query : Query) → IsQueryLine line → IsLineOf before line query →
-      Takes before line (before ++ query ∷ [])
+pub data Takes (inverses : Bool) (before : List Query) (line : List ℕ) : List Query → Type 0 where
+  PassesOver : IsPassedOver line → Takes inverses before line before
+  TakesOne : (query : Query) → IsQueryLine line → IsLineOf inverses before line query →
+      Takes inverses before line (before ++ query ∷ [])
 
 -- what these lines give after so many lines with these queries, others give after others
-abbrev pub GivesSo : List Query → ℕ → List (List ℕ) → List Query → ℕ → List (List ℕ) → Type 0
-GivesSo queries count rest before number lines =
+abbrev pub GivesSo : Bool → List Query → ℕ → List (List ℕ) → List Query → ℕ → List (List ℕ) → Type 0
+GivesSo inverses queries count rest before number lines =
     (outcome : Result (List Query) QueryFault) →
-    Gives queries count rest outcome → Gives before number lines outcome
+    Gives inverses queries count rest outcome → Gives inverses before number lines outcome

@@ -9,6 +9,7 @@
 //! nonempty words of its expression, and with the verdict whether its language has the property of
 //! containment; [`Compiled`] keeps that they are these. A query that takes simple paths is accepted
 //! exactly where its language has the property, since there simple paths do what all paths do.
+//! [`read_two_way_queries`] does the same where a `^` before a label takes it backwards.
 //!
 //! Each line is gone through a fixed number of times, and its name compared with those before it,
 //! of which there are at most 64; the automata cost what their making costs in the crates below.
@@ -27,5 +28,8 @@ mod word_text;
 
 pub use compiled::Compiled;
 pub use fault::{QueryFault, QueryKind};
-pub use laws::{faults_in_order, line_examples, one_first_field, one_outcome, queries_by_parts};
-pub use read::read_queries;
+pub use laws::{
+    faults_in_order, line_examples, one_first_field, one_outcome, one_two_way_outcome,
+    queries_by_parts, two_way_examples,
+};
+pub use read::{read_queries, read_two_way_queries};

@@ -1,7 +1,7 @@
 //! The query of a query line.
 
 ghost use Rattle.std.specs.Prelude.{◌≡◌, ◌≢◌, ◌+◌, ◌^◌, ◌<◌, ◌≤◌, ◌⊎◌, Some, None, IfOk, OnOk};
-ghost use Rattle.std.specs.Prelude.{IfErr, IfSome, IfNone, IsNone, length};
+ghost use Rattle.std.specs.Prelude.{IfErr, IfSome, IfNone, IsNone, MatchResult, Ok, Err, length};
 ghost use Rattle.rpq_base.specs.declared.data.TheConstants.{MAX_TIME as GREATEST};
 ghost use Rattle.std.specs.List.{list_any};
 ghost use Rattle.rpq_base.specs.Same.{same_name};
@@ -11,7 +11,10 @@ ghost use Rattle.query_file.specs.QueryLine.{length_of};
 ghost use Rattle.query_file.specs.InOrder.{IsTaken, IsFirstInOrder, IsLineInOrder};
 ghost use Rattle.query_file.specs.Takes.{defs};
 ghost use Rattle.query_file.specs.Places.{HasNoPlace, IsDefinitionOf, IsRefusedBy};
+ghost use Rattle.path_syntax.specs.Expression.{expression};
+ghost use Rattle.path_syntax.specs.Faults.{IsOutcomeOf};
 ghost use Rattle.path_syntax.specs.Size.{nodes};
+ghost use Rattle.path_syntax.specs.declared.read.BadExpr.{BadExpr};
 ghost use Rattle.dfa_table.specs.Runs.{Accepts};
 ghost use Rattle.containment_test.specs.Verdict.{IsVerdict};
 ghost use Rattle.containment_test.specs.declared.verdict.Verdict.TheVariants.{Yes};
@@ -23,7 +26,7 @@ use crate::fault::QueryKind;
 use crate::line_text::line_text;
 use containment_test::{Verdict, contained};
 use dfa_table::Dfa;
-use path_syntax::read_expr;
+use path_syntax::{BadExpr, Expr, read_expr, read_two_way};
 use rpq_base::{Copied, MAX_TIME, Name, NameFault};
 use rpq_model::{Mode, QueryDef, Window};
 use std::alloc::Global;
@@ -34,16 +37,21 @@ const MAX_QUERIES: usize = 64;
 
 /// The query of a line that follows these queries, with its automaton and its verdict, or its first
 /// fault.
-pub fn read_query(alloc: Global, line: &[u8], before: &[Compiled]) -> Result<Compiled, QueryKind>
+pub fn read_query(
+    alloc: Global,
+    inverses: bool,
+    line: &[u8],
+    before: &[Compiled],
+) -> Result<Compiled, QueryKind>
     requires { length line.now < 2 ^ 24 + 1 }
     ensures ok { IfOk result (λ found.
-        IsLineInOrder (defs before.now) line.now found.def) }
+        IsLineInOrder inverses (defs before.now) line.now found.def) }
     ensures compiled { IfOk result (λ found. IsCompiled found) }
     ensures err { IfErr result (λ kind. kind ≢ QueryKind.Memory →
-        IsFirstInOrder (defs before.now) line.now kind) }
+        IsFirstInOrder inverses (defs before.now) line.now kind) }
     ensures room { OnOk result (length before.now < 64) }
 {
-    let def = read_definition(alloc, line, before)?;
+    let def = read_definition(alloc, inverses, line, before)?;
     let dfa = automaton_of(alloc, &def.expr)?;
     let verdict = accepted_verdict(alloc, def.mode, &dfa)?;
     Ok(Compiled { def, dfa, verdict })
@@ -64,13 +72,18 @@ fn accepted_verdict(alloc: Global, mode: Mode, dfa: &Dfa) -> Result<Verdict, Que
 }
 
 /// The query that a line defines which follows these queries, whatever its mode and its automaton.
-fn read_definition(alloc: Global, line: &[u8], before: &[Compiled]) -> Result<QueryDef, QueryKind>
+fn read_definition(
+    alloc: Global,
+    inverses: bool,
+    line: &[u8],
+    before: &[Compiled],
+) -> Result<QueryDef, QueryKind>
     requires { length line.now < 2 ^ 24 + 1 }
     ensures ok { IfOk result (λ def.
-        IsDefinitionOf (defs before.now) line.now def) }
+        IsDefinitionOf inverses (defs before.now) line.now def) }
     ensures small { IfOk result (λ def. nodes def.expr < 2 ^ 32) }
     ensures err { IfErr result (λ kind. kind ≢ QueryKind.Memory →
-        IsFirstInOrder (defs before.now) line.now kind) }
+        IsFirstInOrder inverses (defs before.now) line.now kind) }
     ensures room { OnOk result (length before.now < 64) }
 {
     let Some(text) = line_text(line) else {
@@ -81,13 +94,29 @@ fn read_definition(alloc: Global, line: &[u8], before: &[Compiled]) -> Result<Qu
         return Err(QueryKind::Number);
     };
     check_place(&name, before)?;
-    let expr = read_expr(alloc, text.expr)?;
+    let expr = read_expression(alloc, inverses, text.expr)?;
     Ok(QueryDef {
         name,
         window,
         mode: text.mode,
         expr,
     })
+}
+
+/// The expression of these bytes, or its first fault. A `^` before a label takes it backwards where
+/// inverses are read.
+fn read_expression(alloc: Global, inverses: bool, bytes: &[u8]) -> Result<Expr, BadExpr>
+    requires { length bytes.now < 2 ^ 24 + 1 }
+    ensures outcome { MatchResult result
+        (λ found. IsOutcomeOf inverses bytes.now (Ok (expression found)))
+        (λ fault. fault ≢ BadExpr.Memory → IsOutcomeOf inverses bytes.now (Err fault)) }
+    ensures small { IfOk result (λ found. nodes (expression found) < 2 ^ 32) }
+{
+    if inverses {
+        read_two_way(alloc, bytes)
+    } else {
+        read_expr(alloc, bytes)
+    }
 }
 
 /// The name that a field is; another field spoils the form of its line.

@@ -25,6 +25,8 @@ fn put_settings(out: &mut Output, chosen: &Chosen) -> anyhow::Result<()> {
     }
     put_file(out, &chosen.asks)?;
     put_file(out, &chosen.replies)?;
+    put_file(out, &chosen.save)?;
+    put_file(out, &chosen.from)?;
     out.put(" ")?;
     put_word(out, &chosen.queries)?;
     put_streams(out, &chosen.streams)

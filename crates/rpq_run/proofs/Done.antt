@@ -1,8 +1,8 @@
 -- When a run is done.
 use Rattle.std.proofs.Common.{◌≡◌, ◌≢◌, ℕ, zero, suc, ◌+◌, ◌<◌, ◌≤◌, List, [], ◌∷◌, ◌++◌, length, get_or}
-use Rattle.std.proofs.Common.{Option, Some, None, Bool, true, false, refl, ap, sym, subst, ◌∙◌, arith, inl, inr}
-use Rattle.std.proofs.Common.{◌⊎◌, length-append}
-use Rattle.std.specs.Prelude.{IfSome, MatchBool, MatchOption, Contains, map, slice_get, sum}
+use Rattle.std.proofs.Common.{Option, Some, None, Bool, true, false, refl, ap, ap₂, sym, subst, ◌∙◌, arith, inl}
+use Rattle.std.proofs.Common.{inr, ◌⊎◌, length-append}
+use Rattle.std.specs.Prelude.{◌||◌, IfSome, MatchBool, MatchOption, Contains, is_some, map, slice_get, sum}
 use Rattle.std.specs.List.{All}
 use Rattle.std.proofs.lemmas.Bool.{cases_eq}
 use Rattle.std.proofs.lemmas.List.{length-map}
@@ -11,6 +11,7 @@ use Rattle.std.proofs.lemmas.Option.{slice_get-get_or, slice_get_within}
 use Rattle.rpq_base.specs.declared.data.Tuple.{Tuple}
 use Rattle.rpq_base.specs.declared.data.Entry.{Entry}
 use Rattle.rpq_io.specs.Counts.{Rose, CountsFault}
+use Rattle.rpq_words.specs.Modes.{AreSettings}
 use Rattle.rpq_words.specs.Settings.{Settings}
 use Rattle.history_model.specs.declared.line.Why.TheVariants.{Write, Memory as MemoryOfAll}
 use Rattle.stream_tuples.specs.declared.ends.StreamEnd.{StreamEnd}
@@ -21,9 +22,12 @@ use Rattle.stream_tuples.specs.History.{AreTuplesOfEnd, IsStreamOf, AreStreamsOf
 use Rattle.stream_tuples.specs.Limits.{byte_limit}
 use Rattle.stream_tuples.specs.StreamText.{StreamTuples, tuples_with, tuples_from}
 use Rattle.rpq_text.specs.declared.ends.SinkName.{SinkName}
-use Rattle.rpq_text.specs.declared.ends.SinkName.TheVariants.{Events, Replies}
+use Rattle.rpq_text.specs.declared.ends.SinkName.TheVariants.{Events, Replies, Save}
 use Rattle.rpq_text.specs.Statuses.{first_status, status_of_end, IsStatusOf}
+use Rattle.saved_window.specs.Then.{left_of_both, faults_of_both, faults_of_first}
+use Rattle.run_start.specs.Files.{from_content, stream_contents}
 use Rattle.run_start.specs.Ready.{AreReadWhole}
+use Rattle.run_start.proofs.Modes.{reads_streams}
 use Rattle.rpq_run.specs.Causes.{HasCauses}
 use Rattle.rpq_run.specs.Done.{IsWholeStream, tuple_count, CanBeDone, NothingRose, NothingFails}
 use Rattle.rpq_run.specs.Outcome.{Meanings, Sinks, Objects, Openings, Outcome}
@@ -31,9 +35,11 @@ use Rattle.rpq_run.specs.Run.{Runs}
 use Rattle.rpq_run.specs.RunsCheck.{RunsCheck}
 use Rattle.rpq_run.specs.RunsGenerated.{RunsGenerated}
 use Rattle.rpq_run.specs.RunsStreams.{RunsStreams}
+use Rattle.rpq_run.specs.Sources.{stream_sources, two_sources}
 use Rattle.rpq_run.proofs.Sinks.{no_sinks}
 use Rattle.rpq_run.proofs.Statuses.{IsFine, counted_quietly, fine_or_memory, read_quietly}
 use Rattle.rpq_run.proofs.Totals.{AreFew, all_counted, fewer_in_all}
+use Rattle.rpq_run.proofs.Windows.{as_many_contents}
 
 -- ---- members of lists by their places
 
@@ -226,21 +232,87 @@ module _ {S : Type 0} (left : S → Option (List ℕ)) (faults : S → ℕ) (lim
 
 -- ---- a run
 
+-- a count that didn't rise from 0 stays there
+no_rise : (count : ℕ) → ¬ Rose 0 count → count ≡ 0
+no_rise zero quiet = refl
+no_rise (suc count) quiet = absurd (quiet (inl (omega arith)))
+
+-- the sources of the streams, by those of their files and that of the saved window
+module _ {S : Type 0} (faults : S → ℕ) where
+  both_quiet : (from : Option S) (source : S) → IfSome from (λ s. ¬ Rose 0 (faults s)) → ¬ Rose 0 (faults source)
+      → ¬ Rose 0 (faults_of_both faults (two_sources from source))
+  both_quiet from source first quiet rose =
+      let none = first_none from first in
+      let own = no_rise (faults source) quiet in
+      elim rose [
+        | inl some ↦ absurd (omega (arith, some, none, own))
+        | inr limit ↦ absurd (omega (arith, limit, none, own))
+      ]
+    where
+      first_none : (one : Option S) → IfSome one (λ s. ¬ Rose 0 (faults s)) → faults_of_first faults one ≡ 0
+      first_none None first = refl
+      first_none (Some s) first = no_rise (faults s) first
+
+  others_quiet : (sources : List S) → All (λ s. ¬ Rose 0 (faults s)) sources
+      → All (λ s. ¬ Rose 0 (faults_of_both faults s)) (map (two_sources None) sources)
+  others_quiet [] all = All-nil (λ s. ¬ Rose 0 (faults_of_both faults s))
+  others_quiet (source ∷ sources) all = All-cons (λ s. ¬ Rose 0 (faults_of_both faults s)) (two_sources None source)
+      (map (two_sources None) sources)
+      (both_quiet None source tt (All-head (λ s. ¬ Rose 0 (faults s)) source sources all))
+      (others_quiet sources (All-tail (λ s. ¬ Rose 0 (faults s)) source sources all))
+
+  sources_quiet : (from : Option S) (sources : List S) → IfSome from (λ s. ¬ Rose 0 (faults s))
+      → All (λ s. ¬ Rose 0 (faults s)) sources
+      → All (λ s. ¬ Rose 0 (faults_of_both faults s)) (stream_sources from sources)
+  sources_quiet from [] first all = All-nil (λ s. ¬ Rose 0 (faults_of_both faults s))
+  sources_quiet from (source ∷ sources) first all = All-cons (λ s. ¬ Rose 0 (faults_of_both faults s))
+      (two_sources from source) (map (two_sources None) sources)
+      (both_quiet from source first (All-head (λ s. ¬ Rose 0 (faults s)) source sources all))
+      (others_quiet sources (All-tail (λ s. ¬ Rose 0 (faults s)) source sources all))
+
+  -- and back
+  others_none : (sources : List S) → All (λ s. faults_of_both faults s ≡ 0) (map (two_sources None) sources)
+      → All (λ s. faults s ≡ 0) sources
+  others_none [] all = All-nil (λ s. faults s ≡ 0)
+  others_none (source ∷ sources) all =
+      let first = All-head (λ s. faults_of_both faults s ≡ 0) (two_sources None source)
+      (map (two_sources None) sources) all in
+      All-cons (λ s. faults s ≡ 0) source sources (omega (arith, first)) (others_none sources
+      (All-tail (λ s. faults_of_both faults s ≡ 0) (two_sources None source) (map (two_sources None) sources) all))
+
+  sources_none : (from : Option S) (sources : List S) → 1 ≤ length (stream_sources from sources)
+      → All (λ s. faults_of_both faults s ≡ 0) (stream_sources from sources)
+      → All (λ s. faults s ≡ 0) sources × IfSome from (λ s. faults s ≡ 0)
+  sources_none from [] some all = absurd (omega (arith, some))
+  sources_none from (source ∷ sources) some all =
+      let both = All-head (λ s. faults_of_both faults s ≡ 0) (two_sources from source)
+      (map (two_sources None) sources) all in (
+        All-cons (λ s. faults s ≡ 0) source sources (omega (arith, both)) (others_none sources
+            (All-tail (λ s. faults_of_both faults s ≡ 0) (two_sources from source) (map (two_sources None) sources) all)),
+        first from both,
+      )
+    where
+      first : (one : Option S) → faults_of_both faults (two_sources one source) ≡ 0 → IfSome one (λ s. faults s ≡ 0)
+      first None is = tt
+      first (Some s) is = omega (arith, is)
+
 -- where no count rose no write failed
 pub none_failed : {S K : Type 0} (means : Meanings S K) (failed : List SinkName) (sinks : Sinks K)
     (outcome : Outcome S K) → HasCauses means failed sinks outcome
     → ¬ Rose (means.failures sinks.events_old) (means.failures sinks.events_new)
-    → IfSome outcome.replies (λ sink. ¬ Rose 0 (means.failures sink)) → failed ≡ []
-none_failed {S} {K} means failed sinks outcome causes writes replies =
+    → IfSome outcome.replies (λ sink. ¬ Rose 0 (means.failures sink))
+    → IfSome outcome.save (λ sink. ¬ Rose 0 (means.failures sink)) → failed ≡ []
+none_failed {S} {K} means failed sinks outcome causes writes replies save =
     no_sinks failed (λ has. writes (causes.events_failed.rose has))
-    (no_replies outcome.replies causes.replies_failed causes.no_replies replies)
+    (none_of Replies outcome.replies causes.replies_failed causes.no_replies replies)
+    (none_of Save outcome.save causes.save_failed causes.no_save save)
   where
-    no_replies : (r : Option K)
-        → IfSome r (λ sink. CountsFault (Contains failed Replies) 0 (means.failures sink))
-        → (r ≡ None → Contains failed Replies → ⊥)
-        → IfSome r (λ sink. ¬ Rose 0 (means.failures sink)) → Contains failed Replies → ⊥
-    no_replies None counts none quiet has = none refl has
-    no_replies (Some sink) counts none quiet has = quiet (counts.rose has)
+    none_of : (name : SinkName) (r : Option K)
+        → IfSome r (λ sink. CountsFault (Contains failed name) 0 (means.failures sink))
+        → (r ≡ None → Contains failed name → ⊥)
+        → IfSome r (λ sink. ¬ Rose 0 (means.failures sink)) → Contains failed name → ⊥
+    none_of name None counts none quiet has = none refl has
+    none_of name (Some sink) counts none quiet has = quiet (counts.rose has)
 
 -- such a status is that of a run that is done, or of want of memory
 done_or_short : (ends : List StreamEnd) (failed : List SinkName) (status : ℕ) → failed ≡ []
@@ -256,17 +328,24 @@ done_or_short ends failed status none is fine = elim (cases_eq status 8) [
       ]
 ]
 
+-- there are as many streams as files
+pub as_many_streams : (given : Settings) (holds : List ℕ → Option (List ℕ))
+    → length (stream_contents given holds) ≡ length given.streams
+as_many_streams given holds = as_many_contents (from_content given holds) (map holds given.streams)
+    ∙ length-map given.streams holds
+
 -- a run over streams that can be done, in which no count rose, is done, or wants memory
 pub streams_done : {S K : Type 0} (means : Meanings S K) (given : Settings)
     (holds : List ℕ → Option (List ℕ)) (openings : Openings) (sinks : Sinks K) (objects : Objects)
     (outcome : Outcome S K) → RunsStreams means given holds sinks objects outcome → CanBeDone given holds
     → NothingRose means given openings sinks outcome → (outcome.status ≡ 0) ⊎ (outcome.status ≡ 8)
 streams_done means given holds openings sinks objects outcome runs can none =
-    let failed = none_failed means runs.failed sinks outcome runs.causes none.writes none.replies in
+    let failed = none_failed means runs.failed sinks outcome runs.causes none.writes none.replies none.save in
     done_or_short outcome.ends runs.failed outcome.status failed runs.causes.status_is
-    (all_end_well means.left means.faults given.history (map holds given.streams) outcome.sources outcome.history
-    outcome.ends runs.history.each_stream (length given.streams) (sym (length-map given.streams holds))
-    runs.history.no_other can.whole none.reads can.few
+    (all_end_well (left_of_both means.left) (faults_of_both means.faults) given.history (stream_contents given holds)
+    (stream_sources outcome.from outcome.sources) outcome.history outcome.ends runs.history.each_stream
+    (length given.streams) (sym (as_many_streams given holds)) runs.history.no_other can.whole
+    (sources_quiet means.faults outcome.from outcome.sources none.from none.reads) can.few
     (λ closed. none.writes (runs.causes.events_failed.rose (runs.causes.closed closed))))
 
 -- so is one over generated tuples
@@ -276,7 +355,7 @@ pub generated_done : {S K : Type 0} (means : Meanings S K) (given : Settings) (c
     → given.generate ≡ Some count → CanBeDone given holds
     → NothingRose means given openings sinks outcome → (outcome.status ≡ 0) ⊎ (outcome.status ≡ 8)
 generated_done means given count holds openings sinks objects outcome runs wanted can none =
-    let failed = none_failed means runs.failed sinks outcome runs.causes none.writes none.replies in
+    let failed = none_failed means runs.failed sinks outcome runs.causes none.writes none.replies none.save in
     let fits : count ≤ given.history =
     subst (λ (g : Option ℕ). IfSome g (λ n. n ≤ given.history)) wanted can.made in
     let fine : IsFine runs.history.end = elim runs.history.one_of [
@@ -298,39 +377,44 @@ pub check_done : {S K : Type 0} (means : Meanings S K) (given : Settings)
     (outcome : Outcome S K) → RunsCheck means given holds sinks objects outcome
     → NothingRose means given openings sinks outcome → (outcome.status ≡ 0) ⊎ (outcome.status ≡ 8)
 check_done means given holds openings sinks objects outcome runs none =
-    let failed = none_failed means runs.failed sinks outcome runs.causes none.writes none.replies in
+    let failed = none_failed means runs.failed sinks outcome runs.causes none.writes none.replies none.save in
     done_or_short outcome.ends runs.failed outcome.status failed runs.causes.status_is
     (subst (λ (ends : List StreamEnd). All IsFine ends) (sym runs.nothing.no_stream) (All-nil IsFine))
 
 -- ---- what failed nowhere
 
--- no write on the replies failed, if there are any
-quiet_replies : {K : Type 0} (failures : K → ℕ) (failed : List SinkName) (ends : List StreamEnd) (status : ℕ)
-    → IsStatusOf ends failed status → status ≡ 0 → (replies : Option K)
-    → IfSome replies (λ sink. CountsFault (Contains failed Replies) 0 (failures sink))
-    → IfSome replies (λ sink. failures sink ≡ 0)
-quiet_replies failures failed ends status is done None counts = tt
-quiet_replies failures failed ends status is done (Some sink) counts =
-    counted_quietly ends failed status Replies 0 (failures sink) is done counts
+-- no write on a sink failed, if there is one
+quiet_sink : {K : Type 0} (failures : K → ℕ) (failed : List SinkName) (ends : List StreamEnd) (status : ℕ)
+    (name : SinkName) → IsStatusOf ends failed status → status ≡ 0 → (one : Option K)
+    → IfSome one (λ sink. CountsFault (Contains failed name) 0 (failures sink))
+    → IfSome one (λ sink. failures sink ≡ 0)
+quiet_sink failures failed ends status name is done None counts = tt
+quiet_sink failures failed ends status name is done (Some sink) counts =
+    counted_quietly ends failed status name 0 (failures sink) is done counts
 
 module _ {S K : Type 0} (means : Meanings S K) (words : Option Settings) (given : Settings)
     (holds : List ℕ → Option (List ℕ)) (openings : Openings) (sinks : Sinks K) (outcome : Outcome S K)
     (are : words ≡ Some given) (unread : (name : List ℕ) → openings.unread_new name ≡ openings.unread_old name)
     (unmade : (name : List ℕ) → openings.unmade_new name ≡ openings.unmade_old name)
-    (whole : AreReadWhole means.left means.faults given holds) (done : outcome.status ≡ 0) where
+    (whole : AreReadWhole means.left means.faults given holds) (settings : AreSettings given)
+    (done : outcome.status ≡ 0) where
   -- where all is done and no read of a source failed, nothing did
   all_quiet : (failed : List SinkName) → HasCauses means failed sinks outcome
       → All (λ source. means.faults source ≡ 0) outcome.sources
+      → IfSome outcome.from (λ source. means.faults source ≡ 0)
       → NothingFails means words holds openings sinks outcome
-  all_quiet failed causes reads = record {
+  all_quiet failed causes reads from = record {
     unread = unread;
     unmade = unmade;
     whole = subst (λ (w : Option Settings). IfSome w (λ g. AreReadWhole means.left means.faults g holds)) (sym are) whole;
     reads = reads;
+    from = from;
     writes = counted_quietly outcome.ends failed outcome.status Events (means.failures sinks.events_old)
         (means.failures sinks.events_new) causes.status_is done causes.events_failed;
-    replies = quiet_replies means.failures failed outcome.ends outcome.status causes.status_is done
+    replies = quiet_sink means.failures failed outcome.ends outcome.status Replies causes.status_is done
         outcome.replies causes.replies_failed;
+    save = quiet_sink means.failures failed outcome.ends outcome.status Save causes.status_is done
+        outcome.save causes.save_failed;
   }
 
   -- no source has a fault where there is none
@@ -338,26 +422,43 @@ module _ {S K : Type 0} (means : Meanings S K) (words : Option Settings) (given 
   none_faulty none = subst (λ (ss : List S). All (λ source. means.faults source ≡ 0) ss) (sym none)
       (All-nil (λ source. means.faults source ≡ 0))
 
+  none_first : outcome.from ≡ None → IfSome outcome.from (λ source. means.faults source ≡ 0)
+  none_first none = subst (λ (s : Option S). IfSome s (λ source. means.faults source ≡ 0)) (sym none) tt
+
+  -- nor in a run over streams
+  streams_quiet : (objects : Objects) → given.check ≡ false → given.generate ≡ None
+      → RunsStreams means given holds sinks objects outcome → NothingFails means words holds openings sinks outcome
+  streams_quiet objects unchecked none_made runs =
+      let reads = reads_streams given settings
+      (ap₂ (λ (check : Bool) (generate : Option ℕ). check || is_some generate) unchecked none_made) in
+      let as_many = runs.history.each_stream.as_many_sources in
+      let none = sources_none means.faults outcome.from outcome.sources
+      (omega (arith, as_many, as_many_streams given holds, reads.some))
+      (reads_quietly (left_of_both means.left) (faults_of_both means.faults) given.history (stream_contents given holds)
+      (stream_sources outcome.from outcome.sources) outcome.history outcome.ends runs.history.each_stream runs.failed
+      outcome.status runs.causes.status_is done) in
+      all_quiet runs.failed runs.causes none.0 none.1
+
   -- nothing failed in a run that is done
   pub runs_quiet : (objects : Objects) → Runs means given holds sinks objects outcome
       → NothingFails means words holds openings sinks outcome
-  runs_quiet objects = by given.check
+  runs_quiet objects = by given.check refl
     where
-      by_count : (generate : Option ℕ)
+      by_count : (generate : Option ℕ) → given.check ≡ false → given.generate ≡ generate
           → MatchOption generate (RunsStreams means given holds sinks objects outcome)
           (λ count. RunsGenerated means given count holds sinks objects outcome)
           → NothingFails means words holds openings sinks outcome
-      by_count None runs = all_quiet runs.failed runs.causes
-          (reads_quietly means.left means.faults given.history (map holds given.streams) outcome.sources
-          outcome.history outcome.ends runs.history.each_stream runs.failed outcome.status runs.causes.status_is done)
-      by_count (Some count) runs = all_quiet runs.failed runs.causes (none_faulty runs.no_source)
+      by_count None unchecked is runs = streams_quiet objects unchecked is runs
+      by_count (Some count) unchecked is runs =
+          all_quiet runs.failed runs.causes (none_faulty runs.no_source) (none_first runs.no_window.0)
 
-      by : (check : Bool) → MatchBool check (RunsCheck means given holds sinks objects outcome)
+      by : (check : Bool) → given.check ≡ check → MatchBool check (RunsCheck means given holds sinks objects outcome)
           (MatchOption given.generate (RunsStreams means given holds sinks objects outcome)
           (λ count. RunsGenerated means given count holds sinks objects outcome))
           → NothingFails means words holds openings sinks outcome
-      by true runs = all_quiet runs.failed runs.causes (none_faulty runs.no_source)
-      by false runs = by_count given.generate runs
+      by true is runs = all_quiet runs.failed runs.causes (none_faulty runs.no_source)
+          (none_first runs.nothing.no_window.0)
+      by false is runs = by_count given.generate is refl runs
 
 -- a run that can be done, in which no count rose, is done, or wants memory
 pub runs_done : {S K : Type 0} (means : Meanings S K) (given : Settings)

@@ -32,7 +32,8 @@ use Rattle.rpq_run.specs.Outcome.{Meanings, Sinks, Objects, Outcome, objects}
 use Rattle.rpq_run.specs.RunsGenerated.{HoldsGenerated, WritesSummary, RunsGenerated}
 use Rattle.rpq_run.specs.Written.{Tells, TellsLines}
 use Rattle.rpq_run.proofs.Running.{for_queries, is_queries_file, objects_are}
-use Rattle.rpq_run.proofs.Sinks.{events_in, in_events, in_replies, none_contained, one_contained, some_sinks}
+use Rattle.rpq_run.proofs.Sinks.{events_in, in_events, in_replies, in_save, none_contained, one_contained}
+use Rattle.rpq_run.proofs.Sinks.{some_sinks}
 
 -- ---- the stream's end
 
@@ -49,7 +50,7 @@ not_closed true false is = absurd (cc is)
 not_closed true true is = absurd (cc is)
 
 -- no such status is that of want of memory, where all is done for which memory is needed
-not_short : (fits failed : Bool) → first_status (end_of true fits ∷ []) (failed_sinks failed false) ≡ 8 → ⊥
+not_short : (fits failed : Bool) → first_status (end_of true fits ∷ []) (failed_sinks failed false false) ≡ 8 → ⊥
 not_short false false eight = absurd (omega (arith, eight))
 not_short false true eight = absurd (omega (arith, eight))
 not_short true false eight = absurd (omega (arith, eight))
@@ -82,8 +83,10 @@ generated_outcome status run ends sources sessions = record {
   history = run.history.items;
   ends = ends;
   sources = sources;
+  from = None;
   sessions = sessions;
   replies = None;
+  save = None;
 }
 
 -- it has no source and no session
@@ -104,7 +107,7 @@ module _ {S K T E O : Type 0} (means : Meanings S K) (given : Settings)
     (short : is_some run.summary ≡ false → status ≡ 8)
     (others : is_some run.summary ≡ true
     → status ≡ first_status (end_of (is_some run.summary) (nat_le task.count task.limit) ∷ [])
-    (failed_sinks (is_err wrote) false)) where
+    (failed_sinks (is_err wrote) false false)) where
   -- whether all tuples fit into the history, how the stream ended, and what the run answers
   abbrev pub fits : Bool
   fits = nat_le task.count task.limit
@@ -123,9 +126,9 @@ module _ {S K T E O : Type 0} (means : Meanings S K) (given : Settings)
   short_of_memory : (summary : Option (Vec ℕ)) → run.summary ≡ summary → status ≡ 8 → summary ≡ None
   short_of_memory None is eight = refl
   short_of_memory (Some text) is eight =
-      let first : status ≡ first_status (end_of true fits ∷ []) (failed_sinks (is_err wrote) false) =
+      let first : status ≡ first_status (end_of true fits ∷ []) (failed_sinks (is_err wrote) false false) =
       others (ap is_some is)
-      ∙ ap (λ (s : Option (Vec ℕ)). first_status (end_of (is_some s) fits ∷ []) (failed_sinks (is_err wrote) false)) is in
+      ∙ ap (λ (s : Option (Vec ℕ)). first_status (end_of (is_some s) fits ∷ []) (failed_sinks (is_err wrote) false false)) is in
       absurd (not_short fits (is_err wrote) (sym first ∙ eight))
 
   -- the history
@@ -176,14 +179,14 @@ module _ {S K T E O : Type 0} (means : Meanings S K) (given : Settings)
   IsText = IsSummary (definitions_of task.queries.items) run.history.items (said_by objects_in.after)
 
   -- the summary
-  writes_summary : WritesSummary means (definitions_of task.queries.items) (failed_sinks (is_err wrote) false)
+  writes_summary : WritesSummary means (definitions_of task.queries.items) (failed_sinks (is_err wrote) false false)
       sinks objects_in outcome_in
   writes_summary = by run.summary refl made.summary wrote refl tells
     where
       by : (summary : Option (Vec ℕ)) → run.summary ≡ summary → IfSome summary (λ text. IsText text.items)
           → (result : Result T E) → wrote ≡ result
           → Tells means.written means.failures (bytes_of summary) sinks.events_old sinks.events_new result
-          → WritesSummary means (definitions_of task.queries.items) (failed_sinks (is_err result) false)
+          → WritesSummary means (definitions_of task.queries.items) (failed_sinks (is_err result) false false)
           sinks objects_in outcome_in
       by None is text (Err e) result_is told =
           absurd (none_of_nothing (means.written sinks.events_old) (means.written sinks.events_new) (told.part refl))
@@ -200,7 +203,7 @@ module _ {S K T E O : Type 0} (means : Meanings S K) (given : Settings)
       by (Some summary) is text (Err e) result_is told =
           let part = told.part refl in
           record {
-            whole = λ none other. absurd (none (events_in true false refl));
+            whole = λ none other. absurd (none (events_in true false false refl));
             part = λ has. record {
               front = part.front;
               rest = part.rest;
@@ -226,8 +229,8 @@ module _ {S K T E O : Type 0} (means : Meanings S K) (given : Settings)
       there (Some text) is other = refl
 
   -- all of it
-  generated_runs : IsStatusOf (end_in ∷ []) (failed_sinks (is_err wrote) false) status
-      → TellsLines means.written means.failures (run_lines (end_in ∷ []) (failed_sinks (is_err wrote) false) status)
+  generated_runs : IsStatusOf (end_in ∷ []) (failed_sinks (is_err wrote) false false) status
+      → TellsLines means.written means.failures (run_lines (end_in ∷ []) (failed_sinks (is_err wrote) false false) status)
       sinks.errors_old sinks.errors_new
       → RunsGenerated means given task.count holds sinks objects_in outcome_in
   generated_runs status_is lines = record {
@@ -235,22 +238,27 @@ module _ {S K T E O : Type 0} (means : Meanings S K) (given : Settings)
     no_source = refl;
     no_session = refl;
     no_replies = refl;
-    failed = failed_sinks (is_err wrote) false;
+    no_window = (refl, refl);
+    failed = failed_sinks (is_err wrote) false false;
     history = holds_generated;
     summary = for_queries (holds given.queries) (definitions_of task.queries.items) (λ queries.
-        WritesSummary means queries (failed_sinks (is_err wrote) false) sinks objects_in outcome_in) has
+        WritesSummary means queries (failed_sinks (is_err wrote) false false) sinks objects_in outcome_in) has
         writes_summary;
     told = for_queries (holds given.queries) (definitions_of task.queries.items) (λ queries.
         AreTold queries run.history.items (map seen circle.members) (status ≢ 8) (as_seen seen run.circle)) has
         are_told;
     causes = record {
-      once = some_sinks (is_err wrote) false;
-      events_failed = counts_as (is_err wrote ≡ true) (Contains (failed_sinks (is_err wrote) false) Events)
+      once = some_sinks (is_err wrote) false false;
+      events_failed = counts_as (is_err wrote ≡ true) (Contains (failed_sinks (is_err wrote) false false) Events)
           (means.failures sinks.events_old) (means.failures sinks.events_new)
-          (events_in (is_err wrote) false) (in_events (is_err wrote) false) tells.counted;
+          (events_in (is_err wrote) false false) (in_events (is_err wrote) false false) tells.counted;
       replies_failed = tt;
       no_replies = λ none has.
-          let no : false ≡ true = in_replies (is_err wrote) false has in
+          let no : false ≡ true = in_replies (is_err wrote) false false has in
+          absurd (cc no);
+      save_failed = tt;
+      no_save = λ none has.
+          let no : false ≡ true = in_save (is_err wrote) false false has in
           absurd (cc no);
       closed = λ closed. absurd (not_closed (is_some run.summary) fits (one_contained end_in (Closed Write) closed));
       status_is = status_is;
@@ -262,8 +270,8 @@ module _ {S K T E O : Type 0} (means : Meanings S K) (given : Settings)
   pub runs_generated : (ends : List StreamEnd) (sources : List S) (sessions : List (List AnsweredValue))
       (before stayed left : List O) → end_in ∷ [] ≡ ends → sources ≡ [] → sessions ≡ []
       → circle.members ≡ before → run.circle.members ≡ stayed → run.circle.left ≡ left
-      → IsStatusOf (end_in ∷ []) (failed_sinks (is_err wrote) false) status
-      → TellsLines means.written means.failures (run_lines (end_in ∷ []) (failed_sinks (is_err wrote) false) status)
+      → IsStatusOf (end_in ∷ []) (failed_sinks (is_err wrote) false false) status
+      → TellsLines means.written means.failures (run_lines (end_in ∷ []) (failed_sinks (is_err wrote) false false) status)
       sinks.errors_old sinks.errors_new
       → RunsGenerated means given task.count holds sinks (objects seen before stayed left)
       (generated_outcome status run ends sources sessions)

@@ -1,7 +1,7 @@
 -- A run over streams that is done, in one piece.
-use Rattle.std.proofs.Common.{◌≡◌, ◌≢◌, ℕ, ◌+◌, List, [], ◌++◌, length, take, Option, Some, None, Result}
+use Rattle.std.proofs.Common.{◌≡◌, ◌≢◌, ℕ, ◌+◌, List, [], ◌∷◌, ◌++◌, length, take, Option, Some, None, Result}
 use Rattle.std.proofs.Common.{Ok, refl, ap, ap₂, sym, subst, ◌∙◌, arith, inl, inr, ◌⊎◌, append-nil}
-use Rattle.std.specs.Prelude.{⊤, IfSome, MatchOption, Contains, map, option_map, slice_get}
+use Rattle.std.specs.Prelude.{⊤, IfSome, MatchOption, Contains, map, option_map, unwrap_or, slice_get}
 use Rattle.std.specs.Io.KnownBytes.{append_known}
 use Rattle.std.specs.List.{All, flat_map}
 use Rattle.std.proofs.lemmas.List.{length-map, take_all}
@@ -23,19 +23,24 @@ use Rattle.stream_tuples.specs.declared.ends.StreamEnd.TheVariants.{Whole}
 use Rattle.stream_tuples.specs.History.{IsNumberOf, AreTuplesOfEnd, own_tuples}
 use Rattle.stream_tuples.specs.Limits.{byte_limit}
 use Rattle.stream_tuples.specs.StreamText.{StreamTuples, stream_tuples}
-use Rattle.rpq_text.specs.declared.ends.SinkName.TheVariants.{Events, Replies}
+use Rattle.rpq_text.specs.declared.ends.SinkName.TheVariants.{Events, Replies, Save}
 use Rattle.rpq_text.specs.Text.{blocks_from}
+use Rattle.saved_window.specs.Saved.{saved}
+use Rattle.saved_window.specs.SavedText.{saved_text}
+use Rattle.saved_window.specs.Then.{left_of_both, faults_of_both}
 use Rattle.run_start.specs.Files.{HasQueries, HasSessions, ForQueries, ForSessions, ForAsked}
+use Rattle.run_start.specs.Files.{stream_contents, with_first}
 use Rattle.rpq_threads.specs.Runs.{AreSessionsOf, asks_answered}
 use Rattle.rpq_threads.specs.Told.{BeginsBlock, TellsObjects}
 use Rattle.standing.specs.Circles.{CircleValue}
 use Rattle.standing.specs.Objects.{ObjectValue}
 use Rattle.standing.specs.Stood.{HaveStood}
 use Rattle.standing.proofs.HavingStood.{stood_weaker}
-use Rattle.rpq_run.specs.Headline.{Told, IsTold, AreAsked, Headline}
+use Rattle.rpq_run.specs.Headline.{Told, IsTold, AreAsked, Headline, behind_text, stream_texts}
 use Rattle.rpq_run.specs.Outcome.{Meanings, Sinks, Objects, Outcome}
 use Rattle.rpq_run.specs.Replies.{texts_of}
-use Rattle.rpq_run.specs.RunsStreams.{RunsStreams, FrontsHold, nothing_told}
+use Rattle.rpq_run.specs.RunsStreams.{GotText, RunsStreams, FrontsHold, nothing_told}
+use Rattle.rpq_run.specs.Sources.{stream_sources}
 use Rattle.rpq_run.specs.Written.{WritesWhere}
 use Rattle.rpq_run.proofs.Done.{stream_at}
 use Rattle.rpq_run.proofs.Statuses.{first_of_done, sink_quietly, whole_end}
@@ -145,6 +150,28 @@ tuples_are text left number history end whole tied =
     whole tied in
     sym (ap (λ (ts : StreamTuples). ts.tuples) at_whole.0)
 
+-- what is read as each stream, where all is told
+texts_behind : (first : List ℕ) (texts : List (List ℕ))
+    → with_first (Some first) (map (λ (bytes : List ℕ). Some bytes) texts)
+    ≡ map (λ (bytes : List ℕ). Some bytes) (behind_text first texts)
+texts_behind first [] = refl
+texts_behind first (text ∷ texts) = refl
+
+contents_are : (given : Settings) (holds : List ℕ → Option (List ℕ)) (told : Told)
+    → option_map holds given.from ≡ option_map (λ bytes. Some bytes) told.from
+    → map holds given.streams ≡ map (λ bytes. Some bytes) told.streams
+    → stream_contents given holds ≡ map (λ (bytes : List ℕ). Some bytes) (stream_texts told)
+contents_are given holds told from streams =
+    ap₂ (λ (first : Option (List ℕ)) (files : List (Option (List ℕ))). with_first first files)
+    (by given.from told.from from) streams ∙ texts_behind (unwrap_or told.from []) told.streams
+  where
+    by : (name known : Option (List ℕ)) → option_map holds name ≡ option_map (λ bytes. Some bytes) known
+        → unwrap_or (option_map holds name) (Some []) ≡ Some (unwrap_or known [])
+    by None None is = refl
+    by None (Some bytes) is = absurd (cc is)
+    by (Some name) None is = absurd (cc is)
+    by (Some name) (Some bytes) is = cc is
+
 -- ---- the objects
 
 -- the events of a history, each entry's own, which were written, and told to the objects
@@ -230,6 +257,9 @@ headline_holds means given holds sinks objects outcome told one runs done is =
       replied = replies_are means.written (replies (texts_of outcome.sessions)) (Contains runs.failed Replies)
           outcome.status (sink_quietly outcome.ends runs.failed outcome.status Replies runs.causes.status_is done)
           not_short outcome.replies runs.replies.text;
+      saved_is = window_is outcome.save runs.saves.text
+          (sink_quietly outcome.ends runs.failed outcome.status Save runs.causes.status_is done) quiet not_short
+          there.queries there.has;
     }
   where
     unended : (why : Option Why) → runs.told.why ≡ why → (Contains runs.failed Events → ⊥) → outcome.status ≢ 8
@@ -238,21 +268,34 @@ headline_holds means given holds sinks objects outcome told one runs done is =
     unended (Some Write) why_is quiet not_short = absurd (quiet (runs.told.write why_is))
     unended (Some Memory) why_is quiet not_short = absurd (not_short (runs.told.memory why_is))
 
+    window_is : (save : Option _) → IfSome save (λ sink. ForQueries (holds given.queries) (λ queries.
+        GotText (Contains runs.failed Events) (Contains runs.failed Save) outcome.status
+        (saved_text (saved queries outcome.history)) (means.written sink)))
+        → (Contains runs.failed Save → ⊥) → (Contains runs.failed Events → ⊥) → outcome.status ≢ 8
+        → (queries : List Query) → HasQueries told.queries queries
+        → IfSome save (λ sink. IfSome (means.written sink) (λ bytes. bytes ≡ saved_text (saved queries outcome.history)))
+    window_is None got none quiet not_short queries has = tt
+    window_is (Some sink) got none quiet not_short queries has =
+        (from_queries one (holds given.queries) told.queries queries (λ all.
+        GotText (Contains runs.failed Events) (Contains runs.failed Save) outcome.status
+        (saved_text (saved all outcome.history)) (means.written sink)) is.queries has got).whole quiet none not_short
+
     as_many : length given.streams ≡ length told.streams
     as_many = sym (length-map given.streams holds)
         ∙ (ap (λ (fs : List (Option (List ℕ))). length fs) is.streams
         ∙ length-map told.streams (λ (bytes : List ℕ). Some bytes))
 
-    in_order : (place : ℕ) (text : List ℕ) → slice_get told.streams place ≡ Some text
+    in_order : (place : ℕ) (text : List ℕ) → slice_get (stream_texts told) place ≡ Some text
         → own_tuples (place + 1) outcome.history ≡ (stream_tuples text).tuples
     in_order place text at =
-        let file : slice_get (map holds given.streams) place ≡ Some (Some text) =
-        ap (λ (fs : List (Option (List ℕ))). slice_get fs place) is.streams
-        ∙ (slice_get-map (λ (bytes : List ℕ). Some bytes) told.streams place
+        let file : slice_get (stream_contents given holds) place ≡ Some (Some text) =
+        ap (λ (fs : List (Option (List ℕ))). slice_get fs place) (contents_are given holds told is.from is.streams)
+        ∙ (slice_get-map (λ (bytes : List ℕ). Some bytes) (stream_texts told) place
         ∙ ap (option_map (λ (bytes : List ℕ). Some bytes)) at) in
-        let stream = stream_at means.left means.faults given.history (map holds given.streams) outcome.sources
-        outcome.history outcome.ends runs.history.each_stream place (Some text) file in
-        tuples_are text (means.left stream.source) (place + 1) outcome.history stream.end
+        let stream = stream_at (left_of_both means.left) (faults_of_both means.faults) given.history
+        (stream_contents given holds) (stream_sources outcome.from outcome.sources) outcome.history outcome.ends
+        runs.history.each_stream place (Some text) file in
+        tuples_are text (left_of_both means.left stream.source) (place + 1) outcome.history stream.end
         (whole_end outcome.ends runs.failed place stream.end
         (first_of_done outcome.ends runs.failed outcome.status runs.causes.status_is done) stream.end_is)
         stream.stream.tied

@@ -1,5 +1,6 @@
 mod ErrorTexts
 mod Sinks
+mod Windows
 mod Replying
 mod Totals
 mod Statuses

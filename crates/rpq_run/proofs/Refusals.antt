@@ -14,7 +14,8 @@ use Rattle.ask_text.specs.declared.fault.AskFault.{AskFault}
 use Rattle.ask_text.specs.Asks.{asks}
 use Rattle.rpq_words.specs.Settings.{Settings}
 use Rattle.stream_tuples.specs.History.{IsPrefix}
-use Rattle.rpq_text.specs.declared.ends.Which.TheVariants.{Queries, Asks, Replies, Stream}
+use Rattle.rpq_text.specs.declared.ends.Which.TheVariants.{Queries, Asks, From, Stream}
+use Rattle.rpq_text.specs.declared.ends.Which.TheVariants.{Replies, Save}
 use Rattle.rpq_text.specs.declared.ends.StartFault.{StartFault}
 use Rattle.rpq_text.specs.declared.ends.StartFault.TheVariants.{Words, Queries as QueriesFault}
 use Rattle.rpq_text.specs.declared.ends.StartFault.TheVariants.{Asks as AsksFault, Open}
@@ -26,6 +27,7 @@ use Rattle.run_start.specs.Files.{AreFaultyAsks, AreFaultlessAsks, AreUnderstood
 use Rattle.run_start.specs.Files.{IsQueriesFile}
 use Rattle.run_start.specs.Given.{file_names, sink_names}
 use Rattle.run_start.specs.Ready.{IsWordsCause}
+use Rattle.run_start.proofs.Using.{names_in_order}
 use Rattle.run_start.specs.Start.{IsRefusedFor, IsOpeningOf, IsMakingOf, AreSourcesOf}
 use Rattle.run_start.specs.Start.{file_held, AreOpenedBy, AreMadeBy, UsesFiles}
 use Rattle.rpq_run.specs.Done.{CanBeDone, NothingRose}
@@ -83,8 +85,16 @@ pub wants_memory : {S K : Type 0} (means : Meanings S K) (given : Settings)
     → (status_of_start fault ≡ 0) ⊎ (status_of_start fault ≡ 8)
 wants_memory {S} {K} means given holds openings sinks outcome start cause of opened made can none = by start cause of opened made
   where
-    later_names : All (Quiet openings.unread_old openings.unread_new) (option_to_list given.asks ++ given.streams)
-    later_names = All-tail (Quiet openings.unread_old openings.unread_new) given.queries (option_to_list given.asks ++ given.streams) none.unread
+    later_names : All (Quiet openings.unread_old openings.unread_new)
+        (option_to_list given.asks ++ (option_to_list given.from ++ given.streams))
+    later_names = All-tail (Quiet openings.unread_old openings.unread_new) given.queries
+        (option_to_list given.asks ++ (option_to_list given.from ++ given.streams))
+        (subst (λ (names : List (List ℕ)). All (Quiet openings.unread_old openings.unread_new) names)
+        (sym (names_in_order given)) none.unread)
+
+    last_names : All (Quiet openings.unread_old openings.unread_new) (option_to_list given.from ++ given.streams)
+    last_names = all_behind (Quiet openings.unread_old openings.unread_new) (option_to_list given.asks)
+        (option_to_list given.from ++ given.streams) later_names
 
     asks_fault : (option : Option (List ℕ)) (fault : AskFault)
         → IsSomeAnd option (λ name. AreFaultyAsks (holds given.queries) (holds name) fault)
@@ -103,16 +113,35 @@ wants_memory {S} {K} means given holds openings sinks outcome start cause of ope
         → ((name : List ℕ) → given.asks ≡ Some name → Rose (openings.unread_old name) (openings.unread_new name)) → ⊥
     asks_opened None is cause rose = cause
     asks_opened (Some name) is cause rose =
-        option_member (Quiet openings.unread_old openings.unread_new) given.asks name given.streams later_names is (rose name is)
+        option_member (Quiet openings.unread_old openings.unread_new) given.asks name
+        (option_to_list given.from ++ given.streams) later_names is (rose name is)
+
+    from_opened : (option : Option (List ℕ)) → given.from ≡ option
+        → IsSomeAnd option (λ name. AreUnderstoodFiles given holds)
+        → ((name : List ℕ) → given.from ≡ Some name → Rose (openings.unread_old name) (openings.unread_new name)) → ⊥
+    from_opened None is cause rose = cause
+    from_opened (Some name) is cause rose =
+        option_member (Quiet openings.unread_old openings.unread_new) given.from name given.streams last_names is
+        (rose name is)
 
     replies_made : (option : Option (List ℕ)) → given.replies ≡ option
         → IsSomeAnd option (λ name. AreUnderstoodFiles given holds)
         → ((name : List ℕ) → given.replies ≡ Some name → Rose (openings.unmade_old name) (openings.unmade_new name)) → ⊥
     replies_made None is cause rose = cause
     replies_made (Some name) is cause rose =
-        option_member (Quiet openings.unmade_old openings.unmade_new) given.replies name []
-        (subst (λ (names : List (List ℕ)). All (Quiet openings.unmade_old openings.unmade_new) names) (sym (append-nil (option_to_list given.replies))) none.unmade)
-        is (rose name is)
+        option_member (Quiet openings.unmade_old openings.unmade_new) given.replies name (option_to_list given.save)
+        none.unmade is (rose name is)
+
+    save_made : (option : Option (List ℕ)) → given.save ≡ option
+        → IsSomeAnd option (λ name. AreUnderstoodFiles given holds)
+        → ((name : List ℕ) → given.save ≡ Some name → Rose (openings.unmade_old name) (openings.unmade_new name)) → ⊥
+    save_made None is cause rose = cause
+    save_made (Some name) is cause rose =
+        let quiet = all_behind (Quiet openings.unmade_old openings.unmade_new) (option_to_list given.replies)
+        (option_to_list given.save) none.unmade in
+        option_member (Quiet openings.unmade_old openings.unmade_new) given.save name []
+        (subst (λ (names : List (List ℕ)). All (Quiet openings.unmade_old openings.unmade_new) names)
+        (sym (append-nil (option_to_list given.save))) quiet) is (rose name is)
 
     by : (fault : StartFault) → IsRefusedFor given holds fault
         → AreSourcesOf means.left means.faults (file_held (Some given) holds) fault outcome.sources
@@ -123,14 +152,18 @@ wants_memory {S} {K} means given holds openings sinks outcome start cause of ope
     by (QueriesFault fault) cause of opened made = absurd (not_faulty (holds given.queries) fault cause can.understood)
     by (AsksFault fault) cause of opened made = absurd (asks_fault given.asks fault cause can.asks)
     by (Open Queries) cause of opened made =
-        absurd (All-head (Quiet openings.unread_old openings.unread_new) given.queries (option_to_list given.asks ++ given.streams) none.unread
+        absurd (All-head (Quiet openings.unread_old openings.unread_new) given.queries
+        ((option_to_list given.asks ++ option_to_list given.from) ++ given.streams) none.unread
         (opened given.queries refl))
     by (Open Asks) cause of opened made = absurd (asks_opened given.asks refl cause opened)
+    by (Open From) cause of opened made = absurd (from_opened given.from refl cause opened)
     by (Open Replies) cause of opened made = absurd (replies_made given.replies refl cause made)
+    by (Open Save) cause of opened made = absurd (save_made given.save refl cause made)
     by (Open (Stream zero)) cause of opened made = absurd (omega (arith, cause.0.first))
     by (Open (Stream (suc place))) cause of opened made =
         let inside : place < length given.streams = omega (arith, cause.0.last) in
-        let names = all_behind (Quiet openings.unread_old openings.unread_new) (option_to_list given.asks) given.streams later_names in
+        let names = all_behind (Quiet openings.unread_old openings.unread_new) (option_to_list given.from) given.streams
+        last_names in
         absurd (names place [] inside
         (opened (get_or given.streams place []) (slice_get-get_or given.streams place [] inside)))
     by (ReadAtStart which) cause of opened made =
@@ -138,7 +171,9 @@ wants_memory {S} {K} means given holds openings sinks outcome start cause of ope
         (subst (λ (ss : List S). All (λ source. ¬ Rose 0 (means.faults source)) ss) of.1 none.reads) of.2)
     by (Long Queries) cause of opened made = absurd (not_long (holds given.queries) cause can.understood)
     by (Long Asks) cause of opened made = absurd (asks_long given.asks cause can.asks)
+    by (Long From) cause of opened made = absurd cause
     by (Long Replies) cause of opened made = absurd cause
+    by (Long Save) cause of opened made = absurd cause
     by (Long (Stream number)) cause of opened made = absurd cause
     by Memory cause of opened made = inr refl
 

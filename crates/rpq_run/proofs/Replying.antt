@@ -8,9 +8,10 @@ use Rattle.ask_text.specs.Answered.{AnsweredValue}
 use Rattle.ask_text.specs.Replies.{session_text, sessions_text, replies}
 use Rattle.rpq_io.proofs.Bytes.{append_known-nil, append_known-append}
 use Rattle.rpq_io.proofs.Counting.{counts_none}
-use Rattle.rpq_run.specs.declared.replies.RepliesFault.{RepliesFault}
-use Rattle.rpq_run.specs.declared.replies.RepliesFault.TheVariants.{Write}
-use Rattle.rpq_run.specs.Replies.{WritesPart, texts_of}
+use Rattle.rpq_run.specs.declared.fault.TextFault.{TextFault}
+use Rattle.rpq_run.specs.declared.fault.TextFault.TheVariants.{Write}
+use Rattle.rpq_run.specs.Parts.{WritesPart}
+use Rattle.rpq_run.specs.Replies.{texts_of}
 use Rattle.rpq_run.proofs.ErrorTexts.{counted_after, nil_front}
 
 -- the sessions before this place are written
@@ -68,7 +69,7 @@ replied_all told place before now all has =
 
 module _ {Sink : Type 0} {written : Sink → Option (List ℕ)} {faults : Sink → ℕ} {old between new : Sink} where
   -- one of some texts fails, after those before it
-  pub part_in_turn : {text : List ℕ} {fault : RepliesFault} (done more all : List ℕ)
+  pub part_in_turn : {text : List ℕ} {fault : TextFault} (done more all : List ℕ)
       → done ++ (text ++ more) ≡ all → written between ≡ append_known (written old) done
       → faults between ≡ faults old → WritesPart written faults text between new (Err fault)
       → WritesPart written faults all old new (Err fault)
@@ -92,7 +93,7 @@ module _ {Sink : Type 0} {written : Sink → Option (List ℕ)} {faults : Sink �
               ∙ (ap (λ (t : List ℕ). done ++ (t ++ more)) front.of_kind ∙ is);
           written = onward front.front front.written;
         };
-    counted = counted_after (◌≡◌ {A = Result (Unit {0}) RepliesFault} (Err fault) (Err Write)) (faults old)
+    counted = counted_after (◌≡◌ {A = Result (Unit {0}) TextFault} (Err fault) (Err Write)) (faults old)
         (faults between) (faults new) quiet part.counted;
   }
     where
@@ -113,6 +114,6 @@ part_whole {written = written} {faults = faults} {old = old} {new = new} {text =
   whole = λ ok. whole;
   write = λ failed. absurd (cc failed);
   memory = λ short. absurd (cc short);
-  counted = counts_none (◌≡◌ {A = Result (Unit {0}) RepliesFault} (Ok done) (Err Write)) (faults old) (faults new)
+  counted = counts_none (◌≡◌ {A = Result (Unit {0}) TextFault} (Ok done) (Err Write)) (faults old) (faults new)
       (λ failed. cc failed) quiet;
 }

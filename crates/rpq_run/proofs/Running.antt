@@ -1,7 +1,7 @@
 -- What a run does that begins: the run over streams, and the check.
 use Rattle.std.proofs.Common.{◌≡◌, ◌≢◌, ℕ, Bool, true, false, List, [], length, Option, Some, None}
 use Rattle.std.proofs.Common.{Result, Ok, Err, refl, ap, sym, subst, ◌∙◌, arith, inl, inr, ◌⊎◌}
-use Rattle.std.specs.Prelude.{IfSome, MatchOption, Contains, IsOk, is_err, is_some, map}
+use Rattle.std.specs.Prelude.{IfSome, MatchOption, Contains, is_err, is_some, map}
 use Rattle.std.specs.Global.{Vec}
 use Rattle.std.specs.List.{All, flat_map}
 use Rattle.std.proofs.lemmas.List.{length-map}
@@ -9,7 +9,7 @@ use Rattle.rpq_base.specs.declared.data.Entry.{Entry}
 use Rattle.rpq_io.specs.Counts.{CountsFault}
 use Rattle.rpq_io.specs.Files.{IsNewSink}
 use Rattle.rpq_io.specs.Reader.{ReaderState}
-use Rattle.rpq_io.proofs.Counting.{counts_as}
+use Rattle.rpq_io.proofs.Counting.{counts_as, counts_none}
 use Rattle.rpq_model.specs.Query.{Query}
 use Rattle.rpq_words.specs.Settings.{Settings}
 use Rattle.history_model.specs.declared.line.Why.{Why}
@@ -23,14 +23,19 @@ use Rattle.ask_text.specs.Answered.{AnsweredValue}
 use Rattle.ask_text.specs.Replies.{replies}
 use Rattle.rpq_text.specs.Definitions.{compiled_line, definitions_of}
 use Rattle.rpq_text.specs.declared.ends.SinkName.{SinkName}
-use Rattle.rpq_text.specs.declared.ends.SinkName.TheVariants.{Events, Replies}
+use Rattle.rpq_text.specs.declared.ends.SinkName.TheVariants.{Events, Replies, Save}
 use Rattle.rpq_text.specs.ErrorLines.{run_lines}
 use Rattle.rpq_text.specs.Laws.{FrontsHoldAnswers}
 use Rattle.rpq_text.specs.Statuses.{IsStatusOf}
 use Rattle.rpq_text.specs.Text.{IsText}
 use Rattle.rpq_text.specs.Verdicts.{AreVerdicts}
 use Rattle.rpq_text.proofs.VerdictLines.{are_verdicts}
+use Rattle.saved_window.specs.Saved.{saved}
+use Rattle.saved_window.specs.SavedText.{saved_text}
+use Rattle.saved_window.specs.Then.{TwoSources, count_of, left_of_both, faults_of_both}
 use Rattle.run_start.specs.Files.{HasQueries, HasSessions, IsQueriesFile, ForQueries, ForSessions, ForAsked}
+use Rattle.run_start.specs.Files.{from_content, stream_contents}
+use Rattle.run_start.specs.declared.sinks.OwnSinks.{OwnSinks}
 use Rattle.standing.specs.Circles.{Parts, as_seen}
 use Rattle.standing.specs.Objects.{ObjectValue}
 use Rattle.rpq_threads.specs.declared.task.Outcome.{Outcome as ThreadsOutcome}
@@ -38,19 +43,27 @@ use Rattle.rpq_threads.specs.declared.task.Task.{Task}
 use Rattle.rpq_threads.specs.Runs.{AreSessionsOf, Holds, asks_answered}
 use Rattle.rpq_threads.specs.Told.{TellsObjects}
 use Rattle.rpq_threads.specs.Written.{Grew, GrewByProperPrefix}
-use Rattle.rpq_run.specs.declared.replies.RepliesFault.{RepliesFault}
-use Rattle.rpq_run.specs.declared.replies.RepliesFault.TheVariants.{Memory as MemoryForReplies}
+use Rattle.rpq_run.specs.declared.fault.TextFault.{TextFault}
+use Rattle.rpq_run.specs.declared.fault.TextFault.TheVariants.{Memory as MemoryForText}
 use Rattle.rpq_run.specs.Asked.{IsAsked}
+use Rattle.rpq_run.specs.Ending.{IsShort, IsUnsaved, KeepsParts, SavesIfThere, failed_of}
+use Rattle.rpq_run.specs.declared.report.Report.{Report}
 use Rattle.rpq_run.specs.Failed.{failed_sinks, is_failed, is_write}
-use Rattle.rpq_run.specs.Outcome.{Meanings, Sinks, Objects, Outcome, objects}
-use Rattle.rpq_run.specs.Replies.{WritesReplies, texts_of}
+use Rattle.rpq_run.specs.Sources.{stream_sources}
+use Rattle.rpq_run.specs.declared.streams.WrittenTexts.{WrittenTexts}
+use Rattle.rpq_run.specs.Outcome.{Meanings, Sinks, Objects, Outcome, objects, outcome}
+use Rattle.rpq_run.specs.Parts.{WritesIfThere}
+use Rattle.rpq_run.specs.Replies.{texts_of}
 use Rattle.rpq_run.specs.RunsCheck.{LeavesObjects, RunsCheck}
 use Rattle.rpq_run.specs.RunsStreams.{HoldsStreams, WritesEvents, AnswersSessions, TellsHistory}
-use Rattle.rpq_run.specs.RunsStreams.{RunsStreams, FrontsHold, nothing_told}
+use Rattle.rpq_run.specs.RunsStreams.{GotText, RunsStreams, SavesWindow, FrontsHold, nothing_told}
 use Rattle.rpq_run.specs.Written.{Tells, TellsLines, WritesWhere}
-use Rattle.rpq_run.proofs.Sinks.{some_sinks, in_replies, events_in, is_write_some, events_written}
-use Rattle.rpq_run.proofs.Sinks.{events_counted, in_events, proper_is_prefix, replies_written}
-use Rattle.rpq_run.proofs.Sinks.{replies_counted, whole_is_prefix, none_contained}
+use Rattle.rpq_run.proofs.Sinks.{some_sinks, in_replies, in_save, events_in, is_write_some, events_written}
+use Rattle.rpq_run.proofs.Sinks.{events_counted, in_events, none_contained, proper_is_prefix, replies_in, save_in}
+use Rattle.rpq_run.proofs.Sinks.{some_is_write, text_counted, text_written, whole_is_prefix}
+use Rattle.rpq_run.proofs.Statuses.{memory_first}
+use Rattle.rpq_run.proofs.Windows.{as_many_contents, none_written, same_sink, there_by_count, window_unwritten}
+use Rattle.rpq_run.proofs.Windows.{window_written}
 
 -- ---- what is asked
 
@@ -112,37 +125,68 @@ leaves_objects seen all left none = record { stayed = refl; none_left = ap (map 
 
 -- ---- the run over streams
 
--- what a run over streams answers, by what its threads gave
-abbrev pub outcome_of : {S K O : Type 0} → ℕ → ThreadsOutcome S O → Option K → Outcome S K
-outcome_of status threads replies = record {
+-- what a run over streams answers, by what its threads gave, and the sources and sinks
+abbrev pub outcome_of : {T S K O : Type 0} → ℕ → ThreadsOutcome T O → Option S → List S → OwnSinks K
+    → Outcome S K
+outcome_of status threads from sources own = record {
   status = status;
   history = threads.history.items;
   ends = threads.ends.items;
-  sources = threads.sources.items;
-  sessions = map (λ (own : Vec AnsweredValue). own.items) threads.sessions.items;
-  replies = replies;
+  sources = sources;
+  from = from;
+  sessions = map (λ (each : Vec AnsweredValue). each.items) threads.sessions.items;
+  replies = own.replies;
+  save = own.save;
 }
 
 -- the objects that were handed to the threads, and as they gave them back
-abbrev pub objects_of : {S O : Type 0} → (O → ObjectValue) → Parts O → ThreadsOutcome S O → Objects
+abbrev pub objects_of : {T O : Type 0} → (O → ObjectValue) → Parts O → ThreadsOutcome T O → Objects
 objects_of seen circle threads =
     objects seen circle.members threads.circle.members threads.circle.left
 
+-- the text of the replies
+abbrev pub replies_of : {T O : Type 0} → ThreadsOutcome T O → List ℕ
+replies_of threads =
+    replies (texts_of (map (λ (each : Vec AnsweredValue). each.items) threads.sessions.items))
+
+-- the report has these in its lists
+pub answers_are : {T O F S K V : Type 0} {W : V → Type 0} (threads : ThreadsOutcome T O) (own : OwnSinks K)
+    (report : Report F S K V W) → KeepsParts threads own report
+    → outcome_of report.status threads report.from report.sources.items own ≡ outcome report
+answers_are threads own report parts = λ i. record {
+  status = report.status;
+  history = (sym parts.history i).items;
+  ends = (sym parts.ends i).items;
+  sources = report.sources.items;
+  from = report.from;
+  sessions = map (λ (each : Vec AnsweredValue). each.items) (sym parts.sessions i).items;
+  replies = sym parts.replies i;
+  save = sym parts.save i;
+}
+
 module _ {S K O : Type 0} (means : Meanings S K) (given : Settings)
-    (holds : List ℕ → Option (List ℕ)) (task : Task S) (old new : Option K) (sinks : Sinks K)
-    (seen : O → ObjectValue) (circle : Parts O) (threads : ThreadsOutcome S O)
-    (replied : Result (Unit {0}) RepliesFault) (status : ℕ)
-    (asked : IsAsked means.left means.written means.failures given holds task old)
-    (held : Holds means.left means.faults means.written means.failures seen task sinks.events_old
-    sinks.events_new circle threads)
-    (wrote : WritesReplies means.written means.failures
-    (replies (texts_of (map (λ (own : Vec AnsweredValue). own.items) threads.sessions.items))) old new replied)
-    (for_session : threads.short_of_memory ≡ true → status ≡ 8)
-    (for_engine : threads.why ≡ Some Memory → status ≡ 8)
-    (for_replies : replied ≡ Err MemoryForReplies → status ≡ 8) where
+    (holds : List ℕ → Option (List ℕ)) (firsts : ℕ) (task : Task (TwoSources S)) (old new : OwnSinks K)
+    (sinks : Sinks K) (seen : O → ObjectValue) (circle : Parts O) (threads : ThreadsOutcome (TwoSources S) O)
+    (from : Option S) (sources : List S) (written : WrittenTexts) (status : ℕ)
+    (asked : IsAsked means.left means.written means.failures given holds firsts task old)
+    (held : Holds (left_of_both means.left) (faults_of_both means.faults) means.written means.failures seen task
+    sinks.events_old sinks.events_new circle threads)
+    (replied : WritesIfThere means.written means.failures (replies_of threads) old.replies new.replies
+    written.replied)
+    (saved_is : SavesIfThere means.written means.failures
+    (saved_text (saved (definitions_of task.queries.items) threads.history.items)) threads.why
+    (IsUnsaved threads.why threads.short_of_memory threads.ends.items written.replied) old.save new.save
+    written.saved)
+    (parts : stream_sources from sources ≡ threads.sources.items) (from_is : count_of from ≡ firsts)
+    (short : IsShort threads.why threads.short_of_memory written → status ≡ 8)
+    (status_is : IsStatusOf threads.ends.items (failed_of threads.why written) status) where
   -- the sinks of which a write failed
   abbrev pub failed_in : List SinkName
-  failed_in = failed_sinks (is_write threads.why) (is_failed replied)
+  failed_in = failed_of threads.why written
+
+  -- what the run answers
+  abbrev pub answer : Outcome S K
+  answer = outcome_of status threads from sources new
 
   -- the queries and the sessions
   abbrev queries_in : List Query
@@ -151,125 +195,219 @@ module _ {S K O : Type 0} (means : Meanings S K) (given : Settings)
   for_both : (P : List Query → List (List Ask) → Type 0) → P queries_in task.sessions.items → ForAsked given holds P
   for_both P p = for_asked given holds queries_in task.sessions.items P asked.has asked.asked p
 
+  for_engine : threads.why ≡ Some Memory → status ≡ 8
+  for_engine is = short (inr (inl is))
+
+  for_replies : written.replied ≡ Err MemoryForText → status ≡ 8
+  for_replies is = short (inr (inr (inl is)))
+
+  for_save : written.saved ≡ Err MemoryForText → status ≡ 8
+  for_save is = short (inr (inr (inr is)))
+
+  -- a failed write of the events is told, and told of no other
+  write_told : threads.why ≡ Some Write → Contains failed_in Events
+  write_told is = events_in (is_write threads.why) (is_failed written.replied) (is_failed written.saved)
+      (is_write_some threads.why is)
+
+  told_write : Contains failed_in Events → threads.why ≡ Some Write
+  told_write has = some_is_write threads.why
+      (in_events (is_write threads.why) (is_failed written.replied) (is_failed written.saved) has)
+
+  replies_told : is_failed written.replied ≡ true → Contains failed_in Replies
+  replies_told = replies_in (is_write threads.why) (is_failed written.replied) (is_failed written.saved)
+
+  told_replies : Contains failed_in Replies → is_failed written.replied ≡ true
+  told_replies = in_replies (is_write threads.why) (is_failed written.replied) (is_failed written.saved)
+
+  save_told : is_failed written.saved ≡ true → Contains failed_in Save
+  save_told = save_in (is_write threads.why) (is_failed written.replied) (is_failed written.saved)
+
+  told_save : Contains failed_in Save → is_failed written.saved ≡ true
+  told_save = in_save (is_write threads.why) (is_failed written.replied) (is_failed written.saved)
+
   -- one history
-  holds_streams : HoldsStreams means given holds (outcome_of status threads new)
+  holds_streams : HoldsStreams means given holds answer
   holds_streams =
+      let left = left_of_both means.left in
       let as_many : length task.readers.items ≡ length given.streams =
-      sym (length-map task.readers.items (λ (reader : ReaderState S). means.left reader.source))
+      sym (length-map task.readers.items (λ (reader : ReaderState (TwoSources S)). left reader.source))
       ∙ (ap (λ (fs : List (Option (List ℕ))). length fs) (sym {A = List (Option (List ℕ))} asked.contents)
-      ∙ length-map given.streams holds) in
+      ∙ (as_many_contents (from_content given holds) (map holds given.streams)
+      ∙ length-map given.streams holds)) in
       record {
-        each_stream = subst (λ (fs : List (Option (List ℕ))). AreStreamsOf means.left means.faults given.history fs
+        from = there_by_count from given.from (from_is ∙ asked.behind);
+        each_stream = subst (λ (ss : List (TwoSources S)). AreStreamsOf left (faults_of_both means.faults)
+            given.history (stream_contents given holds) ss threads.history.items threads.ends.items)
+            (sym {A = List (TwoSources S)} parts)
+            (subst (λ (fs : List (Option (List ℕ))). AreStreamsOf left (faults_of_both means.faults) given.history fs
             threads.sources.items threads.history.items threads.ends.items)
             (sym {A = List (Option (List ℕ))} asked.contents)
-            (subst (λ limit. AreStreamsOf means.left means.faults limit
-            (map (λ (reader : ReaderState S). means.left reader.source) task.readers.items)
-            threads.sources.items threads.history.items threads.ends.items) asked.limit held.streams);
+            (subst (λ limit. AreStreamsOf left (faults_of_both means.faults) limit
+            (map (λ (reader : ReaderState (TwoSources S)). left reader.source) task.readers.items)
+            threads.sources.items threads.history.items threads.ends.items) asked.limit held.streams));
         no_other = subst (λ n. All (λ (e : Entry). IsNumberOf n e.stream) threads.history.items) as_many held.numbers;
         few = omega (arith, held.few, asked.limit);
       }
 
   -- the events
-  writes_events : FrontsHoldAnswers → WritesEvents means given holds failed_in sinks (outcome_of status threads new)
+  writes_events : FrontsHoldAnswers → WritesEvents means given holds failed_in sinks answer
   writes_events fronts = record {
     text = for_queries (holds given.queries) queries_in (λ all.
         WritesWhere (Contains failed_in Events) status (IsText all threads.history.items)
         (means.written sinks.events_old) (means.written sinks.events_new)) asked.has
         (events_written means.written means.failures queries_in threads.history.items sinks.events_old
-        sinks.events_new threads.why (is_failed replied) status for_engine held.text);
+        sinks.events_new threads.why (is_failed written.replied) (is_failed written.saved) status for_engine held.text);
     sets = for_queries (holds given.queries) queries_in (λ all. FrontsHold all threads.history.items) asked.has
         (λ place query events here all count pair.
         fronts queries_in place query threads.history.items events here all count pair);
   }
 
-  -- the replies' sink
-  same_sink : is_some new ≡ is_some old
-  same_sink = by old new wrote
-    where
-      by : (before after : Option K) → WritesReplies means.written means.failures
-          (replies (texts_of (map (λ (own : Vec AnsweredValue). own.items) threads.sessions.items))) before after replied
-          → is_some after ≡ is_some before
-      by None None wrote = refl
-      by None (Some after) wrote = absurd wrote
-      by (Some before) None wrote = absurd wrote
-      by (Some before) (Some after) wrote = refl
-
-  replies_text : IfSome new (λ sink. WritesWhere (Contains failed_in Replies) status
-      (λ text. text ≡ replies (texts_of (map (λ (own : Vec AnsweredValue). own.items) threads.sessions.items)))
-      (nothing_told (means.written sink)) (means.written sink))
-  replies_text = by old new asked.unwritten wrote
+  replies_text : IfSome new.replies (λ sink. WritesWhere (Contains failed_in Replies) status
+      (λ text. text ≡ replies_of threads) (nothing_told (means.written sink)) (means.written sink))
+  replies_text = by old.replies new.replies asked.sinks.new_replies replied
     where
       by : (before after : Option K) → IfSome before (IsNewSink means.written means.failures)
-          → WritesReplies means.written means.failures
-          (replies (texts_of (map (λ (own : Vec AnsweredValue). own.items) threads.sessions.items))) before after replied
+          → WritesIfThere means.written means.failures (replies_of threads) before after written.replied
           → IfSome after (λ sink. WritesWhere (Contains failed_in Replies) status
-          (λ text. text ≡ replies (texts_of (map (λ (own : Vec AnsweredValue). own.items) threads.sessions.items)))
-          (nothing_told (means.written sink)) (means.written sink))
+          (λ text. text ≡ replies_of threads) (nothing_told (means.written sink)) (means.written sink))
       by before None fresh wrote = tt
       by None (Some after) fresh wrote = absurd wrote
-      by (Some before) (Some after) fresh wrote = replies_written means.written means.failures
-          (replies (texts_of (map (λ (own : Vec AnsweredValue). own.items) threads.sessions.items)))
-          before after (is_write threads.why) replied status for_replies fresh wrote
+      by (Some before) (Some after) fresh wrote = text_written means.written means.failures (replies_of threads)
+          before after (Contains failed_in Replies) written.replied status replies_told told_replies for_replies fresh
+          wrote
 
-  replies_told : IfSome new (λ sink. CountsFault (Contains failed_in Replies) 0 (means.failures sink))
-  replies_told = by old new asked.unwritten wrote
-    where
-      by : (before after : Option K) → IfSome before (IsNewSink means.written means.failures)
-          → WritesReplies means.written means.failures
-          (replies (texts_of (map (λ (own : Vec AnsweredValue). own.items) threads.sessions.items))) before after replied
-          → IfSome after (λ sink. CountsFault (Contains failed_in Replies) 0 (means.failures sink))
-      by before None fresh wrote = tt
-      by None (Some after) fresh wrote = absurd wrote
-      by (Some before) (Some after) fresh wrote = replies_counted (is_write threads.why) replied
-          (means.failures before) (means.failures after) fresh.no_fault wrote.counted
-
-  no_replies : new ≡ None → Contains failed_in Replies → ⊥
-  no_replies none has = by old new none wrote (in_replies (is_write threads.why) (is_failed replied) has)
-    where
-      by : (before after : Option K) → after ≡ None → WritesReplies means.written means.failures
-          (replies (texts_of (map (λ (own : Vec AnsweredValue). own.items) threads.sessions.items))) before after replied
-          → is_failed replied ≡ true → ⊥
-      by None None none wrote failed = not_ok replied wrote failed
-        where
-          not_ok : (r : Result (Unit {0}) RepliesFault) → IsOk r → is_failed r ≡ true → ⊥
-          not_ok (Ok done) ok failed = absurd (cc failed)
-          not_ok (Err fault) ok failed = absurd (cc ok)
-      by before (Some after) none wrote failed = absurd (cc none)
-      by (Some before) None none wrote failed = wrote
+  -- a failed write of a text is counted
+  text_failed : (text : List ℕ) (failed : Type 0) (result : Result (Unit {0}) TextFault)
+      → (is_failed result ≡ true → failed) → (failed → is_failed result ≡ true) → (before after : Option K)
+      → IfSome before (IsNewSink means.written means.failures)
+      → WritesIfThere means.written means.failures text before after result
+      → IfSome after (λ sink. CountsFault failed 0 (means.failures sink))
+  text_failed text failed result there back before None fresh wrote = tt
+  text_failed text failed result there back None (Some after) fresh wrote = absurd wrote
+  text_failed text failed result there back (Some before) (Some after) fresh wrote =
+      text_counted failed result (means.failures before) (means.failures after) there back fresh.no_fault wrote.counted
 
   -- the last entry that was published is the last of the history, unless the engine shut
   at_end : (why : Option Why) → threads.why ≡ why
       → (held.answers.last ≡ length threads.history.items) ⊎ (Contains failed_in Events ⊎ (status ≡ 8))
   at_end None is = inl (held.answers.at_end is)
-  at_end (Some Write) is = inr (inl (events_in (is_write threads.why) (is_failed replied) (is_write_some threads.why is)))
+  at_end (Some Write) is = inr (inl (write_told is))
   at_end (Some Memory) is = inr (inr (for_engine is))
 
   -- where memory didn't run out all was answered
-  all_answered : (short : Bool) → threads.short_of_memory ≡ short → status ≢ 8
-      → asks_answered (map (λ (own : Vec AnsweredValue). own.items) threads.sessions.items) ≡ task.sessions.items
-  all_answered true is other = absurd (other (for_session is))
+  all_answered : (some : Bool) → threads.short_of_memory ≡ some → status ≢ 8
+      → asks_answered (map (λ (each : Vec AnsweredValue). each.items) threads.sessions.items) ≡ task.sessions.items
+  all_answered true is other = absurd (other (short (inl is)))
   all_answered false is other = held.answers.all is
 
-  answers_sessions : AnswersSessions means given holds failed_in (outcome_of status threads new)
+  answers_sessions : AnswersSessions means given holds failed_in answer
   answers_sessions = record {
     last = held.answers.last;
     within = held.answers.within;
     at_end = at_end threads.why refl;
     sessions = for_both (λ queries asks. AreSessionsOf queries threads.history.items held.answers.last asks
-        (map (λ (own : Vec AnsweredValue). own.items) threads.sessions.items)) held.answers.sessions;
+        (map (λ (each : Vec AnsweredValue). each.items) threads.sessions.items)) held.answers.sessions;
     all = λ other. for_both (λ queries asks.
-        asks_answered (map (λ (own : Vec AnsweredValue). own.items) threads.sessions.items) ≡ asks)
+        asks_answered (map (λ (each : Vec AnsweredValue). each.items) threads.sessions.items) ≡ asks)
         (all_answered threads.short_of_memory refl other);
-    sink = same_sink ∙ asked.sink;
+    sink = same_sink means.written means.failures (replies_of threads) old.replies new.replies written.replied replied
+        ∙ asked.sinks.replies;
     text = replies_text;
   }
 
+  -- ---- the saved window
+
+  abbrev window_in : List ℕ
+  window_in = saved_text (saved queries_in threads.history.items)
+
+  -- no window is saved only where a write of the events failed, or memory ran out
+  unsaved : IsUnsaved threads.why threads.short_of_memory threads.ends.items written.replied
+      → Contains failed_in Events ⊎ (status ≡ 8)
+  unsaved (inl is) = inl (write_told is)
+  unsaved (inr (inl is)) = inr (for_engine is)
+  unsaved (inr (inr (inl is))) = inr (short (inl is))
+  unsaved (inr (inr (inr (inl is)))) = inr (status_is.memory (memory_first threads.ends.items failed_in is))
+  unsaved (inr (inr (inr (inr is)))) = inr (for_replies is)
+
+  -- and then no write of it failed
+  none_of_save : written.saved ≡ Ok tt → Contains failed_in Save → ⊥
+  none_of_save is has =
+      let no : false ≡ true = sym (ap is_failed is) ∙ told_save has in
+      cc no
+
+  window_sink : is_some new.save ≡ is_some old.save
+  window_sink = elim saved_is [
+    | inl wrote ↦ same_sink means.written means.failures window_in old.save new.save written.saved wrote.1
+    | inr none ↦ ap (λ (sink : Option K). is_some sink) none.2
+  ]
+
+  window_text : IfSome new.save (λ sink. GotText (Contains failed_in Events) (Contains failed_in Save) status
+      window_in (means.written sink))
+  window_text = elim saved_is [
+    | inl wrote ↦ by (λ has.
+        let no : ◌≡◌ {A = Option Why} None (Some Write) = sym wrote.0 ∙ told_write has in
+        cc no) old.save new.save asked.sinks.new_save wrote.1
+    | inr none ↦ subst (λ (sink : Option K). IfSome sink (λ s. GotText (Contains failed_in Events)
+        (Contains failed_in Save) status window_in (means.written s))) (sym none.2)
+        (as_before old.save (unsaved none.0) (none_of_save none.1) asked.sinks.new_save)
+  ]
+    where
+      by : (Contains failed_in Events → ⊥) → (before after : Option K)
+          → IfSome before (IsNewSink means.written means.failures)
+          → WritesIfThere means.written means.failures window_in before after written.saved
+          → IfSome after (λ sink. GotText (Contains failed_in Events) (Contains failed_in Save) status
+          window_in (means.written sink))
+      by unfailed before None fresh wrote = tt
+      by unfailed None (Some after) fresh wrote = absurd wrote
+      by unfailed (Some before) (Some after) fresh wrote = window_written means.written means.failures window_in
+          before after (Contains failed_in Events) (Contains failed_in Save) written.saved status unfailed save_told
+          told_save for_save fresh wrote
+
+      as_before : (sink : Option K) → Contains failed_in Events ⊎ (status ≡ 8) → (Contains failed_in Save → ⊥)
+          → IfSome sink (IsNewSink means.written means.failures)
+          → IfSome sink (λ s. GotText (Contains failed_in Events) (Contains failed_in Save) status
+          window_in (means.written s))
+      as_before None reason none fresh = tt
+      as_before (Some sink) reason none fresh = window_unwritten means.written means.failures window_in sink
+          (Contains failed_in Events) (Contains failed_in Save) status reason none fresh
+
+  saves_window : SavesWindow means given holds failed_in answer
+  saves_window = record { sink = window_sink ∙ asked.sinks.save; text = by new.save window_text }
+    where
+      by : (sink : Option K) → IfSome sink (λ s. GotText (Contains failed_in Events) (Contains failed_in Save) status
+          window_in (means.written s))
+          → IfSome sink (λ s. ForQueries (holds given.queries) (λ queries. GotText (Contains failed_in Events)
+          (Contains failed_in Save) status (saved_text (saved queries threads.history.items)) (means.written s)))
+      by None got = tt
+      by (Some sink) got = for_queries (holds given.queries) queries_in (λ all. GotText (Contains failed_in Events)
+          (Contains failed_in Save) status (saved_text (saved all threads.history.items)) (means.written sink))
+          asked.has got
+
+  save_failed : IfSome new.save (λ sink. CountsFault (Contains failed_in Save) 0 (means.failures sink))
+  save_failed = elim saved_is [
+    | inl wrote ↦ text_failed window_in (Contains failed_in Save) written.saved save_told told_save old.save new.save
+        asked.sinks.new_save wrote.1
+    | inr none ↦ subst (λ (sink : Option K). IfSome sink (λ s. CountsFault (Contains failed_in Save) 0
+        (means.failures s))) (sym none.2) (quiet old.save (none_of_save none.1) asked.sinks.new_save)
+  ]
+    where
+      quiet : (sink : Option K) → (Contains failed_in Save → ⊥) → IfSome sink (IsNewSink means.written means.failures)
+          → IfSome sink (λ s. CountsFault (Contains failed_in Save) 0 (means.failures s))
+      quiet None none fresh = tt
+      quiet (Some sink) none fresh = counts_none (Contains failed_in Save) 0 (means.failures sink) none fresh.no_fault
+
+  no_save : new.save ≡ None → Contains failed_in Save → ⊥
+  no_save is has = elim saved_is [
+    | inl wrote ↦ none_written means.written means.failures window_in old.save new.save written.saved is wrote.1
+        (told_save has)
+    | inr none ↦ none_of_save none.1 has
+  ]
+
   -- the objects
-  tells_history : TellsHistory means given holds failed_in sinks (objects_of seen circle threads)
-      (outcome_of status threads new)
+  tells_history : TellsHistory means given holds failed_in sinks (objects_of seen circle threads) answer
   tells_history = record {
     why = threads.why;
-    write = λ is. events_in (is_write threads.why) (is_failed replied) (is_write_some threads.why is);
+    write = write_told;
     memory = for_engine;
     told = for_queries (holds given.queries) queries_in (λ all. TellsObjects all threads.history.items
         (means.written sinks.events_old) (means.written sinks.events_new) (map seen circle.members) threads.why
@@ -277,25 +415,29 @@ module _ {S K O : Type 0} (means : Meanings S K) (given : Settings)
   }
 
   -- the run over streams
-  streams_run : FrontsHoldAnswers → IsStatusOf threads.ends.items failed_in status
+  streams_run : FrontsHoldAnswers
       → TellsLines means.written means.failures (run_lines threads.ends.items failed_in status)
       sinks.errors_old sinks.errors_new
-      → RunsStreams means given holds sinks (objects_of seen circle threads) (outcome_of status threads new)
-  streams_run fronts status_is told = record {
+      → RunsStreams means given holds sinks (objects_of seen circle threads) answer
+  streams_run fronts told = record {
     understood = for_both (λ queries asks. Unit {0}) tt;
     failed = failed_in;
     history = holds_streams;
     events = writes_events fronts;
     replies = answers_sessions;
+    saves = saves_window;
     told = tells_history;
     causes = record {
-      once = some_sinks (is_write threads.why) (is_failed replied);
-      events_failed = events_counted threads.why (is_failed replied) (means.failures sinks.events_old)
-          (means.failures sinks.events_new) held.text.counted;
-      replies_failed = replies_told;
-      no_replies = no_replies;
-      closed = λ closed. events_in (is_write threads.why) (is_failed replied)
-          (is_write_some threads.why (held.closed Write closed));
+      once = some_sinks (is_write threads.why) (is_failed written.replied) (is_failed written.saved);
+      events_failed = events_counted threads.why (is_failed written.replied) (is_failed written.saved)
+          (means.failures sinks.events_old) (means.failures sinks.events_new) held.text.counted;
+      replies_failed = text_failed (replies_of threads) (Contains failed_in Replies) written.replied replies_told
+          told_replies old.replies new.replies asked.sinks.new_replies replied;
+      no_replies = λ is has. none_written means.written means.failures (replies_of threads) old.replies new.replies
+          written.replied is replied (told_replies has);
+      save_failed = save_failed;
+      no_save = no_save;
+      closed = λ closed. write_told (held.closed Write closed);
       status_is = status_is;
       told = told;
     };
@@ -303,23 +445,59 @@ module _ {S K O : Type 0} (means : Meanings S K) (given : Settings)
 
   -- the same with the objects in their lists
   pub runs_streams : (before stayed left : List O) → circle.members ≡ before
-      → threads.circle.members ≡ stayed → threads.circle.left ≡ left
-      → FrontsHoldAnswers → IsStatusOf threads.ends.items failed_in status
+      → threads.circle.members ≡ stayed → threads.circle.left ≡ left → FrontsHoldAnswers
       → TellsLines means.written means.failures (run_lines threads.ends.items failed_in status)
       sinks.errors_old sinks.errors_new
-      → RunsStreams means given holds sinks (objects seen before stayed left) (outcome_of status threads new)
-  runs_streams before stayed left befores stays leaves fronts status_is told =
-      subst (λ (all : Objects). RunsStreams means given holds sinks all (outcome_of status threads new))
+      → RunsStreams means given holds sinks (objects seen before stayed left) answer
+  runs_streams before stayed left befores stays leaves fronts told =
+      subst (λ (all : Objects). RunsStreams means given holds sinks all answer)
       (objects_are seen circle.members before threads.circle.members stayed threads.circle.left left
       befores stays leaves)
-      (streams_run fronts status_is told)
+      (streams_run fronts told)
+
+-- the same of a report
+pub run_reported : {S K O F V : Type 0} {W : V → Type 0} (means : Meanings S K) (given : Settings)
+    (holds : List ℕ → Option (List ℕ)) (firsts : ℕ) (task : Task (TwoSources S)) (old new : OwnSinks K)
+    (sinks : Sinks K) (seen : O → ObjectValue) (circle : Parts O) (threads : ThreadsOutcome (TwoSources S) O)
+    (report : Report F S K V W) (written : WrittenTexts)
+    → IsAsked means.left means.written means.failures given holds firsts task old
+    → Holds (left_of_both means.left) (faults_of_both means.faults) means.written means.failures seen task
+    sinks.events_old sinks.events_new circle threads
+    → WritesIfThere means.written means.failures (replies_of threads) old.replies new.replies written.replied
+    → SavesIfThere means.written means.failures
+    (saved_text (saved (definitions_of task.queries.items) threads.history.items)) threads.why
+    (IsUnsaved threads.why threads.short_of_memory threads.ends.items written.replied) old.save new.save written.saved
+    → stream_sources report.from report.sources.items ≡ threads.sources.items → count_of report.from ≡ firsts
+    → (IsShort threads.why threads.short_of_memory written → report.status ≡ 8)
+    → IsStatusOf threads.ends.items (failed_of threads.why written) report.status → KeepsParts threads new report
+    → (before stayed left : List O) → circle.members ≡ before → threads.circle.members ≡ stayed
+    → threads.circle.left ≡ left → FrontsHoldAnswers
+    → TellsLines means.written means.failures
+    (run_lines threads.ends.items (failed_of threads.why written) report.status) sinks.errors_old sinks.errors_new
+    → RunsStreams means given holds sinks (objects seen before stayed left) (outcome report)
+run_reported means given holds firsts task old new sinks seen circle threads report written asked held replied saved_is
+    parts from_is short status_is keeps before stayed left befores stays leaves fronts told =
+    subst (λ (answer : Outcome _ _). RunsStreams means given holds sinks (objects seen before stayed left) answer)
+    (answers_are threads new report keeps)
+    (runs_streams means given holds firsts task old new sinks seen circle threads report.from report.sources.items written
+    report.status asked held replied saved_is parts from_is short status_is before stayed left befores stays leaves fronts
+    told)
 
 -- ---- the check
 
 -- what a check answers
 abbrev pub check_outcome : {S K : Type 0} → ℕ → Outcome S K
 check_outcome status =
-    record { status = status; history = []; ends = []; sources = []; sessions = []; replies = None }
+    record {
+      status = status;
+      history = [];
+      ends = [];
+      sources = [];
+      from = None;
+      sessions = [];
+      replies = None;
+      save = None;
+    }
 
 -- it has no member in any list
 nothing_taken : {S K : Type 0} (status : ℕ) (history : List Entry) (ends : List StreamEnd)
@@ -329,23 +507,27 @@ nothing_taken : {S K : Type 0} (status : ℕ) (history : List Entry) (ends : Lis
       history = history;
       ends = ends;
       sources = sources;
+      from = None;
       sessions = sessions;
       replies = None;
+      save = None;
     }
 nothing_taken status history ends sources sessions no_history no_end no_source no_session = λ i. record {
   status = status;
   history = sym {A = List Entry} no_history i;
   ends = sym {A = List StreamEnd} no_end i;
   sources = sym no_source i;
+  from = None;
   sessions = sym {A = List (List AnsweredValue)} no_session i;
   replies = None;
+  save = None;
 }
 
 -- the verdicts, by whether a write failed
 verdicts_written : {K T E : Type 0} (written : K → Option (List ℕ)) (failures : K → ℕ)
     (queries : List CompiledValue) (old new : K) (result : Result T E) (status : ℕ)
     → All IsCompiled queries → Tells written failures (flat_map compiled_line queries) old new result
-    → WritesWhere (Contains (failed_sinks (is_err result) false) Events) status
+    → WritesWhere (Contains (failed_sinks (is_err result) false false) Events) status
     (AreVerdicts (definitions_of queries)) (written old) (written new)
 verdicts_written written failures queries old new (Ok x) status all told =
     let whole : Grew (AreVerdicts (definitions_of queries)) (written old) (written new) = record {
@@ -368,7 +550,7 @@ verdicts_written written failures queries old new (Err e) status all told =
       written = part.written;
     } in
     record {
-      whole = λ none other. absurd (none (events_in true false refl));
+      whole = λ none other. absurd (none (events_in true false false refl));
       part = λ has. proper;
       memory = λ is. proper_is_prefix (AreVerdicts (definitions_of queries)) (written old) (written new) proper;
     }
@@ -380,27 +562,31 @@ check_runs : {S K T E : Type 0} (means : Meanings S K) (given : Settings)
     → IfSome (holds given.queries) (λ bytes. HasQueries bytes (definitions_of queries))
     → All IsCompiled queries
     → Tells means.written means.failures (flat_map compiled_line queries) sinks.events_old sinks.events_new result
-    → IsStatusOf [] (failed_sinks (is_err result) false) status
-    → TellsLines means.written means.failures (run_lines [] (failed_sinks (is_err result) false) status)
+    → IsStatusOf [] (failed_sinks (is_err result) false false) status
+    → TellsLines means.written means.failures (run_lines [] (failed_sinks (is_err result) false false) status)
     sinks.errors_old sinks.errors_new
     → RunsCheck {S = S} {K = K} means given holds sinks all (check_outcome status)
 check_runs means given holds queries sinks result status all kept has compiled told status_is lines = record {
   understood = is_queries_file (holds given.queries) (definitions_of queries) has;
-  nothing = record { no_history = refl; no_stream = refl; no_session = refl; no_replies = refl };
+  nothing = record { no_history = refl; no_stream = refl; no_session = refl; no_replies = refl; no_window = (refl, refl) };
   no_source = refl;
-  failed = failed_sinks (is_err result) false;
+  failed = failed_sinks (is_err result) false false;
   text = for_queries (holds given.queries) (definitions_of queries) (λ each.
-      WritesWhere (Contains (failed_sinks (is_err result) false) Events) status (AreVerdicts each)
+      WritesWhere (Contains (failed_sinks (is_err result) false false) Events) status (AreVerdicts each)
       (means.written sinks.events_old) (means.written sinks.events_new)) has
       (verdicts_written means.written means.failures queries sinks.events_old sinks.events_new result status compiled told);
   causes = record {
-    once = some_sinks (is_err result) false;
-    events_failed = counts_as (is_err result ≡ true) (Contains (failed_sinks (is_err result) false) Events)
+    once = some_sinks (is_err result) false false;
+    events_failed = counts_as (is_err result ≡ true) (Contains (failed_sinks (is_err result) false false) Events)
         (means.failures sinks.events_old) (means.failures sinks.events_new)
-        (events_in (is_err result) false) (in_events (is_err result) false) told.counted;
+        (events_in (is_err result) false false) (in_events (is_err result) false false) told.counted;
     replies_failed = tt;
     no_replies = λ none has.
-        let no : false ≡ true = in_replies (is_err result) false has in
+        let no : false ≡ true = in_replies (is_err result) false false has in
+        absurd (cc no);
+    save_failed = tt;
+    no_save = λ none has.
+        let no : false ≡ true = in_save (is_err result) false false has in
         absurd (cc no);
     closed = λ closed. absurd (none_contained (Closed Write) closed);
     status_is = status_is;
@@ -418,16 +604,18 @@ pub runs_check : {S K T E : Type 0} (means : Meanings S K) (given : Settings)
     → IfSome (holds given.queries) (λ bytes. HasQueries bytes (definitions_of queries))
     → All IsCompiled queries
     → Tells means.written means.failures (flat_map compiled_line queries) sinks.events_old sinks.events_new result
-    → IsStatusOf [] (failed_sinks (is_err result) false) status
-    → TellsLines means.written means.failures (run_lines [] (failed_sinks (is_err result) false) status)
+    → IsStatusOf [] (failed_sinks (is_err result) false false) status
+    → TellsLines means.written means.failures (run_lines [] (failed_sinks (is_err result) false false) status)
     sinks.errors_old sinks.errors_new
     → RunsCheck means given holds sinks all (record {
       status = status;
       history = history;
       ends = ends;
       sources = sources;
+      from = None;
       sessions = sessions;
       replies = None;
+      save = None;
     })
 runs_check {S} {K} means given holds queries sinks result status all history ends sources sessions
     no_history no_end no_source no_session kept has compiled told status_is lines =

@@ -1,8 +1,8 @@
 -- Which writes failed, and what was written by that.
-use Rattle.std.proofs.Common.{◌≡◌, ℕ, zero, suc, ◌<◌, Bool, true, false, List, [], ◌∷◌}
+use Rattle.std.proofs.Common.{◌≡◌, ℕ, zero, suc, ◌<◌, ◌≢◌, inl, inr, Bool, true, false, List, [], ◌∷◌, ◌++◌}
 use Rattle.std.proofs.Common.{length, get_or, Option, Some, None, Result, Ok, Err, refl, ap, sym}
 use Rattle.std.proofs.Common.{subst, ◌∙◌, arith, append-nil}
-use Rattle.std.specs.Prelude.{IfSome, Contains}
+use Rattle.std.specs.Prelude.{IfSome, Contains, if◌then◌else◌}
 use Rattle.std.specs.Io.KnownBytes.{append_known}
 use Rattle.rpq_io.specs.Counts.{CountsFault}
 use Rattle.rpq_io.specs.Files.{IsNewSink}
@@ -10,37 +10,50 @@ use Rattle.rpq_io.proofs.Counting.{counts_as}
 use Rattle.history_model.specs.declared.line.Why.{Why}
 use Rattle.history_model.specs.declared.line.Why.TheVariants.{Write, Memory}
 use Rattle.rpq_base.specs.declared.data.Entry.{Entry}
+use Rattle.rpq_base.proofs.Members.{cons_members}
 use Rattle.rpq_model.specs.Query.{Query}
 use Rattle.rpq_text.specs.declared.ends.SinkName.{SinkName}
-use Rattle.rpq_text.specs.declared.ends.SinkName.TheVariants.{Events, Replies}
+use Rattle.rpq_text.specs.declared.ends.SinkName.TheVariants.{Events, Replies, Save}
 use Rattle.rpq_text.specs.Statuses.{AreSomeSinks}
 use Rattle.rpq_text.specs.Text.{IsText}
 use Rattle.rpq_threads.specs.Runs.{WritesText}
 use Rattle.rpq_threads.specs.Written.{Grew, GrewByPrefix, GrewByProperPrefix}
-use Rattle.rpq_run.specs.declared.replies.RepliesFault.{RepliesFault}
-use Rattle.rpq_run.specs.declared.replies.RepliesFault.TheVariants.{Write as WriteOfReplies}
-use Rattle.rpq_run.specs.declared.replies.RepliesFault.TheVariants.{Memory as MemoryForReplies}
+use Rattle.rpq_run.specs.declared.fault.TextFault.{TextFault}
+use Rattle.rpq_run.specs.declared.fault.TextFault.TheVariants.{Write as WriteOfText}
+use Rattle.rpq_run.specs.declared.fault.TextFault.TheVariants.{Memory as MemoryForText}
 use Rattle.rpq_run.specs.Failed.{failed_sinks, is_write, is_failed}
-use Rattle.rpq_run.specs.Replies.{WritesPart}
+use Rattle.rpq_run.specs.Parts.{WritesPart}
 use Rattle.rpq_run.specs.RunsStreams.{nothing_told}
 use Rattle.rpq_run.specs.Written.{WritesWhere}
 
 -- ---- which sinks are told
 
-chosen : Bool → Bool → SinkName → Bool
-chosen events replies Events = events
-chosen events replies Replies = replies
+chosen : Bool → Bool → Bool → SinkName → Bool
+chosen events replies save Events = events
+chosen events replies save Replies = replies
+chosen events replies save Save = save
 
 -- each of them once, and in their order
-pub some_sinks : (events replies : Bool) → AreSomeSinks (failed_sinks events replies)
+pub some_sinks : (events replies save : Bool) → AreSomeSinks (failed_sinks events replies save)
 unfolding chosen
-some_sinks true true = (chosen true true, refl)
-some_sinks true false = (chosen true false, refl)
-some_sinks false true = (chosen false true, refl)
-some_sinks false false = (chosen false false, refl)
+some_sinks true true true = (chosen true true true, refl)
+some_sinks true true false = (chosen true true false, refl)
+some_sinks true false true = (chosen true false true, refl)
+some_sinks true false false = (chosen true false false, refl)
+some_sinks false true true = (chosen false true true, refl)
+some_sinks false true false = (chosen false true false, refl)
+some_sinks false false true = (chosen false false true, refl)
+some_sinks false false false = (chosen false false false, refl)
 
 pub none_contained : {X : Type 0} (y : X) → Contains [] y → ⊥
 none_contained {X} y has = absurd (omega (arith, has.1))
+
+-- an element that isn't the first is one of the others
+not_first : {X : Type 0} (x y : X) (xs : List X) → x ≢ y → Contains (x ∷ xs) y → Contains xs y
+not_first {X} x y xs apart has = elim ((cons_members x xs y).0 has) [
+  | inl same ↦ absurd (apart same)
+  | inr other ↦ other
+]
 
 -- the one element of a list
 pub one_contained : {X : Type 0} (x y : X) → Contains (x ∷ []) y → x ≡ y
@@ -53,35 +66,67 @@ one_contained {X} x y has = by has.0 has.1 has.2
 pub contains_first : {X : Type 0} (x : X) (xs : List X) → Contains (x ∷ xs) x
 contains_first x xs = (0, omega arith, refl)
 
-pub events_in : (events replies : Bool) → events ≡ true → Contains (failed_sinks events replies) Events
-events_in true true is = contains_first Events (Replies ∷ [])
-events_in true false is = contains_first Events []
-events_in false replies is = absurd (cc is)
+-- the last of them
+abbrev last_sink : Bool → List SinkName
+last_sink save = if save then Save ∷ [] else []
 
-pub in_events : (events replies : Bool) → Contains (failed_sinks events replies) Events → events ≡ true
-in_events true replies has = refl
-in_events false true has =
-    let other : Replies ≡ Events = one_contained Replies Events has in
-    absurd (cc other)
-in_events false false has = absurd (none_contained Events has)
+-- and those behind the events
+abbrev other_sinks : Bool → Bool → List SinkName
+other_sinks replies save = (if replies then Replies ∷ [] else []) ++ last_sink save
 
-pub replies_in : (events replies : Bool) → replies ≡ true → Contains (failed_sinks events replies) Replies
-replies_in true true is = (1, omega arith, refl)
-replies_in false true is = contains_first Replies []
-replies_in events false is = absurd (cc is)
+in_last : (sink : SinkName) (save : Bool) → sink ≢ Save → Contains (last_sink save) sink → ⊥
+in_last sink true other has =
+    absurd (none_contained sink (not_first Save sink [] (λ same. other (sym same)) has))
+in_last sink false other has = absurd (none_contained sink has)
 
-pub in_replies : (events replies : Bool) → Contains (failed_sinks events replies) Replies → replies ≡ true
-in_replies events true has = refl
-in_replies true false has =
-    let other : Events ≡ Replies = one_contained Events Replies has in
-    absurd (cc other)
-in_replies false false has = absurd (none_contained Replies has)
+no_events : (replies save : Bool) → Contains (other_sinks replies save) Events → ⊥
+no_events true save has =
+    in_last Events save (λ same. cc same) (not_first Replies Events (last_sink save) (λ same. cc same) has)
+no_events false save has = in_last Events save (λ same. cc same) has
 
--- where neither is told, none is
-pub no_sinks : (failed : List SinkName) → (Contains failed Events → ⊥) → (Contains failed Replies → ⊥) → failed ≡ []
-no_sinks [] events replies = refl
-no_sinks (Events ∷ rest) events replies = absurd (events (contains_first Events rest))
-no_sinks (Replies ∷ rest) events replies = absurd (replies (contains_first Replies rest))
+pub events_in : (events replies save : Bool) → events ≡ true → Contains (failed_sinks events replies save) Events
+events_in true replies save is = contains_first Events (other_sinks replies save)
+events_in false replies save is = absurd (cc is)
+
+pub in_events : (events replies save : Bool) → Contains (failed_sinks events replies save) Events → events ≡ true
+in_events true replies save has = refl
+in_events false replies save has = absurd (no_events replies save has)
+
+pub replies_in : (events replies save : Bool) → replies ≡ true
+    → Contains (failed_sinks events replies save) Replies
+replies_in true true save is = (1, omega arith, refl)
+replies_in false true save is = contains_first Replies (last_sink save)
+replies_in events false save is = absurd (cc is)
+
+pub in_replies : (events replies save : Bool) → Contains (failed_sinks events replies save) Replies
+    → replies ≡ true
+in_replies events true save has = refl
+in_replies true false save has = absurd (in_last Replies save (λ same. cc same)
+    (not_first Events Replies (last_sink save) (λ same. cc same) has))
+in_replies false false save has = absurd (in_last Replies save (λ same. cc same) has)
+
+pub save_in : (events replies save : Bool) → save ≡ true → Contains (failed_sinks events replies save) Save
+save_in true true true is = (2, omega arith, refl)
+save_in true false true is = (1, omega arith, refl)
+save_in false true true is = (1, omega arith, refl)
+save_in false false true is = contains_first Save []
+save_in events replies false is = absurd (cc is)
+
+pub in_save : (events replies save : Bool) → Contains (failed_sinks events replies save) Save → save ≡ true
+in_save events replies true has = refl
+in_save true true false has = absurd (none_contained Save (not_first Replies Save [] (λ same. cc same)
+    (not_first Events Save (Replies ∷ []) (λ same. cc same) has)))
+in_save true false false has = absurd (none_contained Save (not_first Events Save [] (λ same. cc same) has))
+in_save false true false has = absurd (none_contained Save (not_first Replies Save [] (λ same. cc same) has))
+in_save false false false has = absurd (none_contained Save has)
+
+-- where none of them is told, none is
+pub no_sinks : (failed : List SinkName) → (Contains failed Events → ⊥) → (Contains failed Replies → ⊥)
+    → (Contains failed Save → ⊥) → failed ≡ []
+no_sinks [] events replies save = refl
+no_sinks (Events ∷ rest) events replies save = absurd (events (contains_first Events rest))
+no_sinks (Replies ∷ rest) events replies save = absurd (replies (contains_first Replies rest))
+no_sinks (Save ∷ rest) events replies save = absurd (save (contains_first Save rest))
 
 -- ---- what a sink grew by
 
@@ -118,48 +163,48 @@ some_is_write (Some Memory) is = absurd (cc is)
 -- what the threads wrote, by the failed sinks and the status
 pub events_written : {K : Type 0} (written : K → Option (List ℕ)) (failures : K → ℕ)
     (queries : List Query) (history : List Entry) (before after : K) (why : Option Why)
-    (replies : Bool) (status : ℕ) → (why ≡ Some Memory → status ≡ 8)
+    (replies save : Bool) (status : ℕ) → (why ≡ Some Memory → status ≡ 8)
     → WritesText written failures queries history before after why
-    → WritesWhere (Contains (failed_sinks (is_write why) replies) Events) status (IsText queries history)
+    → WritesWhere (Contains (failed_sinks (is_write why) replies save) Events) status (IsText queries history)
     (written before) (written after)
-events_written written failures queries history before after None replies status memory writes = record {
+events_written written failures queries history before after None replies save status memory writes = record {
   whole = λ none other. writes.whole refl;
   part = λ has.
-      let no : false ≡ true = in_events false replies has in
+      let no : false ≡ true = in_events false replies save has in
       absurd (cc no);
   memory = λ is. whole_is_prefix (IsText queries history) (written before) (written after) (writes.whole refl);
 }
-events_written written failures queries history before after (Some Write) replies status memory writes = record {
-  whole = λ none other. absurd (none (events_in true replies refl));
+events_written written failures queries history before after (Some Write) replies save status memory writes = record {
+  whole = λ none other. absurd (none (events_in true replies save refl));
   part = λ has. writes.write refl;
   memory = λ is. proper_is_prefix (IsText queries history) (written before) (written after) (writes.write refl);
 }
-events_written written failures queries history before after (Some Memory) replies status memory writes = record {
+events_written written failures queries history before after (Some Memory) replies save status memory writes = record {
   whole = λ none other. absurd (other (memory refl));
   part = λ has.
-      let no : false ≡ true = in_events false replies has in
+      let no : false ≡ true = in_events false replies save has in
       absurd (cc no);
   memory = λ is. writes.memory refl;
 }
 
 -- and counted
-pub events_counted : (why : Option Why) (replies : Bool) (before after : ℕ)
+pub events_counted : (why : Option Why) (replies save : Bool) (before after : ℕ)
     → CountsFault (why ≡ Some Write) before after
-    → CountsFault (Contains (failed_sinks (is_write why) replies) Events) before after
-events_counted why replies before after counts =
-    counts_as (why ≡ Some Write) (Contains (failed_sinks (is_write why) replies) Events) before after
-    (λ is. events_in (is_write why) replies (is_write_some why is))
-    (λ has. some_is_write why (in_events (is_write why) replies has)) counts
+    → CountsFault (Contains (failed_sinks (is_write why) replies save) Events) before after
+events_counted why replies save before after counts =
+    counts_as (why ≡ Some Write) (Contains (failed_sinks (is_write why) replies save) Events) before after
+    (λ is. events_in (is_write why) replies save (is_write_some why is))
+    (λ has. some_is_write why (in_events (is_write why) replies save has)) counts
 
 -- ---- the replies
 
-pub is_failed_err : (replied : Result (Unit {0}) RepliesFault) → replied ≡ Err WriteOfReplies → is_failed replied ≡ true
+pub is_failed_err : (replied : Result (Unit {0}) TextFault) → replied ≡ Err WriteOfText → is_failed replied ≡ true
 is_failed_err replied is = ap is_failed is
 
-pub err_is_failed : (replied : Result (Unit {0}) RepliesFault) → is_failed replied ≡ true → replied ≡ Err WriteOfReplies
+pub err_is_failed : (replied : Result (Unit {0}) TextFault) → is_failed replied ≡ true → replied ≡ Err WriteOfText
 err_is_failed (Ok done) is = absurd (cc is)
-err_is_failed (Err WriteOfReplies) is = refl
-err_is_failed (Err MemoryForReplies) is = absurd (cc is)
+err_is_failed (Err WriteOfText) is = refl
+err_is_failed (Err MemoryForText) is = absurd (cc is)
 
 -- what a sink had on it at first, where that was nothing
 nothing_before : (old new : Option (List ℕ)) (front : List ℕ) → IfSome old (λ bytes. bytes ≡ [])
@@ -173,14 +218,14 @@ from_nothing : (old new : Option (List ℕ)) (front : List ℕ) → IfSome old (
 from_nothing old new front empty is =
     is ∙ ap (λ (w : Option (List ℕ)). append_known w front) (nothing_before old new front empty is)
 
--- what was written on a new sink
-pub replies_written : {K : Type 0} (written : K → Option (List ℕ)) (failures : K → ℕ) (text : List ℕ)
-    (old new : K) (events : Bool) (replied : Result (Unit {0}) RepliesFault) (status : ℕ)
-    → (replied ≡ Err MemoryForReplies → status ≡ 8) → IsNewSink written failures old
-    → WritesPart written failures text old new replied
-    → WritesWhere (Contains (failed_sinks events (is_failed replied)) Replies) status (λ t. t ≡ text)
-    (nothing_told (written new)) (written new)
-replies_written written failures text old new events (Ok done) status memory fresh part =
+-- what was written on a new sink, where `failed` says that a write of it failed
+pub text_written : {K : Type 0} (written : K → Option (List ℕ)) (failures : K → ℕ) (text : List ℕ)
+    (old new : K) (failed : Type 0) (result : Result (Unit {0}) TextFault) (status : ℕ)
+    → (is_failed result ≡ true → failed) → (failed → is_failed result ≡ true)
+    → (result ≡ Err MemoryForText → status ≡ 8) → IsNewSink written failures old
+    → WritesPart written failures text old new result
+    → WritesWhere failed status (λ t. t ≡ text) (nothing_told (written new)) (written new)
+text_written written failures text old new failed (Ok done) status there back memory fresh part =
     let all : Grew (λ t. t ≡ text) (nothing_told (written new)) (written new) = record {
       text = text;
       of_kind = refl;
@@ -189,11 +234,11 @@ replies_written written failures text old new events (Ok done) status memory fre
     record {
       whole = λ none other. all;
       part = λ has.
-          let no : false ≡ true = in_replies events false has in
+          let no : false ≡ true = back has in
           absurd (cc no);
       memory = λ is. whole_is_prefix (λ t. t ≡ text) (nothing_told (written new)) (written new) all;
     }
-replies_written written failures text old new events (Err WriteOfReplies) status memory fresh part =
+text_written written failures text old new failed (Err WriteOfText) status there back memory fresh part =
     let proper = part.write refl in
     let front : GrewByProperPrefix (λ t. t ≡ text) (nothing_told (written new)) (written new) = record {
       front = proper.front;
@@ -203,16 +248,16 @@ replies_written written failures text old new events (Err WriteOfReplies) status
       written = from_nothing (written old) (written new) proper.front fresh.empty proper.written;
     } in
     record {
-      whole = λ none other. absurd (none (replies_in events true refl));
+      whole = λ none other. absurd (none (there refl));
       part = λ has. front;
       memory = λ is. proper_is_prefix (λ t. t ≡ text) (nothing_told (written new)) (written new) front;
     }
-replies_written written failures text old new events (Err MemoryForReplies) status memory fresh part =
+text_written written failures text old new failed (Err MemoryForText) status there back memory fresh part =
     let front = part.memory refl in
     record {
       whole = λ none other. absurd (other (memory refl));
       part = λ has.
-          let no : false ≡ true = in_replies events false has in
+          let no : false ≡ true = back has in
           absurd (cc no);
       memory = λ is. record {
         front = front.front;
@@ -223,11 +268,10 @@ replies_written written failures text old new events (Err MemoryForReplies) stat
     }
 
 -- and counted
-pub replies_counted : (events : Bool) (replied : Result (Unit {0}) RepliesFault) (before after : ℕ)
-    → before ≡ 0 → CountsFault (replied ≡ Err WriteOfReplies) before after
-    → CountsFault (Contains (failed_sinks events (is_failed replied)) Replies) 0 after
-replies_counted events replied before after none counts =
-    subst (λ n. CountsFault (Contains (failed_sinks events (is_failed replied)) Replies) n after) none
-    (counts_as (replied ≡ Err WriteOfReplies) (Contains (failed_sinks events (is_failed replied)) Replies) before after
-    (λ is. replies_in events (is_failed replied) (is_failed_err replied is))
-    (λ has. err_is_failed replied (in_replies events (is_failed replied) has)) counts)
+pub text_counted : (failed : Type 0) (result : Result (Unit {0}) TextFault) (before after : ℕ)
+    → (is_failed result ≡ true → failed) → (failed → is_failed result ≡ true)
+    → before ≡ 0 → CountsFault (result ≡ Err WriteOfText) before after → CountsFault failed 0 after
+text_counted failed result before after there back none counts =
+    subst (λ n. CountsFault failed n after) none
+    (counts_as (result ≡ Err WriteOfText) failed before after
+    (λ is. there (is_failed_err result is)) (λ has. err_is_failed result (back has)) counts)

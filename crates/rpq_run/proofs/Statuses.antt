@@ -11,9 +11,10 @@ use Rattle.stream_tuples.specs.declared.ends.StreamEnd.{StreamEnd}
 use Rattle.stream_tuples.specs.declared.ends.StreamEnd.TheVariants.{Whole, Line, LongLine, LongStream}
 use Rattle.stream_tuples.specs.declared.ends.StreamEnd.TheVariants.{Read, Full, Closed, Memory}
 use Rattle.rpq_text.specs.declared.ends.SinkName.{SinkName}
-use Rattle.rpq_text.specs.declared.ends.SinkName.TheVariants.{Events, Replies}
+use Rattle.rpq_text.specs.declared.ends.SinkName.TheVariants.{Events, Replies, Save}
 use Rattle.rpq_text.specs.Statuses.{status_of_end, status_of_sink, arose, first_status}
 use Rattle.rpq_text.specs.Statuses.{IsStatusOf}
+use Rattle.rpq_run.specs.Ending.{HasMemoryEnd}
 use Rattle.rpq_run.proofs.Sinks.{none_contained}
 
 -- ---- where all is done
@@ -48,6 +49,14 @@ none_arose ends failed is =
     by false false false false false eight six seven five four is =
         record { memory = eight; write = six; limit = seven; read = five; line = four }
 
+-- where a stream ended for want of memory, so did the run
+pub memory_first : (ends : List StreamEnd) (failed : List SinkName) → HasMemoryEnd ends
+    → first_status ends failed ≡ 8
+memory_first ends failed is =
+    let p = arose ends failed in
+    ap (λ (memory : Bool). first_of memory (p 6) (p 7) (p 5) (p 4))
+    (ap (λ (b : Bool). b || list_any (λ sink. status_of_sink sink == 8) failed) is)
+
 -- the status of a run that is done is the first that arose
 pub first_of_done : (ends : List StreamEnd) (failed : List SinkName) (status : ℕ)
     → IsStatusOf ends failed status → status ≡ 0 → first_status ends failed ≡ 0
@@ -64,6 +73,7 @@ sink_arose : (ends : List StreamEnd) (failed : List SinkName) (sink : SinkName) 
 sink_arose ends [] sink has = absurd (none_contained sink has)
 sink_arose ends (Events ∷ rest) sink has = or_true (list_any (λ end. status_of_end end == 6) ends)
 sink_arose ends (Replies ∷ rest) sink has = or_true (list_any (λ end. status_of_end end == 6) ends)
+sink_arose ends (Save ∷ rest) sink has = or_true (list_any (λ end. status_of_end end == 6) ends)
 
 -- where all is done no write of a sink failed
 pub sink_quietly : (ends : List StreamEnd) (failed : List SinkName) (status : ℕ) (sink : SinkName)

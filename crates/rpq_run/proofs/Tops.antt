@@ -1,8 +1,21 @@
 -- What the top call hands on, and what it says of it.
-use Rattle.std.proofs.Common.{◌≡◌, ℕ, Bool, true, false, Option, Some, None, sym}
-use Rattle.std.proofs.Common.{subst}
-use Rattle.std.specs.Prelude.{IfSome, IsSomeAnd, MatchBool, MatchOption}
+use Rattle.std.proofs.Common.{◌≡◌, ℕ, Bool, true, false, List, length, Option, Some, None, sym}
+use Rattle.std.proofs.Common.{ap, subst, ◌∙◌, arith, refl}
+use Rattle.std.specs.Prelude.{IfSome, IsSomeAnd, MatchBool, MatchOption, is_some}
+use Rattle.std.specs.List.{All}
+use Rattle.std.proofs.lemmas.List.{length-map}
+use Rattle.rpq_io.specs.Reader.{ReaderState}
+use Rattle.ask_text.specs.Ranges.{IsSession}
+use Rattle.rpq_words.specs.Modes.{AreSettings, BeginsWith, IsWithin, ReadsStreams}
 use Rattle.rpq_words.specs.Settings.{Settings}
+use Rattle.saved_window.specs.Then.{TwoSources, count_of, left_of_both, faults_of_both}
+use Rattle.run_start.specs.Files.{stream_contents}
+use Rattle.run_start.specs.Readers.{AreNewReaders, lefts_of}
+use Rattle.run_start.specs.Ready.{IsReady}
+use Rattle.run_start.specs.declared.ready.Reads.{Reads}
+use Rattle.rpq_threads.specs.Runs.{IsTask}
+use Rattle.rpq_threads.specs.declared.task.Task.{Task}
+use Rattle.rpq_run.proofs.Done.{as_many_streams}
 
 -- of two facts the one that holds where a test passes, and where it fails
 pub match_true : (test : Bool) (P Q : Type 0) → test ≡ true → P → MatchBool test P Q
@@ -32,3 +45,54 @@ begun_by words given P are holds = subst (λ (w : Option Settings). IsSomeAnd w 
 pub for_given : (words : Option Settings) (given : Settings) (P : Settings → Type 0) → words ≡ Some given
     → P given → IfSome words P
 for_given words given P are holds = subst (λ (w : Option Settings). IfSome w P) (sym are) holds
+
+-- ---- the streams
+
+-- there is one saved window or none
+pub none_named : {A : Type 0} (one : Option A) → false ≡ is_some one → 0 ≡ count_of one
+none_named None is = refl
+none_named (Some x) is = absurd (cc is)
+
+pub one_named : {A : Type 0} (one : Option A) → true ≡ is_some one → 1 ≡ count_of one
+one_named None is = absurd (cc is)
+one_named (Some x) is = refl
+
+-- and then there is one stream
+pub one_stream : (given : Settings) → true ≡ is_some given.from → IfSome given.from (BeginsWith given)
+    → length given.streams ≡ 1
+one_stream given = by given.from
+  where
+    by : (from : Option (List ℕ)) → true ≡ is_some from → IfSome from (BeginsWith given) → length given.streams ≡ 1
+    by None is begins = absurd (cc is)
+    by (Some name) is begins = begins.one_stream
+
+-- there are as many readers as streams
+pub as_many_readers : {S : Type 0} (left : S → Option (List ℕ)) (given : Settings)
+    (holds : List ℕ → Option (List ℕ)) (readers : List (ReaderState (TwoSources S)))
+    → stream_contents given holds ≡ lefts_of left readers → length readers ≡ length given.streams
+as_many_readers {S} left given holds readers contents =
+    sym (length-map readers (λ (reader : ReaderState (TwoSources S)). left_of_both left reader.source))
+    ∙ (ap (λ (files : List (Option (List ℕ))). length files) (sym {A = List (Option (List ℕ))} contents)
+    ∙ as_many_streams given holds)
+
+-- what a run begins with is a task for its threads
+pub task_is : {S K : Type 0} (left : S → Option (List ℕ)) (faults : S → ℕ) (written : K → Option (List ℕ))
+    (failures : K → ℕ) (given : Settings) (holds : List ℕ → Option (List ℕ)) (reads : Reads S K)
+    (task : Task (TwoSources S)) → AreSettings given → ReadsStreams given
+    → IsReady left faults written failures given holds task.queries.items (Some reads)
+    → stream_contents given holds ≡ lefts_of left task.readers.items
+    → AreNewReaders left faults task.readers.items → task.sessions.items ≡ reads.sessions.items
+    → task.workers ≡ given.workers → task.limit ≡ given.history
+    → IsTask (left_of_both left) (faults_of_both faults) task
+task_is left faults written failures given holds reads task settings mode ready contents fresh sessions workers limit =
+    let all = ready.understood in
+    let many = as_many_readers left given holds task.readers.items contents in
+    record {
+      understood = record { some = all.some; few = all.few; accepted = all.accepted; compiled = all.compiled };
+      workers = subst (λ n. IsWithin 64 n) (sym workers) settings.workers;
+      streams = (omega (arith, many, mode.some), omega (arith, many, mode.few));
+      fresh = fresh;
+      few = omega (arith, ready.reads.few, ap (λ ss. length ss) sessions);
+      sessions = subst (λ ss. All (IsSession (length task.queries.items)) ss) (sym sessions) ready.reads.ranges;
+      limit = subst (λ n. IsWithin 2000000 n) (sym limit) settings.history;
+    }

@@ -1,23 +1,25 @@
 -- What a run over streams is to do. Only private contracts cite this file.
-use Rattle.std.specs.Prelude.{◌≡◌, ℕ, List, map, Option, is_some, IfSome}
-use Rattle.rpq_io.specs.Files.{IsNewSink}
+use Rattle.std.specs.Prelude.{◌≡◌, ℕ, List, Option, IfSome}
 use Rattle.rpq_words.specs.Settings.{Settings}
 use Rattle.rpq_text.specs.Definitions.{definitions_of}
-use Rattle.run_start.specs.Files.{ForSessions, HasQueries}
+use Rattle.saved_window.specs.Then.{TwoSources, count_of}
+use Rattle.run_start.specs.Files.{ForSessions, HasQueries, stream_contents}
+use Rattle.run_start.specs.Readers.{lefts_of}
+use Rattle.run_start.specs.Ready.{AreNewSinks}
+use Rattle.run_start.specs.declared.sinks.OwnSinks.{OwnSinks}
 use Rattle.rpq_threads.specs.declared.task.Task.{Task}
 
 -- the task is that of the settings, where the files hold this: the queries and the sessions of
--- their files, readers of the streams, and as many entries as the history may have; and where
--- replies are wanted there is a new sink for them
+-- their files, readers of the streams, with a saved window in front where one is named, and as many
+-- entries as the history may have; and the sinks are new, and those that the settings name
 pub record IsAsked {S K : Type 0} (left : S → Option (List ℕ)) (written : K → Option (List ℕ))
-    (failures : K → ℕ) (given : Settings) (holds : List ℕ → Option (List ℕ)) (task : Task S)
-    (replies : Option K) : Type 0 where
+    (failures : K → ℕ) (given : Settings) (holds : List ℕ → Option (List ℕ)) (firsts : ℕ)
+    (task : Task (TwoSources S)) (own : OwnSinks K) : Type 0 where
   pub has : IfSome (holds given.queries)
       (λ bytes. HasQueries bytes (definitions_of task.queries.items))
-  pub contents : map holds given.streams
-      ≡ map (λ reader. left reader.source) task.readers.items
+  pub contents : stream_contents given holds ≡ lefts_of left task.readers.items
+  pub behind : firsts ≡ count_of given.from
   pub asked : ForSessions given holds (definitions_of task.queries.items)
       (λ asked. task.sessions.items ≡ asked)
   pub limit : task.limit ≡ given.history
-  pub sink : is_some replies ≡ is_some given.replies
-  pub unwritten : IfSome replies (IsNewSink written failures)
+  pub sinks : AreNewSinks written failures given own

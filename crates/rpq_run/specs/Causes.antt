@@ -4,7 +4,7 @@ use Rattle.rpq_io.specs.Counts.{CountsFault}
 use Rattle.history_model.specs.declared.line.Why.TheVariants.{Write}
 use Rattle.stream_tuples.specs.declared.ends.StreamEnd.TheVariants.{Closed}
 use Rattle.rpq_text.specs.declared.ends.SinkName.{SinkName}
-use Rattle.rpq_text.specs.declared.ends.SinkName.TheVariants.{Events, Replies}
+use Rattle.rpq_text.specs.declared.ends.SinkName.TheVariants.{Events, Replies, Save}
 use Rattle.rpq_text.specs.ErrorLines.{run_lines}
 use Rattle.rpq_text.specs.Statuses.{AreSomeSinks, IsStatusOf}
 use Rattle.rpq_run.specs.Outcome.{Meanings, Sinks, Outcome}
@@ -20,6 +20,9 @@ pub record HasCauses {S K : Type 0} (means : Meanings S K) (failed : List SinkNa
   pub replies_failed : IfSome outcome.replies (λ sink.
       CountsFault (Contains failed Replies) 0 (means.failures sink))
   pub no_replies : outcome.replies ≡ None → Contains failed Replies → ⊥
+  pub save_failed : IfSome outcome.save (λ sink.
+      CountsFault (Contains failed Save) 0 (means.failures sink))
+  pub no_save : outcome.save ≡ None → Contains failed Save → ⊥
   pub closed : Contains outcome.ends (Closed Write) → Contains failed Events
   pub status_is : IsStatusOf outcome.ends failed outcome.status
   pub told : TellsLines means.written means.failures

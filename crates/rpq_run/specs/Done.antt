@@ -5,7 +5,7 @@ use Rattle.rpq_io.specs.Counts.{Rose}
 use Rattle.rpq_words.specs.Settings.{Settings}
 use Rattle.stream_tuples.specs.declared.ends.StreamEnd.TheVariants.{Whole}
 use Rattle.stream_tuples.specs.StreamText.{stream_tuples}
-use Rattle.run_start.specs.Files.{IsFaultless, AreFaultlessAsks}
+use Rattle.run_start.specs.Files.{IsFaultless, AreFaultlessAsks, stream_contents}
 use Rattle.run_start.specs.Given.{file_names, sink_names}
 use Rattle.run_start.specs.Ready.{AreReadWhole}
 use Rattle.rpq_run.specs.Outcome.{Meanings, Sinks, Openings, Outcome}
@@ -24,12 +24,12 @@ pub record CanBeDone (given : Settings) (holds : List ℕ → Option (List ℕ))
   pub understood : IsSomeAnd (holds given.queries) IsFaultless
   pub asks : IfSome given.asks (λ name.
       IsSomeAnd (holds name) (AreFaultlessAsks (holds given.queries)))
-  pub whole : All IsWholeStream (map holds given.streams)
-  pub few : sum (map tuple_count (map holds given.streams)) ≤ given.history
+  pub whole : All IsWholeStream (stream_contents given holds)
+  pub few : sum (map tuple_count (stream_contents given holds)) ≤ given.history
   pub made : IfSome given.generate (λ count. count ≤ given.history)
 
 -- no count rose that shows a failure: of an opening of one of the files, of a read of a source, or
--- of a write of the events or the replies
+-- of a write of the events, the replies or the saved window
 pub record NothingRose {S K : Type 0} (means : Meanings S K) (given : Settings)
     (openings : Openings) (sinks : Sinks K) (outcome : Outcome S K) : Type 0 where
   pub unread : All (λ name. ¬ Rose (openings.unread_old name) (openings.unread_new name))
@@ -37,11 +37,13 @@ pub record NothingRose {S K : Type 0} (means : Meanings S K) (given : Settings)
   pub unmade : All (λ name. ¬ Rose (openings.unmade_old name) (openings.unmade_new name))
       (sink_names given)
   pub reads : All (λ source. ¬ Rose 0 (means.faults source)) outcome.sources
+  pub from : IfSome outcome.from (λ source. ¬ Rose 0 (means.faults source))
   pub writes : ¬ Rose (means.failures sinks.events_old) (means.failures sinks.events_new)
   pub replies : IfSome outcome.replies (λ sink. ¬ Rose 0 (means.failures sink))
+  pub save : IfSome outcome.save (λ sink. ¬ Rose 0 (means.failures sink))
 
--- nothing failed: no opening of a file, no read of a file, and no write of the events or the
--- replies
+-- nothing failed: no opening of a file, no read of a file, and no write of the events, the replies
+-- or the saved window
 pub record NothingFails {S K : Type 0} (means : Meanings S K) (words : Option Settings)
     (holds : List ℕ → Option (List ℕ)) (openings : Openings) (sinks : Sinks K)
     (outcome : Outcome S K) : Type 0 where
@@ -49,5 +51,7 @@ pub record NothingFails {S K : Type 0} (means : Meanings S K) (words : Option Se
   pub unmade : (name : List ℕ) → openings.unmade_new name ≡ openings.unmade_old name
   pub whole : IfSome words (λ given. AreReadWhole means.left means.faults given holds)
   pub reads : All (λ source. means.faults source ≡ 0) outcome.sources
+  pub from : IfSome outcome.from (λ source. means.faults source ≡ 0)
   pub writes : means.failures sinks.events_new ≡ means.failures sinks.events_old
   pub replies : IfSome outcome.replies (λ sink. means.failures sink ≡ 0)
+  pub save : IfSome outcome.save (λ sink. means.failures sink ≡ 0)

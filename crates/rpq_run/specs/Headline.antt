@@ -1,6 +1,6 @@
 -- What a run over streams that is done comes to, in one piece.
-use Rattle.std.specs.Prelude.{◌≡◌, ℕ, ◌+◌, ◌↔◌, ⊤, List, [], ◌++◌, length, map, take, All, Option}
-use Rattle.std.specs.Prelude.{Some, option_map, slice_get, IfSome, MatchOption}
+use Rattle.std.specs.Prelude.{◌≡◌, ℕ, ◌+◌, ◌↔◌, ⊤, List, [], ◌∷◌, ◌++◌, length, map, take, All}
+use Rattle.std.specs.Prelude.{Option, Some, option_map, unwrap_or, slice_get, IfSome, MatchOption}
 use Rattle.std.specs.List.{flat_map}
 use Rattle.rpq_base.specs.declared.data.Event.{Event}
 use Rattle.rpq_base.specs.declared.data.Pair.{Pair}
@@ -11,6 +11,8 @@ use Rattle.rpq_model.specs.QueryEvents.{AreAllEvents}
 use Rattle.rpq_words.specs.Settings.{Settings}
 use Rattle.ask_text.specs.declared.ask.Ask.{Ask}
 use Rattle.ask_text.specs.Replies.{replies}
+use Rattle.saved_window.specs.Saved.{saved}
+use Rattle.saved_window.specs.SavedText.{saved_text}
 use Rattle.standing.specs.Stood.{HaveStood}
 use Rattle.stream_tuples.specs.History.{IsNumberOf, own_tuples}
 use Rattle.stream_tuples.specs.StreamText.{stream_tuples}
@@ -19,19 +21,30 @@ use Rattle.run_start.specs.Files.{HasQueries, HasSessions}
 use Rattle.rpq_threads.specs.Runs.{AreSessionsOf, asks_answered}
 use Rattle.rpq_run.specs.Outcome.{Meanings, Sinks, Objects, Outcome}
 
--- the bytes of the queries file, of the asks file, if there is one, and of the streams, and those
--- that stood on the events before
+-- the bytes of the queries file; of the asks file and of the saved window with which the run
+-- begins, if there are such; of the streams' files; and those that stood on the events before
 pub record Told : Type 0 where
   pub queries : List ℕ
   pub asks : Option (List ℕ)
+  pub from : Option (List ℕ)
   pub streams : List (List ℕ)
   pub events : List ℕ
+
+-- the texts of the streams: those of their files, and in front of the first one that of the saved
+-- window
+abbrev pub behind_text : List ℕ → List (List ℕ) → List (List ℕ)
+behind_text first [] = []
+behind_text first (text ∷ texts) = (first ++ text) ∷ texts
+
+abbrev pub stream_texts : Told → List (List ℕ)
+stream_texts told = behind_text (unwrap_or told.from []) told.streams
 
 -- the files of the settings hold these bytes, and the sink of the events had these
 pub record IsTold {S K : Type 0} (means : Meanings S K) (given : Settings)
     (holds : List ℕ → Option (List ℕ)) (sinks : Sinks K) (told : Told) : Type 0 where
   pub queries : holds given.queries ≡ Some told.queries
   pub asks : option_map holds given.asks ≡ option_map (λ bytes. Some bytes) told.asks
+  pub from : option_map holds given.from ≡ option_map (λ bytes. Some bytes) told.from
   pub streams : map holds given.streams ≡ map (λ bytes. Some bytes) told.streams
   pub events : means.written sinks.events_old ≡ Some told.events
 
@@ -46,14 +59,14 @@ AreAsked queries file sessions =
 -- and not retracted are exactly its answers over the entries so far. Each session has exactly its
 -- asks answered, each by the answers at a position of the history that never falls within the
 -- session; and these replies were written. Each object that stayed heard all events that it wants,
--- and one that left a front of them
+-- and one that left a front of them. Where a window is saved, it is that of the history
 pub record Headline {S K : Type 0} (means : Meanings S K) (told : Told) (sinks : Sinks K)
     (objects : Objects) (outcome : Outcome S K) : Type 0 where
   pub queries : List Query
   pub accepted : HasQueries told.queries queries
   pub sessions : List (List Ask)
   pub asked : AreAsked queries told.asks sessions
-  pub in_order : (place : ℕ) (text : List ℕ) → slice_get told.streams place ≡ Some text
+  pub in_order : (place : ℕ) (text : List ℕ) → slice_get (stream_texts told) place ≡ Some text
       → own_tuples (place + 1) outcome.history ≡ (stream_tuples text).tuples
   pub no_other : All (λ entry. IsNumberOf (length told.streams) entry.stream) outcome.history
   pub events : List (List Event)
@@ -70,3 +83,5 @@ pub record Headline {S K : Type 0} (means : Meanings S K) (told : Told) (sinks :
   pub all_answered : asks_answered outcome.sessions ≡ sessions
   pub replied : IfSome outcome.replies (λ sink. IfSome (means.written sink) (λ bytes.
       bytes ≡ replies (map (λ own. map (λ one. one.text) own) outcome.sessions)))
+  pub saved_is : IfSome outcome.save (λ sink. IfSome (means.written sink) (λ bytes.
+      bytes ≡ saved_text (saved queries outcome.history)))

@@ -1,4 +1,5 @@
 pub mod Outcome
+pub mod Sources
 pub mod Written
 pub mod Causes
 pub mod RunsStreams
@@ -9,6 +10,8 @@ pub mod Done
 pub mod Failed
 pub mod Ended
 pub mod Replies
+pub mod Parts
+pub mod Ending
 pub mod Asked
 pub mod Room
 pub mod Headline

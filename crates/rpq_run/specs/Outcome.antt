@@ -41,8 +41,10 @@ pub record Outcome (S K : Type 0) : Type 0 where
   pub history : List Entry
   pub ends : List StreamEnd
   pub sources : List S
+  pub from : Option S
   pub sessions : List (List AnsweredValue)
   pub replies : Option K
+  pub save : Option K
 
 -- these parts, in these records
 abbrev pub meanings : {S K : Type 0} → (S → Option (List ℕ)) → (S → ℕ) → (K → Option (List ℕ))
@@ -79,6 +81,8 @@ outcome report = record {
   history = report.history.items;
   ends = report.streams.items;
   sources = report.sources.items;
+  from = report.from;
   sessions = map (λ (own : Vec AnsweredValue). own.items) report.sessions.items;
   replies = report.replies;
+  save = report.save;
 }

@@ -44,7 +44,8 @@ pub record WritesSummary {S K : Type 0} (means : Meanings S K) (queries : List Q
   pub nothing : outcome.status ≡ memory_status
       → means.written sinks.events_new ≡ means.written sinks.events_old
 
--- the run over so many generated tuples: no stream is opened, nobody asks, and no reply is written;
+-- the run over so many generated tuples: no stream is opened, nobody asks, and no reply is written
+-- and no window saved;
 -- the objects were told of the events of the history, of all of them unless memory ran out
 pub record RunsGenerated {S K : Type 0} (means : Meanings S K) (given : Settings) (count : ℕ)
     (holds : List ℕ → Option (List ℕ)) (sinks : Sinks K) (objects : Objects)
@@ -53,6 +54,7 @@ pub record RunsGenerated {S K : Type 0} (means : Meanings S K) (given : Settings
   pub no_source : outcome.sources ≡ []
   pub no_session : outcome.sessions ≡ []
   pub no_replies : outcome.replies ≡ None
+  pub no_window : (outcome.from ≡ None) × (outcome.save ≡ None)
   pub failed : List SinkName
   pub history : HoldsGenerated given count outcome
   pub summary : ForQueries (holds given.queries) (λ queries.

@@ -13,24 +13,31 @@ use Rattle.rpq_words.specs.Settings.{Settings}
 use Rattle.history_model.specs.declared.line.Why.{Why}
 use Rattle.history_model.specs.declared.line.Why.TheVariants.{Write, Memory}
 use Rattle.ask_text.specs.Replies.{replies}
-use Rattle.stream_tuples.specs.History.{IsNumberOf, AreStreamsOf}
+use Rattle.saved_window.specs.Saved.{saved}
+use Rattle.saved_window.specs.SavedText.{saved_text}
+use Rattle.saved_window.specs.Then.{left_of_both, faults_of_both}
+use Rattle.stream_tuples.specs.History.{IsNumberOf, IsPrefix, IsProperPrefix, AreStreamsOf}
 use Rattle.rpq_text.specs.declared.ends.SinkName.{SinkName}
-use Rattle.rpq_text.specs.declared.ends.SinkName.TheVariants.{Events, Replies}
+use Rattle.rpq_text.specs.declared.ends.SinkName.TheVariants.{Events, Replies, Save}
 use Rattle.rpq_text.specs.Statuses.{memory_status}
 use Rattle.rpq_text.specs.Text.{IsText}
-use Rattle.run_start.specs.Files.{ForQueries, ForAsked, AreUnderstoodFiles}
+use Rattle.run_start.specs.Files.{ForQueries, ForAsked, AreUnderstoodFiles, stream_contents}
 use Rattle.rpq_threads.specs.Runs.{AreSessionsOf}
 use Rattle.rpq_threads.specs.Told.{TellsObjects}
 use Rattle.rpq_run.specs.Causes.{HasCauses}
 use Rattle.rpq_run.specs.Outcome.{Meanings, Sinks, Objects, Outcome}
+use Rattle.rpq_run.specs.Sources.{stream_sources}
 use Rattle.rpq_run.specs.Written.{WritesWhere}
 
 -- one history: each stream's tuples stand in it, in order, up to the stream's end, and nothing else
--- does; it isn't longer than the settings let it be
+-- does; it isn't longer than the settings let it be. The tuples of a saved window, where one is
+-- named, come first in the first stream
 pub record HoldsStreams {S K : Type 0} (means : Meanings S K) (given : Settings)
     (holds : List ℕ → Option (List ℕ)) (outcome : Outcome S K) : Type 0 where
-  pub each_stream : AreStreamsOf means.left means.faults given.history
-      (map holds given.streams) outcome.sources outcome.history outcome.ends
+  pub from : is_some outcome.from ≡ is_some given.from
+  pub each_stream : AreStreamsOf (left_of_both means.left) (faults_of_both means.faults)
+      given.history (stream_contents given holds)
+      (stream_sources outcome.from outcome.sources) outcome.history outcome.ends
   pub no_other : All (λ entry. IsNumberOf (length given.streams) entry.stream) outcome.history
   pub few : length outcome.history ≤ given.history
 
@@ -77,6 +84,27 @@ pub record AnswersSessions {S K : Type 0} (means : Meanings S K) (given : Settin
       (λ text. text ≡ replies (map (λ own. map (λ one. one.text) own) outcome.sessions))
       (nothing_told (means.written sink)) (means.written sink))
 
+-- a new sink got this text: all of it, unless a write of it failed, or one of the events did, or
+-- memory ran out; a proper prefix where a write of it failed; nothing where one of the events did;
+-- and else a prefix
+pub record GotText (events_failed failed : Type 0) (status : ℕ) (text : List ℕ)
+    (written : Option (List ℕ)) : Type 0 where
+  pub whole : (events_failed → ⊥) → (failed → ⊥) → status ≢ memory_status
+      → IfSome written (λ bytes. bytes ≡ text)
+  pub part : failed → IfSome written (λ bytes. IsProperPrefix bytes text)
+  pub none : events_failed → IfSome written (λ bytes. bytes ≡ [])
+  pub prefix : IfSome written (λ bytes. IsPrefix bytes text)
+
+-- the saved window: where one is wanted, its sink got the text of what a later run needs of the
+-- history
+pub record SavesWindow {S K : Type 0} (means : Meanings S K) (given : Settings)
+    (holds : List ℕ → Option (List ℕ)) (failed : List SinkName) (outcome : Outcome S K)
+    : Type 0 where
+  pub sink : is_some outcome.save ≡ is_some given.save
+  pub text : IfSome outcome.save (λ sink. ForQueries (holds given.queries) (λ queries.
+      GotText (Contains failed Events) (Contains failed Save) outcome.status
+      (saved_text (saved queries outcome.history)) (means.written sink)))
+
 -- the objects: of the events of the blocks that were written whole, and of no other, they heard
 -- those that they want. These are all blocks, unless a write of the events failed or memory ran out
 pub record TellsHistory {S K : Type 0} (means : Meanings S K) (given : Settings)
@@ -98,5 +126,6 @@ pub record RunsStreams {S K : Type 0} (means : Meanings S K) (given : Settings)
   pub history : HoldsStreams means given holds outcome
   pub events : WritesEvents means given holds failed sinks outcome
   pub replies : AnswersSessions means given holds failed outcome
+  pub saves : SavesWindow means given holds failed outcome
   pub told : TellsHistory means given holds failed sinks objects outcome
   pub causes : HasCauses means failed sinks outcome

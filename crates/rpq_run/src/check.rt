@@ -38,7 +38,7 @@ pub fn run_check<F: Files>(
         given holds (sinks events.old events.new errors.old errors.new) objects (outcome result) }
 {
     let written = write_verdicts(events, queries);
-    let failed = failed_sinks(written.is_err(), false);
+    let failed = failed_sinks(written.is_err(), false, false);
     let status = first_status(&[], failed);
     // A fault of the errors changes no status.
     let _ = tell_end(errors, &[], failed, status);
@@ -48,8 +48,10 @@ pub fn run_check<F: Files>(
         history: Vec::new(alloc),
         streams: Vec::new(alloc),
         sources: Vec::new(alloc),
+        from: None,
         sessions: Vec::new(alloc),
         replies: None,
+        save: None,
         left: Vec::new(alloc),
     }
 }

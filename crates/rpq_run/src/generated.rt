@@ -58,7 +58,7 @@ pub fn run_generated<R: Threads + RandomSource + Sync, G: Gate, F: Files>(
     let left = put_back(standing, circle);
     let is_done = summary.is_some();
     ends.push_reserved(end_of(is_done, fits));
-    let failed = failed_sinks(write_summary(events, &summary).is_err(), false);
+    let failed = failed_sinks(write_summary(events, &summary).is_err(), false, false);
     let status = run_status(&ends, failed, !is_done);
     // A fault of the errors changes no status.
     let _ = tell_end(errors, &ends, failed, status);
@@ -68,8 +68,10 @@ pub fn run_generated<R: Threads + RandomSource + Sync, G: Gate, F: Files>(
         history,
         streams: ends,
         sources: Vec::new(alloc),
+        from: None,
         sessions: Vec::new(alloc),
         replies: None,
+        save: None,
         left,
     })
 }

@@ -13,8 +13,8 @@ use rpq_io::Files;
 /// A run over streams that is done, where the files and the sink of the events tell their bytes:
 /// the events written are those of one history that holds each stream's tuples once, in order;
 /// after each entry the pairs emitted and not retracted are the answers; each object that stayed
-/// heard all events that it wants; and each reader is told the answers at positions that never
-/// fall.
+/// heard all events that it wants; each reader is told the answers at positions that never fall;
+/// and the window that is saved is that of the history.
 pub fn headline<F: Files>()
     ensures { (given : Settings) (holds : List ℕ → Option (List ℕ)) (sinks : Sinks F.Sink)
         (objects : Objects) (outcome : Outcome F.Source F.Sink) (told : Told)

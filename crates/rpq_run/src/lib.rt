@@ -13,12 +13,15 @@
 
 mod check;
 mod errors;
+mod fault;
 mod generated;
 mod laws;
 mod objects;
 mod replies;
 mod report;
 mod room;
+mod saving;
+mod sources;
 mod streams;
 mod top;
 mod word_texts;

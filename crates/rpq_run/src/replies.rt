@@ -2,52 +2,22 @@
 
 ghost use Rattle.std.specs.Prelude.{◌≤◌, length, map};
 ghost use Rattle.ask_text.specs.Replies.{replies, session_text};
-ghost use Rattle.rpq_run.specs.Replies.{WritesReplies, WritesPart, session_limit, texts_of};
+ghost use Rattle.rpq_run.specs.Parts.{WritesIfThere, WritesPart};
+ghost use Rattle.rpq_run.specs.Replies.{session_limit, texts_of};
 
+use crate::fault::TextFault;
 use ask_text::{Answered, session_text};
-use rpq_base::Memory;
-use rpq_io::{Failed, Sink, put_all};
+use rpq_io::{Sink, put_all};
 use std::alloc::Global;
-
-/// Why not all replies were written.
-#[derive(Clone, Copy, Debug, PartialEq, Eq)]
-pub enum RepliesFault {
-    /// A write of the replies failed.
-    Write,
-    /// Memory ran out.
-    Memory,
-}
-
-impl From<Failed> for RepliesFault {
-    ghost use Rattle.std.specs.Prelude.{◌≡◌};
-    ghost use Rattle.rpq_run.specs.declared.replies.RepliesFault.TheVariants.{Write};
-
-    ghost from_gives = { λ _ fault. fault ≡ Write };
-
-    fn from(_: Failed) -> Self {
-        Self::Write
-    }
-}
-
-impl From<Memory> for RepliesFault {
-    ghost use Rattle.std.specs.Prelude.{◌≡◌};
-    ghost use Rattle.rpq_run.specs.declared.replies.RepliesFault.TheVariants.{Memory};
-
-    ghost from_gives = { λ _ fault. fault ≡ Memory };
-
-    fn from(_: Memory) -> Self {
-        Self::Memory
-    }
-}
 
 /// Writes the replies of the sessions, in order, where there is a sink for them.
 pub fn write_replies<K: Sink>(
     alloc: Global,
     sink: &mut Option<K>,
     sessions: &[Vec<Answered>],
-) -> Result<(), RepliesFault>
+) -> Result<(), TextFault>
     requires { length sessions.now ≤ session_limit }
-    ensures { WritesReplies K.written K.faults
+    ensures { WritesIfThere K.written K.faults
         (replies (texts_of (map (λ own. own.items) sessions.now)))
         sink.old sink.new result }
 {
@@ -62,7 +32,7 @@ fn write_sessions<K: Sink>(
     alloc: Global,
     sink: &mut K,
     sessions: &[Vec<Answered>],
-) -> Result<(), RepliesFault>
+) -> Result<(), TextFault>
     requires { length sessions.now ≤ session_limit }
     ensures { WritesPart K.written K.faults
         (replies (texts_of (map (λ own. own.items) sessions.now))) sink.old sink.new result }
@@ -81,7 +51,7 @@ fn write_session<K: Sink>(
     sink: &mut K,
     number: u32,
     answers: &[Answered],
-) -> Result<(), RepliesFault>
+) -> Result<(), TextFault>
     ensures { WritesPart K.written K.faults
         (session_text number (map (λ one. one.text) answers.now)) sink.old sink.new result }
 {

@@ -17,7 +17,7 @@ use stream_tuples::StreamEnd;
 /// | 3 | the asks file has a fault |
 /// | 4 | a line of a stream is faulty or too long |
 /// | 5 | a file to be read couldn't be opened or read |
-/// | 6 | a write of the events or the replies failed, or the replies couldn't be opened |
+/// | 6 | a write of the events, the replies or the saved window failed, or one of the last two files couldn't be opened |
 /// | 7 | the history is full, or a file has too many bytes |
 /// | 8 | memory ran out |
 ///
@@ -36,10 +36,15 @@ pub struct Report<F: Files> {
     /// The source of each stream, as the run leaves it; where a read of the queries file or the
     /// asks file failed, that file's source.
     pub sources: Vec<F::Source>,
+    /// The source of the saved window with which the run began, if there is one, as the run leaves
+    /// it.
+    pub from: Option<F::Source>,
     /// The asks of each session that were answered, in order.
     pub sessions: Vec<Vec<Answered>>,
     /// The sink of the replies, if there is one, as the run leaves it.
     pub replies: Option<F::Sink>,
+    /// The sink of the saved window, if there is one, as the run leaves it.
+    pub save: Option<F::Sink>,
     /// The objects that left, in the order in which they did.
     pub left: Vec<Box<dyn Standing>>,
 }

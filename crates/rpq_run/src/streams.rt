@@ -1,42 +1,65 @@
 //! The run over streams.
 
-ghost use Rattle.std.specs.Prelude.{◌≡◌, List, ℕ, Option, None, Some, Err, true, IfOk, OnErr};
+ghost use Rattle.std.specs.Prelude.{◌≡◌, ◌≤◌, ◌⊎◌, List, [], ℕ, Option, None, Some, Err, true};
+ghost use Rattle.std.specs.Prelude.{length, map, All, IfOk, OnErr};
+ghost use Rattle.std.specs.Vec.{vec_capacity};
+ghost use Rattle.rpq_base.specs.Plain.{IsPlain};
+ghost use Rattle.ask_text.specs.Replies.{replies};
 ghost use Rattle.rpq_words.specs.Settings.{Settings};
+ghost use Rattle.rpq_text.specs.ErrorLines.{run_lines};
+ghost use Rattle.rpq_text.specs.Limits.{stream_limit};
+ghost use Rattle.rpq_text.specs.Statuses.{IsStatusOf, memory_status};
+ghost use Rattle.saved_window.specs.Saved.{saved};
+ghost use Rattle.saved_window.specs.SavedText.{saved_text};
+ghost use Rattle.saved_window.specs.Then.{count_of, left_of_both, faults_of_both};
 ghost use Rattle.rpq_threads.specs.Runs.{IsTask};
+ghost use Rattle.rpq_run.specs.Asked.{IsAsked};
+ghost use Rattle.rpq_run.specs.Ending.{IsShort, IsUnsaved, KeepsParts, SavesIfThere, failed_of};
 ghost use Rattle.rpq_run.specs.Failed.{failed_sinks, is_failed, is_write};
 ghost use Rattle.rpq_run.specs.Outcome.{meanings, objects, outcome, sinks};
+ghost use Rattle.rpq_run.specs.Parts.{WritesIfThere};
+ghost use Rattle.rpq_run.specs.Replies.{session_limit, texts_of};
 ghost use Rattle.rpq_run.specs.RunsStreams.{RunsStreams};
-ghost use Rattle.rpq_run.specs.Asked.{IsAsked};
+ghost use Rattle.rpq_run.specs.Sources.{stream_sources};
+ghost use Rattle.rpq_run.specs.Written.{TellsLines};
 
 use crate::errors::tell_end;
+use crate::fault::TextFault;
 use crate::objects::{circle_of, put_back};
-use crate::replies::{RepliesFault, write_replies};
+use crate::replies::write_replies;
 use crate::report::Report;
+use crate::saving::{can_save, save_window};
+use crate::sources::parted;
 use history_model::Why;
 use rpq_base::Memory;
-use rpq_io::{Context, Files, Gate};
+use rpq_io::{Context, Files, Gate, Sink, Source};
+use rpq_model::QueryDef;
 use rpq_text::{SinkName, fronts_hold_answers, run_status};
-use rpq_threads::{Outcome, Task, run_threads};
+use rpq_threads::{Outcome, Task, copied_definitions, run_threads};
+use run_start::OwnSinks;
+use saved_window::{Front, Then};
 use standing::Standing;
+use std::alloc::Global;
 use std::random::RandomSource;
 use std::sync::Wait;
 use std::thread::Threads;
 
 /// The run over streams: takes their tuples, tells the objects of the events, and answers the
-/// sessions; writes the replies, and tells what went wrong. The only error is [`Memory`], before
-/// anything is written or told.
-pub fn run_streams<R: Threads + Wait + RandomSource + Sync, G: Gate, F: Files>(
+/// sessions; writes the replies and then the saved window, and tells what went wrong. The only
+/// error is [`Memory`], before anything is written or told.
+pub fn run_streams<R: Threads + Wait + RandomSource + Sync, G: Gate, F: Files, P: Front + Send>(
     context: &Context<'_, R, G>,
-    task: Task<F::Source>,
-    mut replies: Option<F::Sink>,
+    task: Task<Then<F::Source, P>>,
+    mut own: OwnSinks<F::Sink>,
     standing: &mut Vec<Box<dyn Standing>>,
     events: &mut F::Sink,
     errors: &mut F::Sink,
 ) -> Result<Report<F>, Memory>
-    requires { IsTask F.Source.left F.Source.faults task }
+    requires task { IsTask (left_of_both F.Source.left) (faults_of_both F.Source.faults) task }
+    requires alone { (P.COUNT ≡ 0) ⊎ (length task.readers.items ≡ 1) }
     ensures start { IfOk result (λ report. report.start ≡ None) }
     ensures runs { IfOk result (λ report. (given : Settings) (holds : List ℕ → Option (List ℕ))
-        → IsAsked F.Source.left F.Sink.written F.Sink.faults given holds task replies
+        → IsAsked F.Source.left F.Sink.written F.Sink.faults given holds P.COUNT task own
         → RunsStreams (meanings F.Source.left F.Source.faults F.Sink.written F.Sink.faults)
         given holds (sinks events.old events.new errors.old errors.new)
         (objects (λ b. seen b) standing.old.items standing.new.items report.left.items)
@@ -46,7 +69,78 @@ pub fn run_streams<R: Threads + Wait + RandomSource + Sync, G: Gate, F: Files>(
     ensures objects_kept { OnErr result (standing.new.items ≡ standing.old.items) }
 {
     fronts_hold_answers(); // called for its clause
+    let definitions = copied_definitions(context.alloc, &task.queries)?;
+    let room = Vec::with_capacity(context.alloc, task.readers.len())?;
     let circle = circle_of(context.alloc, standing)?;
+    let outcome = match run_threads(context, task, events, circle) {
+        Ok(outcome) => outcome,
+        Err((circle, Memory)) => {
+            let _none = put_back(standing, circle);
+            return Err(Memory);
+        }
+    };
+    let written = write_own(context.alloc, &mut own, &outcome, &definitions);
+    Ok(end_run(outcome, written, own, room, standing, errors))
+}
+
+/// What came of the writing of the texts behind the events.
+#[derive(Clone, Copy)]
+struct WrittenTexts {
+    replied: Result<(), TextFault>,
+    saved: Result<(), TextFault>,
+}
+
+/// Writes the replies and then the saved window, as far as there are sinks for them.
+fn write_own<K: Sink, S: Source, O: Standing>(
+    alloc: Global,
+    own: &mut OwnSinks<K>,
+    outcome: &Outcome<S, O>,
+    definitions: &[QueryDef],
+) -> WrittenTexts
+    requires few { length outcome.now.sessions.items ≤ session_limit }
+    requires plain { All IsPlain outcome.now.history.items }
+    ensures replied { WritesIfThere K.written K.faults
+        (replies (texts_of (map (λ own. own.items) outcome.now.sessions.items)))
+        own.old.replies own.new.replies result.replied }
+    ensures saved { SavesIfThere K.written K.faults
+        (saved_text (saved definitions.now outcome.now.history.items)) outcome.now.why
+        (IsUnsaved outcome.now.why outcome.now.short_of_memory outcome.now.ends.items
+        result.replied)
+        own.old.save own.new.save result.saved }
+{
+    let replied = write_replies(alloc, &mut own.replies, &outcome.sessions);
+    let wanted = can_save(outcome.why, outcome.short_of_memory, &outcome.ends, replied);
+    let saved = save_window(alloc, &mut own.save, definitions, &outcome.history, wanted);
+    WrittenTexts { replied, saved }
+}
+
+/// The report of a run that ended so. Puts the objects back, and tells on the errors what went
+/// wrong.
+fn end_run<F: Files, P: Front>(
+    outcome: Outcome<Then<F::Source, P>, Box<dyn Standing>>,
+    written: WrittenTexts,
+    own: OwnSinks<F::Sink>,
+    room: Vec<F::Source>,
+    standing: &mut Vec<Box<dyn Standing>>,
+    errors: &mut F::Sink,
+) -> Report<F>
+    requires room { (room.items ≡ []) × (length outcome.sources.items ≤ vec_capacity room) }
+    requires some { 1 ≤ length outcome.sources.items }
+    requires alone { (P.COUNT ≡ 0) ⊎ (length outcome.sources.items ≡ 1) }
+    requires few { length outcome.ends.items ≤ stream_limit }
+    ensures start { result.start ≡ None }
+    ensures status { IsStatusOf outcome.ends.items (failed_of outcome.why written) result.status }
+    ensures memory { IsShort outcome.why outcome.short_of_memory written
+        → result.status ≡ memory_status }
+    ensures told { TellsLines F.Sink.written F.Sink.faults
+        (run_lines outcome.ends.items (failed_of outcome.why written) result.status)
+        errors.old errors.new }
+    ensures objects { (standing.new.items ≡ outcome.circle.members)
+        × (result.left.items ≡ outcome.circle.left) }
+    ensures sources { stream_sources result.from result.sources.items ≡ outcome.sources.items }
+    ensures from { count_of result.from ≡ P.COUNT }
+    ensures parts { KeepsParts outcome own result }
+{
     let Outcome {
         history,
         ends,
@@ -55,30 +149,34 @@ pub fn run_streams<R: Threads + Wait + RandomSource + Sync, G: Gate, F: Files>(
         why,
         short_of_memory,
         circle,
-    } = match run_threads(context, task, events, circle) {
-        Ok(outcome) => outcome,
-        Err((circle, Memory)) => {
-            let _none = put_back(standing, circle);
-            return Err(Memory);
-        }
-    };
+    } = outcome;
+    let OwnSinks { replies, save } = own;
     let left = put_back(standing, circle);
-    let replied = write_replies(context.alloc, &mut replies, &sessions);
-    let failed = failed_sinks(is_write(why), is_failed(replied));
-    let short_of_memory = is_short_of_memory(short_of_memory, why, replied);
-    let status = run_status(&ends, failed, short_of_memory);
+    let (from, sources) = parted(sources, room);
+    let failed = failed_sinks(
+        is_write(why),
+        is_failed(written.replied),
+        is_failed(written.saved),
+    );
+    let status = run_status(
+        &ends,
+        failed,
+        is_short_of_memory(short_of_memory, why, written),
+    );
     // A fault of the errors changes no status.
     let _ = tell_end(errors, &ends, failed, status);
-    Ok(Report {
+    Report {
         status,
         start: None,
         history,
         streams: ends,
         sources,
+        from,
         sessions,
         replies,
+        save,
         left,
-    })
+    }
 }
 
 /// Whether a write of the events failed.
@@ -88,30 +186,35 @@ fn is_write(why: Option<Why>) -> bool
     matches!(why, Some(Why::Write))
 }
 
-/// Whether a write of the replies failed.
-fn is_failed(replied: Result<(), RepliesFault>) -> bool
-    ensures { result ≡ is_failed replied }
+/// Whether a write of a text failed.
+fn is_failed(written: Result<(), TextFault>) -> bool
+    ensures { result ≡ is_failed written }
 {
-    matches!(replied, Err(RepliesFault::Write))
+    matches!(written, Err(TextFault::Write))
 }
 
-/// Whether memory ran out: for a session, for the engine, or for the text of the replies.
-fn is_short_of_memory(session: bool, why: Option<Why>, replied: Result<(), RepliesFault>) -> bool
-    ensures sessions { session ≡ true → result ≡ true }
-    ensures engine { why ≡ Some Why.Memory → result ≡ true }
-    ensures replies { replied ≡ Err RepliesFault.Memory → result ≡ true }
+/// Whether memory ran out: for a session, for the engine, or for a text behind the events.
+fn is_short_of_memory(session: bool, why: Option<Why>, written: WrittenTexts) -> bool
+    ensures { IsShort why session written → result ≡ true }
 {
-    session || matches!(why, Some(Why::Memory)) || matches!(replied, Err(RepliesFault::Memory))
+    session
+        || matches!(why, Some(Why::Memory))
+        || matches!(written.replied, Err(TextFault::Memory))
+        || matches!(written.saved, Err(TextFault::Memory))
 }
 
 /// The sinks of which a write failed.
-pub fn failed_sinks(events: bool, replies: bool) -> &'static [SinkName]
-    ensures { result.now ≡ failed_sinks events replies }
+pub fn failed_sinks(events: bool, replies: bool, save: bool) -> &'static [SinkName]
+    ensures { result.now ≡ failed_sinks events replies save }
 {
-    match (events, replies) {
-        (false, false) => &[],
-        (false, true) => &[SinkName::Replies],
-        (true, false) => &[SinkName::Events],
-        (true, true) => &[SinkName::Events, SinkName::Replies],
+    match (events, replies, save) {
+        (false, false, false) => &[],
+        (false, false, true) => &[SinkName::Save],
+        (false, true, false) => &[SinkName::Replies],
+        (false, true, true) => &[SinkName::Replies, SinkName::Save],
+        (true, false, false) => &[SinkName::Events],
+        (true, false, true) => &[SinkName::Events, SinkName::Save],
+        (true, true, false) => &[SinkName::Events, SinkName::Replies],
+        (true, true, true) => &[SinkName::Events, SinkName::Replies, SinkName::Save],
     }
 }

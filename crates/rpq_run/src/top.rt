@@ -25,7 +25,7 @@ use rpq_io::{Context, Files, Gate};
 use rpq_text::StartFault;
 use rpq_threads::Task;
 use rpq_words::Chosen;
-use run_start::{Reads, Ready, Refusal, begin, settings_of};
+use run_start::{Readers, Reads, Ready, Refusal, begin, settings_of};
 use standing::Standing;
 use std::alloc::Global;
 use std::random::RandomSource;
@@ -38,13 +38,17 @@ use std::thread::Threads;
 /// each.
 ///
 /// The words are those of the command line, the program's name first. The queries file is read
-/// whole and understood, then the asks file, then the streams are opened, and at last the replies.
-/// Each stream and each session has a thread of its own, and this thread is the engine's: it takes
-/// the entries of the one history in their order and writes the block of each. Then it tells the
-/// standing objects of the entry's events. With `--check` or `--generate` no other file is opened.
-/// What went wrong is told on `errors`. The gate is told of the streams, the engine's workers and
-/// the replies, and no clause rests on it. The clauses on contents stand where the files and the
-/// sinks tell them.
+/// whole and understood, then the asks file, then the saved window of an earlier run and the
+/// streams are opened, and at last the files to be written. Each stream and each session has a
+/// thread of its own, and this thread is the engine's: it takes the entries of the one history in
+/// their order and writes the block of each. Then it tells the standing objects of the entry's
+/// events. With `--check` or `--generate` no other file is opened. What went wrong is told on
+/// `errors`. The gate is told of the streams, the engine's workers and the replies, and no clause
+/// rests on it. The clauses on contents stand where the files and the sinks tell them.
+///
+/// Where a saved window is named, it is read before the file of the one stream, as the first part
+/// of that stream. Where one is to be saved, what a later run needs of the history is written
+/// behind the replies.
 ///
 /// The objects that stayed are in `standing` afterwards, in their order, and those that left in the
 /// report.
@@ -145,16 +149,30 @@ fn run_begun<R: Threads + Wait + RandomSource + Sync, G: Gate, F: Files>(
         let Reads {
             readers,
             sessions,
-            replies,
+            sinks,
         } = reads;
-        let task = Task {
-            queries,
-            workers,
-            limit,
-            readers,
-            sessions,
+        return match readers {
+            Readers::Alone(readers) => {
+                let task = Task {
+                    queries,
+                    workers,
+                    limit,
+                    readers,
+                    sessions,
+                };
+                run_streams(context, task, sinks, standing, events, errors)
+            }
+            Readers::Behind(readers) => {
+                let task = Task {
+                    queries,
+                    workers,
+                    limit,
+                    readers,
+                    sessions,
+                };
+                run_streams(context, task, sinks, standing, events, errors)
+            }
         };
-        return run_streams(context, task, replies, standing, events, errors);
     }
     let Some(count) = chosen.generate else {
         return Ok(run_check(context.alloc, &queries, events, errors));
@@ -181,7 +199,7 @@ fn report_of_refusal<F: Files>(
     ensures streams { result.streams.items ≡ [] }
     ensures sources { result.sources.items ≡ sources.items }
     ensures sessions { result.sessions.items ≡ [] }
-    ensures replies { result.replies ≡ None }
+    ensures own { (result.from ≡ None) × (result.replies ≡ None) × (result.save ≡ None) }
     ensures left { result.left.items ≡ [] }
     ensures errors { TellsLines F.Sink.written F.Sink.faults (start_line fault)
         errors.old errors.new }
@@ -194,8 +212,10 @@ fn report_of_refusal<F: Files>(
         history: Vec::new(alloc),
         streams: Vec::new(alloc),
         sources,
+        from: None,
         sessions: Vec::new(alloc),
         replies: None,
+        save: None,
         left: Vec::new(alloc),
     }
 }

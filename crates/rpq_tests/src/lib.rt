@@ -5,7 +5,7 @@
 //! never answers that memory ran out, which bytes it writes, whichever call of a file or a sink
 //! fails, and that streams, readers and the engine go on at the same time. Each is a row of a table:
 //! what the run is given, and what it is to answer. Runs in which no call fails are requests of
-//! `rpq_cases`.
+//! `run_cases`.
 #![tactic(auto)]
 
 #[cfg(test)]

@@ -10,9 +10,11 @@ use Rattle.stream_tuples.specs.declared.ends.StreamEnd.TheVariants.{Whole, Line,
 use Rattle.stream_tuples.specs.declared.ends.StreamEnd.TheVariants.{LongStream, Read, Full, Closed}
 use Rattle.stream_tuples.specs.declared.ends.StreamEnd.TheVariants.{Memory}
 use Rattle.rpq_text.specs.declared.ends.Which.{Which}
-use Rattle.rpq_text.specs.declared.ends.Which.TheVariants.{Queries, Asks, Replies, Stream}
+use Rattle.rpq_text.specs.declared.ends.Which.TheVariants.{Queries, Asks, From, Stream}
+use Rattle.rpq_text.specs.declared.ends.Which.TheVariants.{Replies, Save}
 use Rattle.rpq_text.specs.declared.ends.SinkName.{SinkName}
 use Rattle.rpq_text.specs.declared.ends.SinkName.TheVariants.{Events, Replies as RepliesSink}
+use Rattle.rpq_text.specs.declared.ends.SinkName.TheVariants.{Save as SaveSink}
 use Rattle.rpq_text.specs.declared.ends.StartFault.{StartFault}
 use Rattle.rpq_text.specs.declared.ends.StartFault.TheVariants.{Words, Queries as QueriesFault}
 use Rattle.rpq_text.specs.declared.ends.StartFault.TheVariants.{Asks as AsksFault, Open}
@@ -24,8 +26,10 @@ use Rattle.rpq_text.specs.Statuses.{memory_status}
 abbrev pub file_text : Which → List ℕ
 file_text Queries = codes "queries"
 file_text Asks = codes "asks"
-file_text Replies = codes "replies"
+file_text From = codes "from"
 file_text (Stream number) = codes "stream " ++ decimal number
+file_text Replies = codes "replies"
+file_text Save = codes "save"
 
 -- what is said of the line of the queries file with this number
 unfoldable pub query_text : ℕ → List ℕ → List ℕ
@@ -45,14 +49,17 @@ read_line which = codes "rpq: read failed: " ++ file_text which ++ codes "\n"
 abbrev pub write_line : SinkName → List ℕ
 write_line Events = codes "rpq: write failed: events\n"
 write_line RepliesSink = codes "rpq: write failed: replies\n"
+write_line SaveSink = codes "rpq: write failed: save\n"
 
--- the line of a file that couldn't be opened: the replies were to be written, and the others to be
--- read
+-- the line of a file that couldn't be opened: the replies and the saved window were to be written,
+-- and the others to be read
 abbrev pub opening_line : Which → List ℕ
 opening_line Queries = read_line Queries
 opening_line Asks = read_line Asks
-opening_line Replies = write_line RepliesSink
+opening_line From = read_line From
 opening_line (Stream number) = read_line (Stream number)
+opening_line Replies = write_line RepliesSink
+opening_line Save = write_line SaveSink
 
 -- the line of a run that didn't begin; where the words are refused, a second one says how the
 -- command is used

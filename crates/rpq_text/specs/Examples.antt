@@ -8,8 +8,9 @@ use Rattle.rpq_model.specs.declared.mode.Mode.TheVariants.{Arbitrary, Simple}
 use Rattle.rpq_model.specs.Query.{Query}
 use Rattle.ask_text.specs.declared.fault.AskKind.{AskKind}
 use Rattle.ask_text.specs.declared.fault.AskKind.TheVariants.{Shape, UnknownQuery}
-use Rattle.rpq_text.specs.declared.ends.Which.TheVariants.{Replies, Stream}
+use Rattle.rpq_text.specs.declared.ends.Which.TheVariants.{From, Stream, Replies, Save}
 use Rattle.rpq_text.specs.declared.ends.SinkName.TheVariants.{Events, Replies as RepliesSink}
+use Rattle.rpq_text.specs.declared.ends.SinkName.TheVariants.{Save as SaveSink}
 use Rattle.rpq_text.specs.declared.ends.StartFault.{StartFault}
 use Rattle.rpq_text.specs.declared.ends.StartFault.TheVariants.{Words, Asks, Open}
 use Rattle.rpq_text.specs.ErrorLines.{start_line, run_lines}
@@ -34,7 +35,7 @@ asks_fault line kind = Asks (record { line = line; kind = kind })
 
 -- a verdict yes; a verdict no, whose first word is empty and whose last has two labels; the lines
 -- for words that are refused, for faults of an asks file, and for files that can't be opened; and
--- those of a run in which writes of both sinks failed
+-- those of a run in which writes of all sinks failed
 pub record LineExamples : Type 0 where
   pub yes : verdict_line (query_named (codes "r") Simple) 2 Yes ≡ codes "r simple states 2 yes\n"
   pub no : verdict_line (query_named (codes "p") Arbitrary) 3
@@ -42,11 +43,15 @@ pub record LineExamples : Type 0 where
       (label_named (codes "b") ∷ label_named (codes "c|d") ∷ []))
       ≡ codes "p arbitrary states 3 no () a b/\"c|d\"\n"
   pub words : start_line Words ≡ codes "rpq: words\nusage: rpq [--workers N] [--history N] "
-      ++ codes "[--asks FILE --replies FILE] [--check] [--generate N] QUERIES [STREAM...]\n"
+      ++ codes "[--asks FILE --replies FILE] [--check] [--generate N] "
+      ++ codes "[--save FILE] [--from FILE] QUERIES [STREAM...]\n"
   pub shape : start_line (asks_fault 1 Shape) ≡ codes "rpq: asks line 1: shape\n"
   pub unknown : start_line (asks_fault 2 UnknownQuery)
       ≡ codes "rpq: asks line 2: unknown query\n"
   pub replies : start_line (Open Replies) ≡ codes "rpq: write failed: replies\n"
   pub stream : start_line (Open (Stream 2)) ≡ codes "rpq: read failed: stream 2\n"
-  pub writes : run_lines [] (Events ∷ RepliesSink ∷ []) 6
+  pub from : start_line (Open From) ≡ codes "rpq: read failed: from\n"
+  pub save : start_line (Open Save) ≡ codes "rpq: write failed: save\n"
+  pub writes : run_lines [] (Events ∷ RepliesSink ∷ SaveSink ∷ []) 6
       ≡ codes "rpq: write failed: events\nrpq: write failed: replies\n"
+      ++ codes "rpq: write failed: save\n"

@@ -7,9 +7,11 @@ use Rattle.stream_tuples.specs.declared.ends.StreamEnd.TheVariants.{Whole, Line,
 use Rattle.stream_tuples.specs.declared.ends.StreamEnd.TheVariants.{LongStream, Read, Full, Closed}
 use Rattle.stream_tuples.specs.declared.ends.StreamEnd.TheVariants.{Memory}
 use Rattle.rpq_text.specs.declared.ends.Which.{Which}
-use Rattle.rpq_text.specs.declared.ends.Which.TheVariants.{Queries, Asks, Replies, Stream}
+use Rattle.rpq_text.specs.declared.ends.Which.TheVariants.{Queries, Asks, From, Stream}
+use Rattle.rpq_text.specs.declared.ends.Which.TheVariants.{Replies, Save}
 use Rattle.rpq_text.specs.declared.ends.SinkName.{SinkName}
 use Rattle.rpq_text.specs.declared.ends.SinkName.TheVariants.{Events, Replies as RepliesSink}
+use Rattle.rpq_text.specs.declared.ends.SinkName.TheVariants.{Save as SaveSink}
 use Rattle.rpq_text.specs.declared.ends.StartFault.{StartFault}
 use Rattle.rpq_text.specs.declared.ends.StartFault.TheVariants.{Words, Queries as QueriesFault}
 use Rattle.rpq_text.specs.declared.ends.StartFault.TheVariants.{Asks as AsksFault, Open}
@@ -52,13 +54,15 @@ limit_status = 7
 abbrev pub memory_status : ℕ
 memory_status = 8
 
--- the status of a run that couldn't open this file: the replies were to be written, and the others
--- to be read
+-- the status of a run that couldn't open this file: the replies and the saved window were to be
+-- written, and the others to be read
 abbrev pub status_of_opening : Which → ℕ
 status_of_opening Queries = read_status
 status_of_opening Asks = read_status
-status_of_opening Replies = write_status
+status_of_opening From = read_status
 status_of_opening (Stream number) = read_status
+status_of_opening Replies = write_status
+status_of_opening Save = write_status
 
 -- the status of a run that didn't begin
 abbrev pub status_of_start : StartFault → ℕ
@@ -86,11 +90,12 @@ status_of_end Memory = memory_status
 abbrev pub status_of_sink : SinkName → ℕ
 status_of_sink Events = write_status
 status_of_sink RepliesSink = write_status
+status_of_sink SaveSink = write_status
 
 -- the sinks on which a run writes what it finds, in the order in which their lines stand on the
 -- errors
 abbrev pub all_sinks : List SinkName
-all_sinks = Events ∷ RepliesSink ∷ []
+all_sinks = Events ∷ RepliesSink ∷ SaveSink ∷ []
 
 -- some of these sinks, each once and in their order
 abbrev pub AreSomeSinks : List SinkName → Type 0

@@ -7,14 +7,18 @@ use crate::status;
 use ask_text::AskFault;
 use query_file::QueryFault;
 
-/// One of the files that a run opens: the replies to be written, and the others to be read. Streams
-/// are numbered from 1.
+/// One of the files that a run opens: the replies and the saved window to be written, and the others
+/// to be read. Streams are numbered from 1.
 #[derive(Clone, Copy, Debug, PartialEq, Eq)]
 pub enum Which {
     Queries,
     Asks,
-    Replies,
+    /// The saved window of an earlier run.
+    From,
     Stream(u32),
+    Replies,
+    /// The window that this run saves.
+    Save,
 }
 
 /// One of the sinks on which a run writes what it finds.
@@ -22,6 +26,7 @@ pub enum Which {
 pub enum SinkName {
     Events,
     Replies,
+    Save,
 }
 
 impl SinkName {
@@ -30,7 +35,7 @@ impl SinkName {
         ensures { result ≡ status_of_sink self.now }
     {
         match self {
-            SinkName::Events | SinkName::Replies => status::WRITE,
+            SinkName::Events | SinkName::Replies | SinkName::Save => status::WRITE,
         }
     }
 }
@@ -63,7 +68,7 @@ impl StartFault {
             StartFault::Words => status::WORDS,
             StartFault::Queries(_) => status::QUERIES,
             StartFault::Asks(_) => status::ASKS,
-            StartFault::Open(Which::Replies) => status::WRITE,
+            StartFault::Open(Which::Replies | Which::Save) => status::WRITE,
             StartFault::Open(_) | StartFault::Read(_) => status::READ,
             StartFault::Long(_) => status::LIMIT,
             StartFault::Memory => status::MEMORY,

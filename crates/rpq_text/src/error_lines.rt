@@ -44,6 +44,7 @@ pub fn write_line(sink: SinkName) -> Line
     match sink {
         SinkName::Events => line_of(&["rpq: write failed: events\n"]),
         SinkName::Replies => line_of(&["rpq: write failed: replies\n"]),
+        SinkName::Save => line_of(&["rpq: write failed: save\n"]),
     }
 }
 
@@ -59,8 +60,9 @@ pub fn opening_line(which: Which) -> Line
     ensures { result.bytes ≡ opening_line which }
 {
     match which {
-        Which::Queries | Which::Asks | Which::Stream(_) => read_line(which),
+        Which::Queries | Which::Asks | Which::From | Which::Stream(_) => read_line(which),
         Which::Replies => write_line(SinkName::Replies),
+        Which::Save => write_line(SinkName::Save),
     }
 }
 
@@ -197,7 +199,9 @@ pub fn file_line(before: &str, which: Which, after: &str) -> Line
     match which {
         Which::Queries => line_of(&[before, "queries", after]),
         Which::Asks => line_of(&[before, "asks", after]),
+        Which::From => line_of(&[before, "from", after]),
         Which::Replies => line_of(&[before, "replies", after]),
+        Which::Save => line_of(&[before, "save", after]),
         Which::Stream(number) => {
             let mut digits = Buffer::new();
             let number = digits.format(u64::from(number));

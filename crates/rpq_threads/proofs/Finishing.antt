@@ -10,6 +10,7 @@ use Rattle.std.proofs.lemmas.List.Elements.{All-nil, All-cons, All-append, All-h
 use Rattle.std.proofs.lemmas.List.Elements.{All-same}
 use Rattle.rpq_base.specs.declared.data.Tuple.{Tuple}
 use Rattle.rpq_base.specs.declared.data.Entry.{Entry}
+use Rattle.rpq_base.specs.Plain.{IsPlain}
 use Rattle.rpq_io.specs.Reader.{ReaderState}
 use Rattle.rpq_model.specs.Query.{Query}
 use Rattle.turn_lock.specs.Lines.{StartsWith, own}
@@ -602,8 +603,8 @@ module _ (law : LegalIsSound) (fronts : FrontsAreLegal) {S K O : Type 0}
         circle = as_seen seen outcome.circle;
       }) passes →
       All (Knows author (terms_of task) lines) passes → length sessions ≡ history.readers →
-      Holds left faults written failures seen task before after circle outcome
-  outcome_holds are readers sessions readers_are sessions_are was knows asked =
+      All IsPlain (entries lines) → Holds left faults written failures seen task before after circle outcome
+  outcome_holds are readers sessions readers_are sessions_are was knows asked plain =
       let queries = definitions_of task.queries.items in
       let answers = gave.answers in
       let files = map (λ (reader : ReaderState S). left reader.source) task.readers.items in
@@ -625,6 +626,7 @@ module _ (law : LegalIsSound) (fronts : FrontsAreLegal) {S K O : Type 0}
             (all_numbers law fronts (terms_of task) lines legal left faults written failures history
             same _ _ passes did knows);
         few = omega (arith, legal.capped, ap length are);
+        plain = subst (λ (all : List Entry). All IsPlain all) from_entries plain;
         text = subst (λ (all : List Entry). WritesText written failures queries all before after
             outcome.why) from_entries
             (all_text law fronts (terms_of task) lines legal left faults written failures history

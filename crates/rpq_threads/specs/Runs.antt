@@ -4,6 +4,7 @@ use Rattle.std.specs.Prelude.{Option, Some, None, Contains}
 use Rattle.std.specs.List.{AllZip}
 use Rattle.std.specs.Global.{Vec}
 use Rattle.rpq_base.specs.declared.data.Entry.{Entry}
+use Rattle.rpq_base.specs.Plain.{IsPlain}
 use Rattle.rpq_io.specs.Counts.{CountsFault}
 use Rattle.rpq_io.specs.Reader.{ReaderState}
 use Rattle.rpq_model.specs.Query.{Query}
@@ -96,8 +97,8 @@ pub record HasAnswered (queries : List Query) (history : List Entry) (asked : Li
   pub all : short_of_memory ≡ false → asks_answered answers ≡ asked
 
 -- what the threads of a run give, over what they were given: one history, in which each stream's
--- tuples stand up to the stream's end, and nothing else does; its text, written; the answers of the
--- sessions; and the objects, which were told of its events
+-- tuples stand up to the stream's end, and nothing else does, and whose labels point forwards; its
+-- text, written; the answers of the sessions; and the objects, which were told of its events
 pub record Holds {S K O : Type 0} (left : S → Option (List ℕ)) (faults : S → ℕ)
     (written : K → Option (List ℕ)) (failures : K → ℕ) (seen : O → ObjectValue) (task : Task S)
     (events_old events_new : K) (circle : Parts O) (outcome : Outcome S O) : Type 0 where
@@ -108,6 +109,7 @@ pub record Holds {S K O : Type 0} (left : S → Option (List ℕ)) (faults : S �
   pub numbers : All (λ (entry : Entry). IsNumberOf (length task.readers.items) entry.stream)
       outcome.history.items
   pub few : length outcome.history.items ≤ task.limit
+  pub plain : All IsPlain outcome.history.items
   pub text : WritesText written failures (definitions_of task.queries.items)
       outcome.history.items events_old events_new outcome.why
   pub answers : HasAnswered (definitions_of task.queries.items) outcome.history.items

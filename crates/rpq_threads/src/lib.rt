@@ -31,5 +31,6 @@ mod run;
 mod serving;
 mod task;
 
+pub use definitions::copied_definitions;
 pub use run::run_threads;
 pub use task::{Outcome, Task};

@@ -3,9 +3,24 @@ use Rattle.std.specs.Prelude.{refl}
 use Rattle.clap.proofs.OnLiterals.{clap_on_literals}
 use Rattle.text_parts.specs.Numbers.{number_within}
 use Rattle.rpq_words.specs.Command.{found_in, is_taken, rpq_command}
-use Rattle.rpq_words.specs.Examples.{SettingsExamples}
+use Rattle.rpq_words.specs.Examples.{SavedExamples, SettingsExamples}
 use Rattle.rpq_words.specs.Settings.{clash, number_from_one, optional_number, settings, settings_of}
 use Rattle.rpq_words.specs.Settings.{settled}
+
+saved_examples : SavedExamples
+unfolding clap_on_literals number_within found_in is_taken rpq_command clash number_from_one
+    optional_number settings settings_of settled
+saved_examples = record {
+  saved = refl;
+  begun = refl;
+  all_files = refl;
+  of_two = refl;
+  no_stream = refl;
+  two_streams = refl;
+  same_file = refl;
+  checked = refl;
+  made = refl;
+}
 
 pub examples : SettingsExamples
 unfolding clap_on_literals number_within found_in is_taken rpq_command clash number_from_one
@@ -31,4 +46,5 @@ examples = record {
   hyphen = refl;
   short = refl;
   help = refl;
+  windows = saved_examples;
 }

@@ -1,37 +1,40 @@
 -- Settings in their ranges, and their modes.
-use Rattle.std.proofs.Common.{arith, ◌≡◌, ◌∙◌, ap, ap₂, refl, subst, ℕ, ◌≤◌}
+use Rattle.std.proofs.Common.{arith, ◌≡◌, ◌≢◌, ◌∙◌, ap, ap₂, refl, subst, ℕ, ◌≤◌}
 use Rattle.std.proofs.Common.{Bool, true, false, List, [], ◌∷◌, codes, length, inl, inr}
-use Rattle.std.specs.Prelude.{◌&&◌, ◌||◌, not, nat_le, nat_lt, if◌then◌else◌, is_some, IfSome}
+use Rattle.std.specs.Prelude.{◌&&◌, ◌||◌, ◌==◌, bytes_eq, not, nat_le, nat_lt, if◌then◌else◌}
+use Rattle.std.specs.Prelude.{is_some, IfSome}
 use Rattle.std.specs.Prelude.{Option, Some, None, option_map, unwrap_or}
-use Rattle.std.proofs.lemmas.Bool.{le-ltb, leb-true, ltb-false, ne_eqb}
+use Rattle.std.proofs.lemmas.Bool.{eq-eqb, eqb-true, le-ltb, leb-true, ltb-false, ne_eqb}
+use Rattle.std.proofs.lemmas.Bool.{iff_false}
+use Rattle.std.proofs.lemmas.Slice.Eq.{bytes_eq-Decides}
 use Rattle.clap.specs.Walk.{Row, Text, all_of, first_of, is_empty}
 use Rattle.clap.proofs.SimpleLemmas.{is_nil}
 use Rattle.clap.proofs.WalkLemmas.{both}
 use Rattle.text_parts.specs.Numbers.{is_digit_text, number_of, number_within}
 use Rattle.rpq_words.specs.Command.{found_in, is_taken}
-use Rattle.rpq_words.specs.Settings.{Settings, clash, has_flag, is_one_alone, number_from_one}
+use Rattle.rpq_words.specs.Settings.{Settings, clash, has_flag, is_one_alone, is_same_file}
+use Rattle.rpq_words.specs.Settings.{names_file, number_from_one}
 use Rattle.rpq_words.specs.Settings.{only_if, optional_number, reads_none, settings, settings_of}
 use Rattle.rpq_words.specs.Settings.{settled, ◌>>=◌}
-use Rattle.rpq_words.specs.Modes.{AreSettings, ClashHasNoMode, HasMode, IsWithin}
+use Rattle.rpq_words.specs.Modes.{AreSettings, BeginsWith, ClashHasNoMode, HasMode, IsWithin}
 use Rattle.rpq_words.specs.Modes.{ReadsNothing, ReadsStreams, WordsAreSettings}
 
 -- ---- no clash is a mode
 
-none_holds : (a b c d e : Bool) → (a || (b || (c || (d || e)))) ≡ false
-    → (a ≡ false) × (b ≡ false) × (c ≡ false) × (d ≡ false) × (e ≡ false)
-none_holds true b c d e is = absurd cc
-none_holds false true c d e is = absurd cc
-none_holds false false true d e is = absurd cc
-none_holds false false false true e is = absurd cc
-none_holds false false false false e is = (refl, refl, refl, refl, is)
+none_holds : (a b c d e f g : Bool) → (a || (b || (c || (d || (e || (f || g)))))) ≡ false
+    → (a ≡ false) × (b ≡ false) × (c ≡ false) × (d ≡ false) × (e ≡ false) × (f ≡ false)
+    × (g ≡ false)
+none_holds true b c d e f g is = absurd cc
+none_holds false true c d e f g is = absurd cc
+none_holds false false true d e f g is = absurd cc
+none_holds false false false true e f g is = absurd cc
+none_holds false false false false true f g is = absurd cc
+none_holds false false false false false true g is = absurd cc
+none_holds false false false false false false g is = (refl, refl, refl, refl, refl, refl, is)
 
-none_of : (a b c d e : Bool) → a ≡ false → b ≡ false → c ≡ false → d ≡ false → e ≡ false →
-    (a || (b || (c || (d || e)))) ≡ false
-none_of false false false false e p q r s t = t
-none_of true b c d e p q r s t = absurd cc
-none_of false true c d e p q r s t = absurd cc
-none_of false false true d e p q r s t = absurd cc
-none_of false false false true e p q r s t = absurd cc
+neither : (a b : Bool) → a ≡ false → b ≡ false → (a || b) ≡ false
+neither false b first second = second
+neither true b first second = absurd cc
 
 paired_from : {A B : Type 0} (first : Option A) (second : Option B) →
     is_one_alone first second ≡ false → is_some first ≡ is_some second
@@ -51,16 +54,50 @@ true_from : (b : Bool) → not b ≡ false → b ≡ true
 true_from true is = refl
 true_from false is = absurd cc
 
-reads_nothing : (given : Settings) (asks replies : Option Text) → given.asks ≡ asks →
-    given.replies ≡ replies → is_one_alone asks replies ≡ false →
-    (is_some asks || not (is_empty given.streams)) ≡ false → ReadsNothing given
-reads_nothing given None None no_asks no_replies alone is = record {
+reads_nothing : (given : Settings) (asks replies save from : Option Text) → given.asks ≡ asks →
+    given.replies ≡ replies → given.save ≡ save → given.from ≡ from →
+    is_one_alone asks replies ≡ false →
+    ((is_some asks || (is_some save || is_some from)) || not (is_empty given.streams)) ≡ false →
+    ReadsNothing given
+reads_nothing given None None None None no_asks no_replies no_save no_from alone is = record {
   no_stream = is_nil given.streams (true_from (is_empty given.streams) is);
   no_asks = no_asks;
   no_replies = no_replies;
+  no_save = no_save;
+  no_from = no_from;
 }
-reads_nothing given None (Some reply) no_asks no_replies alone is = absurd cc
-reads_nothing given (Some ask) replies no_asks no_replies alone is = absurd cc
+reads_nothing given (Some ask) replies save from no_asks no_replies no_save no_from alone is =
+    absurd cc
+reads_nothing given None (Some reply) save from no_asks no_replies no_save no_from alone is =
+    absurd cc
+reads_nothing given None None (Some file) from no_asks no_replies no_save no_from alone is =
+    absurd cc
+reads_nothing given None None None (Some file) no_asks no_replies no_save no_from alone is =
+    absurd cc
+
+-- nothing that a check has, or a run that generates its tuples
+nothing_from : (given : Settings) → is_one_alone given.asks given.replies ≡ false →
+    (names_file given || not (is_empty given.streams)) ≡ false → ReadsNothing given
+nothing_from given alone reads = reads_nothing given given.asks given.replies given.save given.from
+    refl refl refl refl alone reads
+
+some_same : (x y : Text) → Some x ≡ Some y → x ≡ y
+some_same x y same = cc
+
+another_file : (save : Option Text) (file : Text) → is_same_file save (Some file) ≡ false →
+    save ≢ Some file
+another_file None file other same = absurd cc
+another_file (Some x) file other same =
+    iff_false (bytes_eq-Decides x file) other (some_same x file same)
+
+begins_with : (given : Settings) (from : Option Text) →
+    (is_some from && not (length given.streams == 1)) ≡ false →
+    is_same_file given.save from ≡ false → IfSome from (BeginsWith given)
+begins_with given None one other = tt
+begins_with given (Some file) one other = record {
+  one_stream = eqb-true (length given.streams) 1 (true_from (length given.streams == 1) one);
+  another = another_file given.save file other;
+}
 
 some_stream : (streams : List Text) → is_empty streams ≡ false → 1 ≤ length streams
 some_stream [] is = absurd cc
@@ -72,26 +109,27 @@ not_empty streams some = ne_eqb (length streams) 0 (λ none. omega (arith, some,
 mode_by : (given : Settings) (check : Bool) (generate : Option ℕ) → given.check ≡ check →
     given.generate ≡ generate → is_one_alone given.asks given.replies ≡ false →
     (check && is_some generate) ≡ false →
-    ((check || is_some generate) && (is_some given.asks || not (is_empty given.streams))) ≡ false →
+    ((check || is_some generate) && (names_file given || not (is_empty given.streams))) ≡ false →
     (not (check || is_some generate) && is_empty given.streams) ≡ false →
-    nat_lt 64 (length given.streams) ≡ false → HasMode given
-mode_by given true (Some number) checked made alone one reads some few = absurd cc
-mode_by given true None checked made alone one reads some few = inr (inl (record {
+    nat_lt 64 (length given.streams) ≡ false → IfSome given.from (BeginsWith given) → HasMode given
+mode_by given true (Some number) checked made alone one reads some few begun = absurd cc
+mode_by given true None checked made alone one reads some few begun = inr (inl (record {
   checked = checked;
   none_made = made;
-  alone = reads_nothing given given.asks given.replies refl refl alone reads;
+  alone = nothing_from given alone reads;
 }))
-mode_by given false (Some number) checked made alone one reads some few = inr (inr (record {
+mode_by given false (Some number) checked made alone one reads some few begun = inr (inr (record {
   unchecked = checked;
   made = ap is_some made;
-  alone = reads_nothing given given.asks given.replies refl refl alone reads;
+  alone = nothing_from given alone reads;
 }))
-mode_by given false None checked made alone one reads some few = inl (record {
+mode_by given false None checked made alone one reads some few begun = inl (record {
   unchecked = checked;
   none_made = made;
   some = some_stream given.streams some;
   few = ltb-false 64 (length given.streams) few;
   paired = paired_from given.asks given.replies alone;
+  begun = begun;
 })
 
 mode_from : (given : Settings) → clash given ≡ false → HasMode given
@@ -99,34 +137,73 @@ unfolding clash
 mode_from given is =
     let parts = none_holds (is_one_alone given.asks given.replies)
     (given.check && is_some given.generate)
-    (reads_none given && (is_some given.asks || not (is_empty given.streams)))
-    (not (reads_none given) && is_empty given.streams) (nat_lt 64 (length given.streams)) is in
+    (reads_none given && (names_file given || not (is_empty given.streams)))
+    (not (reads_none given) && is_empty given.streams) (nat_lt 64 (length given.streams))
+    (is_some given.from && not (length given.streams == 1)) (is_same_file given.save given.from)
+    is in
     mode_by given given.check given.generate refl refl parts.0 parts.1 parts.2 parts.3 parts.4
+    (begins_with given given.from parts.5 parts.6)
 
 -- ---- a mode is no clash
 
+none_of : (a b c d e f g : Bool) → a ≡ false → b ≡ false → c ≡ false → d ≡ false → e ≡ false →
+    f ≡ false → g ≡ false → (a || (b || (c || (d || (e || (f || g)))))) ≡ false
+none_of a b c d e f g p q r s t u v =
+    neither a _ p (neither b _ q (neither c _ r (neither d _ s (neither e _ t (neither f g u v)))))
+
+one_stream : (given : Settings) (from : Option Text) → IfSome from (BeginsWith given) →
+    (is_some from && not (length given.streams == 1)) ≡ false
+one_stream given None begun = refl
+one_stream given (Some file) begun = ap not (eq-eqb (length given.streams) 1 begun.one_stream)
+
+differ : (x y : Text) (test : Bool) → bytes_eq x y ≡ test → Some x ≢ Some y → test ≡ false
+differ x y false is other = refl
+differ x y true is other = absurd (other (ap (λ text. Some text) ((bytes_eq-Decides x y).0 is)))
+
+not_same : (save : Option Text) (file : Text) → save ≢ Some file →
+    is_same_file save (Some file) ≡ false
+not_same None file other = refl
+not_same (Some x) file other = differ x file (bytes_eq x file) refl other
+
+same_as_none : (save : Option Text) → is_same_file save None ≡ false
+same_as_none None = refl
+same_as_none (Some file) = refl
+
+files_differ : (given : Settings) (from : Option Text) → IfSome from (BeginsWith given) →
+    is_same_file given.save from ≡ false
+files_differ given None begun = same_as_none given.save
+files_differ given (Some file) begun = not_same given.save file begun.another
+
 streams_agree : (given : Settings) → ReadsStreams given → clash given ≡ false
 unfolding clash
-streams_agree given reads = none_of _ _ _ _ _
+streams_agree given reads = none_of _ _ _ _ _ _ _
     (none_alone given.asks given.replies reads.paired)
     (ap (λ check. check && is_some given.generate) reads.unchecked)
     (ap₂ (λ check generate. (check || is_some generate)
-    && (is_some given.asks || not (is_empty given.streams))) reads.unchecked reads.none_made)
+    && (names_file given || not (is_empty given.streams))) reads.unchecked reads.none_made)
     (ap₂ (λ check generate. not (check || is_some generate) && is_empty given.streams)
     reads.unchecked reads.none_made ∙ not_empty given.streams reads.some)
     (le-ltb 64 (length given.streams) reads.few)
+    (one_stream given given.from reads.begun)
+    (files_differ given given.from reads.begun)
+
+no_file : (given : Settings) → ReadsNothing given → names_file given ≡ false
+no_file given alone = ap₂ (λ asks others. is_some asks || others) alone.no_asks
+    (ap₂ (λ save from. is_some save || is_some from) alone.no_save alone.no_from)
 
 -- where one of the two says that nothing is read
 alone_agrees : (given : Settings) → ReadsNothing given →
     (given.check && is_some given.generate) ≡ false → reads_none given ≡ true → clash given ≡ false
 unfolding clash
-alone_agrees given alone one none = none_of _ _ _ _ _
+alone_agrees given alone one none = none_of _ _ _ _ _ _ _
     (ap₂ is_one_alone alone.no_asks alone.no_replies)
     one
     (ap₂ (λ reads others. reads && others) none
-    (ap₂ (λ asks streams. is_some asks || not (is_empty streams)) alone.no_asks alone.no_stream))
+    (ap₂ (λ named streams. named || not (is_empty streams)) (no_file given alone) alone.no_stream))
     (ap (λ reads. not reads && is_empty given.streams) none)
     (ap (λ streams. nat_lt 64 (length streams)) alone.no_stream)
+    (ap (λ from. is_some from && not (length given.streams == 1)) alone.no_from)
+    (ap₂ is_same_file alone.no_save alone.no_from)
 
 agrees : (given : Settings) → HasMode given → clash given ≡ false
 agrees given (inl reads) = streams_agree given reads
@@ -220,6 +297,8 @@ are_settings rows given is mode =
       generate = generate;
       asks = first_of (codes "asks") rows;
       replies = first_of (codes "replies") rows;
+      save = first_of (codes "save") rows;
+      from = first_of (codes "from") rows;
       queries = queries;
       streams = unwrap_or (all_of (codes "streams") rows) [];
     })

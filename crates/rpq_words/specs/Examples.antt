@@ -12,15 +12,46 @@ plain streams = record {
   generate = None;
   asks = None;
   replies = None;
+  save = None;
+  from = None;
   queries = codes "q";
   streams = streams;
 }
+
+-- A file to save to, and one to begin with; both, with asks and replies; and a file to save to with
+-- two streams. Refused: a file to begin with, and no stream or two; the same file for both; and one
+-- of them with a check or with generated tuples.
+pub record SavedExamples : Type 0 where
+  pub saved : settings (codes "rpq" ∷ codes "--save" ∷ codes "s" ∷ codes "q" ∷ codes "t" ∷ [])
+      ≡ Some (record (plain (codes "t" ∷ [])) { save = Some (codes "s") })
+  pub begun : settings (codes "rpq" ∷ codes "--from" ∷ codes "f" ∷ codes "q" ∷ codes "t" ∷ [])
+      ≡ Some (record (plain (codes "t" ∷ [])) { from = Some (codes "f") })
+  pub all_files : settings (codes "rpq" ∷ codes "--save=s" ∷ codes "--from=f" ∷ codes "--asks=a"
+      ∷ codes "--replies=r" ∷ codes "q" ∷ codes "t" ∷ [])
+      ≡ Some (record (plain (codes "t" ∷ [])) {
+        asks = Some (codes "a");
+        replies = Some (codes "r");
+        save = Some (codes "s");
+        from = Some (codes "f");
+      })
+  pub of_two : settings (codes "rpq" ∷ codes "--save=s" ∷ codes "q" ∷ codes "t" ∷ codes "u" ∷ [])
+      ≡ Some (record (plain (codes "t" ∷ codes "u" ∷ [])) { save = Some (codes "s") })
+  pub no_stream : settings (codes "rpq" ∷ codes "--from" ∷ codes "f" ∷ codes "q" ∷ []) ≡ None
+  pub two_streams : settings (codes "rpq" ∷ codes "--from" ∷ codes "f" ∷ codes "q" ∷ codes "t"
+      ∷ codes "u" ∷ []) ≡ None
+  pub same_file : settings (codes "rpq" ∷ codes "--save" ∷ codes "f" ∷ codes "--from" ∷ codes "f"
+      ∷ codes "q" ∷ codes "t" ∷ []) ≡ None
+  pub checked : settings (codes "rpq" ∷ codes "--check" ∷ codes "--save" ∷ codes "f" ∷ codes "q"
+      ∷ []) ≡ None
+  pub made : settings (codes "rpq" ∷ codes "--generate" ∷ codes "3" ∷ codes "--from" ∷ codes "f"
+      ∷ codes "q" ∷ []) ≡ None
 
 -- The defaults. An option between streams, and zeros in front of its number. Values that begin with
 -- `-` or are empty behind `=`, and words behind `--`. A check; generated tuples. The greatest
 -- numbers. Refused: too many tuples to generate; no stream; no queries; a number above its range,
 -- below it, or with a sign; a flag given twice; asks without replies; a check with generated
 -- tuples, or with a stream; a value that begins with `-`; a name cut short; and `--help`.
+-- And the examples of files to save to and to begin with.
 pub record SettingsExamples : Type 0 where
   pub defaults : settings (codes "rpq" ∷ codes "q" ∷ codes "s" ∷ [])
       ≡ Some (plain (codes "s" ∷ []))
@@ -55,3 +86,4 @@ pub record SettingsExamples : Type 0 where
       ∷ codes "q" ∷ codes "s" ∷ []) ≡ None
   pub short : settings (codes "rpq" ∷ codes "--work=4" ∷ codes "q" ∷ codes "s" ∷ []) ≡ None
   pub help : settings (codes "rpq" ∷ codes "--help" ∷ codes "q" ∷ codes "s" ∷ []) ≡ None
+  pub windows : SavedExamples

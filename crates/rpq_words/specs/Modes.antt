@@ -1,8 +1,13 @@
 -- What can stand together, said once more: a run over streams, a check, or generated tuples.
-use Rattle.std.specs.Prelude.{◌≡◌, ◌⊎◌, ◌≤◌, ◌↔◌, ℕ, true, false, List, [], length}
+use Rattle.std.specs.Prelude.{◌≡◌, ◌≢◌, ◌⊎◌, ◌≤◌, ◌↔◌, ℕ, true, false, List, [], length}
 use Rattle.std.specs.Prelude.{Some, None, is_some, IfSome}
 use Rattle.clap.specs.Walk.{Text}
 use Rattle.rpq_words.specs.Settings.{Settings, clash, settings}
+
+-- a run that begins with what this file has reads one stream, and saves to no file of that name
+pub record BeginsWith (given : Settings) (file : Text) : Type 0 where
+  pub one_stream : length given.streams ≡ 1
+  pub another : given.save ≢ Some file
 
 -- some streams are read, 64 at most; asks and replies stand together
 pub record ReadsStreams (given : Settings) : Type 0 where
@@ -11,12 +16,15 @@ pub record ReadsStreams (given : Settings) : Type 0 where
   pub some : 1 ≤ length given.streams
   pub few : length given.streams ≤ 64
   pub paired : is_some given.asks ≡ is_some given.replies
+  pub begun : IfSome given.from (BeginsWith given)
 
--- no stream is read, and nothing is asked
+-- no stream is read, nothing is asked, and nothing is saved or taken from an earlier run
 pub record ReadsNothing (given : Settings) : Type 0 where
   pub no_stream : given.streams ≡ []
   pub no_asks : given.asks ≡ None
   pub no_replies : given.replies ≡ None
+  pub no_save : given.save ≡ None
+  pub no_from : given.from ≡ None
 
 -- the queries are checked, and nothing else is done
 pub record Checks (given : Settings) : Type 0 where

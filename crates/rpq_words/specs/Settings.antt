@@ -1,5 +1,5 @@
 -- The settings that the words of a command line are.
-use Rattle.std.specs.Prelude.{ℕ, Bool, true, false, not, ◌&&◌, ◌||◌, nat_le, nat_lt}
+use Rattle.std.specs.Prelude.{ℕ, Bool, true, false, not, ◌&&◌, ◌||◌, ◌==◌, nat_le, nat_lt}
 use Rattle.std.specs.Prelude.{List, [], length, codes, if◌then◌else◌, bytes_eq}
 use Rattle.std.specs.Prelude.{Option, Some, None, is_some, option_map, unwrap_or}
 use Rattle.std.specs.Prelude.{map, string_bytes, String}
@@ -14,7 +14,8 @@ abbrev pub texts : List (String Global) → List Text
 texts words = map (λ word. string_bytes word) words
 
 -- the numbers of workers and of entries in the history; whether the queries are to be checked
--- alone; how many tuples are to be generated; and the names of the files
+-- alone; how many tuples are to be generated; and the names of the files, of which the run saves to
+-- `save` what a later run needs, and begins with what an earlier one saved in `from`
 pub record Settings : Type 0 where
   pub workers : ℕ
   pub history : ℕ
@@ -22,6 +23,8 @@ pub record Settings : Type 0 where
   pub generate : Option ℕ
   pub asks : Option Text
   pub replies : Option Text
+  pub save : Option Text
+  pub from : Option Text
   pub queries : Text
   pub streams : List Text
 
@@ -61,6 +64,8 @@ settings_of rows =
       generate = generate;
       asks = first_of (codes "asks") rows;
       replies = first_of (codes "replies") rows;
+      save = first_of (codes "save") rows;
+      from = first_of (codes "from") rows;
       queries = queries;
       streams = unwrap_or (all_of (codes "streams") rows) [];
     })
@@ -75,16 +80,32 @@ is_one_alone (Some x) None = true
 is_one_alone None (Some y) = true
 is_one_alone _ _ = false
 
+-- a file is named that only a run over streams has
+abbrev pub names_file : Settings → Bool
+names_file settings = is_some settings.asks || (is_some settings.save || is_some settings.from)
+
+-- both are there, and are the same text
+abbrev pub is_same_file : Option Text → Option Text → Bool
+is_same_file (Some x) (Some y) = bytes_eq x y
+is_same_file _ _ = false
+
+-- a file to begin with is there, but not exactly one stream, or it is the file to save to
+abbrev pub from_clashes : Settings → Bool
+from_clashes settings =
+    (is_some settings.from && not (length settings.streams == 1))
+    || is_same_file settings.save settings.from
+
 -- what can't stand together does: one of the asks and the replies without the other; a check and
--- generated tuples; one of these and asks or a stream; none of these and no stream; or more streams
--- than are taken
+-- generated tuples; one of these and asks, a file to save to or to begin with, or a stream; none of
+-- these and no stream; more streams than are taken; or a file to begin with and not exactly one
+-- stream, or the same file to save to
 unfoldable pub clash : Settings → Bool
 clash settings =
     is_one_alone settings.asks settings.replies
     || ((settings.check && is_some settings.generate)
-    || ((reads_none settings && (is_some settings.asks || not (is_empty settings.streams)))
+    || ((reads_none settings && (names_file settings || not (is_empty settings.streams)))
     || ((not (reads_none settings) && is_empty settings.streams)
-    || nat_lt 64 (length settings.streams))))
+    || (nat_lt 64 (length settings.streams) || from_clashes settings))))
 
 -- what was found, where each number is in its range and all can stand together
 unfoldable pub settled : List Row → Option Settings

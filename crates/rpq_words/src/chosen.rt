@@ -1,7 +1,7 @@
 //! What a user has chosen.
 
 ghost use Rattle.std.specs.Prelude.{◌≡◌};
-ghost use Rattle.rpq_words.specs.Settings.{clash};
+ghost use Rattle.rpq_words.specs.Settings.{clash, from_clashes, is_same_file, names_file};
 
 use crate::file_word::FileWord;
 use std::marker::Model;
@@ -24,6 +24,10 @@ pub struct Chosen {
     pub asks: Option<FileWord>,
     /// The file that the replies are written to.
     pub replies: Option<FileWord>,
+    /// The file that gets what a later run needs.
+    pub save: Option<FileWord>,
+    /// The file of what an earlier run saved, which stands there with one stream alone.
+    pub from: Option<FileWord>,
     /// The file of the queries.
     pub queries: FileWord,
     /// The files of the streams, in their order.
@@ -42,6 +46,8 @@ impl Model for Chosen {
       generate = chosen.generate;
       asks = chosen.asks;
       replies = chosen.replies;
+      save = chosen.save;
+      from = chosen.from;
       queries = chosen.queries;
       streams = chosen.streams.items;
     } };
@@ -56,8 +62,35 @@ impl Chosen {
         let reads_none = self.check || self.generate.is_some();
         self.asks.is_some() != self.replies.is_some()
             || self.check && self.generate.is_some()
-            || reads_none && (self.asks.is_some() || !self.streams.is_empty())
+            || reads_none && (self.names_file() || !self.streams.is_empty())
             || !reads_none && self.streams.is_empty()
             || self.streams.len() > MAX_STREAMS
+            || self.from_clashes()
+    }
+
+    /// Whether a file is named that only a run over streams has.
+    fn names_file(&self) -> bool
+        ensures { result ≡ names_file self.now }
+    {
+        self.asks.is_some() || self.save.is_some() || self.from.is_some()
+    }
+
+    /// Whether a file to begin with stands there without exactly one stream, or is the one to save
+    /// to.
+    fn from_clashes(&self) -> bool
+        ensures { result ≡ from_clashes self.now }
+    {
+        self.from.is_some() && self.streams.len() != 1 || self.saves_over_from()
+    }
+
+    /// Whether the file to save to is the one to begin with. Opening it to write would empty it
+    /// before it is read.
+    fn saves_over_from(&self) -> bool
+        ensures { result ≡ is_same_file self.now.save self.now.from }
+    {
+        match (&self.save, &self.from) {
+            (Some(save), Some(from)) => save.as_str() == from.as_str(),
+            _ => false,
+        }
     }
 }

@@ -106,6 +106,8 @@ fn read_choices(alloc: Global, matches: &ArgMatches<'_>) -> Result<Chosen, Words
         generate,
         asks: optional_file_word(alloc, first_of(matches, "asks"))?,
         replies: optional_file_word(alloc, first_of(matches, "replies"))?,
+        save: optional_file_word(alloc, first_of(matches, "save"))?,
+        from: optional_file_word(alloc, first_of(matches, "from"))?,
         queries: FileWord::new(alloc, queries)?,
         streams: file_words(alloc, all_of(matches, "streams"))?,
     })

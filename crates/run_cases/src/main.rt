@@ -7,17 +7,22 @@
 //! - `engine WORKERS TEXT TUPLES`: what each tuple changes of the answers of the queries of a
 //!   queries file, `;` behind each, for an engine with this number of workers; then its position,
 //!   and for each query `|` and the answers with their ends.
-//! - `front WORKERS TEXT TUPLES`: the same, for an engine that takes all tuples at once, as a front.
+//! - `front WORKERS TEXT TUPLES`: the same, for an engine that takes all tuples at once, as a
+//!   front.
 //! - `rebuild WORKERS TEXT TUPLES`: an engine takes all tuples one by one and shows its answers. It
-//!   is then rebuilt over all but the last, so it goes back, and takes the last once more. What that
-//!   changes is printed, and then its position and the answers: the end of what `engine` prints.
-//! - `run PIECE OPENING WORDS QUERIES STREAM`: a run over the files `q` and `s`, read in pieces of
-//!   this length, where the opening of this number fails: its status, what it writes on the events,
-//!   and behind `|` what it tells on the errors.
+//!   is then rebuilt over all but the last, so it goes back, and takes the last once more. What
+//!   that changes is printed, and then its position and the answers: the end of what `engine`
+//!   prints.
+//! - `run PIECE OPENING WORDS QUERIES STREAM [WINDOW [READ [WRITE]]]`: a run over the files `q`,
+//!   `s` and `w`, read in pieces of this length, where the opening of this number fails, this read
+//!   of `w`, and this write of the sinks that the run opens: its status, what it writes on the
+//!   events, behind `|` what it tells on the errors, and behind another `|` the window that it
+//!   saves, if it does. Numbers count from 1, and 0, or none, is no failure.
 //! - `readers PIECE WORDS QUERIES ASKS STREAM STREAM`: a run over the files `q`, `a`, `s` and `t`,
 //!   read in pieces of this length: its status, how many entries its history has of each of the
-//!   streams 1 to 4, and how many in all; behind `|` what it tells on the errors, and behind another
-//!   `|` what on the replies. All are opened under these names, a stream as often as it is named.
+//!   streams 1 to 4, and how many in all; behind `|` what it tells on the errors, and behind
+//!   another `|` what on the replies. All are opened under these names, a stream as often as it is
+//!   named.
 //! - `faults OPENING FILE READ EVENT REPLY ERROR PIECE WORDS QUERIES ASKS STREAM STREAM STREAM`: a
 //!   run over the files `q`, `a`, `s`, `t` and `u`, in which some calls fail: the opening of this
 //!   number, this read of the file of this name, and these writes of the events, the replies and
@@ -31,8 +36,8 @@
 //!   the list that it is in, `standing` or `left`; and behind `|` what was told on the errors. How
 //!   much is `none` for no byte, `whole`, `part` for a proper front, and else `other`.
 //!
-//! `WORDS` are words with `;` between them, the program's name first, and `TUPLES` lines of a stream
-//! with `;` between them: a name with such a byte has it as `%` and two digits.
+//! `WORDS` are words with `;` between them, the program's name first, and `TUPLES` lines of a
+//! stream with `;` between them: a name with such a byte has it as `%` and two digits.
 #![tactic(auto)]
 
 mod blocks;

@@ -13,7 +13,8 @@ use std::thread::Threads;
 /// How many bytes the events and the errors take.
 const ROOM: usize = 1 << 14;
 
-/// The status of a run, what it writes on the events, and what it tells on the errors.
+/// The status of a run, what it writes on the events, what it tells on the errors, and the window
+/// that it saves, if it does.
 pub fn answer_run<R: RandomSource + Threads + Wait + Sync>(
     rt: &R,
     alloc: Global,
@@ -36,10 +37,13 @@ pub fn answer_run<R: RandomSource + Threads + Wait + Sync>(
         &mut Vec::new(alloc),
         &OpenGate,
     );
-    put_run(out, report.status, events.bytes(), errors.bytes())
+    put_run(out, report.status, events.bytes(), errors.bytes())?;
+    put_saved(out, report.save)
 }
 
-/// The files `q` and `s` with the bytes of two fields, of which the opening of this number fails.
+/// The files `q`, `s` and `w` with the bytes of three fields, of which the opening of this number
+/// fails; of `w` the read fails of which the next field has the number, and on each sink that is
+/// opened the write of which the last one has.
 fn files_of(
     alloc: Global,
     piece: usize,
@@ -48,10 +52,27 @@ fn files_of(
 ) -> anyhow::Result<MemoryFiles>
     requires { 1 ≤ piece }
 {
-    let mut files = MemoryFiles::new(alloc, 0, 1, &[], &[opening])?;
-    files.add("q", &decoded(alloc, fields.next())?, piece, &[])?;
-    files.add("s", &decoded(alloc, fields.rest())?, piece, &[])?;
+    let queries = decoded(alloc, fields.next())?;
+    let stream = decoded(alloc, fields.next())?;
+    let window = decoded(alloc, fields.next())?;
+    let read = fields.number();
+    let write = fields.number();
+    let mut files = MemoryFiles::new(alloc, ROOM, piece, &[write], &[opening])?;
+    files.add("q", &queries, piece, &[])?;
+    files.add("s", &stream, piece, &[])?;
+    files.add("w", &window, piece, &[read])?;
     Ok(files)
+}
+
+/// Puts the saved window, if there is one.
+fn put_saved(out: &mut Output, save: Option<MemorySink>) -> anyhow::Result<()> {
+    match save {
+        Some(sink) => {
+            out.put("|")?;
+            out.put_bytes(sink.bytes())
+        }
+        None => Ok(()),
+    }
 }
 
 /// Puts what a run answered.

@@ -1,3 +1,4 @@
 pub mod Modes
 pub mod Using
 pub mod Opening
+pub mod SinkSteps

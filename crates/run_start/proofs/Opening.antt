@@ -1,8 +1,8 @@
 -- What the opening of one file to read does to the files.
 use Rattle.std.proofs.Common.{◌≡◌, ◌≢◌, inl, inr, ℕ, List, [], ◌∷◌, ◌++◌, take}
 use Rattle.std.proofs.Common.{drop, Option, Some, None, refl, ap, sym, subst, ◌∙◌, append-nil, map}
-use Rattle.std.proofs.Common.{append_assoc, suc}
-use Rattle.std.specs.Prelude.{IfSome, IsSomeAnd, option_to_list, slice_get}
+use Rattle.std.proofs.Common.{append_assoc, suc, ap₂, length, arith}
+use Rattle.std.specs.Prelude.{IfSome, IsSomeAnd, option_to_list, option_map, unwrap_or, slice_get}
 use Rattle.std.proofs.lemmas.List.{map-append, take-append-drop}
 use Rattle.std.proofs.lemmas.Option.{get_or_from_slice_get, slice_get_within}
 use Rattle.std.proofs.Math.Seq.{take-suc}
@@ -11,17 +11,20 @@ use Rattle.rpq_io.specs.Reader.{ReaderState}
 use Rattle.rpq_words.specs.Settings.{Settings}
 use Rattle.stream_tuples.specs.History.{IsPrefix}
 use Rattle.rpq_text.specs.declared.ends.Which.{Which}
-use Rattle.rpq_text.specs.declared.ends.Which.TheVariants.{Queries, Asks, Stream, Replies}
+use Rattle.rpq_text.specs.declared.ends.Which.TheVariants.{Queries, Asks, From, Stream}
+use Rattle.rpq_text.specs.declared.ends.Which.TheVariants.{Replies, Save}
 use Rattle.rpq_text.specs.declared.ends.StartFault.{StartFault}
 use Rattle.rpq_text.specs.declared.ends.StartFault.TheVariants.{Words, Queries as QueriesFault}
 use Rattle.rpq_text.specs.declared.ends.StartFault.TheVariants.{Asks as AsksFault, Open, Read, Long}
 use Rattle.rpq_text.specs.declared.ends.StartFault.TheVariants.{Memory}
-use Rattle.run_start.specs.Given.{file_names, names_before, names_up_to, whole_names}
+use Rattle.saved_window.specs.Then.{join_known}
+use Rattle.run_start.specs.Files.{stream_contents, with_first}
+use Rattle.run_start.specs.Given.{file_names, first_names, names_before, names_up_to, whole_names}
 use Rattle.run_start.specs.Start.{AreOpened, IsOpeningOf}
 use Rattle.run_start.specs.Steps.{AreNamesOfFile, AreOpenedBehind, IsFaultOfFile, OpensFile, UsesMore}
-use Rattle.run_start.specs.Steps.{IsRefusalOfStream}
+use Rattle.run_start.specs.Steps.{IsRefusalOfOpening}
 use Rattle.run_start.specs.declared.refusal.Refusal.{Refusal}
-use Rattle.run_start.proofs.Using.{one_by_one, only_reads}
+use Rattle.run_start.proofs.Using.{IsToRead, one_by_one, only_reads}
 
 -- the file of this name is opened as this one, behind these
 pub record IsPlace (given : Settings) (which : Which) (before : List (List ℕ)) (name : List ℕ) : Type 0 where
@@ -30,7 +33,8 @@ pub record IsPlace (given : Settings) (which : Which) (before : List (List ℕ))
   pub front : IsPrefix (before ++ name ∷ []) (file_names given)
   pub named : (any : List ℕ) → IsOpeningOf given any (Open which) → any ≡ name
   pub names : IsOpeningOf given name (Open which)
-  pub to_read : which ≢ Replies
+  pub no_replies : which ≢ Replies
+  pub no_save : which ≢ Save
 
 -- the queries file
 pub queries_place : (given : Settings) (name : List ℕ) → name ≡ given.queries
@@ -39,12 +43,14 @@ queries_place given name is = record {
   behind = refl;
   up_to = ap (λ (n : List ℕ). n ∷ []) (sym is);
   front = record {
-    rest = option_to_list given.asks ++ given.streams;
-    cut = ap (λ (n : List ℕ). n ∷ (option_to_list given.asks ++ given.streams)) (sym is);
+    rest = (option_to_list given.asks ++ option_to_list given.from) ++ given.streams;
+    cut = ap (λ (n : List ℕ). n ∷ ((option_to_list given.asks ++ option_to_list given.from) ++ given.streams))
+        (sym is);
   };
   named = λ any opening. opening ∙ sym is;
   names = is;
-  to_read = λ other. cc other;
+  no_replies = λ other. cc other;
+  no_save = λ other. cc other;
 }
 
 -- the asks file
@@ -56,14 +62,35 @@ asks_place given name is =
       behind = refl;
       up_to = ap (λ (ns : List (List ℕ)). given.queries ∷ ns) only;
       front = record {
-        rest = given.streams;
-        cut = ap (λ (ns : List (List ℕ)). given.queries ∷ (ns ++ given.streams)) only;
+        rest = option_to_list given.from ++ given.streams;
+        cut = ap (λ (ns : List (List ℕ)). given.queries ∷ ((ns ++ option_to_list given.from) ++ given.streams)) only;
       };
       named = λ any opening.
           let found : ◌≡◌ {A = Option (List ℕ)} (Some any) (Some name) = sym opening ∙ is in
           cc found;
       names = is;
-      to_read = λ other. cc other;
+      no_replies = λ other. cc other;
+      no_save = λ other. cc other;
+    }
+
+-- the saved window
+pub from_place : (given : Settings) (name : List ℕ) → given.from ≡ Some name
+    → IsPlace given From (whole_names given) name
+from_place given name is =
+    let only = ap (λ (a : Option (List ℕ)). option_to_list a) is in
+    record {
+      behind = refl;
+      up_to = ap (λ (ns : List (List ℕ)). whole_names given ++ ns) only;
+      front = record {
+        rest = given.streams;
+        cut = ap (λ (ns : List (List ℕ)). (whole_names given ++ ns) ++ given.streams) only;
+      };
+      named = λ any opening.
+          let found : ◌≡◌ {A = Option (List ℕ)} (Some any) (Some name) = sym opening ∙ is in
+          cc found;
+      names = is;
+      no_replies = λ other. cc other;
+      no_save = λ other. cc other;
     }
 
 -- one stream more
@@ -77,19 +104,19 @@ one_stream_more given place name is =
 
 -- a stream
 pub stream_place : (given : Settings) (place : ℕ) (name : List ℕ) → slice_get given.streams place ≡ Some name
-    → IsPlace given (Stream (suc place)) (whole_names given ++ take place given.streams) name
+    → IsPlace given (Stream (suc place)) (first_names given ++ take place given.streams) name
 stream_place given place name is =
-    let up_to : whole_names given ++ take (suc place) given.streams
-    ≡ (whole_names given ++ take place given.streams) ++ name ∷ [] =
-    ap (λ (ns : List (List ℕ)). whole_names given ++ ns) (one_stream_more given place name is)
-    ∙ sym (append_assoc (whole_names given) (take place given.streams) (name ∷ [])) in
+    let up_to : first_names given ++ take (suc place) given.streams
+    ≡ (first_names given ++ take place given.streams) ++ name ∷ [] =
+    ap (λ (ns : List (List ℕ)). first_names given ++ ns) (one_stream_more given place name is)
+    ∙ sym (append_assoc (first_names given) (take place given.streams) (name ∷ [])) in
     record {
       behind = refl;
       up_to = up_to;
       front = record {
         rest = drop (suc place) given.streams;
-        cut = ap (λ (ns : List (List ℕ)). whole_names given ++ ns) (sym (take-append-drop (suc place) given.streams))
-            ∙ (sym (append_assoc (whole_names given) (take (suc place) given.streams)
+        cut = ap (λ (ns : List (List ℕ)). first_names given ++ ns) (sym (take-append-drop (suc place) given.streams))
+            ∙ (sym (append_assoc (first_names given) (take (suc place) given.streams)
             (drop (suc place) given.streams))
             ∙ ap (λ (ns : List (List ℕ)). ns ++ drop (suc place) given.streams) up_to);
       };
@@ -97,21 +124,22 @@ stream_place given place name is =
           let found : ◌≡◌ {A = Option (List ℕ)} (Some any) (Some name) = sym opening ∙ is in
           cc found;
       names = is;
-      to_read = λ other. cc other;
+      no_replies = λ other. cc other;
+      no_save = λ other. cc other;
     }
 
 -- a fault of the reading of a file is none of the opening to write
-to_read_only : (which : Which) (file : Option (List ℕ)) (fault : StartFault) → which ≢ Replies
-    → IsFaultOfFile which file fault → fault ≢ Open Replies
-to_read_only which file Words to_read is other = is
-to_read_only which file (QueriesFault fault) to_read is other = is
-to_read_only which file (AsksFault fault) to_read is other = is
-to_read_only which file (Open one) to_read is other =
-    let same : one ≡ Replies = cc other in
-    to_read (sym is ∙ same)
-to_read_only which file (Read one) to_read is other = absurd (cc other)
-to_read_only which file (Long one) to_read is other = absurd (cc other)
-to_read_only which file Memory to_read is other = absurd (cc other)
+other_than : (which other : Which) (file : Option (List ℕ)) (fault : StartFault) → which ≢ other
+    → IsFaultOfFile which file fault → fault ≢ Open other
+other_than which other file Words apart is opens = is
+other_than which other file (QueriesFault fault) apart is opens = is
+other_than which other file (AsksFault fault) apart is opens = is
+other_than which other file (Open one) apart is opens =
+    let same : one ≡ other = cc opens in
+    apart (sym is ∙ same)
+other_than which other file (Read one) apart is opens = absurd (cc opens)
+other_than which other file (Long one) apart is opens = absurd (cc opens)
+other_than which other file Memory apart is opens = absurd (cc opens)
 
 -- the name of the file that couldn't be opened
 is_opening : (given : Settings) (which : Which) (before : List (List ℕ)) (name : List ℕ)
@@ -186,10 +214,12 @@ uses_file {F} {holds} {opened} {made} {unread} {unmade} given which before name 
     })
     (λ any. opening start is opens.openings any)
   where
-    reads : (s : Option StartFault) → IfSome s (IsFaultOfFile which file)
-        → IfSome s (λ fault. fault ≢ Open Replies)
+    reads : (s : Option StartFault) → IfSome s (IsFaultOfFile which file) → IfSome s IsToRead
     reads None is = tt
-    reads (Some fault) is = to_read_only which file fault at.to_read is
+    reads (Some fault) is = record {
+      no_replies = other_than which Replies file fault at.no_replies is;
+      no_save = other_than which Save file fault at.no_save is;
+    }
 
     kind : (s : Option StartFault) → IfSome s (IsFaultOfFile which file) → (names : List (List ℕ))
         → AreNamesOfFile name s names → AreOpenedBehind given before (name ∷ []) s names
@@ -213,42 +243,85 @@ uses_file {F} {holds} {opened} {made} {unread} {unmade} given which before name 
       quiet = quietly given which before name file fault (unread old) (unread new) at is counts any;
     }
 
--- a stream that isn't read
-pub stream_refusal : {S : Type 0} (number : ℕ) (refusal : Refusal S) → IsRefusalOfStream number refusal
-    → IsFaultOfFile (Stream number) None refusal.fault
-stream_refusal {S} number refusal is = elim is.cause [
-  | inl opening ↦ subst (λ (f : StartFault). IsFaultOfFile (Stream number) None f) (sym opening) refl
-  | inr memory ↦ subst (λ (f : StartFault). IsFaultOfFile (Stream number) None f) (sym memory) tt
+-- a file that isn't opened
+pub opening_refusal : {S : Type 0} (which : Which) (refusal : Refusal S) → IsRefusalOfOpening which refusal
+    → IsFaultOfFile which None refusal.fault
+opening_refusal {S} which refusal is = elim is.cause [
+  | inl opening ↦ subst (λ (f : StartFault). IsFaultOfFile which None f) (sym opening) refl
+  | inr memory ↦ subst (λ (f : StartFault). IsFaultOfFile which None f) (sym memory) tt
 ]
+
+-- the saved window was opened, or not
+pub from_opened : {F : Type 0} {holds : F → List ℕ → Option (List ℕ)} {opened made : F → List (List ℕ)}
+    {unread unmade : F → List ℕ → ℕ} (given : Settings) (name : List ℕ) (start : Option StartFault) (old new : F)
+    → given.from ≡ Some name → IfSome start (IsFaultOfFile From None)
+    → OpensFile holds opened made unread unmade From name start old new
+    → UsesMore holds opened made unread unmade given (whole_names given) (option_to_list given.from) [] start old new
+from_opened {F} {holds} {opened} {made} {unread} {unmade} given name start old new named cause opens =
+    subst (λ (ns : List (List ℕ)). UsesMore holds opened made unread unmade given (whole_names given) ns [] start old new)
+    (sym (ap (λ (o : Option (List ℕ)). option_to_list o) named))
+    (uses_file given From (whole_names given) name None start old new (from_place given name named) cause opens)
 
 -- one stream more was opened, or not, behind those before it
 pub uses_stream : {F : Type 0} {holds : F → List ℕ → Option (List ℕ)} {opened made : F → List (List ℕ)}
     {unread unmade : F → List ℕ → ℕ} (given : Settings) (place number : ℕ) (name : List ℕ)
     (start : Option StartFault) (old between new : F) → number ≡ suc place
     → slice_get given.streams place ≡ Some name
-    → UsesMore holds opened made unread unmade given (whole_names given) (take place given.streams) [] None old between
+    → UsesMore holds opened made unread unmade given (first_names given) (take place given.streams) [] None old between
     → IfSome start (IsFaultOfFile (Stream number) None)
     → OpensFile holds opened made unread unmade (Stream number) name start between new
-    → UsesMore holds opened made unread unmade given (whole_names given) (take number given.streams) [] start old new
+    → UsesMore holds opened made unread unmade given (first_names given) (take number given.streams) [] start old new
 uses_stream {F} {holds} {opened} {made} {unread} {unmade} given place number name start old between new next is
     before cause opens =
-    let at : IsPlace given (Stream number) (whole_names given ++ take place given.streams) name =
-    subst (λ (n : ℕ). IsPlace given (Stream n) (whole_names given ++ take place given.streams) name) (sym next)
+    let at : IsPlace given (Stream number) (first_names given ++ take place given.streams) name =
+    subst (λ (n : ℕ). IsPlace given (Stream n) (first_names given ++ take place given.streams) name) (sym next)
     (stream_place given place name is) in
     let names : take place given.streams ++ name ∷ [] ≡ take number given.streams =
     sym (one_stream_more given place name is) ∙ ap (λ (n : ℕ). take n given.streams) (sym next) in
-    subst (λ (ns : List (List ℕ)). UsesMore holds opened made unread unmade given (whole_names given) ns [] start old new)
-    names (one_by_one before (uses_file given (Stream number) (whole_names given ++ take place given.streams) name
+    subst (λ (ns : List (List ℕ)). UsesMore holds opened made unread unmade given (first_names given) ns [] start old new)
+    names (one_by_one before (uses_file given (Stream number) (first_names given ++ take place given.streams) name
     None start between new at cause opens))
 
 -- where memory ran out behind some streams, their names stand at the front of all
 pub front_of_streams : (given : Settings) (place : ℕ)
-    → AreOpened given (Some Memory) (whole_names given ++ take place given.streams)
+    → AreOpened given (Some Memory) (first_names given ++ take place given.streams)
 front_of_streams given place = record {
   rest = drop place given.streams;
-  cut = ap (λ (ns : List (List ℕ)). whole_names given ++ ns) (sym (take-append-drop place given.streams))
-      ∙ sym (append_assoc (whole_names given) (take place given.streams) (drop place given.streams));
+  cut = ap (λ (ns : List (List ℕ)). first_names given ++ ns) (sym (take-append-drop place given.streams))
+      ∙ sym (append_assoc (first_names given) (take place given.streams) (drop place given.streams));
 }
+
+-- behind no byte stands all that a file holds
+pub join_nothing : (file : Option (List ℕ)) → join_known (Some []) file ≡ file
+join_nothing None = refl
+join_nothing (Some bytes) = refl
+
+-- and so the streams of a run without a saved window are what their files hold
+pub alone_contents : (files : List (Option (List ℕ))) → with_first (Some []) files ≡ files
+alone_contents [] = refl
+alone_contents (file ∷ files) = ap (λ (f : Option (List ℕ)). f ∷ files) (join_nothing file)
+
+-- a list of one name
+pub one_name : (names : List (List ℕ)) (name : List ℕ) → length names ≡ 1 → slice_get names 0 ≡ Some name
+    → names ≡ name ∷ []
+one_name [] name one is = absurd (cc is)
+one_name (first ∷ []) name one is =
+    let same : first ≡ name = cc is in
+    ap (λ (n : List ℕ). n ∷ []) same
+one_name (first ∷ second ∷ rest) name one is = absurd (omega (arith, one))
+
+-- what the one stream is that reads a saved window before its file
+pub behind_contents : {S : Type 0} (left : S → Option (List ℕ)) (holds now : List ℕ → Option (List ℕ))
+    (given : Settings) (name stream : List ℕ) (first : Option (List ℕ)) (reader : ReaderState S)
+    (readers : List (ReaderState S)) → given.from ≡ Some name → given.streams ≡ stream ∷ [] → now ≡ holds
+    → first ≡ holds name → left reader.source ≡ join_known first (now stream) → readers ≡ reader ∷ []
+    → stream_contents given holds ≡ map (λ (r : ReaderState S). left r.source) readers
+behind_contents {S} left holds now given name stream first reader readers named one same content read all =
+    ap₂ (λ (f : Option (List ℕ)) (ns : List (List ℕ)).
+    with_first (unwrap_or (option_map holds f) (Some [])) (map holds ns)) named one
+    ∙ (ap (λ (c : Option (List ℕ)). c ∷ []) (sym (read ∙ (ap₂ (λ (f : Option (List ℕ)) (h : List ℕ → Option (List ℕ)).
+    join_known f (h stream)) content same)))
+    ∙ ap (λ (rs : List (ReaderState S)). map (λ (r : ReaderState S). left r.source) rs) (sym all))
 
 -- what the streams hold, with one stream more
 pub one_content_more : {S : Type 0} (left : S → Option (List ℕ)) (holds now : List ℕ → Option (List ℕ))

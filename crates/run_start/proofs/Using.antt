@@ -1,43 +1,65 @@
 -- What the steps of a beginning do to the files, one behind the other.
-use Rattle.std.proofs.Common.{◌≡◌, ◌≢◌, inl, inr, ℕ, List, [], ◌++◌, Option, Some, None}
+use Rattle.std.proofs.Common.{◌≡◌, ◌≢◌, ◌⊎◌, inl, inr, ℕ, List, [], ◌∷◌, ◌++◌, Option, Some, None}
 use Rattle.std.proofs.Common.{refl, ap, sym, subst, ◌∙◌, append-nil, append_assoc, arith}
-use Rattle.std.specs.Prelude.{IfSome, IsSomeAnd}
+use Rattle.std.specs.Prelude.{IfSome, IfErr, IsSomeAnd, MatchOption, Result, Ok, Err, option_to_list}
+use Rattle.std.specs.Result.{IsErrAnd}
 use Rattle.rpq_io.specs.Counts.{CountsFault}
 use Rattle.rpq_io.specs.Files.{KeepsFiles}
+use Rattle.rpq_model.specs.Query.{Query}
+use Rattle.ask_text.specs.declared.ask.Ask.{Ask}
 use Rattle.rpq_words.specs.Settings.{Settings}
-use Rattle.rpq_text.specs.declared.ends.Which.TheVariants.{Queries, Asks, Stream, Replies}
+use Rattle.rpq_text.specs.declared.ends.Which.{Which}
+use Rattle.rpq_text.specs.declared.ends.Which.TheVariants.{Queries, Asks, From, Stream}
+use Rattle.rpq_text.specs.declared.ends.Which.TheVariants.{Replies, Save}
 use Rattle.rpq_text.specs.declared.ends.StartFault.{StartFault}
 use Rattle.rpq_text.specs.declared.ends.StartFault.TheVariants.{Words, Queries as QueriesFault}
 use Rattle.rpq_text.specs.declared.ends.StartFault.TheVariants.{Asks as AsksFault, Open, Read, Long}
 use Rattle.rpq_text.specs.declared.ends.StartFault.TheVariants.{Memory}
+use Rattle.run_start.specs.Files.{AreUnderstoodFiles, ForQueries, ForSessions, HasQueries, HasSessions}
 use Rattle.run_start.specs.Given.{file_names, sink_names}
-use Rattle.run_start.specs.Start.{AreMade, AreOpened, IsMakingOf, IsOpeningOf, Opens, UsesFiles}
-use Rattle.run_start.specs.Steps.{AreMadeThen, AreOpenedBehind, UsesMore}
+use Rattle.run_start.specs.Ready.{fault_of}
+use Rattle.run_start.specs.Start.{AreMade, AreOpened, AreSourcesOf, IsMakingOf, IsOpeningOf, IsRefusedFor, Opens}
+use Rattle.run_start.specs.Start.{UsesFiles, file_held}
+use Rattle.run_start.specs.Steps.{AreMadeThen, AreOpenedBehind, IsRefusal, IsRefusalOfOpening, UsesMore}
+use Rattle.run_start.specs.declared.refusal.Refusal.{Refusal}
+
+-- a fault that isn't that of an opening to write
+pub record IsToRead (fault : StartFault) : Type 0 where
+  pub no_replies : fault ≢ Open Replies
+  pub no_save : fault ≢ Open Save
 
 -- no name was opened to write
-none_made : (given : Settings) (fault : StartFault) → AreMade given (Some fault) []
-none_made given Words = refl
-none_made given (QueriesFault fault) = refl
-none_made given (AsksFault fault) = refl
-none_made given (Open which) = refl
-none_made given (Read which) = refl
-none_made given (Long which) = refl
-none_made given Memory = record { rest = sink_names given; cut = refl }
+none_made : (given : Settings) (fault : StartFault) → IsToRead fault → AreMade given (Some fault) []
+none_made given Words reads = refl
+none_made given (QueriesFault fault) reads = refl
+none_made given (AsksFault fault) reads = refl
+none_made given (Open Queries) reads = refl
+none_made given (Open Asks) reads = refl
+none_made given (Open From) reads = refl
+none_made given (Open (Stream number)) reads = refl
+none_made given (Open Replies) reads = refl
+none_made given (Open Save) reads = absurd (reads.no_save refl)
+none_made given (Read which) reads = refl
+none_made given (Long which) reads = refl
+none_made given Memory reads = record { rest = sink_names given; cut = refl }
 
-none_made_then : (given : Settings) (start : Option StartFault) → AreMadeThen given [] start []
-none_made_then given None = refl
-none_made_then given (Some fault) = none_made given fault
+none_made_then : (given : Settings) (start : Option StartFault) → IfSome start IsToRead
+    → AreMadeThen given [] start []
+none_made_then given None reads = refl
+none_made_then given (Some fault) reads = none_made given fault reads
 
--- only the replies are opened to write
-no_making : (given : Settings) (name : List ℕ) (fault : StartFault) → fault ≢ Open Replies
+-- only the replies and the saved window are opened to write
+no_making : (given : Settings) (name : List ℕ) (fault : StartFault) → IsToRead fault
     → IsMakingOf given name fault → ⊥
 no_making given name Words other making = making
 no_making given name (QueriesFault fault) other making = making
 no_making given name (AsksFault fault) other making = making
 no_making given name (Open Queries) other making = making
 no_making given name (Open Asks) other making = making
+no_making given name (Open From) other making = making
 no_making given name (Open (Stream number)) other making = making
-no_making given name (Open Replies) other making = other refl
+no_making given name (Open Replies) other making = other.no_replies refl
+no_making given name (Open Save) other making = other.no_save refl
 no_making given name (Read which) other making = making
 no_making given name (Long which) other making = making
 no_making given name Memory other making = making
@@ -45,7 +67,7 @@ no_making given name Memory other making = making
 -- a step that only reads
 pub only_reads : {F : Type 0} {holds : F → List ℕ → Option (List ℕ)} {opened made : F → List (List ℕ)}
     {unread unmade : F → List ℕ → ℕ} (given : Settings) (before own : List (List ℕ))
-    (start : Option StartFault) (old new : F) → IfSome start (λ fault. fault ≢ Open Replies)
+    (start : Option StartFault) (old new : F) → IfSome start IsToRead
     → KeepsFiles holds made old new → ((name : List ℕ) → unmade new name ≡ unmade old name)
     → Opens (AreOpenedBehind given before own start) (opened old) (opened new)
     → ((name : List ℕ) → CountsFault (IsSomeAnd start (λ fault. IsOpeningOf given name fault))
@@ -56,7 +78,7 @@ only_reads {F} {holds} {opened} {made} {unread} {unmade} given before own start 
       opens = opens;
       makes = record {
         names = [];
-        of_kind = none_made_then given start;
+        of_kind = none_made_then given start reads;
         more = kept.names ∙ sym (append-nil (made old));
       };
       kept = λ name _. kept.bytes name;
@@ -68,7 +90,7 @@ only_reads {F} {holds} {opened} {made} {unread} {unmade} given before own start 
       };
     }
   where
-    none : (s : Option StartFault) → IfSome s (λ fault. fault ≢ Open Replies) → (name : List ℕ)
+    none : (s : Option StartFault) → IfSome s IsToRead → (name : List ℕ)
         → IsSomeAnd s (λ fault. IsMakingOf given name fault) → ⊥
     none None reads name making = making
     none (Some fault) reads name making = no_making given name fault reads making
@@ -134,6 +156,12 @@ IsFoundLater (Read which) = ⊥
 IsFoundLater (Long which) = ⊥
 IsFoundLater Memory = Unit {0}
 
+to_read_later : (fault : StartFault) → IsFoundLater fault → IsToRead fault
+to_read_later fault later = record {
+  no_replies = λ is. subst (λ (f : StartFault). IsFoundLater f) is later;
+  no_save = λ is. subst (λ (f : StartFault). IsFoundLater f) is later;
+}
+
 -- a step after which the run doesn't begin
 pub then_refused : {F : Type 0} {holds : F → List ℕ → Option (List ℕ)} {opened made : F → List (List ℕ)}
     {unread unmade : F → List ℕ → ℕ} {given : Settings} {before own : List (List ℕ)} {old new : F}
@@ -151,7 +179,7 @@ then_refused {F} {holds} {opened} {made} {unread} {unmade} {given} {before} {own
       };
       makes = record {
         names = [];
-        of_kind = none_made given fault;
+        of_kind = none_made given fault (to_read_later fault later);
         more = made_stays uses ∙ sym (append-nil (made old));
       };
       kept = uses.kept;
@@ -207,6 +235,23 @@ refused_as other other_write uses = record {
   makings = uses.makings;
 }
 
+-- the names of the files that are read, by the steps that open them
+pub names_in_order : (given : Settings)
+    → given.queries ∷ (option_to_list given.asks ++ (option_to_list given.from ++ given.streams)) ≡ file_names given
+names_in_order given = ap (λ (ns : List (List ℕ)). given.queries ∷ ns)
+    (sym (append_assoc (option_to_list given.asks) (option_to_list given.from) given.streams))
+
+-- the step behind all files that are read
+pub behind_all : {F : Type 0} {holds : F → List ℕ → Option (List ℕ)} {opened made : F → List (List ℕ)}
+    {unread unmade : F → List ℕ → ℕ} {given : Settings} {to_write : List (List ℕ)} {start : Option StartFault}
+    {old new : F} → UsesMore holds opened made unread unmade given (file_names given) [] to_write start old new
+    → UsesMore holds opened made unread unmade given
+    (given.queries ∷ (option_to_list given.asks ++ (option_to_list given.from ++ given.streams))) [] to_write start
+    old new
+behind_all {F} {holds} {opened} {made} {unread} {unmade} {given} {to_write} {start} {old} {new} uses =
+    subst (λ (ns : List (List ℕ)). UsesMore holds opened made unread unmade given ns [] to_write start old new)
+    (sym (names_in_order given)) uses
+
 -- the steps of a whole run
 pub all_steps : {F : Type 0} {holds : F → List ℕ → Option (List ℕ)} {opened made : F → List (List ℕ)}
     {unread unmade : F → List ℕ → ℕ} (given : Settings) (own to_write : List (List ℕ))
@@ -238,3 +283,65 @@ all_steps {F} {holds} {opened} {made} {unread} {unmade} given own to_write start
         → AreMade given s names
     wrote None names are = are ∙ written
     wrote (Some fault) names are = are
+
+-- ---- refusals
+
+-- a refusal that is handed on
+pub start_is : {A S : Type 0} (result : Result A (Refusal S)) (refusal : Refusal S)
+    → IsErrAnd result (λ handed. handed ≡ refusal) → Some refusal.fault ≡ fault_of result
+start_is (Ok x) refusal handed = absurd handed
+start_is (Err e) refusal handed = ap (λ (r : Refusal _). Some r.fault) (sym handed)
+
+pub refused_by : {A S : Type 0} (P : Refusal S → Type 0) (result : Result A (Refusal S)) (refusal : Refusal S)
+    → IsErrAnd result (λ handed. handed ≡ refusal) → P refusal → IfErr result P
+refused_by P (Ok x) refusal handed p = tt
+refused_by P (Err e) refusal handed p = subst P (sym handed) p
+
+-- an opening that failed is a reason to refuse the run where it may come
+pub opening_refuses : {S : Type 0} (left : S → Option (List ℕ)) (faults : S → ℕ) (given : Settings)
+    (holds : List ℕ → Option (List ℕ)) (which : Which) (refusal : Refusal S)
+    → IsRefusedFor given holds (Open which) → IsRefusalOfOpening which refusal
+    → IsRefusal left faults given holds refusal
+opening_refuses {S} left faults given holds which refusal may is = record {
+  cause = by_cause is.cause;
+  sources = by_sources is.cause;
+}
+  where
+    by_cause : (refusal.fault ≡ Open which) ⊎ (refusal.fault ≡ Memory) → IsRefusedFor given holds refusal.fault
+    by_cause (inl opening) = subst (λ (f : StartFault). IsRefusedFor given holds f) (sym opening) may
+    by_cause (inr memory) = subst (λ (f : StartFault). IsRefusedFor given holds f) (sym memory) tt
+
+    none : option_to_list refusal.source ≡ []
+    none = ap (λ (s : Option S). option_to_list s) is.no_source
+
+    by_sources : (refusal.fault ≡ Open which) ⊎ (refusal.fault ≡ Memory)
+        → AreSourcesOf left faults (file_held (Some given) holds) refusal.fault (option_to_list refusal.source)
+    by_sources (inl opening) = subst (λ (f : StartFault). AreSourcesOf left faults (file_held (Some given) holds) f
+        (option_to_list refusal.source)) (sym opening) none
+    by_sources (inr memory) = subst (λ (f : StartFault). AreSourcesOf left faults (file_held (Some given) holds) f
+        (option_to_list refusal.source)) (sym memory) none
+
+-- the files that were read whole are understood
+pub understood_by : (given : Settings) (holds : List ℕ → Option (List ℕ)) (queries : List Query)
+    (sessions : List (List Ask)) → IfSome (holds given.queries) (λ bytes. HasQueries bytes queries)
+    → ForSessions given holds queries (λ asked. sessions ≡ asked) → AreUnderstoodFiles given holds
+understood_by given holds queries sessions has are = by (holds given.queries) has
+  where
+    by_file : (file : Option (List ℕ))
+        → IfSome file (λ bytes. (asked : List (List Ask)) × HasSessions queries bytes asked × (sessions ≡ asked))
+        → IfSome file (λ bytes. (asked : List (List Ask)) × HasSessions queries bytes asked × Unit {0})
+    by_file None told = tt
+    by_file (Some bytes) (asked, has, same) = (asked, has, tt)
+
+    by_asks : (asks : Option (List ℕ))
+        → MatchOption asks (sessions ≡ []) (λ name. IfSome (holds name)
+        (λ bytes. (asked : List (List Ask)) × HasSessions queries bytes asked × (sessions ≡ asked)))
+        → MatchOption asks (Unit {0}) (λ name. IfSome (holds name)
+        (λ bytes. (asked : List (List Ask)) × HasSessions queries bytes asked × Unit {0}))
+    by_asks None same = tt
+    by_asks (Some name) told = by_file (holds name) told
+
+    by : (file : Option (List ℕ)) → IfSome file (λ bytes. HasQueries bytes queries)
+        → ForQueries file (λ all. ForSessions given holds all (λ asked. Unit {0}))
+    by None has = tt
+    by (Some bytes) has = (queries, has, by_asks given.asks are)

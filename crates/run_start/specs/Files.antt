@@ -1,6 +1,6 @@
 -- The files of a run that are read whole: what they hold, and what can be wrong with them.
-use Rattle.std.specs.Prelude.{◌≡◌, ◌≢◌, ℕ, ◌<◌, ◌≤◌, List, [], length, Option, IfSome, MatchOption}
-use Rattle.std.specs.Prelude.{Ok, Err}
+use Rattle.std.specs.Prelude.{◌≡◌, ◌≢◌, ℕ, ◌<◌, ◌≤◌, List, [], ◌∷◌, length, map, Option, Some}
+use Rattle.std.specs.Prelude.{option_map, unwrap_or, IfSome, MatchOption, Ok, Err}
 use Rattle.std.specs.Io.KnownBytes.{prepend_known}
 use Rattle.rpq_model.specs.Query.{Query}
 use Rattle.query_file.specs.declared.fault.QueryFault.{QueryFault}
@@ -11,6 +11,7 @@ use Rattle.ask_text.specs.declared.fault.AskFault.{AskFault}
 use Rattle.ask_text.specs.declared.fault.AskKind.TheVariants.{Memory as MemoryOfAsks}
 use Rattle.ask_text.specs.Asks.{asks}
 use Rattle.rpq_words.specs.Settings.{Settings}
+use Rattle.saved_window.specs.Then.{join_known}
 use Rattle.rpq_text.specs.Limits.{file_limit}
 
 -- a queries file has these bytes, which are not too many, and these queries
@@ -56,6 +57,19 @@ abbrev pub ForAsked : Settings → (List ℕ → Option (List ℕ))
     → (List Query → List (List Ask) → Type 0) → Type 0
 ForAsked given holds P = ForQueries (holds given.queries)
     (λ queries. ForSessions given holds queries (P queries))
+
+-- what is read of the saved window with which a run begins: no byte where none is named
+abbrev pub from_content : Settings → (List ℕ → Option (List ℕ)) → Option (List ℕ)
+from_content given holds = unwrap_or (option_map holds given.from) (Some [])
+
+-- what is read as each stream: what its file holds, and as the first stream before that what the
+-- saved window holds
+abbrev pub with_first : Option (List ℕ) → List (Option (List ℕ)) → List (Option (List ℕ))
+with_first first [] = []
+with_first first (file ∷ files) = join_known first file ∷ files
+
+abbrev pub stream_contents : Settings → (List ℕ → Option (List ℕ)) → List (Option (List ℕ))
+stream_contents given holds = with_first (from_content given holds) (map holds given.streams)
 
 -- the files that are read whole have no fault
 abbrev pub AreUnderstoodFiles : Settings → (List ℕ → Option (List ℕ)) → Type 0

@@ -3,7 +3,8 @@ use Rattle.std.specs.Prelude.{ℕ, zero, suc, List, [], ◌∷◌, ◌++◌, tak
 use Rattle.std.specs.Prelude.{option_to_list}
 use Rattle.rpq_words.specs.Settings.{Settings}
 use Rattle.rpq_text.specs.declared.ends.Which.{Which}
-use Rattle.rpq_text.specs.declared.ends.Which.TheVariants.{Queries, Asks, Stream, Replies}
+use Rattle.rpq_text.specs.declared.ends.Which.TheVariants.{Queries, Asks, From, Stream}
+use Rattle.rpq_text.specs.declared.ends.Which.TheVariants.{Replies, Save}
 
 -- the name of the stream with this number, from 1
 abbrev pub stream_name : Settings → ℕ → Option (List ℕ)
@@ -15,25 +16,35 @@ stream_name given (suc place) = slice_get given.streams place
 abbrev pub whole_names : Settings → List (List ℕ)
 whole_names given = given.queries ∷ option_to_list given.asks
 
+-- the names of the files that are opened before the streams: those, and then that of the saved
+-- window, if there is one
+abbrev pub first_names : Settings → List (List ℕ)
+first_names given = whole_names given ++ option_to_list given.from
+
 -- the names of all files that are read, in the order in which they are opened
 abbrev pub file_names : Settings → List (List ℕ)
-file_names given = whole_names given ++ given.streams
+file_names given = first_names given ++ given.streams
 
--- the names of all files that are opened to write
+-- the names of all files that are opened to write, in the order in which they are: that of the
+-- replies, and that of the window to be saved, as far as there are such
 abbrev pub sink_names : Settings → List (List ℕ)
-sink_names given = option_to_list given.replies
+sink_names given = option_to_list given.replies ++ option_to_list given.save
 
 -- the names of the files that are opened to read before this one is opened
 abbrev pub names_before : Settings → Which → List (List ℕ)
 names_before given Queries = []
 names_before given Asks = given.queries ∷ []
-names_before given (Stream zero) = whole_names given
-names_before given (Stream (suc place)) = whole_names given ++ take place given.streams
+names_before given From = whole_names given
+names_before given (Stream zero) = first_names given
+names_before given (Stream (suc place)) = first_names given ++ take place given.streams
 names_before given Replies = file_names given
+names_before given Save = file_names given
 
 -- the names of the files that were opened to read when this one was
 abbrev pub names_up_to : Settings → Which → List (List ℕ)
 names_up_to given Queries = given.queries ∷ []
 names_up_to given Asks = whole_names given
-names_up_to given (Stream number) = whole_names given ++ take number given.streams
+names_up_to given From = first_names given
+names_up_to given (Stream number) = first_names given ++ take number given.streams
 names_up_to given Replies = file_names given
+names_up_to given Save = file_names given

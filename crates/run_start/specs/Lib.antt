@@ -1,5 +1,6 @@
 pub mod Given
 pub mod Files
+pub mod Readers
 pub mod Start
 pub mod Ready
 pub mod Steps

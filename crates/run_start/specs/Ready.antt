@@ -1,19 +1,20 @@
 -- What a run begins with, and why its words alone begin none.
-use Rattle.std.specs.Prelude.{◌≡◌, ℕ, ◌≤◌, true, false, List, [], length, map, All, Option, Some}
+use Rattle.std.specs.Prelude.{◌≡◌, ℕ, ◌≤◌, true, false, List, [], length, All, Option, Some}
 use Rattle.std.specs.Prelude.{None, is_some, option_map, IfSome, MatchOption, Result, Ok, Err}
 use Rattle.containment_laws.specs.Accepted.{IsAccepted}
 use Rattle.rpq_io.specs.Files.{IsNewSink}
 use Rattle.query_file.specs.Compiled.{CompiledValue, IsCompiled}
 use Rattle.ask_text.specs.Ranges.{IsSession}
 use Rattle.rpq_words.specs.Settings.{Settings, reads_none}
-use Rattle.stream_tuples.specs.Progress.{IsNewReader}
 use Rattle.rpq_text.specs.Definitions.{definitions_of}
 use Rattle.rpq_text.specs.Limits.{query_limit}
 use Rattle.rpq_text.specs.declared.ends.StartFault.{StartFault}
 use Rattle.rpq_text.specs.declared.ends.StartFault.TheVariants.{Words, Queries, Asks, Open, Read}
 use Rattle.rpq_text.specs.declared.ends.StartFault.TheVariants.{Long, Memory}
-use Rattle.run_start.specs.Files.{ForSessions, HasQueries}
+use Rattle.run_start.specs.Files.{ForSessions, HasQueries, stream_contents}
+use Rattle.run_start.specs.Readers.{AreNew, contents_of, is_behind}
 use Rattle.run_start.specs.declared.ready.Reads.{Reads}
+use Rattle.run_start.specs.declared.sinks.OwnSinks.{OwnSinks}
 use Rattle.run_start.specs.declared.refusal.Refusal.{Refusal}
 
 -- why the words alone begin no run: they have no settings, or memory ran out
@@ -34,22 +35,31 @@ pub record AreUnderstood (queries : List CompiledValue) : Type 0 where
   pub accepted : All (λ each. IsAccepted each.def) queries
   pub compiled : All IsCompiled queries
 
--- what is read and answered in a run over streams: a new reader of each stream, in order; the
--- sessions of the asks file, not too many, each about the queries; and where replies are wanted, a
--- new sink for them
+-- the sinks that are written beside the events, each new, and there exactly where it is wanted: that
+-- of the replies, and that of the saved window
+pub record AreNewSinks {K : Type 0} (written : K → Option (List ℕ)) (failures : K → ℕ)
+    (given : Settings) (sinks : OwnSinks K) : Type 0 where
+  pub replies : is_some sinks.replies ≡ is_some given.replies
+  pub new_replies : IfSome sinks.replies (IsNewSink written failures)
+  pub save : is_some sinks.save ≡ is_some given.save
+  pub new_save : IfSome sinks.save (IsNewSink written failures)
+
+-- what is read and answered in a run over streams: a new reader of each stream, in order, with the
+-- saved window in front of it where one is named; the sessions of the asks file, not too many, each
+-- about the queries; and the sinks
 pub record IsReading {S K : Type 0} (left : S → Option (List ℕ)) (faults : S → ℕ)
     (written : K → Option (List ℕ)) (failures : K → ℕ) (given : Settings)
     (holds : List ℕ → Option (List ℕ)) (queries : List CompiledValue) (reading : Reads S K)
     : Type 0 where
   pub reads_some : reads_none given ≡ false
-  pub contents : map holds given.streams ≡ map (λ reader. left reader.source) reading.readers.items
-  pub fresh : All (IsNewReader left faults) reading.readers.items
+  pub contents : stream_contents given holds ≡ contents_of left reading.readers
+  pub behind : is_behind reading.readers ≡ is_some given.from
+  pub fresh : AreNew left faults reading.readers
   pub asked : ForSessions given holds (definitions_of queries)
       (λ asked. reading.sessions.items ≡ asked)
   pub few : length reading.sessions.items ≤ 64
   pub ranges : All (IsSession (length queries)) reading.sessions.items
-  pub sink : is_some reading.replies ≡ is_some given.replies
-  pub unwritten : IfSome reading.replies (IsNewSink written failures)
+  pub sinks : AreNewSinks written failures given reading.sinks
 
 -- what a run begins with: the queries of its file, understood, and what is read and answered, or
 -- nothing where the queries are only checked, or tuples are generated

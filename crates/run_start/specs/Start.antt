@@ -1,10 +1,11 @@
 -- Why a run doesn't begin, and what its beginning does to the files.
-use Rattle.std.specs.Prelude.{◌≡◌, ◌≢◌, ℕ, ◌⊎◌, List, [], ◌∷◌, ◌++◌, length, Option, Some, None}
-use Rattle.std.specs.Prelude.{IsSomeAnd, option_and_then}
+use Rattle.std.specs.Prelude.{◌≡◌, ℕ, ◌⊎◌, List, [], ◌∷◌, ◌++◌, length, Option, Some, None}
+use Rattle.std.specs.Prelude.{IsSomeAnd, Contains, option_and_then, option_to_list}
 use Rattle.rpq_io.specs.Counts.{Rose, CountsFault}
 use Rattle.rpq_words.specs.Settings.{Settings}
 use Rattle.rpq_text.specs.declared.ends.Which.{Which}
-use Rattle.rpq_text.specs.declared.ends.Which.TheVariants.{Queries, Asks, Stream, Replies}
+use Rattle.rpq_text.specs.declared.ends.Which.TheVariants.{Queries, Asks, From, Stream}
+use Rattle.rpq_text.specs.declared.ends.Which.TheVariants.{Replies, Save}
 use Rattle.rpq_text.specs.declared.ends.StartFault.{StartFault}
 use Rattle.rpq_text.specs.declared.ends.StartFault.TheVariants.{Words, Queries as QueriesFault}
 use Rattle.rpq_text.specs.declared.ends.StartFault.TheVariants.{Asks as AsksFault, Open, Read, Long}
@@ -25,20 +26,28 @@ IsRefusedFor given holds (AsksFault fault) =
 IsRefusedFor given holds (Open Queries) = Unit {0}
 IsRefusedFor given holds (Open Asks) =
     IsSomeAnd given.asks (λ name. IsQueriesFile (holds given.queries))
+IsRefusedFor given holds (Open From) =
+    IsSomeAnd given.from (λ name. AreUnderstoodFiles given holds)
 IsRefusedFor given holds (Open (Stream number)) =
     IsNumberOf (length given.streams) number × AreUnderstoodFiles given holds
 IsRefusedFor given holds (Open Replies) =
     IsSomeAnd given.replies (λ name. AreUnderstoodFiles given holds)
+IsRefusedFor given holds (Open Save) =
+    IsSomeAnd given.save (λ name. AreUnderstoodFiles given holds)
 IsRefusedFor given holds (Read Queries) = Unit {0}
 IsRefusedFor given holds (Read Asks) =
     IsSomeAnd given.asks (λ name. IsQueriesFile (holds given.queries))
+IsRefusedFor given holds (Read From) = ⊥
 IsRefusedFor given holds (Read (Stream number)) = ⊥
 IsRefusedFor given holds (Read Replies) = ⊥
+IsRefusedFor given holds (Read Save) = ⊥
 IsRefusedFor given holds (Long Queries) = IsTooLong (holds given.queries)
 IsRefusedFor given holds (Long Asks) =
     IsSomeAnd given.asks (λ name. IsQueriesFile (holds given.queries) × IsTooLong (holds name))
+IsRefusedFor given holds (Long From) = ⊥
 IsRefusedFor given holds (Long (Stream number)) = ⊥
 IsRefusedFor given holds (Long Replies) = ⊥
+IsRefusedFor given holds (Long Save) = ⊥
 IsRefusedFor given holds Memory = Unit {0}
 
 -- why a run doesn't begin, by the settings of its words, if they have any: they have none, or a
@@ -54,8 +63,10 @@ IsOpeningOf given name (QueriesFault fault) = ⊥
 IsOpeningOf given name (AsksFault fault) = ⊥
 IsOpeningOf given name (Open Queries) = name ≡ given.queries
 IsOpeningOf given name (Open Asks) = given.asks ≡ Some name
+IsOpeningOf given name (Open From) = given.from ≡ Some name
 IsOpeningOf given name (Open (Stream number)) = stream_name given number ≡ Some name
 IsOpeningOf given name (Open Replies) = ⊥
+IsOpeningOf given name (Open Save) = ⊥
 IsOpeningOf given name (Read which) = ⊥
 IsOpeningOf given name (Long which) = ⊥
 IsOpeningOf given name Memory = ⊥
@@ -67,8 +78,10 @@ IsMakingOf given name (QueriesFault fault) = ⊥
 IsMakingOf given name (AsksFault fault) = ⊥
 IsMakingOf given name (Open Queries) = ⊥
 IsMakingOf given name (Open Asks) = ⊥
+IsMakingOf given name (Open From) = ⊥
 IsMakingOf given name (Open (Stream number)) = ⊥
 IsMakingOf given name (Open Replies) = given.replies ≡ Some name
+IsMakingOf given name (Open Save) = given.save ≡ Some name
 IsMakingOf given name (Read which) = ⊥
 IsMakingOf given name (Long which) = ⊥
 IsMakingOf given name Memory = ⊥
@@ -78,8 +91,10 @@ abbrev pub file_held : Option Settings → (List ℕ → Option (List ℕ)) → 
 file_held None holds which = None
 file_held (Some given) holds Queries = holds given.queries
 file_held (Some given) holds Asks = option_and_then holds given.asks
+file_held (Some given) holds From = option_and_then holds given.from
 file_held (Some given) holds (Stream number) = option_and_then holds (stream_name given number)
 file_held (Some given) holds Replies = None
+file_held (Some given) holds Save = None
 
 -- the sources that a refusal leaves: that of the file that is read whole and of which a read
 -- failed, as its count shows, with a rest of the file left; else none
@@ -110,13 +125,22 @@ AreOpened given (Some (Read which)) names = names ≡ names_up_to given which
 AreOpened given (Some (Long which)) names = names ≡ names_up_to given which
 AreOpened given (Some Memory) names = IsPrefix names (file_names given)
 
+-- the names of the files that were opened to write before this one is opened
+abbrev pub sinks_before : Settings → Which → List (List ℕ)
+sinks_before given Queries = []
+sinks_before given Asks = []
+sinks_before given From = []
+sinks_before given (Stream number) = []
+sinks_before given Replies = []
+sinks_before given Save = option_to_list given.replies
+
 -- the names of the files that a run opened to write, by why it didn't begin, if it didn't
 abbrev pub AreMade : Settings → Option StartFault → List (List ℕ) → Type 0
 AreMade given None names = names ≡ sink_names given
 AreMade given (Some Words) names = names ≡ []
 AreMade given (Some (QueriesFault fault)) names = names ≡ []
 AreMade given (Some (AsksFault fault)) names = names ≡ []
-AreMade given (Some (Open which)) names = names ≡ []
+AreMade given (Some (Open which)) names = names ≡ sinks_before given which
 AreMade given (Some (Read which)) names = names ≡ []
 AreMade given (Some (Long which)) names = names ≡ []
 AreMade given (Some Memory) names = IsPrefix names (sink_names given)
@@ -138,15 +162,15 @@ pub record Opens (IsKind : List (List ℕ) → Type 0) (before after : List (Lis
   pub more : after ≡ before ++ names
 
 -- what a run does to the files: it opens those to read that its words name, each once and in
--- order, and then the one to write, if they name one; it changes no other; and the openings of no
--- name failed but of the one for which it didn't begin
+-- order, and then those to write, as far as they name such; it changes no other; and the openings of
+-- no name failed but of the one for which it didn't begin
 pub record UsesFiles {F : Type 0} (holds : F → List ℕ → Option (List ℕ))
     (opened made : F → List (List ℕ)) (unread unmade : F → List ℕ → ℕ) (words : Option Settings)
     (start : Option StartFault) (old new : F) : Type 0 where
   pub opens : Opens (AreOpenedBy words start) (opened old) (opened new)
   pub makes : Opens (AreMadeBy words start) (made old) (made new)
   pub kept : (name : List ℕ)
-      → (made new ≡ made old) ⊎ IsSomeAnd words (λ given. given.replies ≢ Some name)
+      → (made new ≡ made old) ⊎ IsSomeAnd words (λ given. Contains (sink_names given) name → ⊥)
       → holds new name ≡ holds old name
   pub openings : (name : List ℕ) → CountsFault
       (IsSomeAnd start (λ fault. IsSomeAnd words (λ given. IsOpeningOf given name fault)))

@@ -1,6 +1,6 @@
 -- What the steps of a run's beginning do. Only private contracts cite this file.
 use Rattle.std.specs.Prelude.{◌≡◌, ◌≢◌, ◌⊎◌, ℕ, List, [], ◌∷◌, ◌++◌, option_to_list}
-use Rattle.std.specs.Prelude.{Option, Some, None, IsSomeAnd, Err}
+use Rattle.std.specs.Prelude.{Option, Some, None, IsSomeAnd, Contains, Err}
 use Rattle.rpq_model.specs.Query.{Query}
 use Rattle.ask_text.specs.declared.fault.AskKind.TheVariants.{Memory as MemoryOfAsks}
 use Rattle.ask_text.specs.Asks.{asks}
@@ -9,11 +9,11 @@ use Rattle.rpq_io.specs.Files.{KeepsFiles}
 use Rattle.rpq_words.specs.Settings.{Settings}
 use Rattle.stream_tuples.specs.History.{IsPrefix}
 use Rattle.rpq_text.specs.declared.ends.Which.{Which}
-use Rattle.rpq_text.specs.declared.ends.Which.TheVariants.{Stream}
 use Rattle.rpq_text.specs.declared.ends.StartFault.{StartFault}
 use Rattle.rpq_text.specs.declared.ends.StartFault.TheVariants.{Words, Queries, Asks, Open, Read}
 use Rattle.rpq_text.specs.declared.ends.StartFault.TheVariants.{Long, Memory}
 use Rattle.run_start.specs.Files.{IsTooLong}
+use Rattle.run_start.specs.Given.{sink_names}
 use Rattle.run_start.specs.Start.{AreMade, AreOpened, AreSourcesOf, IsMakingOf, IsOpeningOf}
 use Rattle.run_start.specs.Start.{IsRefusedFor, Opens, file_held}
 use Rattle.run_start.specs.declared.refusal.Refusal.{Refusal}
@@ -51,6 +51,26 @@ pub record OpensFile {F : Type 0} (holds : F → List ℕ → Option (List ℕ))
   pub kept : KeepsFiles holds made old new
   pub unmade_stays : (any : List ℕ) → unmade new any ≡ unmade old any
 
+-- the names that were opened to write for the file of this name, if there is one, by why it wasn't
+-- opened, if it wasn't
+abbrev pub AreNamesOfSink : Option (List ℕ) → Option StartFault → List (List ℕ) → Type 0
+AreNamesOfSink name None names = names ≡ option_to_list name
+AreNamesOfSink name (Some fault) names = names ≡ []
+
+-- a call opens the file of this name, if there is one, to write it as this one, or doesn't for this
+-- fault; it changes nothing else
+pub record OpensSink {F : Type 0} (holds : F → List ℕ → Option (List ℕ))
+    (opened made : F → List (List ℕ)) (unread unmade : F → List ℕ → ℕ) (which : Which)
+    (name : Option (List ℕ)) (start : Option StartFault) (old new : F) : Type 0 where
+  pub makes : Opens (AreNamesOfSink name start) (made old) (made new)
+  pub makings : (any : List ℕ) → CountsFault
+      (IsSomeAnd start (λ fault. (fault ≡ Open which) × (name ≡ Some any)))
+      (unmade old any) (unmade new any)
+  pub kept : (any : List ℕ) → (made new ≡ made old) ⊎ (name ≢ Some any)
+      → holds new any ≡ holds old any
+  pub opened_stays : opened new ≡ opened old
+  pub unread_stays : (any : List ℕ) → unread new any ≡ unread old any
+
 -- why the bytes of an asks file give no sessions about these queries: their fault, which isn't out
 -- of memory; or memory ran out
 abbrev pub IsFaultOfAsks : List Query → List ℕ → StartFault → Type 0
@@ -70,10 +90,10 @@ pub record IsRefusal {S : Type 0} (left : S → Option (List ℕ)) (faults : S �
   pub sources : AreSourcesOf left faults (file_held (Some given) holds) refusal.fault
       (option_to_list refusal.source)
 
--- why a stream of this number isn't read: its opening failed, or memory ran out; no source is left
-pub record IsRefusalOfStream {S : Type 0} (number : ℕ) (refusal : Refusal S) : Type 0 where
+-- why a file isn't opened as this one: its opening failed, or memory ran out; no source is left
+pub record IsRefusalOfOpening {S : Type 0} (which : Which) (refusal : Refusal S) : Type 0 where
   pub no_source : refusal.source ≡ None
-  pub cause : (refusal.fault ≡ Open (Stream number)) ⊎ (refusal.fault ≡ Memory)
+  pub cause : (refusal.fault ≡ Open which) ⊎ (refusal.fault ≡ Memory)
 
 -- the names that a step opened to read, before which the run opened others: its own, or those that
 -- make the names of a run that doesn't begin for this
@@ -90,15 +110,15 @@ AreMadeThen given own (Some fault) names = AreMade given (Some fault) names
 
 -- what a step does to the files, before which the run opened some to read: it opens its own to read
 -- and to write, or as many of them as the run does that doesn't begin for this; it changes none but
--- the one of the replies, and that only where it opens it; and no opening failed but the one for
--- which the run doesn't begin
+-- those that are to be written, and that only where it opens one; and no opening failed but the one
+-- for which the run doesn't begin
 pub record UsesMore {F : Type 0} (holds : F → List ℕ → Option (List ℕ))
     (opened made : F → List (List ℕ)) (unread unmade : F → List ℕ → ℕ) (given : Settings)
     (before to_read to_write : List (List ℕ)) (start : Option StartFault) (old new : F)
     : Type 0 where
   pub opens : Opens (AreOpenedBehind given before to_read start) (opened old) (opened new)
   pub makes : Opens (AreMadeThen given to_write start) (made old) (made new)
-  pub kept : (name : List ℕ) → (made new ≡ made old) ⊎ (given.replies ≢ Some name)
+  pub kept : (name : List ℕ) → (made new ≡ made old) ⊎ (Contains (sink_names given) name → ⊥)
       → holds new name ≡ holds old name
   pub openings : (name : List ℕ) → CountsFault
       (IsSomeAnd start (λ fault. IsOpeningOf given name fault)) (unread old name) (unread new name)

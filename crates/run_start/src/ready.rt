@@ -14,12 +14,12 @@ ghost use Rattle.run_start.specs.Steps.{IsRefusal, UsesMore};
 
 use crate::queries::queries_of_file;
 use crate::refusal::Refusal;
-use crate::replies::open_replies;
 use crate::sessions::sessions_of_file;
-use crate::streams::open_streams;
+use crate::sinks::{OwnSinks, open_sinks};
+use crate::streams::{Readers, open_readers};
 use ask_text::Session;
 use query_file::Compiled;
-use rpq_io::{Files, LineReader, Sink, Source};
+use rpq_io::{Files, Sink, Source};
 use rpq_words::Chosen;
 use std::alloc::Global;
 
@@ -35,16 +35,18 @@ pub struct Ready<S: Source, K: Sink> {
 #[derive(Drop)]
 pub struct Reads<S: Source, K: Sink> {
     /// The lines of each stream, in order, of which none was read.
-    pub readers: Vec<LineReader<S>>,
+    pub readers: Readers<S>,
     /// What each session asks, in order.
     pub sessions: Vec<Session>,
-    /// Where the replies go, where a file is named for them.
-    pub replies: Option<K>,
+    /// Where the replies and the saved window go.
+    pub sinks: OwnSinks<K>,
 }
 
 /// Reads the queries file whole and understands it; then the asks file, if there is one; opens the
-/// streams in their order; and opens the sink of the replies, if there is one. For a check, and for
-/// generated tuples, only the queries file is opened. The first of these that fails ends it.
+/// saved window with which the run begins, if there is one, and the streams in their order; and
+/// opens the sinks of the replies and of the window to be saved, as far as there are such. For a
+/// check, and for generated tuples, only the queries file is opened. The first of these that fails
+/// ends it.
 pub fn begin<F: Files>(
     alloc: Global,
     files: &mut F,
@@ -85,8 +87,8 @@ fn reads_none(chosen: &Chosen) -> bool
     chosen.check || chosen.generate.is_some()
 }
 
-/// Reads the asks file and opens the streams and the replies, in a run with these queries, which
-/// are those of its queries file.
+/// Reads the asks file and opens the streams and the sinks, in a run with these queries, which are
+/// those of its queries file.
 fn begin_reading<F: Files>(
     alloc: Global,
     files: &mut F,
@@ -105,15 +107,16 @@ fn begin_reading<F: Files>(
     ensures refused { IfErr result
         (IsRefusal F.Source.left F.Source.faults chosen.now (F.holds files.old)) }
     ensures files { UsesMore F.holds F.opened F.made F.unread F.unmade chosen.now
-        (chosen.now.queries ∷ []) (option_to_list chosen.now.asks ++ chosen.now.streams)
+        (chosen.now.queries ∷ [])
+        (option_to_list chosen.now.asks ++ (option_to_list chosen.now.from ++ chosen.now.streams))
         (sink_names chosen.now) (fault_of result) files.old files.new }
 {
     let sessions = sessions_of_file(alloc, files, chosen, queries)?;
-    let readers = open_streams(alloc, files, chosen)?;
-    let replies = open_replies(files, chosen)?;
+    let readers = open_readers(alloc, files, chosen)?;
+    let sinks = open_sinks(files, chosen)?;
     Ok(Reads {
         readers,
         sessions,
-        replies,
+        sinks,
     })
 }

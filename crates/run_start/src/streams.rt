@@ -1,42 +1,85 @@
-//! The streams are opened.
+//! The streams are opened, and the saved window before them.
 
-ghost use Rattle.std.specs.Prelude.{◌≡◌, ◌≤◌, [], All, length, map, IfOk, IfErr};
+ghost use Rattle.std.specs.Prelude.{◌≡◌, ◌≤◌, ◌++◌, [], false, true, length, map, is_some};
+ghost use Rattle.std.specs.Prelude.{Some, option_to_list, IfOk, IfErr, IfSome};
+ghost use Rattle.rpq_io.specs.Files.{IsNewSource};
+ghost use Rattle.rpq_words.specs.Modes.{AreSettings};
+ghost use Rattle.rpq_words.specs.Settings.{reads_none};
+ghost use Rattle.saved_window.specs.Then.{count_of, left_of_both, left_of_first, faults_of_both};
+ghost use Rattle.saved_window.specs.Then.{faults_of_first, join_known};
 ghost use Rattle.stream_tuples.specs.Progress.{IsNewReader};
-ghost use Rattle.run_start.specs.Files.{AreUnderstoodFiles};
-ghost use Rattle.run_start.specs.Given.{whole_names};
+ghost use Rattle.run_start.specs.Files.{AreUnderstoodFiles, stream_contents};
+ghost use Rattle.run_start.specs.Given.{first_names, whole_names};
+ghost use Rattle.run_start.specs.Readers.{AreNew, AreNewReaders, contents_of, is_behind, lefts_of};
 ghost use Rattle.run_start.specs.Ready.{fault_of};
-ghost use Rattle.run_start.specs.Steps.{IsRefusal, IsRefusalOfStream, OpensFile, UsesMore};
+ghost use Rattle.run_start.specs.Steps.{IsRefusal, IsRefusalOfOpening, OpensFile, UsesMore};
 
 use crate::refusal::{Refusal, without_source};
 use rpq_base::Memory;
-use rpq_io::{Files, LineReader, OpenFault};
+use rpq_io::{Files, LineReader, OpenFault, Source};
 use rpq_text::{StartFault, Which};
-use rpq_words::Chosen;
+use rpq_words::{Chosen, FileWord};
+use saved_window::{Alone, Behind, Front, Then};
 use std::alloc::Global;
 use stream_tuples::{BYTE_LIMIT, LINE_LIMIT};
 
-/// Readers of the lines of all streams, in order, which have read nothing yet.
-pub fn open_streams<F: Files>(
+/// The lines of each stream, in order.
+#[derive(Drop)]
+pub enum Readers<S: Source> {
+    /// Each stream is what its file holds.
+    Alone(Vec<LineReader<Then<S, Alone>>>),
+    /// The one stream is what a saved window holds, and then what its file does.
+    Behind(Vec<LineReader<Then<S, Behind>>>),
+}
+
+/// Readers of the lines of all streams, in order, which have read nothing yet. Where a saved window
+/// is named, it is opened before the one stream and read before it.
+pub fn open_readers<F: Files>(
     alloc: Global,
     files: &mut F,
     chosen: &Chosen,
-) -> Result<Vec<LineReader<F::Source>>, Refusal<F::Source>>
-    requires few { length chosen.now.streams ≤ 64 }
+) -> Result<Readers<F::Source>, Refusal<F::Source>>
+    requires settings { AreSettings chosen.now }
+    requires reads_some { reads_none chosen.now ≡ false }
     requires understood { AreUnderstoodFiles chosen.now (F.holds files.old) }
-    ensures contents { IfOk result (λ readers. map (F.holds files.old) chosen.now.streams
-        ≡ map (λ reader. F.Source.left reader.source) readers.items) }
-    ensures fresh { IfOk result (λ readers.
-        All (IsNewReader F.Source.left F.Source.faults) readers.items) }
+    ensures contents { IfOk result (λ readers.
+        stream_contents chosen.now (F.holds files.old) ≡ contents_of F.Source.left readers) }
+    ensures behind { IfOk result (λ readers. is_behind readers ≡ is_some chosen.now.from) }
+    ensures fresh { IfOk result (AreNew F.Source.left F.Source.faults) }
     ensures refused { IfErr result
         (IsRefusal F.Source.left F.Source.faults chosen.now (F.holds files.old)) }
     ensures files { UsesMore F.holds F.opened F.made F.unread F.unmade chosen.now
-        (whole_names chosen.now) chosen.now.streams [] (fault_of result) files.old files.new }
+        (whole_names chosen.now) (option_to_list chosen.now.from ++ chosen.now.streams) []
+        (fault_of result) files.old files.new }
+{
+    match &chosen.from {
+        None => Ok(Readers::Alone(open_streams(alloc, files, chosen)?)),
+        Some(name) => Ok(Readers::Behind(open_behind(alloc, files, chosen, name)?)),
+    }
+}
+
+/// Readers of the lines of all streams, which read nothing before them.
+fn open_streams<F: Files>(
+    alloc: Global,
+    files: &mut F,
+    chosen: &Chosen,
+) -> Result<Vec<LineReader<Then<F::Source, Alone>>>, Refusal<F::Source>>
+    requires few { length chosen.now.streams ≤ 64 }
+    requires understood { AreUnderstoodFiles chosen.now (F.holds files.old) }
+    ensures contents { IfOk result (λ readers. map (F.holds files.old) chosen.now.streams
+        ≡ lefts_of F.Source.left readers.items) }
+    ensures fresh { IfOk result (λ readers.
+        AreNewReaders F.Source.left F.Source.faults readers.items) }
+    ensures refused { IfErr result
+        (IsRefusal F.Source.left F.Source.faults chosen.now (F.holds files.old)) }
+    ensures files { UsesMore F.holds F.opened F.made F.unread F.unmade chosen.now
+        (first_names chosen.now) chosen.now.streams [] (fault_of result) files.old files.new }
 {
     let Ok(mut readers) = Vec::with_capacity(alloc, chosen.streams.len()) else {
         return Err(without_source(StartFault::Memory));
     };
     for (place, name) in chosen.streams.iter().enumerate() {
-        let reader = open_stream(alloc, files, name.as_str(), place as u32 + 1)?;
+        let reader = open_stream(alloc, files, name.as_str(), place as u32 + 1, None)?;
         let Ok(()) = readers.push(reader) else {
             return Err(without_source(StartFault::Memory));
         };
@@ -44,30 +87,77 @@ pub fn open_streams<F: Files>(
     Ok(readers)
 }
 
-/// A reader of the lines of the stream with this name and number, which has read nothing yet.
-fn open_stream<F: Files>(
+/// A reader of the lines of the one stream, which reads the saved window of this name before it.
+fn open_behind<F: Files>(
+    alloc: Global,
+    files: &mut F,
+    chosen: &Chosen,
+    name: &FileWord,
+) -> Result<Vec<LineReader<Then<F::Source, Behind>>>, Refusal<F::Source>>
+    requires one_stream { length chosen.now.streams ≡ 1 }
+    requires named { chosen.now.from ≡ Some name.now }
+    requires understood { AreUnderstoodFiles chosen.now (F.holds files.old) }
+    ensures contents { IfOk result (λ readers. stream_contents chosen.now (F.holds files.old)
+        ≡ lefts_of F.Source.left readers.items) }
+    ensures fresh { IfOk result (λ readers.
+        AreNewReaders F.Source.left F.Source.faults readers.items) }
+    ensures refused { IfErr result
+        (IsRefusal F.Source.left F.Source.faults chosen.now (F.holds files.old)) }
+    ensures files { UsesMore F.holds F.opened F.made F.unread F.unmade chosen.now
+        (whole_names chosen.now) (option_to_list chosen.now.from ++ chosen.now.streams) []
+        (fault_of result) files.old files.new }
+{
+    let Ok(mut readers) = Vec::with_capacity(alloc, 1) else {
+        return Err(without_source(StartFault::Memory));
+    };
+    let from = open_file(files, name.as_str(), Which::From)?;
+    let stream = &chosen.streams[0];
+    readers.push_reserved(open_stream(alloc, files, stream.as_str(), 1, Some(from))?);
+    Ok(readers)
+}
+
+/// A reader of the lines of the stream with this name and number, which has read nothing yet and
+/// reads the first source, if there is one, before the file.
+fn open_stream<F: Files, P: Front>(
     alloc: Global,
     files: &mut F,
     name: &str,
     number: u32,
-) -> Result<LineReader<F::Source>, Refusal<F::Source>>
-    ensures content { IfOk result (λ reader.
-        F.Source.left reader.source ≡ F.holds files.old name.now) }
-    ensures fresh { IfOk result (λ reader. IsNewReader F.Source.left F.Source.faults reader) }
-    ensures cause { IfErr result (IsRefusalOfStream number) }
+    first: Option<F::Source>,
+) -> Result<LineReader<Then<F::Source, P>>, Refusal<F::Source>>
+    requires there { count_of first ≡ P.COUNT }
+    requires untold { IfSome first (λ source. F.Source.has_told_end source ≡ false) }
+    requires no_fault { faults_of_first F.Source.faults first ≡ 0 }
+    ensures content { IfOk result (λ reader. left_of_both F.Source.left reader.source
+        ≡ join_known (left_of_first F.Source.left first) (F.holds files.old name.now)) }
+    ensures fresh { IfOk result (IsNewReader (left_of_both F.Source.left)
+        (faults_of_both F.Source.faults)) }
+    ensures cause { IfErr result (IsRefusalOfOpening (Which.Stream number)) }
     ensures files { OpensFile F.holds F.opened F.made F.unread F.unmade (Which.Stream number)
         name.now (fault_of result) files.old files.new }
 {
-    let source = match files.source(name) {
-        Ok(source) => source,
-        Err(OpenFault::Failed) => {
-            let which = Which::Stream(number);
-            return Err(without_source(StartFault::Open(which)));
-        }
-        Err(OpenFault::Memory) => return Err(without_source(StartFault::Memory)),
-    };
-    match LineReader::new(alloc, source, LINE_LIMIT, BYTE_LIMIT) {
+    let source = open_file(files, name, Which::Stream(number))?;
+    match LineReader::new(alloc, Then::new(first, source), LINE_LIMIT, BYTE_LIMIT) {
         Ok(reader) => Ok(reader),
         Err((_source, Memory)) => Err(without_source(StartFault::Memory)),
+    }
+}
+
+/// A new source of the file of this name, which is read as this one.
+fn open_file<F: Files>(
+    files: &mut F,
+    name: &str,
+    which: Which,
+) -> Result<F::Source, Refusal<F::Source>>
+    ensures new { IfOk result (IsNewSource F.Source.left F.Source.has_told_end
+        F.Source.faults (F.holds files.old name.now)) }
+    ensures cause { IfErr result (IsRefusalOfOpening which) }
+    ensures files { OpensFile F.holds F.opened F.made F.unread F.unmade which name.now
+        (fault_of result) files.old files.new }
+{
+    match files.source(name) {
+        Ok(source) => Ok(source),
+        Err(OpenFault::Failed) => Err(without_source(StartFault::Open(which))),
+        Err(OpenFault::Memory) => Err(without_source(StartFault::Memory)),
     }
 }

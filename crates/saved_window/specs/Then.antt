@@ -8,6 +8,11 @@ pub record TwoSources (S : Type 0) : Type 0 where
   pub first : Option S
   pub second : S
 
+-- how many there are: one or none
+abbrev pub count_of : {A : Type 0} → Option A → ℕ
+count_of None = 0
+count_of (Some one) = 1
+
 -- known bytes, followed by other known bytes
 abbrev pub join_known : Option (List ℕ) → Option (List ℕ) → Option (List ℕ)
 join_known None second = None
@@ -38,9 +43,11 @@ abbrev pub is_over : {S : Type 0} → (S → Bool) → Option S → Bool
 is_over has_told_end None = true
 is_over has_told_end (Some source) = has_told_end source
 
--- it is known whether the first source is over, and then it has no byte left
+-- there are so many first sources, one or none; and it is known whether it is over, and then it has
+-- no byte left
 pub record IsKnownOver {S : Type 0} (left : S → Option (List ℕ)) (has_told_end : S → Bool)
-    (first : Option S) (over : Bool) : Type 0 where
+    (firsts : ℕ) (first : Option S) (over : Bool) : Type 0 where
+  pub there : count_of first ≡ firsts
   pub told : over ≡ is_over has_told_end first
   pub none_left : over ≡ true → IfSome (left_of_first left first) (λ rest. rest ≡ [])
 

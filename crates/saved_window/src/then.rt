@@ -1,29 +1,53 @@
 //! One source after another.
 
-ghost use Rattle.std.specs.Prelude.{◌≡◌, ◌<◌, ◌≤◌, [], true, false, length, take, IfOk};
-ghost use Rattle.std.specs.Prelude.{IsErr, IfSome, MatchResult};
+ghost use Rattle.std.specs.Prelude.{◌≡◌, ℕ, ◌<◌, ◌≤◌, [], true, false, length, take, IfOk};
+ghost use Rattle.std.specs.Prelude.{IsErr, IfSome, MatchResult, OnErr};
 ghost use Rattle.std.specs.Io.KnownBytes.{prepend_known};
 ghost use Rattle.rpq_io.specs.Counts.{CountsFault};
 ghost use Rattle.rpq_io.specs.Reads.{tells_end};
-ghost use Rattle.saved_window.specs.Then.{left_of_first, left_of_both, faults_of_first};
+ghost use Rattle.saved_window.specs.Then.{count_of, left_of_first, left_of_both, faults_of_first};
 ghost use Rattle.saved_window.specs.Then.{faults_of_both, is_over, ReadsInOrder};
 
 use rpq_io::{Failed, Source};
-use std::marker::Model;
+use std::marker::{Model, PhantomData};
 
-/// A source that gives the bytes of another to their end, and then those of a second one. The first
-/// may be missing.
+/// Whether a source is read before the second one of a [`Then`]. A type says so, and no value, so
+/// that it stays known whatever is read.
+pub trait Front {
+    /// How many sources are read before: none or one.
+    ghost COUNT: { ℕ };
+}
+
+/// No source is read before.
+#[derive(Clone, Copy, Debug)]
+pub struct Alone;
+
+impl Front for Alone {
+    ghost COUNT = { 0 };
+}
+
+/// One source is read before.
+#[derive(Clone, Copy, Debug)]
+pub struct Behind;
+
+impl Front for Behind {
+    ghost COUNT = { 1 };
+}
+
+/// A source that gives the bytes of another to their end, and then those of a second one. There is a
+/// first one exactly where the type `P` says so.
 ///
 /// It takes no memory, and a read of it is one read of a source, or two where the first tells its
 /// end.
 #[derive(Drop)]
-pub struct Then<S: Source> {
+pub struct Then<S: Source, P: Front> {
     first: Option<S>,
     second: S,
     is_past_first: bool,
+    front: PhantomData<P>,
 }
 
-impl<S: Source> Model for Then<S> {
+impl<S: Source, P: Front> Model for Then<S, P> {
     ghost use Rattle.saved_window.specs.Then.{TwoSources, IsKnownOver};
 
     ghost Value = { TwoSources S };
@@ -31,12 +55,13 @@ impl<S: Source> Model for Then<S> {
     ghost view = { λ then. record { first = then.first; second = then.second } };
 
     ghost invariant = { λ then.
-        IsKnownOver S.left S.has_told_end then.first then.is_past_first };
+        IsKnownOver S.left S.has_told_end P.COUNT then.first then.is_past_first };
 }
 
-impl<S: Source> Then<S> {
+impl<S: Source, P: Front> Then<S, P> {
     /// The first source, if there is one, and then the second.
-    pub fn new(first: Option<S>, second: S) -> Then<S>
+    pub fn new(first: Option<S>, second: S) -> Then<S, P>
+        requires there { count_of first ≡ P.COUNT }
         requires untold { IfSome first (λ source. S.has_told_end source ≡ false) }
         ensures { result ≡ record { first = first; second = second } }
     {
@@ -45,6 +70,7 @@ impl<S: Source> Then<S> {
             first,
             second,
             is_past_first,
+            front: PhantomData,
         }
     }
 
@@ -52,11 +78,13 @@ impl<S: Source> Then<S> {
     pub fn parts(self) -> (Option<S>, S)
         ensures first { result.0 ≡ self.first }
         ensures second { result.1 ≡ self.second }
+        ensures there { count_of result.0 ≡ P.COUNT }
     {
         let Then {
             first,
             second,
             is_past_first: _,
+            front: _,
         } = self;
         (first, second)
     }
@@ -89,7 +117,7 @@ impl<S: Source> Then<S> {
     }
 }
 
-impl<S: Source> Source for Then<S> {
+impl<S: Source, P: Front> Source for Then<S, P> {
     ghost left = { λ then. left_of_both S.left then };
 
     ghost has_told_end = { λ then. S.has_told_end then.second };
@@ -101,12 +129,11 @@ impl<S: Source> Source for Then<S> {
         requires room { 0 < length into.old }
         requires untold { S.has_told_end self.old.second ≡ false }
         ensures bound { IfOk result (λ count. count ≤ length into.new) }
-        ensures moved { MatchResult result
-            (λ count. left_of_both S.left self.old
-            ≡ prepend_known (take count into.new) (left_of_both S.left self.new))
-            (λ _. left_of_both S.left self.new ≡ left_of_both S.left self.old) }
+        ensures taken { IfOk result (λ count. left_of_both S.left self.old
+            ≡ prepend_known (take count into.new) (left_of_both S.left self.new)) }
         ensures end { result ≡ Ok 0 → IfSome (left_of_both S.left self.new) (λ rest. rest ≡ []) }
         ensures told { S.has_told_end self.new.second ≡ tells_end result }
+        ensures err { OnErr result (left_of_both S.left self.new ≡ left_of_both S.left self.old) }
         ensures faults { CountsFault (IsErr result)
             (faults_of_both S.faults self.old) (faults_of_both S.faults self.new) }
         ensures order { ReadsInOrder S.has_told_end S.faults self.old self.new result }

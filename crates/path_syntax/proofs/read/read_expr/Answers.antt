@@ -10,31 +10,31 @@ use Rattle.path_syntax.proofs.read.read_expr.Goals as goal
 
 pub returns-clause-found : goal.returns-clause-found
 returns-clause-found c =
-    IfOk-weaker c.read.result (λ x. IsFound c.args.bytes.now (expression x)) (λ x. IsText c.args.bytes.now (expression x)) (λ x f. f.text)
-    (found expression c.args.bytes.now c.read.result c.read.ensures)
+    IfOk-weaker c.read.result (λ x. IsFound one_way c.args.bytes.now (expression x)) (λ x. IsText c.args.bytes.now (expression x)) (λ x f. f.text)
+    (found one_way expression c.args.bytes.now c.read.result c.read.ensures)
 
 pub returns-clause-within : goal.returns-clause-within
 returns-clause-within c =
-    IfOk-weaker c.read.result (λ x. IsFound c.args.bytes.now (expression x)) (λ x. IsWithinLimits one_way c.args.bytes.now) (λ x f. f.limits)
-    (found expression c.args.bytes.now c.read.result c.read.ensures)
+    IfOk-weaker c.read.result (λ x. IsFound one_way c.args.bytes.now (expression x)) (λ x. IsWithinLimits one_way c.args.bytes.now) (λ x f. f.limits)
+    (found one_way expression c.args.bytes.now c.read.result c.read.ensures)
 
 pub returns-clause-plain : goal.returns-clause-plain
 returns-clause-plain c =
-    IfOk-weaker c.read.result (λ x. IsFound c.args.bytes.now (expression x)) (λ x. IsPlainExpression (expression x))
+    IfOk-weaker c.read.result (λ x. IsFound one_way c.args.bytes.now (expression x)) (λ x. IsPlainExpression (expression x))
     (λ x f. plain_text c.args.bytes.now (expression x) f.text)
-    (found expression c.args.bytes.now c.read.result c.read.ensures)
+    (found one_way expression c.args.bytes.now c.read.result c.read.ensures)
 
 pub returns-clause-small : goal.returns-clause-small
 returns-clause-small c =
-    IfOk-weaker c.read.result (λ x. IsFound c.args.bytes.now (expression x)) (λ x. nodes (expression x) < 2 ^ 32)
-    (λ x f. let size : nodes (expression x) ≤ length c.args.bytes.now = small_text c.args.bytes.now (expression x) f.text in omega arith)
-    (found expression c.args.bytes.now c.read.result c.read.ensures)
+    IfOk-weaker c.read.result (λ x. IsFound one_way c.args.bytes.now (expression x)) (λ x. nodes (expression x) < 2 ^ 32)
+    (λ x f. let size : nodes (expression x) ≤ length c.args.bytes.now = small_text one_way c.args.bytes.now (expression x) f.text in omega arith)
+    (found one_way expression c.args.bytes.now c.read.result c.read.ensures)
 
 pub returns-clause-whole : goal.returns-clause-whole
-returns-clause-whole c = whole expression c.args.bytes.now c.read.result c.read.ensures
+returns-clause-whole c = whole one_way expression c.args.bytes.now c.read.result c.read.ensures
 
 pub returns-clause-fault : goal.returns-clause-fault
-returns-clause-fault c = tells expression c.args.bytes.now c.read.result c.read.ensures
+returns-clause-fault c = tells one_way expression c.args.bytes.now c.read.result c.read.ensures
 
 pub returns-clause-outcome : goal.returns-clause-outcome
-returns-clause-outcome c = answered expression c.args.bytes.now c.read.result c.read.ensures
+returns-clause-outcome c = answered one_way expression c.args.bytes.now c.read.result c.read.ensures

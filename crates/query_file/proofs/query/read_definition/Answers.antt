@@ -32,7 +32,7 @@ returns-in_err-name-clause-err c =
     let parts = parts_with text.name.now text.size.now text.slide.now text.mode text.expr.now in
     err_out c.from_residual.result c.in_err-name.field-0.0 _ c.from_residual.ensures.1 (λ other.
     let told = c.in_err-name.ensures.fault other in
-    subst (IsFirstInOrder (defs c.args.before.now) c.args.line.now) (sym told.0)
+    subst (IsFirstInOrder c.args.inverses (defs c.args.before.now) c.args.line.now) (sym told.0)
     (no_name c.args.line.now parts c.in-Some.ensures.some told.1))
 
 pub returns-in_default-read_window-clause-err : goal.returns-in_default-read_window-clause-err
@@ -54,7 +54,7 @@ returns-in_err-check_place-clause-err c =
     let kind = c.in_err-check_place.field-0.0 in
     let none = subst (λ (n : List ℕ). HasNoPlace (defs c.args.before.now) n kind) c.in_ok-name.ensures.name c.in_err-check_place.ensures.fault in
     err_out c.from_residual-in_err-check_place.result kind _ c.from_residual-in_err-check_place.ensures.1
-    (no_place (defs c.args.before.now) c.args.line.now parts has lengths kind none)
+    (no_place c.args.inverses (defs c.args.before.now) c.args.line.now parts has lengths kind none)
 
 pub returns-in_err-expr-clause-err : goal.returns-in_err-expr-clause-err
 returns-in_err-expr-clause-err c =
@@ -67,7 +67,7 @@ returns-in_err-expr-clause-err c =
     let room = with_room c.args.before.now parts lengths c.in_ok-name.name c.in_ok-name.ensures.name place.new place.room in
     let fault = c.in_err-expr.field-0.0 in
     err_out c.from_residual-in_err-expr.result (kind_of_expr fault) _ c.from_residual-in_err-expr.ensures.1
-    (no_expression (defs c.args.before.now) c.args.line.now parts has room fault c.in_err-expr.ensures.outcome)
+    (no_expression c.args.inverses (defs c.args.before.now) c.args.line.now parts has room fault c.in_err-expr.ensures.outcome)
 
 pub returns-clause-ok : goal.returns-clause-ok
 returns-clause-ok c =

@@ -1,4 +1,4 @@
-use Rattle.std.proofs.Common.{◌≡◌, ◌↔◌, ◌≤◌, List, sym, ap, subst, ◌∙◌}
+use Rattle.std.proofs.Common.{Bool, ◌≡◌, ◌↔◌, ◌≤◌, List, sym, ap, subst, ◌∙◌}
 use Rattle.std.specs.Prelude.{Contains}
 use Rattle.rpq_base.specs.declared.data.Label.{Label}
 use Rattle.path_syntax.specs.Expression.{Expression, expression}
@@ -33,9 +33,9 @@ of_query query e dfa same accepts labels least = record {
 }
 
 -- its few labels and states are those of the query
-few_of_query : (before : List Query) (parts : LineParts) (query : Query) (e : Expression) → e ≡ query.expr → HasExpression before parts query.expr →
-    atoms e ≤ 64 → (NeedsManyStates e → ⊥) → HasFewStates before parts query.expr
-few_of_query before parts query e same has labels states = record {
+few_of_query : (inverses : Bool) (before : List Query) (parts : LineParts) (query : Query) (e : Expression) → e ≡ query.expr → HasExpression inverses before parts query.expr →
+    atoms e ≤ 64 → (NeedsManyStates e → ⊥) → HasFewStates inverses before parts query.expr
+few_of_query inverses before parts query e same has labels states = record {
   labels = record { expression = has; few = subst (λ (f : Expression). atoms f ≤ 64) same labels };
   few = λ many. states (subst NeedsManyStates (sym same) many);
 }
@@ -46,8 +46,8 @@ returns-in_err-dfa-clause-err c =
     let fault = c.in_err-dfa.field-0.0 in
     let same = sym (ap (λ (q : Query). q.expr) c.def.view_is) in
     err_out c.from_residual-in_err-dfa.result (kind_of_build fault) _ c.from_residual-in_err-dfa.ensures.1
-    (no_automaton (defs c.args.before.now) c.args.line.now is.parts (expression c.def.inside.expr) is.has
-    (subst (HasExpression (defs c.args.before.now) is.parts) same is.expression)
+    (no_automaton c.args.inverses (defs c.args.before.now) c.args.line.now is.parts (expression c.def.inside.expr) is.has
+    (subst (HasExpression c.args.inverses (defs c.args.before.now) is.parts) same is.expression)
     c.automaton_of.result fault c.in_err-dfa.was c.automaton_of.ensures.labels_fault c.automaton_of.ensures.states_fault)
 
 pub returns-in_err-verdict-clause-err : goal.returns-in_err-verdict-clause-err
@@ -60,7 +60,7 @@ returns-in_err-verdict-clause-err c =
     let e = expression c.def.inside.expr in
     let same = ap (λ (q : Query). q.expr) c.def.view_is in
     err_out c.from_residual-in_err-verdict.result kind _ c.from_residual-in_err-verdict.ensures.1 (λ other.
-    not_contained before c.args.line.now is.parts query c.in_ok-dfa.dfa is.has (few_of_query before is.parts query e same is.expression ok.few_labels ok.few_states) is.mode
+    not_contained c.args.inverses before c.args.line.now is.parts query c.in_ok-dfa.dfa is.has (few_of_query c.args.inverses before is.parts query e same is.expression ok.few_labels ok.few_states) is.mode
     (of_query query e c.in_ok-dfa.dfa same ok.accepts ok.labels ok.least) kind
     (subst (λ (mode : Mode). IsRefusedBy (Accepts c.in_ok-dfa.dfa) mode kind) (ap (λ (q : Query). q.mode) c.def.view_is) (c.in_err-verdict.ensures.refused other)) other)
 
@@ -97,7 +97,7 @@ returns-clause-ok c =
     record {
       parts = is.parts;
       has = is.has;
-      states = few_of_query before is.parts query e same is.expression ok.few_labels ok.few_states;
+      states = few_of_query c.args.inverses before is.parts query e same is.expression ok.few_labels ok.few_states;
       contained = λ simple. verdict_on_query query dfa Yes (of_query query e dfa same ok.accepts ok.labels ok.least)
           (subst (IsVerdict (Accepts dfa)) (verdict.accepted (ap (λ (q : Query). q.mode) c.def.view_is ∙ (is.mode ∙ simple))) verdict.verdict);
       name = is.name;

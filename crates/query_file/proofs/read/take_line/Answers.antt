@@ -18,7 +18,7 @@ returns-in_err-query-clause-err c =
     let kind = c.in_err-query.field-0.0 in
     err_out c.from_residual.result kind _ c.from_residual.ensures.1 (λ other. (
       λ over. absurd (false≢true (sym c.if-is_passed_over.false ∙ c.is_passed_over.ensures.1 over)),
-      first_fault (defs c.args.queries.now.items) line kind (subst (λ (list : List CompiledValue). IsFirstInOrder (defs list) line kind)
+      first_fault c.args.inverses (defs c.args.queries.now.items) line kind (subst (λ (list : List CompiledValue). IsFirstInOrder c.args.inverses (defs list) line kind)
           c.deref.ensures.value (c.in_err-query.ensures.err other)),
     ))
 
@@ -27,11 +27,11 @@ returns-clause-ok c =
     let line = c.args.line.now in
     let one : CompiledValue = c.in_ok-query.query in
     let before : List CompiledValue = c.args.queries.now.items in
-    let is = subst (λ (list : List CompiledValue). IsLineInOrder (defs list) line one.def) c.deref.ensures.value c.in_ok-query.ensures.ok in
+    let is = subst (λ (list : List CompiledValue). IsLineInOrder c.args.inverses (defs list) line one.def) c.deref.ensures.value c.in_ok-query.ensures.ok in
     let grown = ap defs c.in_ok-push.ensures.items ∙ defs_push before one in
-    subst (Takes (defs before) line) (sym grown)
+    subst (Takes c.args.inverses (defs before) line) (sym grown)
     (TakesOne one.def (λ over. absurd (false≢true (sym c.if-is_passed_over.false ∙ c.is_passed_over.ensures.1 over)))
-    (line_of (defs before) line one.def is))
+    (line_of c.args.inverses (defs before) line one.def is))
 
 pub returns-clause-compiled : goal.returns-clause-compiled
 returns-clause-compiled c = λ all.

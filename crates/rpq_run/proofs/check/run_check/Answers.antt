@@ -23,9 +23,9 @@ returns-clause-runs g c = λ given holds kept leaves has.
     let errors = c.args.errors.now in
     let errors' = c.tell_end.new.errors in
     let all = sinks c.args.events.now c.write_verdicts-written.new.events errors errors' in
-    let failed = failed_sinks (is_err result) false in
+    let failed = failed_sinks (is_err result) false false in
     let failed_are : c.failed_sinks-failed.result.now ≡ failed =
-    c.failed_sinks-failed.ensures ∙ ap (λ e. failed_sinks e false) c.is_err.ensures.value in
+    c.failed_sinks-failed.ensures ∙ ap (λ e. failed_sinks e false false) c.is_err.ensures.value in
     let status_is : status ≡ first_status [] failed =
     c.first_status-status.ensures ∙ ap (λ (fs : List SinkName). first_status [] fs) failed_are in
     let told = subst (λ (fs : List SinkName). TellsLines written failures (run_lines [] fs status) errors errors')

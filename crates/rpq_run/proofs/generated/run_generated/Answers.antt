@@ -26,9 +26,9 @@ returns-clause-runs g c = λ given holds limit has.
     let errors' = c.tell_end.new.errors in
     let fits = nat_le task.count task.limit in
     let ends = end_of (is_some run.summary) fits ∷ [] in
-    let failed = failed_sinks (is_err wrote) false in
+    let failed = failed_sinks (is_err wrote) false false in
     let failed_are : c.failed_sinks-failed.result.now ≡ failed =
-    c.failed_sinks-failed.ensures ∙ ap (λ e. failed_sinks e false) c.is_err.ensures.value in
+    c.failed_sinks-failed.ensures ∙ ap (λ e. failed_sinks e false false) c.is_err.ensures.value in
     let ends_are : c.push_reserved.new.self.items ≡ ends =
     c.push_reserved.ensures.items ∙ ap₂ (λ (before : List StreamEnd) (end : StreamEnd). before ++ end ∷ [])
     c.in_ok-ends.ensures.items (c.end_of.ensures ∙ ap (λ (done : Bool). end_of done fits) c.is_some-is_done.ensures) in

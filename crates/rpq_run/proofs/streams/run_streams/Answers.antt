@@ -1,38 +1,57 @@
-use Rattle.std.proofs.Common.{◌≡◌, List, length, ap, ap₂, sym, subst, ◌∙◌, arith}
+use Rattle.std.proofs.Common.{◌≡◌, inl, inr, List, ap, sym, subst, ◌∙◌, arith}
 use Rattle.std.specs.Prelude.{map}
 use Rattle.std.specs.Global.{Vec}
 use Rattle.std.proofs.lemmas.List.{length-map}
 use Rattle.std.proofs.lemmas.Slice.Zip.{AllZip-long}
+use Rattle.rpq_io.specs.Reader.{ReaderState}
+use Rattle.rpq_model.specs.Query.{Query}
 use Rattle.ask_text.specs.Answered.{AnsweredValue}
-use Rattle.ask_text.specs.Replies.{replies}
-use Rattle.stream_tuples.specs.declared.ends.StreamEnd.{StreamEnd}
 use Rattle.rpq_text.specs.Definitions.{definitions_of}
-use Rattle.rpq_text.specs.declared.ends.SinkName.{SinkName}
-use Rattle.rpq_text.specs.ErrorLines.{run_lines}
-use Rattle.rpq_text.specs.Statuses.{IsStatusOf}
+use Rattle.saved_window.specs.Saved.{saved}
+use Rattle.saved_window.specs.SavedText.{saved_text}
+use Rattle.saved_window.specs.Then.{TwoSources, left_of_both}
 use Rattle.rpq_threads.specs.Runs.{IsSessionOf}
-use Rattle.rpq_run.specs.Failed.{failed_sinks, is_failed, is_write}
+use Rattle.rpq_run.specs.Ending.{IsUnsaved, SavesIfThere}
 use Rattle.rpq_run.specs.Outcome.{meanings, sinks}
-use Rattle.rpq_run.specs.Replies.{WritesReplies, texts_of}
-use Rattle.rpq_run.specs.Written.{TellsLines}
-use Rattle.rpq_run.proofs.ErrorTexts.{told_lines}
-use Rattle.rpq_run.proofs.Running.{runs_streams}
+use Rattle.rpq_run.proofs.Running.{run_reported}
 use Rattle.rpq_run.proofs.streams.run_streams.Goals as goal
 
-pub write_replies-replied-requires : goal.write_replies-replied-requires
-write_replies-replied-requires g c =
+pub write_own-written-requires-clause-few : goal.write_own-written-requires-clause-few
+write_own-written-requires-clause-few g c =
     let own : Vec AnsweredValue → List AnsweredValue = λ session. session.items in
     let threads = c.in-Ok.outcome in
     let answers = c.in-Ok.ensures.ok.answers in
     let as_many = AllZip-long (IsSessionOf (definitions_of c.args.task.queries.items) threads.history.items answers.last)
     c.args.task.sessions.items (map own threads.sessions.items) answers.sessions in
-    omega (
-      arith,
-      ap (λ (s : List (Vec AnsweredValue)). length s) c.deref.ensures.value,
-      length-map threads.sessions.items own,
-      as_many,
-      c.requires.few,
+    omega (arith, length-map threads.sessions.items own, as_many, c.requires.task.few)
+
+pub end_run-requires-clause-room : goal.end_run-requires-clause-room
+end_run-requires-clause-room g c κs within =
+    let readers = c.args.task.readers.items in
+    let left = left_of_both g.F.Source.Source.left in (
+      c.in_ok-room.ensures.items,
+      omega (
+        arith,
+        c.in-Ok.ensures.ok.streams.as_many_sources,
+        length-map readers (λ (reader : ReaderState (TwoSources _)). left reader.source),
+        c.in_ok-room.ensures.capacity,
+        c.len.ensures,
+      ),
     )
+
+pub end_run-requires-clause-alone : goal.end_run-requires-clause-alone
+end_run-requires-clause-alone g c κs within =
+    let readers = c.args.task.readers.items in
+    let left = left_of_both g.F.Source.Source.left in
+    elim c.requires.alone [
+      | inl none ↦ inl none
+      | inr one ↦ inr (omega (
+        arith,
+        c.in-Ok.ensures.ok.streams.as_many_sources,
+        length-map readers (λ (reader : ReaderState (TwoSources _)). left reader.source),
+        one,
+      ))
+    ]
 
 pub returns-clause-runs : goal.returns-clause-runs
 returns-clause-runs g c = λ given holds asked.
@@ -40,36 +59,19 @@ returns-clause-runs g c = λ given holds asked.
     let faults = g.F.Source.Source.faults in
     let written = g.F.Sink.Sink.written in
     let failures = g.F.Sink.Sink.faults in
-    let own : Vec AnsweredValue → List AnsweredValue = λ session. session.items in
     let threads = c.in-Ok.outcome in
-    let held = c.in-Ok.ensures.ok in
-    let replied = c.write_replies-replied.result in
-    let status = c.run_status-status.result in
-    let errors = c.args.errors.now in
-    let errors' = c.tell_end.new.errors in
-    let failed = failed_sinks (is_write threads.why) (is_failed replied) in
-    let failed_are : c.failed_sinks-failed.result.now ≡ failed =
-    c.failed_sinks-failed.ensures ∙ ap₂ failed_sinks c.is_write.ensures c.is_failed.ensures in
-    let wrote = subst (λ (ss : List (Vec AnsweredValue)). WritesReplies written failures
-    (replies (texts_of (map own ss))) c.args.replies c.write_replies-replied.new.sink replied)
-    c.deref.ensures.value c.write_replies-replied.ensures in
-    let short = c.is_short_of_memory-short_of_memory.ensures in
-    let status_is = subst (λ (es : List StreamEnd). IsStatusOf es failed status) c.deref-2.ensures.value
-    (subst (λ (fs : List SinkName). IsStatusOf c.deref-2.result.now fs status) failed_are
-    c.run_status-status.ensures.status) in
-    let lines : run_lines c.deref-3.result.now c.failed_sinks-failed.result.now status
-    ≡ run_lines threads.ends.items failed status =
-    ap₂ (λ (es : List StreamEnd) (fs : List SinkName). run_lines es fs status) c.deref-3.ensures.value failed_are in
-    let told = subst (λ ls. TellsLines written failures ls errors errors') lines
-    (told_lines written failures (run_lines c.deref-3.result.now c.failed_sinks-failed.result.now status)
-    errors errors' c.tell_end.result c.tell_end.ensures) in
-    runs_streams (meanings left faults written failures) given holds c.args.task c.args.replies
-    c.write_replies-replied.new.sink
-    (sinks c.args.events.now c.run_threads.new.events errors errors') _ c.in_ok-circle.circle threads replied
-    status asked held wrote
-    (λ is. c.run_status-status.ensures.memory (short.sessions is))
-    (λ is. c.run_status-status.ensures.memory (short.engine is))
-    (λ is. c.run_status-status.ensures.memory (short.replies is))
-    c.args.standing.now.items c.put_back-left.new.standing.items c.put_back-left.result.items
-    c.in_ok-circle.ensures.members (sym c.put_back-left.ensures.stayed) (sym c.put_back-left.ensures.left)
-    c.fronts_hold_answers.ensures status_is told
+    let texts = c.write_own-written.result in
+    let own = c.write_own-written.new.own in
+    let report = c.end_run.result in
+    let ended = c.end_run.ensures in
+    let definitions : c.deref-2.result.now ≡ definitions_of c.args.task.queries.items =
+    c.deref-2.ensures.value ∙ (c.in_ok-definitions.ensures ∙ ap definitions_of c.deref.ensures.value) in
+    run_reported (meanings left faults written failures) given holds _ c.args.task c.args.own own
+    (sinks c.args.events.now c.run_threads.new.events c.args.errors.now c.end_run.new.errors) _ c.in_ok-circle.circle
+    threads report texts asked c.in-Ok.ensures.ok c.write_own-written.ensures.replied
+    (subst (λ (queries : List Query). SavesIfThere written failures (saved_text (saved queries threads.history.items))
+    threads.why (IsUnsaved threads.why threads.short_of_memory threads.ends.items texts.replied) c.args.own.save own.save
+    texts.saved) definitions c.write_own-written.ensures.saved)
+    ended.sources ended.from ended.memory ended.status ended.parts c.args.standing.now.items
+    c.end_run.new.standing.items report.left.items c.in_ok-circle.ensures.members (sym ended.objects.0)
+    (sym ended.objects.1) c.fronts_hold_answers.ensures ended.told

@@ -52,7 +52,7 @@ returns-in-Ok-run_begun-clause-done g c = λ done.
     (openings (g.F.Files.unread files) (g.F.Files.unread files') (g.F.Files.unmade files) (g.F.Files.unmade files'))
     (sinks c.args.events.now c.run_begun.new.events c.args.errors.now c.run_begun.new.errors)
     (outcome c.in-Ok-run_begun.report) c.in-Ok.ensures.ok (λ name. (used.openings name).quiet (λ none. none))
-    (λ name. (used.makings name).quiet (λ none. none)) c.in-Ok-begin.ensures.read done _
+    (λ name. (used.makings name).quiet (λ none. none)) c.in-Ok-begin.ensures.read c.in-Ok.ensures.taken done _
     (c.in-Ok-run_begun.ensures.runs holds c.in-Ok-begin.ensures.ready)
 
 pub returns-in-Ok-run_begun-clause-complete : goal.returns-in-Ok-run_begun-clause-complete

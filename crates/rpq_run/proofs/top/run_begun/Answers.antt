@@ -1,4 +1,4 @@
-use Rattle.std.proofs.Common.{◌≡◌, ◌∙◌, ℕ, true, false, List, Option, Some, None, inl, inr, ap, sym, subst}
+use Rattle.std.proofs.Common.{◌≡◌, ◌∙◌, ℕ, true, false, List, Option, Some, None, inl, inr, ap, sym, subst, refl, arith}
 use Rattle.std.specs.Prelude.{IfSome, MatchOption, is_some}
 use Rattle.std.proofs.lemmas.Result.{IfOk-weaker}
 use Rattle.query_file.specs.Compiled.{CompiledValue}
@@ -7,29 +7,95 @@ use Rattle.rpq_text.specs.Definitions.{definitions_of}
 use Rattle.run_start.proofs.Modes.{checks_or_generates, reads_streams}
 use Rattle.run_start.specs.declared.ready.Reads.{Reads}
 use Rattle.run_start.specs.Files.{HasQueries}
-use Rattle.run_start.specs.Ready.{IsReading}
+use Rattle.run_start.specs.Readers.{AreNew, contents_of, is_behind}
+use Rattle.run_start.specs.Ready.{IsReading, IsReady}
 use Rattle.rpq_run.proofs.Running.{leaves_objects}
-use Rattle.rpq_run.proofs.Tops.{match_false, match_none, match_some, match_true}
+use Rattle.rpq_run.proofs.Tops.{as_many_readers, match_false, match_none, match_some, match_true, none_named, one_named}
+use Rattle.rpq_run.proofs.Tops.{one_stream, task_is}
 use Rattle.rpq_run.proofs.top.run_begun.Goals as goal
 
 -- ---- the run over streams
 
-pub returns-in-Some-clause-runs : goal.returns-in-Some-clause-runs
-returns-in-Some-clause-runs g c = IfOk-weaker c.run_streams.result _ _ (λ report runs holds ready.
+pub returns-in-Alone-clause-runs : goal.returns-in-Alone-clause-runs
+returns-in-Alone-clause-runs g c = IfOk-weaker c.run_streams.result _ _ (λ report runs holds ready.
     let given = c.args.chosen.now in
+    let left = g.F.Source.Source.left in
     let reading = subst (λ (r : Option (Reads g.row.F-Source.Denot g.row.F-Sink.Denot)).
-    MatchOption r (reads_none given ≡ true) (IsReading g.F.Source.Source.left g.F.Source.Source.faults
+    MatchOption r (reads_none given ≡ true) (IsReading left g.F.Source.Source.faults
     g.F.Sink.Sink.written g.F.Sink.Sink.faults given holds c.args.ready.queries.items)) c.in-Some.is ready.reads in
     let reads = reads_streams given c.requires.settings reading.reads_some in
     match_false given.check _ _ reads.unchecked (match_none given.generate _ _ reads.none_made
     (runs given holds (record {
       has = ready.has;
-      contents = reading.contents;
+      contents = reading.contents ∙ ap (contents_of left) c.in-Alone.is;
+      behind = none_named given.from (sym (ap is_behind c.in-Alone.is) ∙ reading.behind);
       asked = reading.asked;
       limit = ap (λ (s : Settings). s.history) c.chosen.view_is;
-      sink = reading.sink;
-      unwritten = reading.unwritten;
+      sinks = reading.sinks;
     })))) c.run_streams.ensures.runs
+
+pub run_streams-requires-clause-task : goal.run_streams-requires-clause-task
+run_streams-requires-clause-task g c =
+    let given = c.args.chosen.now in
+    let left = g.F.Source.Source.left in
+    let faults = g.F.Source.Source.faults in
+    let holds = c.requires.ready.0 in
+    let ready = subst (λ (r : Option (Reads g.row.F-Source.Denot g.row.F-Sink.Denot)).
+    IsReady left faults g.F.Sink.Sink.written g.F.Sink.Sink.faults given holds c.args.ready.queries.items r) c.in-Some.is
+    c.requires.ready.1 in
+    λ κs within. task_is left faults g.F.Sink.Sink.written g.F.Sink.Sink.faults given holds c.in-Some.reads _
+    c.requires.settings (reads_streams given c.requires.settings ready.reads.reads_some) ready
+    (ready.reads.contents ∙ ap (contents_of left) c.in-Alone.is)
+    (subst (AreNew left faults) c.in-Alone.is ready.reads.fresh) refl
+    (ap (λ (s : Settings). s.workers) c.chosen.view_is) (ap (λ (s : Settings). s.history) c.chosen.view_is)
+
+pub returns-in-Behind-clause-runs : goal.returns-in-Behind-clause-runs
+returns-in-Behind-clause-runs g c = IfOk-weaker c.run_streams-in-Behind.result _ _ (λ report runs holds ready.
+    let given = c.args.chosen.now in
+    let left = g.F.Source.Source.left in
+    let reading = subst (λ (r : Option (Reads g.row.F-Source.Denot g.row.F-Sink.Denot)).
+    MatchOption r (reads_none given ≡ true) (IsReading left g.F.Source.Source.faults
+    g.F.Sink.Sink.written g.F.Sink.Sink.faults given holds c.args.ready.queries.items)) c.in-Some.is ready.reads in
+    let reads = reads_streams given c.requires.settings reading.reads_some in
+    match_false given.check _ _ reads.unchecked (match_none given.generate _ _ reads.none_made
+    (runs given holds (record {
+      has = ready.has;
+      contents = reading.contents ∙ ap (contents_of left) c.in-Behind.is;
+      behind = one_named given.from (sym (ap is_behind c.in-Behind.is) ∙ reading.behind);
+      asked = reading.asked;
+      limit = ap (λ (s : Settings). s.history) c.chosen.view_is;
+      sinks = reading.sinks;
+    })))) c.run_streams-in-Behind.ensures.runs
+
+pub run_streams-requires-in-Behind-clause-task : goal.run_streams-requires-in-Behind-clause-task
+run_streams-requires-in-Behind-clause-task g c =
+    let given = c.args.chosen.now in
+    let left = g.F.Source.Source.left in
+    let faults = g.F.Source.Source.faults in
+    let holds = c.requires.ready.0 in
+    let ready = subst (λ (r : Option (Reads g.row.F-Source.Denot g.row.F-Sink.Denot)).
+    IsReady left faults g.F.Sink.Sink.written g.F.Sink.Sink.faults given holds c.args.ready.queries.items r) c.in-Some.is
+    c.requires.ready.1 in
+    λ κs within. task_is left faults g.F.Sink.Sink.written g.F.Sink.Sink.faults given holds c.in-Some.reads _
+    c.requires.settings (reads_streams given c.requires.settings ready.reads.reads_some) ready
+    (ready.reads.contents ∙ ap (contents_of left) c.in-Behind.is)
+    (subst (AreNew left faults) c.in-Behind.is ready.reads.fresh) refl
+    (ap (λ (s : Settings). s.workers) c.chosen.view_is) (ap (λ (s : Settings). s.history) c.chosen.view_is)
+
+pub run_streams-requires-in-Behind-clause-alone : goal.run_streams-requires-in-Behind-clause-alone
+run_streams-requires-in-Behind-clause-alone g c =
+    let given = c.args.chosen.now in
+    let left = g.F.Source.Source.left in
+    let faults = g.F.Source.Source.faults in
+    let holds = c.requires.ready.0 in
+    let ready = subst (λ (r : Option (Reads g.row.F-Source.Denot g.row.F-Sink.Denot)).
+    IsReady left faults g.F.Sink.Sink.written g.F.Sink.Sink.faults given holds c.args.ready.queries.items r) c.in-Some.is
+    c.requires.ready.1 in
+    let reads = reads_streams given c.requires.settings ready.reads.reads_some in
+    let many = as_many_readers left given holds c.in-Behind.readers.items
+    (ready.reads.contents ∙ ap (contents_of left) c.in-Behind.is) in
+    let one = one_stream given (sym (ap is_behind c.in-Behind.is) ∙ ready.reads.behind) reads.begun in
+    λ κs within. inr (omega (arith, many, one))
 
 -- ---- the check
 

@@ -1,7 +1,7 @@
 use Rattle.std.proofs.Common.{◌≡◌, List, [], ◌∷◌, ◌++◌, ℕ, refl, ap, arith}
 use Rattle.std.specs.Prelude.{codes, decimal}
 use Rattle.std.proofs.lemmas.Fmt.{decimal_digit}
-use Rattle.rpq_text.specs.declared.ends.SinkName.TheVariants.{Events, Replies}
+use Rattle.rpq_text.specs.declared.ends.SinkName.TheVariants.{Events, Replies, Save}
 use Rattle.rpq_text.specs.ErrorLines.{asks_text, memory_line, run_lines}
 use Rattle.rpq_text.proofs.laws.line_examples.Goals as goal
 
@@ -12,10 +12,10 @@ unfolding asks_text
 asks_line line text digits is =
     ap (λ (d : List ℕ). codes "rpq: asks line " ++ (d ++ (codes ": " ++ (text ++ codes "\n")))) is
 
-both_writes : run_lines [] (Events ∷ Replies ∷ []) 6
-    ≡ codes "rpq: write failed: events\nrpq: write failed: replies\n"
+all_writes : run_lines [] (Events ∷ Replies ∷ Save ∷ []) 6
+    ≡ codes "rpq: write failed: events\nrpq: write failed: replies\nrpq: write failed: save\n"
 unfolding run_lines memory_line
-both_writes = refl
+all_writes = refl
 
 pub returns : goal.returns
 returns c =
@@ -31,5 +31,7 @@ returns c =
       unknown = asks_line 2 (codes "unknown query") (50 ∷ []) two;
       replies = refl;
       stream = ap (λ (d : List ℕ). codes "rpq: read failed: stream " ++ d ++ codes "\n") two;
-      writes = both_writes;
+      from = refl;
+      save = refl;
+      writes = all_writes;
     }

@@ -59,4 +59,4 @@ returns-clause-ok g c =
     seen task begun.history is.terms journal.lines legal c.args.events.now served.events.now
     c.args.circle outcome passes c.into_entries.ensures begun.job.readers.items
     begun.job.sessions.items is.readers is.sessions c.serve-gathered.ensures.served knows
-    is.job.readers)
+    is.job.readers finished.sound.plain)

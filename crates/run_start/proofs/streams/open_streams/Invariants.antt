@@ -1,7 +1,6 @@
 use Rattle.std.proofs.Common.{◌≡◌, [], map, take, None}
-use Rattle.std.specs.List.{All}
-use Rattle.stream_tuples.specs.Progress.{IsNewReader}
-use Rattle.run_start.specs.Given.{whole_names}
+use Rattle.run_start.specs.Given.{first_names}
+use Rattle.run_start.specs.Readers.{AreNewReaders, lefts_of}
 use Rattle.run_start.specs.Steps.{UsesMore}
 use Rattle.run_start.proofs.streams.open_streams.Given as goal
 
@@ -10,8 +9,8 @@ abbrev pub invariant-loop-place : goal.invariant-loop-place
 invariant-loop-place g l = record {
   names : l.name-items ≡ l.chosen.streams;
   contents : map (g.F.Files.holds l.fn.files) (take l.place l.chosen.streams)
-      ≡ map (λ reader. g.F.Source.Source.left reader.source) l.readers.items;
-  fresh : All (IsNewReader g.F.Source.Source.left g.F.Source.Source.faults) l.readers.items;
+      ≡ lefts_of g.F.Source.Source.left l.readers.items;
+  fresh : AreNewReaders g.F.Source.Source.left g.F.Source.Source.faults l.readers.items;
   files : UsesMore g.F.Files.holds g.F.Files.opened g.F.Files.made g.F.Files.unread g.F.Files.unmade
-      l.chosen (whole_names l.chosen) (take l.place l.chosen.streams) [] None l.fn.files l.files;
+      l.chosen (first_names l.chosen) (take l.place l.chosen.streams) [] None l.fn.files l.files;
 }

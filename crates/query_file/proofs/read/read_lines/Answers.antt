@@ -11,7 +11,7 @@ use Rattle.query_file.specs.Takes.{defs, Takes}
 use Rattle.query_file.proofs.OneOutcome.{answered, one_outcome}
 use Rattle.query_file.proofs.Taking.{lines_first, turn, stop, end, no_end}
 use Rattle.query_file.proofs.Verdicts.{accepted_of}
-use Rattle.query_file.proofs.read.read_queries.Goals as goal
+use Rattle.query_file.proofs.read.read_lines.Goals as goal
 
 none_of : (list : List CompiledValue) → defs list ≡ [] → list ≡ []
 none_of [] e = refl
@@ -22,9 +22,9 @@ returns-in-Err-clause-fault c = λ other.
     let loop = c.loop-line in
     let both = c.in-Err.ensures.err other in
     let line = c.without_return.ensures.line in
-    stop c.args.bytes.now loop.rest.now c.in-Some.line.now c.in-Some.after.now (defs loop.queries.items) loop.count c.in-Err.kind loop.invariant.so_far
+    stop c.args.inverses c.args.bytes.now loop.rest.now c.in-Some.line.now c.in-Some.after.now (defs loop.queries.items) loop.count c.in-Err.kind loop.invariant.so_far
     c.in-Some.ensures.first (subst IsQueryLine line both.0)
-    (subst (λ (l : List ℕ). IsFirstFault (defs loop.queries.items) l c.in-Err.kind) line both.1)
+    (subst (λ (l : List ℕ). IsFirstFault c.args.inverses (defs loop.queries.items) l c.in-Err.kind) line both.1)
 
 pub loop-line-preserved : goal.loop-line-preserved
 loop-line-preserved c =
@@ -35,8 +35,8 @@ loop-line-preserved c =
     let shorter = c.in-Some.ensures.shorter in
     let counted = so_far.counted in
     record {
-      so_far = turn c.args.bytes.now loop.rest.now c.in-Some.line.now c.in-Some.after.now (defs loop.queries.items) (defs after) loop.count so_far.so_far
-          c.in-Some.ensures.first (subst (λ (l : List ℕ). Takes (defs loop.queries.items) l (defs after)) c.without_return.ensures.line taken.ok);
+      so_far = turn c.args.inverses c.args.bytes.now loop.rest.now c.in-Some.line.now c.in-Some.after.now (defs loop.queries.items) (defs after) loop.count so_far.so_far
+          c.in-Some.ensures.first (subst (λ (l : List ℕ). Takes c.args.inverses (defs loop.queries.items) l (defs after)) c.without_return.ensures.line taken.ok);
       numbered = omega (arith, ap length (lines_first loop.rest.now c.in-Some.line.now c.in-Some.after.now c.in-Some.ensures.first), so_far.numbered);
       counted = omega (arith, shorter, counted);
       few = taken.few so_far.few;
@@ -53,25 +53,25 @@ pub returns-then-is_empty-clause-fault : goal.returns-then-is_empty-clause-fault
 returns-then-is_empty-clause-fault c = λ other.
     let loop = c.loop-line in
     let none : loop.queries.items ≡ [] = nil_from_length loop.queries.items (grind (arith, nat_tests)) in
-    no_end c.args.bytes.now loop.rest.now (defs loop.queries.items) loop.count loop.invariant.so_far c.in_default.ensures.end (ap defs none)
+    no_end c.args.inverses c.args.bytes.now loop.rest.now (defs loop.queries.items) loop.count loop.invariant.so_far c.in_default.ensures.end (ap defs none)
 
 pub returns-clause-queries : goal.returns-clause-queries
 returns-clause-queries c =
     let loop = c.loop-line in
     let some : defs loop.queries.items ≢ [] = λ e. let short = ap length (none_of loop.queries.items e) in grind (arith, nat_tests) in
-    end c.args.bytes.now loop.rest.now (defs loop.queries.items) loop.count loop.invariant.so_far c.in_default.ensures.end some
+    end c.args.inverses c.args.bytes.now loop.rest.now (defs loop.queries.items) loop.count loop.invariant.so_far c.in_default.ensures.end some
 
 pub returns-in-Err-clause-exact : goal.returns-in-Err-clause-exact
 returns-in-Err-clause-exact c = λ outcome is.
-    answered c.args.bytes.now (fault_at (c.loop-line.count + 1) c.in-Err.kind) (returns-in-Err-clause-fault c) outcome is
+    answered c.args.inverses c.args.bytes.now (fault_at (c.loop-line.count + 1) c.in-Err.kind) (returns-in-Err-clause-fault c) outcome is
 
 pub returns-then-is_empty-clause-exact : goal.returns-then-is_empty-clause-exact
 returns-then-is_empty-clause-exact c = λ outcome is.
-    answered c.args.bytes.now (fault_at c.loop-line.count NoQuery) (returns-then-is_empty-clause-fault c) outcome is
+    answered c.args.inverses c.args.bytes.now (fault_at c.loop-line.count NoQuery) (returns-then-is_empty-clause-fault c) outcome is
 
 pub returns-clause-exact : goal.returns-clause-exact
 returns-clause-exact c = λ outcome is.
-    one_outcome c.args.bytes.now outcome (Ok (defs c.loop-line.queries.items)) is (returns-clause-queries c)
+    one_outcome c.args.inverses c.args.bytes.now outcome (Ok (defs c.loop-line.queries.items)) is (returns-clause-queries c)
 
 pub returns-clause-accepted : goal.returns-clause-accepted
 returns-clause-accepted c =

@@ -1,0 +1,195 @@
+-- What the opening of the sinks does to the files.
+use Rattle.std.proofs.Common.{◌≡◌, ◌≢◌, inl, inr, ◌⊎◌, ℕ, List, [], ◌∷◌, ◌++◌, Option, Some, None}
+use Rattle.std.proofs.Common.{refl, ap, sym, subst, ◌∙◌, append-nil, append_assoc, arith}
+use Rattle.std.specs.Prelude.{IfSome, IsSomeAnd, Contains, option_to_list}
+use Rattle.std.proofs.lemmas.List.{append_cancel_left}
+use Rattle.std.proofs.lemmas.List.Elements.{Contains-append_left, Contains-append_right}
+use Rattle.rpq_io.specs.Counts.{CountsFault}
+use Rattle.rpq_io.proofs.Counting.{counts_as}
+use Rattle.rpq_words.specs.Settings.{Settings}
+use Rattle.rpq_text.specs.declared.ends.Which.{Which}
+use Rattle.rpq_text.specs.declared.ends.Which.TheVariants.{Replies, Save}
+use Rattle.rpq_text.specs.declared.ends.StartFault.{StartFault}
+use Rattle.rpq_text.specs.declared.ends.StartFault.TheVariants.{Open, Memory}
+use Rattle.run_start.specs.Given.{file_names, sink_names}
+use Rattle.run_start.specs.Start.{AreMade, AreOpened, IsMakingOf, IsOpeningOf, sinks_before}
+use Rattle.run_start.specs.Steps.{AreMadeThen, AreNamesOfSink, AreOpenedBehind, OpensSink, UsesMore}
+
+-- why a sink isn't opened: its opening failed, or memory ran out
+abbrev pub IsSinkCause : Which → StartFault → Type 0
+IsSinkCause which fault = (fault ≡ Open which) ⊎ (fault ≡ Memory)
+
+-- the sink that is opened as this one has this name, if there is one, and follows these
+pub record IsSink (given : Settings) (which : Which) (before : List (List ℕ)) (name : Option (List ℕ))
+    : Type 0 where
+  pub behind : sinks_before given which ≡ before
+  pub front : (rest : List (List ℕ)) × (sink_names given ≡ before ++ (option_to_list name ++ rest))
+  pub making : (any : List ℕ) → name ≡ Some any → IsMakingOf given any (Open which)
+  pub named : (any : List ℕ) → IsMakingOf given any (Open which) → name ≡ Some any
+  pub none_read : (any : List ℕ) → IsOpeningOf given any (Open which) → ⊥
+  pub opened : AreOpened given (Some (Open which)) (file_names given)
+
+pub replies_sink : (given : Settings) → IsSink given Replies [] given.replies
+replies_sink given = record {
+  behind = refl;
+  front = (option_to_list given.save, refl);
+  making = λ any is. is;
+  named = λ any is. is;
+  none_read = λ any opening. opening;
+  opened = refl;
+}
+
+pub save_sink : (given : Settings) → IsSink given Save (option_to_list given.replies) given.save
+save_sink given = record {
+  behind = refl;
+  front = ([], ap (λ (ns : List (List ℕ)). option_to_list given.replies ++ ns) (sym (append-nil (option_to_list given.save))));
+  making = λ any is. is;
+  named = λ any is. is;
+  none_read = λ any opening. opening;
+  opened = refl;
+}
+
+-- the names that were opened to read are all
+opened_all : (given : Settings) (which : Which) (before : List (List ℕ)) (name : Option (List ℕ))
+    (start : Option StartFault) → IsSink given which before name → IfSome start (IsSinkCause which)
+    → AreOpenedBehind given (file_names given) [] start []
+opened_all given which before name None at cause = refl
+opened_all given which before name (Some fault) at (inl opening) =
+    subst (λ (f : StartFault). AreOpened given (Some f) (file_names given ++ [])) (sym opening)
+    (subst (λ (ns : List (List ℕ)). AreOpened given (Some (Open which)) ns) (sym (append-nil (file_names given)))
+    at.opened)
+opened_all given which before name (Some fault) at (inr memory) =
+    subst (λ (f : StartFault). AreOpened given (Some f) (file_names given ++ [])) (sym memory)
+    (record { rest = []; cut = sym (append-nil (file_names given)) ∙ sym (append-nil (file_names given ++ [])) })
+
+-- those that were opened to write are those of a run that doesn't begin for this
+made_before : (given : Settings) (which : Which) (before : List (List ℕ)) (name : Option (List ℕ))
+    (fault : StartFault) → IsSink given which before name → IsSinkCause which fault
+    → AreMade given (Some fault) before
+made_before given which before name fault at (inl opening) =
+    subst (λ (f : StartFault). AreMade given (Some f) before) (sym opening) (sym at.behind)
+made_before given which before name fault at (inr memory) =
+    subst (λ (f : StartFault). AreMade given (Some f) before) (sym memory)
+    (record { rest = option_to_list name ++ at.front.0; cut = at.front.1 })
+
+-- no opening to read failed
+none_opened : (given : Settings) (which : Which) (before : List (List ℕ)) (name : Option (List ℕ))
+    (fault : StartFault) → IsSink given which before name → IsSinkCause which fault → (any : List ℕ)
+    → IsOpeningOf given any fault → ⊥
+none_opened given which before name fault at (inl opening) any is =
+    at.none_read any (subst (λ (f : StartFault). IsOpeningOf given any f) opening is)
+none_opened given which before name fault at (inr memory) any is =
+    subst (λ (f : StartFault). IsOpeningOf given any f) memory is
+
+-- whose opening to write failed
+is_making : (given : Settings) (which : Which) (before : List (List ℕ)) (name : Option (List ℕ))
+    (fault : StartFault) (any : List ℕ) → IsSink given which before name → (fault ≡ Open which) × (name ≡ Some any)
+    → IsMakingOf given any fault
+is_making given which before name fault any at (opening, is) =
+    subst (λ (f : StartFault). IsMakingOf given any f) (sym opening) (at.making any is)
+
+making_is : (given : Settings) (which : Which) (before : List (List ℕ)) (name : Option (List ℕ))
+    (fault : StartFault) (any : List ℕ) → IsSink given which before name → IsSinkCause which fault
+    → IsMakingOf given any fault → (fault ≡ Open which) × (name ≡ Some any)
+making_is given which before name fault any at (inl opening) is =
+    (opening, at.named any (subst (λ (f : StartFault). IsMakingOf given any f) opening is))
+making_is given which before name fault any at (inr memory) is =
+    absurd (subst (λ (f : StartFault). IsMakingOf given any f) memory is)
+
+-- of lists that have nothing together each has nothing
+both_none : (first second : List (List ℕ)) → first ++ second ≡ [] → (first ≡ []) × (second ≡ [])
+both_none [] second is = (refl, is)
+both_none (name ∷ first) second is = absurd (cc is)
+
+-- a list that stays with something behind it has nothing there
+nothing_more : (list more : List (List ℕ)) → list ++ more ≡ list → more ≡ []
+nothing_more list more is = append_cancel_left list more [] (is ∙ sym (append-nil list))
+
+-- the name of the sink is one of those of the settings
+sink_in : (given : Settings) (which : Which) (before : List (List ℕ)) (name : Option (List ℕ)) (any : List ℕ)
+    → IsSink given which before name → name ≡ Some any → Contains (sink_names given) any
+sink_in given which before name any at is =
+    subst (λ (ns : List (List ℕ)). Contains ns any) (sym at.front.1)
+    (Contains-append_right before (option_to_list name ++ at.front.0) any
+    (Contains-append_left (option_to_list name) at.front.0 any
+    (subst (λ (o : Option (List ℕ)). Contains (option_to_list o) any) (sym is) (0, omega arith, refl))))
+
+-- nothing was opened
+pub no_step : {F : Type 0} {holds : F → List ℕ → Option (List ℕ)} {opened made : F → List (List ℕ)}
+    {unread unmade : F → List ℕ → ℕ} (given : Settings) (before : List (List ℕ)) (files : F)
+    → UsesMore holds opened made unread unmade given before [] [] None files files
+no_step {F} {holds} {opened} {made} {unread} {unmade} given before files = record {
+  opens = record { names = []; of_kind = refl; more = sym (append-nil (opened files)) };
+  makes = record { names = []; of_kind = refl; more = sym (append-nil (made files)) };
+  kept = λ name cause. refl;
+  openings = λ name. record { never_falls = omega arith; rose = λ is. absurd is; quiet = λ none. refl };
+  makings = λ name. record { never_falls = omega arith; rose = λ is. absurd is; quiet = λ none. refl };
+}
+
+-- one sink more was opened, or not, behind those before it
+pub uses_sink : {F : Type 0} {holds : F → List ℕ → Option (List ℕ)} {opened made : F → List (List ℕ)}
+    {unread unmade : F → List ℕ → ℕ} (given : Settings) (which : Which) (before : List (List ℕ))
+    (name : Option (List ℕ)) (start : Option StartFault) (old between new : F)
+    → IsSink given which before name → IfSome start (IsSinkCause which)
+    → UsesMore holds opened made unread unmade given (file_names given) [] before None old between
+    → OpensSink holds opened made unread unmade which name start between new
+    → UsesMore holds opened made unread unmade given (file_names given) [] (before ++ option_to_list name) start old new
+uses_sink {F} {holds} {opened} {made} {unread} {unmade} given which before name start old between new at cause first
+    second =
+    let grew : made between ≡ made old ++ before =
+    first.makes.more ∙ ap (λ (ns : List (List ℕ)). made old ++ ns) first.makes.of_kind in
+    record {
+      opens = record {
+        names = [];
+        of_kind = opened_all given which before name start at cause;
+        more = second.opened_stays
+            ∙ (first.opens.more ∙ ap (λ (ns : List (List ℕ)). opened old ++ ns) first.opens.of_kind);
+      };
+      makes = record {
+        names = before ++ second.makes.names;
+        of_kind = by start cause second.makes.names second.makes.of_kind;
+        more = second.makes.more ∙ (ap (λ (ns : List (List ℕ)). ns ++ second.makes.names) grew
+            ∙ append_assoc (made old) before second.makes.names);
+      };
+      kept = λ any stays. kept any grew stays;
+      openings = λ any. record {
+        never_falls = omega (arith, second.unread_stays any, (first.openings any).never_falls);
+        rose = λ is. absurd (no_opening start cause any is);
+        quiet = λ none. second.unread_stays any ∙ (first.openings any).quiet (λ none. none);
+      };
+      makings = λ any. subst (λ (count : ℕ). CountsFault (IsSomeAnd start (λ fault. IsMakingOf given any fault))
+          count (unmade new any)) ((first.makings any).quiet (λ none. none)) (making start cause any (second.makings any));
+    }
+  where
+    by : (s : Option StartFault) → IfSome s (IsSinkCause which) → (names : List (List ℕ))
+        → AreNamesOfSink name s names → AreMadeThen given (before ++ option_to_list name) s (before ++ names)
+    by None is names are = ap (λ (ns : List (List ℕ)). before ++ ns) are
+    by (Some fault) is names are = subst (λ (ns : List (List ℕ)). AreMade given (Some fault) ns)
+        (sym (ap (λ (ns : List (List ℕ)). before ++ ns) are ∙ append-nil before))
+        (made_before given which before name fault at is)
+
+    kept : (any : List ℕ) → made between ≡ made old ++ before
+        → (made new ≡ made old) ⊎ (Contains (sink_names given) any → ⊥) → holds new any ≡ holds old any
+    kept any grew (inl same) =
+        let none = both_none before second.makes.names (nothing_more (made old) (before ++ second.makes.names)
+        (sym (append_assoc (made old) before second.makes.names)
+        ∙ (ap (λ (ns : List (List ℕ)). ns ++ second.makes.names) (sym grew) ∙ (sym second.makes.more ∙ same)))) in
+        second.kept any (inl (second.makes.more ∙ (ap (λ (ns : List (List ℕ)). made between ++ ns) none.1
+        ∙ append-nil (made between))))
+        ∙ first.kept any (inl (grew ∙ (ap (λ (ns : List (List ℕ)). made old ++ ns) none.0 ∙ append-nil (made old))))
+    kept any grew (inr none) =
+        second.kept any (inr (λ is. none (sink_in given which before name any at is))) ∙ first.kept any (inr none)
+
+    no_opening : (s : Option StartFault) → IfSome s (IsSinkCause which) → (any : List ℕ)
+        → IsSomeAnd s (λ fault. IsOpeningOf given any fault) → ⊥
+    no_opening None is any opening = opening
+    no_opening (Some fault) is any opening = none_opened given which before name fault at is any opening
+
+    making : (s : Option StartFault) → IfSome s (IsSinkCause which) → (any : List ℕ)
+        → CountsFault (IsSomeAnd s (λ fault. (fault ≡ Open which) × (name ≡ Some any))) (unmade between any)
+        (unmade new any)
+        → CountsFault (IsSomeAnd s (λ fault. IsMakingOf given any fault)) (unmade between any) (unmade new any)
+    making None is any counts = counts
+    making (Some fault) is any counts = counts_as ((fault ≡ Open which) × (name ≡ Some any))
+        (IsMakingOf given any fault) (unmade between any) (unmade new any)
+        (is_making given which before name fault any at) (making_is given which before name fault any at is) counts

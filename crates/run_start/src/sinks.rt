@@ -1,0 +1,64 @@
+//! The sinks that are written beside the events are opened.
+
+ghost use Rattle.std.specs.Prelude.{◌≡◌, [], is_some, IfOk, IfErr, IfSome, IsSome};
+ghost use Rattle.rpq_io.specs.Files.{IsNewSink};
+ghost use Rattle.run_start.specs.Files.{AreUnderstoodFiles};
+ghost use Rattle.run_start.specs.Given.{file_names, sink_names};
+ghost use Rattle.run_start.specs.Ready.{AreNewSinks, fault_of};
+ghost use Rattle.run_start.specs.Steps.{IsRefusal, IsRefusalOfOpening, OpensSink, UsesMore};
+
+use crate::refusal::{Refusal, without_source};
+use rpq_io::{Files, OpenFault, Sink};
+use rpq_text::{StartFault, Which};
+use rpq_words::{Chosen, FileWord};
+
+/// The sinks that a run opens, and writes beside its events.
+#[derive(Drop)]
+pub struct OwnSinks<K: Sink> {
+    /// Where the replies go, where a file is named for them.
+    pub replies: Option<K>,
+    /// Where the saved window goes, where a file is named for it.
+    pub save: Option<K>,
+}
+
+/// New sinks for the replies and then for the saved window, as far as files are named for them.
+pub fn open_sinks<F: Files>(
+    files: &mut F,
+    chosen: &Chosen,
+) -> Result<OwnSinks<F::Sink>, Refusal<F::Source>>
+    requires { AreUnderstoodFiles chosen.now (F.holds files.old) }
+    ensures sinks { IfOk result (AreNewSinks F.Sink.written F.Sink.faults chosen.now) }
+    ensures refused { IfErr result
+        (IsRefusal F.Source.left F.Source.faults chosen.now (F.holds files.old)) }
+    ensures files { UsesMore F.holds F.opened F.made F.unread F.unmade chosen.now
+        (file_names chosen.now) [] (sink_names chosen.now) (fault_of result)
+        files.old files.new }
+{
+    let replies = open_sink(files, &chosen.replies, Which::Replies)?;
+    let save = open_sink(files, &chosen.save, Which::Save)?;
+    Ok(OwnSinks { replies, save })
+}
+
+/// A new sink for the file of this name, where there is one.
+fn open_sink<F: Files>(
+    files: &mut F,
+    name: &Option<FileWord>,
+    which: Which,
+) -> Result<Option<F::Sink>, Refusal<F::Source>>
+    ensures wanted { IfOk result (λ sink. is_some sink ≡ is_some name.now) }
+    ensures unwritten { IfOk result (λ sink.
+        IfSome sink (IsNewSink F.Sink.written F.Sink.faults)) }
+    ensures cause { IfErr result (IsRefusalOfOpening which) }
+    ensures named { IfErr result (λ refusal. IsSome name.now) }
+    ensures files { OpensSink F.holds F.opened F.made F.unread F.unmade which name.now
+        (fault_of result) files.old files.new }
+{
+    let Some(name) = name else {
+        return Ok(None);
+    };
+    match files.sink(name.as_str()) {
+        Ok(sink) => Ok(Some(sink)),
+        Err(OpenFault::Failed) => Err(without_source(StartFault::Open(which))),
+        Err(OpenFault::Memory) => Err(without_source(StartFault::Memory)),
+    }
+}
