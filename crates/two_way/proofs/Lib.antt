@@ -4,6 +4,7 @@ mod Examples
 mod Families
 mod Forwards
 mod NetDifference
+mod NetOfEach
 mod PlainWords
 mod Staying
 mod TwoWayEvents

@@ -11,7 +11,7 @@ use Rattle.two_way.proofs.Families.{one_family}
 use Rattle.two_way.proofs.NetDifference.{net_is_difference}
 
 -- one entry more, with its inverse if it has one
-doubled_more : (history : List Entry) (entry : Entry) (inverse : Option Entry) → inverse_entry entry ≡ inverse →
+pub doubled_more : (history : List Entry) (entry : Entry) (inverse : Option Entry) → inverse_entry entry ≡ inverse →
     (doubled history ++ entry ∷ []) ++ option_to_list inverse ≡ doubled (history ++ entry ∷ [])
 doubled_more history entry inverse is =
     append_assoc (doubled history) (entry ∷ []) (option_to_list inverse)

@@ -1,5 +1,5 @@
 -- What the definitions are meant to say, and what the calls are for, as laws.
-use Rattle.std.specs.Prelude.{◌≡◌, ℕ, ◌↔◌, ◌⊎◌, List, [], ◌∷◌, ◌++◌, All, Contains, Some, None}
+use Rattle.std.specs.Prelude.{◌≡◌, ℕ, ◌↔◌, ◌⊎◌, true, List, [], ◌∷◌, ◌++◌, All, Contains, Some, None}
 use Rattle.rpq_base.specs.Plain.{IsPlainLabel, IsPlain}
 use Rattle.rpq_base.specs.declared.data.Label.{Label}
 use Rattle.rpq_base.specs.declared.data.Edge.{Edge}
@@ -14,11 +14,11 @@ use Rattle.rpq_model.specs.Window.{WindowValue, edges_at}
 use Rattle.rpq_model.specs.Answers.{IsAnswer}
 use Rattle.rpq_model.specs.AnswerLaws.{query_for}
 use Rattle.rpq_model.specs.Query.{Query}
-use Rattle.rpq_model.specs.QueryEvents.{AreEventsUnder, AreEntryEvents}
+use Rattle.rpq_model.specs.QueryEvents.{AreEventsUnder, AreEntryEvents, AreAllEventsFrom}
 use Rattle.two_way.specs.Doubled.{inverse_edge, inverse_entry, doubled}
-use Rattle.two_way.specs.TwoWay.{IsTwoWayAnswer, AreTwoWayEvents}
+use Rattle.two_way.specs.TwoWay.{IsTwoWayAnswer, AreTwoWayEvents, AreAllWalkedEventsFrom}
 use Rattle.two_way.specs.Differences.{Family, AreDifference, AreAnswersUnder}
-use Rattle.two_way.specs.Net.{AreNet}
+use Rattle.two_way.specs.Net.{AreNet, AreAllNet}
 
 -- ---- what doubling does
 
@@ -84,3 +84,11 @@ TickIsTwoWay =
     inverse_entry entry ≡ None →
     AreEntryEvents queries (doubled history) entry events
     ↔ AreTwoWayEvents queries history entry events
+
+-- the events that an engine answers for entries and their inverses, netted entry by entry, are the
+-- two-way events of the entries
+abbrev pub AllNetAreTwoWay : Type 0
+AllNetAreTwoWay =
+    (queries : List Query) (before later : List Entry) (lists netted : List (List Event)) →
+    AreAllEventsFrom queries (doubled before) (doubled later) lists →
+    AreAllNet later lists netted → AreAllWalkedEventsFrom true queries before later netted

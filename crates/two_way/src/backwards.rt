@@ -1,12 +1,13 @@
 //! Entries of edges that are taken backwards.
 
-ghost use Rattle.std.specs.Prelude.{◌≡◌, ◌↔◌, ◌∷◌, IfOk, None};
+ghost use Rattle.std.specs.Prelude.{◌≡◌, ◌↔◌, ◌∷◌, ◌++◌, IfOk, OnOk, None};
 ghost use Rattle.std.specs.Option.{option_to_list};
-ghost use Rattle.rpq_base.specs.Plain.{IsPlain};
 ghost use Rattle.rpq_base.specs.declared.data.Act.TheVariants.{Tick};
-ghost use Rattle.two_way.specs.Doubled.{inverse_edge, inverse_act, inverse_entry, doubled_by};
+ghost use Rattle.two_way.specs.Doubled.{inverse_edge, inverse_act, inverse_entry};
+ghost use Rattle.two_way.specs.Doubled.{doubled_by, doubled};
 
 use rpq_base::{Act, Copied, Edge, Entry, Label, Memory, Tuple};
+use std::alloc::Global;
 
 /// The edge from the target, by the inverse label, to the source.
 fn inverse_edge(edge: &Edge) -> Result<Edge, Memory>
@@ -37,11 +38,10 @@ fn inverse_act(act: &Act) -> Result<Option<Act>, Memory>
 }
 
 /// The same entry of the edge taken backwards, or none for a tick: what stands behind the entry in
-/// a doubled history. The entry's label points forwards. The only error is [`Memory`].
+/// a doubled history. The only error is [`Memory`].
 ///
 /// Stream, time and own end stay; the three names of the edge are copied.
 pub fn inverse(entry: &Entry) -> Result<Option<Entry>, Memory>
-    requires { IsPlain entry.now }
     ensures inverse { IfOk result (λ inverse. inverse ≡ inverse_entry entry.now) }
     ensures tick { IfOk result (λ inverse. (inverse ≡ None) ↔ (entry.now.tuple.act ≡ Tick)) }
     ensures doubled { IfOk result
@@ -57,4 +57,27 @@ pub fn inverse(entry: &Entry) -> Result<Option<Entry>, Memory>
             act,
         },
     }))
+}
+
+/// The entries, each with its inverse behind it: what an engine is fed where queries take edges
+/// backwards. The only error is [`Memory`]. The entries are copied.
+pub fn doubled(alloc: Global, entries: &[Entry]) -> Result<Vec<Entry>, Memory>
+    ensures { IfOk result (λ both. both.items ≡ doubled entries.now) }
+{
+    let mut both = Vec::new(alloc);
+    for entry in entries {
+        push_both(&mut both, entry)?;
+    }
+    Ok(both)
+}
+
+/// Adds a copy of the entry, and its inverse where it has one.
+fn push_both(entries: &mut Vec<Entry>, entry: &Entry) -> Result<(), Memory>
+    ensures { OnOk result (entries.new.items ≡ entries.old.items ++ doubled_by entry.now) }
+{
+    entries.push(entry.copy()?)?;
+    if let Some(inverse) = inverse(entry)? {
+        entries.push(inverse)?;
+    }
+    Ok(())
 }

@@ -5,6 +5,7 @@ ghost use Rattle.two_way.specs.Examples.{TwoWayExamples};
 ghost use Rattle.two_way.specs.Laws.{EdgesAreSeenBothWays, OneWaySame};
 ghost use Rattle.two_way.specs.Laws.{PlainExpressionsHavePlainWords, NetIsDifference};
 ghost use Rattle.two_way.specs.Laws.{EventsAreDifferences, NetIsTwoWay, TickIsTwoWay};
+ghost use Rattle.two_way.specs.Laws.{AllNetAreTwoWay};
 
 use path_syntax::Language;
 use rpq_base::same_is_equal;
@@ -51,6 +52,14 @@ pub fn events_are_differences()
 pub fn net_is_two_way()
     ensures nets { NetIsTwoWay }
     ensures ticks { TickIsTwoWay }
+{
+    events_are_differences();
+}
+
+/// The events that an engine answers for a front of entries and their inverses, netted entry by
+/// entry, are the two-way events of the entries.
+pub fn all_net_are_two_way()
+    ensures { AllNetAreTwoWay }
 {
     events_are_differences();
 }

@@ -17,9 +17,9 @@ mod backwards;
 mod laws;
 mod netting;
 
-pub use backwards::inverse;
+pub use backwards::{doubled, inverse};
 pub use laws::{
-    edges_are_seen_both_ways, events_are_differences, net_is_difference, net_is_two_way,
-    one_way_same, plain_expressions_have_plain_words, two_way_examples,
+    all_net_are_two_way, edges_are_seen_both_ways, events_are_differences, net_is_difference,
+    net_is_two_way, one_way_same, plain_expressions_have_plain_words, two_way_examples,
 };
-pub use netting::net;
+pub use netting::{net, net_each};

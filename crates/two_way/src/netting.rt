@@ -1,12 +1,13 @@
 //! The events of two steps, one after the other, as those of one.
 
-ghost use Rattle.std.specs.Prelude.{◌≡◌, ◌↔◌, ◌⊎◌, Contains, IfOk, OnOk, true};
+ghost use Rattle.std.specs.Prelude.{◌≡◌, ◌↔◌, ◌⊎◌, All, Contains, IfOk, OnOk, true, length, map};
 ghost use Rattle.std.specs.List.Sorted.{IsStrictlySortedBy};
 ghost use Rattle.rpq_base.specs.declared.data.Event.{Event};
 ghost use Rattle.two_way.specs.Differences.{event_cmp};
-ghost use Rattle.two_way.specs.Net.{opposite, Stays, AreNet};
+ghost use Rattle.two_way.specs.Doubled.{doubled, doubled_by};
+ghost use Rattle.two_way.specs.Net.{opposite, Stays, AreNet, IsNetOf, AreAllNet};
 
-use rpq_base::{Copied, Event, Memory};
+use rpq_base::{Act, Copied, Entry, Event, Memory};
 use std::alloc::Global;
 use std::cmp::Ordering;
 
@@ -25,6 +26,51 @@ pub fn net(alloc: Global, first: &[Event], second: &[Event]) -> Result<Vec<Event
     add_staying(&mut events, second, first)?;
     put_in_order(&mut events);
     Ok(events)
+}
+
+/// The events of each of these entries, of the lists of events that the entries and their inverses
+/// bring, in the order of the doubled entries. Each list is sorted as [`net`] asks. The only error
+/// is [`Memory`].
+pub fn net_each(
+    alloc: Global,
+    entries: &[Entry],
+    lists: &[Vec<Event>],
+) -> Result<Vec<Vec<Event>>, Memory>
+    requires as_many { length lists.now ≡ length (doubled entries.now) }
+    requires sorted { All (λ own. IsStrictlySortedBy event_cmp own.items) lists.now }
+    ensures { IfOk result (λ netted. AreAllNet entries.now
+        (map (λ own. own.items) lists.now) (map (λ own. own.items) netted.items)) }
+{
+    let mut netted = Vec::new(alloc);
+    let mut left = lists;
+    for entry in entries {
+        let (own, later) = left.split_at(lists_of(entry));
+        netted.push(net_of(alloc, own)?)?;
+        left = later;
+    }
+    Ok(netted)
+}
+
+/// How many lists of events belong to the entry: its own, and that of its inverse where it has one.
+fn lists_of(entry: &Entry) -> usize
+    ensures { result ≡ length (doubled_by entry.now) }
+{
+    match entry.tuple.act {
+        Act::Insert { .. } | Act::Delete(_) => 2,
+        Act::Tick => 1,
+    }
+}
+
+/// The net of the lists of events of an entry. The only error is [`Memory`].
+fn net_of(alloc: Global, lists: &[Vec<Event>]) -> Result<Vec<Event>, Memory>
+    requires { All (λ own. IsStrictlySortedBy event_cmp own.items) lists.now }
+    ensures { IfOk result (λ events. IsNetOf (map (λ own. own.items) lists.now) events.items) }
+{
+    match lists {
+        [] => Ok(Vec::new(alloc)),
+        [only] => net(alloc, only, &[]),
+        [first, second, ..] => net(alloc, first, second),
+    }
 }
 
 /// Adds copies of the events that none of the others undoes.

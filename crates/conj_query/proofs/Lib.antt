@@ -1,0 +1,21 @@
+mod Losing
+mod Holding
+mod Terms
+mod Extending
+mod Closed
+mod Telling
+pub mod Ordering
+pub mod Changing
+pub mod Differing
+pub mod Finding
+pub mod Vertices
+pub mod Rowing
+pub mod Turning
+pub mod Reading
+pub mod ReadSound
+pub mod LineShape
+pub mod LineParts
+mod ByParts
+mod Histories
+mod Examples
+mod BindingExamples

@@ -1,0 +1,5 @@
+use Rattle.conj_query.proofs.ReadSound.{joins_are_sound}
+use Rattle.conj_query.proofs.laws.joins_are_sound.Goals as goal
+
+pub returns : goal.returns
+returns c = joins_are_sound

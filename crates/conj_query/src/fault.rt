@@ -1,0 +1,86 @@
+//! Why a joins file isn't taken.
+
+ghost use Rattle.std.specs.Prelude.{◌≡◌, Some};
+ghost use Rattle.conj_query.specs.declared.fault.JoinsKind.{JoinsKind};
+ghost use Rattle.conj_query.specs.FaultTexts.{joins_kind_text, joins_fault_text};
+
+use rpq_base::{Memory, Name};
+use std::alloc::{AllocError, AllocFailed};
+use std::error::Error;
+use std::fmt;
+
+/// What is wrong with a line of a joins file.
+#[derive(Debug, Drop)]
+pub enum JoinsKind {
+    /// The line isn't of the form `join NAME` and one to four atoms `Q X Y`, of which one at least
+    /// has a variable.
+    Shape,
+    /// An earlier join has this name.
+    Twice(Name),
+    /// As many joins as a file may have stand before.
+    TooMany,
+    /// No query has the name.
+    UnknownQuery,
+    /// A vertex, or a variable without its `?`, is no name.
+    BadName,
+    /// Memory ran out.
+    Memory,
+}
+
+/// The first line of a joins file that has a fault, counted from 1, and what is wrong with it.
+#[derive(Debug, Drop)]
+pub struct JoinsFault {
+    pub line: u64,
+    pub kind: JoinsKind,
+}
+
+impl From<Memory> for JoinsKind {
+    ghost from_gives = { λ _ kind. kind ≡ JoinsKind.Memory };
+
+    fn from(_: Memory) -> Self {
+        Self::Memory
+    }
+}
+
+impl From<AllocError> for JoinsKind {
+    ghost from_gives = { λ _ kind. kind ≡ JoinsKind.Memory };
+
+    fn from(_: AllocError) -> Self {
+        Self::Memory
+    }
+}
+
+impl<T: Drop> From<AllocFailed<T>> for JoinsKind {
+    ghost from_gives = { λ _ kind. kind ≡ JoinsKind.Memory };
+
+    fn from(_: AllocFailed<T>) -> Self {
+        Self::Memory
+    }
+}
+
+impl fmt::Display for JoinsKind {
+    ghost output = { λ kind. Some (joins_kind_text kind) };
+
+    fn fmt<W: fmt::Write>(&self, f: &mut fmt::Formatter<W>) -> fmt::Result {
+        match self {
+            JoinsKind::Shape => f.write_str("shape"),
+            JoinsKind::Twice(_) => f.write_str("name twice"),
+            JoinsKind::TooMany => f.write_str("too many"),
+            JoinsKind::UnknownQuery => f.write_str("unknown query"),
+            JoinsKind::BadName => f.write_str("bad name"),
+            JoinsKind::Memory => f.write_str("out of memory"),
+        }
+    }
+}
+
+impl fmt::Display for JoinsFault {
+    ghost output = { λ fault. Some (joins_fault_text fault) };
+
+    fn fmt<W: fmt::Write>(&self, f: &mut fmt::Formatter<W>) -> fmt::Result {
+        write!(f, "line {}: {}", self.line, self.kind)
+    }
+}
+
+impl Error for JoinsKind {}
+
+impl Error for JoinsFault {}

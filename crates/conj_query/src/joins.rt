@@ -1,0 +1,145 @@
+//! Conjunctions, with the pairs of each query.
+
+ghost use Rattle.std.specs.Prelude.{◌≡◌, ◌≤◌, ◌<◌, ◌↔◌, true, false, Err, length, [], All, IfOk};
+ghost use Rattle.std.specs.Prelude.{OnOk, OnErr};
+ghost use Rattle.conj_query.specs.declared.joins.JoinFault.{JoinFault};
+ghost use Rattle.conj_query.specs.Events.{AreJoinEvents};
+ghost use Rattle.conj_query.specs.Sound.{IsSound};
+ghost use Rattle.conj_query.specs.State.{family, ArePut, MayCome};
+
+use crate::change::change;
+use crate::data::JoinDef;
+use crate::event::{JoinEvent, put_in_order};
+use crate::found::add_found;
+use crate::pairs::PairSet;
+use crate::vertex_hash::VertexHash;
+use rpq_base::{Event, Memory};
+use std::alloc::Global;
+use std::marker::Model;
+use std::random::RandomSource;
+
+/// Why events aren't taken.
+#[derive(Clone, Copy, Debug, PartialEq, Eq)]
+pub enum JoinFault {
+    /// Memory ran out. The conjunctions are spent then.
+    Memory,
+    /// Memory ran out before.
+    Spent,
+}
+
+impl From<Memory> for JoinFault {
+    ghost from_gives = { λ _ fault. fault ≡ JoinFault.Memory };
+
+    fn from(_: Memory) -> Self {
+        Self::Memory
+    }
+}
+
+/// Conjunctions over the pairs of queries.
+#[derive(Drop)]
+pub struct Joins {
+    alloc: Global,
+    defs: Vec<JoinDef>,
+    sets: Vec<PairSet>,
+    spent: bool,
+}
+
+impl Model for Joins {
+    ghost use Rattle.std.specs.Prelude.{◌≤◌, length, All};
+    ghost use Rattle.conj_query.specs.State.{JoinsValue};
+    ghost use Rattle.conj_query.specs.Sound.{IsSound};
+
+    ghost Value = { JoinsValue };
+
+    ghost view = { λ joins. record {
+      joins = joins.defs.items;
+      pairs = joins.sets.items;
+      spent = joins.spent;
+    } };
+
+    ghost invariant = { λ joins. (length joins.defs.items ≤ 32)
+        × All (IsSound (length joins.sets.items)) joins.defs.items };
+}
+
+/// So many sets without pairs.
+fn no_pairs(alloc: Global, hash: VertexHash, queries: u32) -> Result<Vec<PairSet>, Memory>
+    ensures many { IfOk result (λ sets. length sets.items ≡ queries) }
+    ensures blank { IfOk result (λ sets. All (λ pairs. pairs ≡ []) sets.items) }
+{
+    let mut sets = Vec::new(alloc);
+    for query in 0..queries {
+        sets.push(PairSet::new(alloc, hash))?;
+    }
+    Ok(sets)
+}
+
+/// Changes the pairs by the events; what the conjunctions lose and gain.
+fn moved(
+    alloc: Global,
+    defs: &[JoinDef],
+    sets: &mut Vec<PairSet>,
+    events: &[Event],
+) -> Result<Vec<JoinEvent>, Memory>
+    requires few { length defs.now ≤ 32 }
+    requires sound { All (IsSound (length sets.old.items)) defs.now }
+    requires may { MayCome sets.old.items events.now }
+    ensures many { length sets.new.items ≡ length sets.old.items }
+    ensures put { OnOk result (ArePut sets.old.items sets.new.items events.now) }
+    ensures events { IfOk result (λ found. AreJoinEvents defs.now
+        (family sets.old.items) (family sets.new.items) found.items) }
+{
+    let mut found = Vec::new(alloc);
+    add_found(&mut found, alloc, sets, defs, false, events)?;
+    change(sets, events)?;
+    add_found(&mut found, alloc, sets, defs, true, events)?;
+    put_in_order(&mut found);
+    Ok(found)
+}
+
+impl Joins {
+    /// Conjunctions over so many queries, which have no pairs yet.
+    pub fn new<R: RandomSource>(
+        rt: &R,
+        alloc: Global,
+        defs: Vec<JoinDef>,
+        queries: u32,
+    ) -> Result<Joins, Memory>
+        requires few { length defs.items ≤ 32 }
+        requires sound { All (IsSound queries) defs.items }
+        ensures joins { IfOk result (λ joins. joins.joins ≡ defs.items) }
+        ensures many { IfOk result (λ joins. length joins.pairs ≡ queries) }
+        ensures blank { IfOk result (λ joins. All (λ pairs. pairs ≡ []) joins.pairs) }
+        ensures fresh { IfOk result (λ joins. joins.spent ≡ false) }
+    {
+        let sets = no_pairs(alloc, VertexHash::new(rt), queries)?;
+        Ok(Joins {
+            alloc,
+            defs,
+            sets,
+            spent: false,
+        })
+    }
+
+    /// Changes the pairs by the events, and tells what the conjunctions lose and gain: by
+    /// conjunction, what is lost before what is gained, then by binding. The faults come in the
+    /// order of [`JoinFault`].
+    pub fn apply(&mut self, events: &[Event]) -> Result<Vec<JoinEvent>, JoinFault>
+        requires { MayCome self.old.pairs events.now }
+        ensures events { IfOk result (λ found. AreJoinEvents self.old.joins
+            (family self.old.pairs) (family self.new.pairs) found.items) }
+        ensures put { OnOk result (ArePut self.old.pairs self.new.pairs events.now) }
+        ensures joins { self.new.joins ≡ self.old.joins }
+        ensures many { length self.new.pairs ≡ length self.old.pairs }
+        ensures cause { (result ≡ Err JoinFault.Spent) ↔ (self.old.spent ≡ true) }
+        ensures ok { OnOk result (self.new.spent ≡ false) }
+        ensures err { OnErr result (self.new.spent ≡ true) }
+    {
+        if self.spent {
+            return Err(JoinFault::Spent);
+        }
+        self.spent = true;
+        let found = moved(self.alloc, &self.defs, &mut self.sets, events)?;
+        self.spent = false;
+        Ok(found)
+    }
+}

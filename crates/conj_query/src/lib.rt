@@ -1,0 +1,55 @@
+//! Conjunctions of path queries, and the events of their bindings.
+//!
+//! A conjunction has atoms, each a query with a variable or a vertex at either end. A binding gives
+//! each variable a name, such that each atom's pair is an answer of its query. [`read_joins`] reads
+//! conjunctions from a file, exactly as `specs/JoinsFile` says. [`Joins`] keeps the pairs of each
+//! query; [`Joins::apply`] takes the events of an entry and answers which bindings are lost and
+//! which are gained, in order and each once. [`join_text`] and [`push_join_lines`] write them. The
+//! contract for the layer above: from one state to the next the events are exactly the difference
+//! of the bindings ([`joins_hold_bindings`] for a whole history). No run uses this yet.
+//!
+//! A binding names every variable, so it fixes the pair of each atom, and is lost or gained exactly
+//! where one of these pairs is ([`changes_are_touched`]). So nothing is counted: for each event and
+//! each atom of its query the search begins at the event's pair and takes the other atoms one by
+//! one, next always one with the fewest ends that aren't known yet. The pairs of a query are kept
+//! by source and by target, in maps whose hash has keys that a stranger who chooses the names can't
+//! foresee. An atom with both ends known is two look-ups; one with one end known is a look-up and
+//! as many steps as pairs are found. A change of a pair is four look-ups. So an event costs what it
+//! changes, and what partial bindings through its pair come to nothing; an atom that shares no
+//! variable with the others goes through all pairs of its query.
+#![tactic(auto)]
+
+mod atoms;
+mod binding;
+mod change;
+mod data;
+mod event;
+mod extension;
+mod fault;
+mod found;
+mod joins;
+mod laws;
+mod line;
+mod pairs;
+mod partial;
+mod plan;
+mod read;
+mod rows;
+mod text;
+mod through;
+mod touched;
+mod vertex;
+mod vertex_hash;
+mod vertex_set;
+
+pub use binding::Binding;
+pub use data::{JoinAtom, JoinDef, Term};
+pub use event::JoinEvent;
+pub use fault::{JoinsFault, JoinsKind};
+pub use joins::{JoinFault, Joins};
+pub use laws::{
+    binding_examples, bindings_hold, changes_are_touched, join_examples, join_line_by_parts,
+    joins_are_sound, joins_by_parts, joins_hold_bindings, text_examples, through_is_touched,
+};
+pub use read::read_joins;
+pub use text::{join_text, push_join_lines};

@@ -1,0 +1,88 @@
+//! Entries that an engine is fed, as they stand or with their inverses.
+
+ghost use Rattle.std.specs.Prelude.{◌≡◌, ◌+◌, ◌*◌, ◌≤◌, ◌^◌, List, length, map, IfOk, true};
+ghost use Rattle.rpq_base.specs.declared.data.Entry.{Entry as EntryTaken};
+ghost use Rattle.path_engine.specs.Engine.{StandsFor};
+ghost use Rattle.path_engine.specs.Feeding.{FeedsFront};
+ghost use Rattle.two_way.specs.Doubled.{doubled};
+ghost use Rattle.two_way.specs.TwoWay.{walked};
+ghost use Rattle.engine_feed.specs.Feeding.{FeedsEntries};
+
+use path_engine::Engine;
+use rpq_base::{Entry, Event, Memory};
+use rpq_io::{Context, Gate};
+use std::thread::Threads;
+use two_way::{all_net_are_two_way, doubled, events_are_differences, net_each};
+
+/// The events of each of these entries, by an engine whose queries may take edges backwards or not,
+/// and by at most this many workers, which pass the gate.
+///
+/// The only error is [`Memory`], after which the engine has to be rebuilt: it may have answered the
+/// entries or not, or be spent. Where edges may be taken backwards, the entries are copied, and it
+/// costs what twice as many entries cost an engine.
+pub fn feed_entries<R: Threads + Sync, G: Gate>(
+    engine: &mut Engine,
+    context: &Context<'_, R, G>,
+    two_way: bool,
+    entries: &[Entry],
+    workers: u32,
+) -> Result<Vec<Vec<Event>>, Memory>
+    requires stands { (history : List EntryTaken) × StandsFor engine.old (walked two_way history)
+        × (length history + length entries.now ≤ 2 ^ 29) }
+    requires some { 1 ≤ workers }
+    requires few { workers ≤ 64 }
+    ensures feeds { IfOk result (λ lists. FeedsEntries two_way engine.old entries.now engine.new
+        (map (λ own. own.items) lists.items)) }
+    ensures queries { engine.new.queries ≡ engine.old.queries }
+{
+    if two_way {
+        feed_both_ways(engine, context, entries, workers)
+    } else {
+        feed(engine, context, entries, workers)
+    }
+}
+
+/// The events of each of the entries, by an engine that is fed each and then its inverse. The only
+/// error is [`Memory`].
+fn feed_both_ways<R: Threads + Sync, G: Gate>(
+    engine: &mut Engine,
+    context: &Context<'_, R, G>,
+    entries: &[Entry],
+    workers: u32,
+) -> Result<Vec<Vec<Event>>, Memory>
+    requires stands { (history : List EntryTaken) × StandsFor engine.old (doubled history) }
+    requires short { engine.old.position + 2 * length entries.now ≤ 2 ^ 30 }
+    requires some { 1 ≤ workers }
+    requires few { workers ≤ 64 }
+    ensures feeds { IfOk result (λ lists. FeedsEntries true engine.old entries.now engine.new
+        (map (λ own. own.items) lists.items)) }
+    ensures queries { engine.new.queries ≡ engine.old.queries }
+{
+    // these are called for their clauses
+    events_are_differences();
+    all_net_are_two_way();
+    let both = doubled(context.alloc, entries)?;
+    let lists = feed(engine, context, &both, workers)?;
+    net_each(context.alloc, entries, &lists)
+}
+
+/// The events of each of the entries that the engine is fed. The only error is [`Memory`].
+fn feed<R: Threads + Sync, G: Gate>(
+    engine: &mut Engine,
+    context: &Context<'_, R, G>,
+    entries: &[Entry],
+    workers: u32,
+) -> Result<Vec<Vec<Event>>, Memory>
+    requires short { engine.old.position + length entries.now ≤ 2 ^ 30 }
+    requires some { 1 ≤ workers }
+    requires few { workers ≤ 64 }
+    ensures feeds { IfOk result (λ lists. FeedsFront engine.old entries.now engine.new
+        (map (λ own. own.items) lists.items)) }
+    ensures queries { engine.new.queries ≡ engine.old.queries }
+{
+    let fed = engine.feed_front(context.rt, entries, workers, context.gate);
+    match fed {
+        Ok(lists) => Ok(lists),
+        Err(_) => Err(Memory),
+    }
+}

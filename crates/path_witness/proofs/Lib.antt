@@ -1,0 +1,13 @@
+mod Cutting
+mod Enough
+mod Example
+mod Following
+mod Forgetting
+mod Keeping
+mod PathFinding
+mod PathTesting
+mod Places
+mod Raising
+mod Showing
+mod Simple
+mod Visits

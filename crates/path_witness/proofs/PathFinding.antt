@@ -1,0 +1,171 @@
+-- Live entries found by their positions, and the path that they are.
+use Rattle.std.proofs.Common.{◌≡◌, ℕ, ◌+◌, ◌<◌, ◌≤◌, zero, suc, List, [], ◌∷◌, ◌++◌, length, get_or, take, map, Option, Some, None, refl, sym, ap, subst, ◌∙◌, inl, inr, ⊎_elim, arith}
+use Rattle.std.specs.Prelude.{All, Contains, slice_get}
+use Rattle.std.proofs.lemmas.List.{take_all, take_more, map_push}
+use Rattle.std.proofs.lemmas.List.Elements.{All-cons, All-nil, All-head, All-tail, All-append, All-contains}
+use Rattle.std.proofs.lemmas.Option.{same_Some, slice_get-get_or}
+use Rattle.rpq_base.specs.declared.data.Edge.{Edge}
+use Rattle.rpq_base.specs.declared.data.Entry.{Entry}
+use Rattle.rpq_base.proofs.Members.{cons_members, none_in, next_given}
+use Rattle.rpq_model.specs.declared.live.Live.{Live}
+use Rattle.rpq_model.specs.Live.{placed_entry}
+use Rattle.rpq_model.specs.Window.{WindowValue, Placed, Inserts, inserted_edge, inserted_edges, live_entries}
+use Rattle.rpq_model.proofs.Places.{live_by_places, from_found, from_later}
+use Rattle.path_witness.specs.Found.{position_of}
+use Rattle.path_witness.specs.PathTests.{IsAt, IsPathAt, HasNoPathAt}
+use Rattle.path_witness.proofs.Enough.{same}
+
+-- ---- one entry
+
+-- none of the entries has the place
+abbrev pub HasNone : List Live → ℕ → Type 0
+HasNone live place = (each : Placed) → Contains (map placed_entry live) each → each.place ≡ place → ⊥
+
+pub none_at_first : (live : List Live) (place : ℕ) → HasNone (take 0 live) place
+none_at_first live place each member is = none_in each (subst (λ (some : List Live). Contains (map placed_entry some) each) (take_none live) member)
+  where
+    take_none : (some : List Live) → take 0 some ≡ []
+    take_none [] = refl
+    take_none (first ∷ some) = refl
+
+pub none_more : (live : List Live) (index : ℕ) (one : Live) (place : ℕ) → index < length live → one ≡ get_or live index one → (one.place ≡ place → ⊥) →
+    HasNone (take index live) place → HasNone (take (index + 1) live) place
+none_more live index one place below is differs none each member at = ⊎_elim
+    (λ before. none each before at)
+    (λ here. differs (ap (λ (some : Placed). some.place) here ∙ at))
+    ((next_given placed_entry live index one below is).cases each member)
+
+pub none_with_position : (live : List Live) (index place position : ℕ) → HasNone (take index live) place → length live ≤ index → position ≡ place + 1 →
+    (each : Placed) → IsAt (map placed_entry live) position each → ⊥
+none_with_position live index place position none all is each at =
+    none each (subst (λ (some : List Live). Contains (map placed_entry some) each) (sym (take_all index live all)) at.seen)
+    (omega (arith, is, at.position_is))
+
+-- an element gives one of what all give
+given : {X Y : Type 0} (give : X → Y) (elements : List X) (index : ℕ) (one : X) → slice_get elements index ≡ Some one → Contains (map give elements) (give one)
+given give [] index one there = cc
+given give (first ∷ elements) zero one there =
+    subst (λ each. Contains (map give (first ∷ elements)) (give each)) (same_Some first one there) ((cons_members (give first) (map give elements) (give first)).1 (inl refl))
+given give (first ∷ elements) (suc index) one there =
+    (cons_members (give first) (map give elements) (give one)).1 (inr (given give elements index one there))
+
+pub element_given : {X Y : Type 0} (give : X → Y) (elements : List X) (index : ℕ) (one : X) → index < length elements → one ≡ get_or elements index one →
+    Contains (map give elements) (give one)
+element_given give elements index one below is = given give elements index one (slice_get-get_or elements index one below ∙ ap Some (sym is))
+
+pub found_at : (live : List Live) (index : ℕ) (one : Live) (place position : ℕ) → index < length live → one ≡ get_or live index one → one.place ≡ place →
+    position ≡ place + 1 → IsAt (map placed_entry live) position (placed_entry one)
+found_at live index one place position below is at position_is = record {
+  seen = given placed_entry live index one (slice_get-get_or live index one below ∙ ap Some (sym is));
+  position_is = omega (arith, at, position_is);
+}
+
+-- ---- all of them
+
+-- an element that is there is the same whatever would stand in its place
+pub any_default : (elements : List ℕ) (index default other : ℕ) → index < length elements → get_or elements index default ≡ get_or elements index other
+any_default elements index default other below =
+    same_Some (get_or elements index default) (get_or elements index other)
+    (sym (slice_get-get_or elements index default below) ∙ slice_get-get_or elements index other below)
+
+pub path_at_first : (live : List Placed) (positions : List ℕ) (path : List Placed) → path ≡ [] → IsPathAt live (take 0 positions) path
+path_at_first live positions path none = subst (IsPathAt live (take 0 positions)) (sym none) (record {
+  seen = All-nil (Contains live);
+  positions_are = sym (take_none positions);
+})
+  where
+    take_none : (some : List ℕ) → take 0 some ≡ []
+    take_none [] = refl
+    take_none (first ∷ some) = refl
+
+pub path_more : (live : List Placed) (positions : List ℕ) (index position : ℕ) (path more : List Placed) (one : Placed) → index < length positions →
+    position ≡ get_or positions index position → IsAt live position one → more ≡ path ++ one ∷ [] → IsPathAt live (take index positions) path →
+    IsPathAt live (take (index + 1) positions) more
+path_more live positions index position path more one below is at pushed so_far =
+    subst (IsPathAt live (take (index + 1) positions)) (sym pushed) (record {
+      seen = All-append (Contains live) path (one ∷ []) so_far.seen (All-cons (Contains live) one [] at.seen (All-nil (Contains live)));
+      positions_are = map_push position_of path one
+          ∙ ((λ i. so_far.positions_are i ++ at.position_is i ∷ [])
+          ∙ (ap (λ (each : ℕ). take index positions ++ each ∷ []) is ∙ sym (take_more positions index position below)));
+    })
+
+pub all_found : (live : List Placed) (positions : List ℕ) (index : ℕ) (path : List Placed) → length positions ≤ index → IsPathAt live (take index positions) path →
+    IsPathAt live positions path
+all_found live positions index path all so_far = subst (λ (some : List ℕ). IsPathAt live some path) (take_all index positions all) so_far
+
+-- where one is missing, there is no path
+has_position : (path : List Placed) (index position : ℕ) → slice_get (map position_of path) index ≡ Some position →
+    (each : Placed) × Contains path each × (position_of each ≡ position)
+has_position [] index position there = cc
+has_position (first ∷ path) zero position there = (first, (cons_members first path first).1 (inl refl), same_Some (position_of first) position there)
+has_position (first ∷ path) (suc index) position there =
+    let later = has_position path index position there in
+    (later.0, (cons_members first path later.0).1 (inr later.1), later.2)
+
+pub no_path : (live : List Placed) (positions : List ℕ) (index position : ℕ) → index < length positions → position ≡ get_or positions index position →
+    ((each : Placed) → IsAt live position each → ⊥) → HasNoPathAt live positions
+no_path live positions index position below is none path at =
+    let there = slice_get-get_or positions index position below ∙ ap Some (sym is) in
+    let found = has_position path index position (ap (λ (some : List ℕ). slice_get some index) at.positions_are ∙ there) in
+    none found.0 (record { seen = All-contains (Contains live) path found.0 at.seen found.1; position_is = found.2 })
+
+-- ---- the positions tell the path
+
+-- a place has one live entry
+one_at_place : (window : WindowValue) (now : ℕ) (entries : List Entry) (first second : Placed) →
+    Contains (live_entries window now entries) first → Contains (live_entries window now entries) second → first.place ≡ second.place → first ≡ second
+one_at_place window now entries first second here there at =
+    let first_is = ((live_by_places same window now entries first).0 here).1.undeleted.there in
+    let second_is = ((live_by_places same window now entries second).0 there).1.undeleted.there in
+    let entry_is = same_Some first.entry second.entry (sym first_is ∙ (ap (slice_get entries) at ∙ second_is)) in
+    λ i. record { place = at i; entry = entry_is i }
+
+pub same_path : (window : WindowValue) (now : ℕ) (entries : List Entry) (path other : List Placed) →
+    All (Contains (live_entries window now entries)) path → All (Contains (live_entries window now entries)) other →
+    map position_of path ≡ map position_of other → path ≡ other
+same_path window now entries [] [] here there is = refl
+same_path window now entries [] (second ∷ other) here there is = absurd (none_some (position_of second) (map position_of other) is)
+  where
+    none_some : (first : ℕ) (rest : List ℕ) → [] ≡ first ∷ rest → ⊥
+    none_some first rest e = cc
+same_path window now entries (first ∷ path) [] here there is = absurd (some_none (position_of first) (map position_of path) is)
+  where
+    some_none : (first : ℕ) (rest : List ℕ) → first ∷ rest ≡ [] → ⊥
+    some_none first rest e = cc
+same_path window now entries (first ∷ path) (second ∷ other) here there is =
+    let live = live_entries window now entries in
+    let heads : position_of first ≡ position_of second = heads_are is in
+    let tails : map position_of path ≡ map position_of other = tails_are is in
+    let one = one_at_place window now entries first second (All-head (Contains live) first path here) (All-head (Contains live) second other there)
+    (omega (arith, heads)) in
+    let rest = same_path window now entries path other (All-tail (Contains live) first path here) (All-tail (Contains live) second other there) tails in
+    λ i. one i ∷ rest i
+  where
+    heads_are : {a b : ℕ} {here there : List ℕ} → a ∷ here ≡ b ∷ there → a ≡ b
+    heads_are e = cc
+
+    tails_are : {a b : ℕ} {here there : List ℕ} → a ∷ here ≡ b ∷ there → here ≡ there
+    tails_are e = cc
+
+-- ---- the edges of a path are among those of the window
+
+in_inserted : (live : List Placed) (each : Placed) (edge : Edge) → Contains live each → Inserts each.entry.tuple.act edge → Contains (inserted_edges live) edge
+in_inserted [] each edge member inserts = absurd (none_in each member)
+in_inserted (first ∷ live) each edge member inserts = ⊎_elim
+    (λ here.
+    from_found (inserted_edge first.entry.tuple.act) (inserted_edges live) edge
+    (ap (λ (some : Placed). inserted_edge some.entry.tuple.act) here ∙ inserts))
+    (λ later. from_later (inserted_edge first.entry.tuple.act) (inserted_edges live) edge (in_inserted live each edge later inserts))
+    ((cons_members first live each).0 member)
+
+pub edges_among : (path live : List Placed) → All (Contains live) path → All (Contains (inserted_edges live)) (inserted_edges path)
+edges_among [] live all = All-nil (Contains (inserted_edges live))
+edges_among (first ∷ path) live all =
+    with_first (inserted_edge first.entry.tuple.act) refl (edges_among path live (All-tail (Contains live) first path all))
+  where
+    with_first : (found : Option Edge) → inserted_edge first.entry.tuple.act ≡ found → All (Contains (inserted_edges live)) (inserted_edges path) →
+        All (Contains (inserted_edges live)) (inserted_edges (first ∷ path))
+    with_first None none rest = rw none rest
+    with_first (Some edge) some rest =
+        rw some (All-cons (Contains (inserted_edges live)) edge (inserted_edges path)
+        (in_inserted live first edge (All-head (Contains live) first path all) some) rest)

@@ -1,0 +1,10 @@
+pub mod Cuts
+pub mod Example
+pub mod Found
+pub mod Keeps
+pub mod Keys
+pub mod LastVisits
+pub mod Marks
+pub mod PathTests
+pub mod Shows
+pub mod Taking

@@ -1,0 +1,33 @@
+//! Paths that show an answer: why a pair is one, and until when.
+//!
+//! A path of entries in the window shows that a pair is an answer. Of all such paths, the one whose
+//! least deadline is greatest shows how long the answer lasts. This layer has what a program needs
+//! to write such paths and to check them; no program uses it yet.
+//!
+//! [`Marks`] tells, for each edge and each of some queries, the live entry that lasts longest, over
+//! a history that grows by one entry at a time: so a path of edges becomes a path of entries. One
+//! mark for each edge and query is enough ([`one_mark_is_enough`]), and edges that no window holds
+//! are forgotten.
+//!
+//! [`cut_loops`] takes the loops out of a path, as a query for simple paths wants it. Where the
+//! query's language has the property of containment, what is left has a word of it, and lasts as
+//! long ([`cut_keeps`]).
+//!
+//! [`is_shown`] decides whether what is shown is such a path and lasts as long as the answer does,
+//! by the definitions alone and from scratch ([`shown_example`]).
+#![tactic(auto)]
+
+mod edge_key;
+mod edge_marks;
+mod laws;
+mod loops;
+mod mark;
+mod marks;
+mod path_test;
+mod shown;
+
+pub use laws::{cut_keeps, one_mark_is_enough, shown_example};
+pub use loops::cut_loops;
+pub use mark::Mark;
+pub use marks::Marks;
+pub use shown::{ShownPath, is_shown};

@@ -1,0 +1,155 @@
+//! Paths that show an answer.
+
+ghost use Rattle.std.specs.Prelude.{◌≡◌, ◌↔◌, map, IfOk, IfSome, IfNone, IsTrue};
+ghost use Rattle.std.specs.List.{list_any};
+ghost use Rattle.rpq_model.specs.Ends.{IsUntil};
+ghost use Rattle.rpq_model.specs.Live.{placed_entry};
+ghost use Rattle.rpq_model.specs.Query.{path_query};
+ghost use Rattle.rpq_model.specs.Window.{Placed, inserted_edges};
+ghost use Rattle.path_witness.specs.PathTests.{edges_of, IsPathAt, IsAt, HasNoPathAt, is_row_of};
+ghost use Rattle.path_witness.specs.Shows.{IsLeastDeadline, Shows};
+
+use crate::mark::tuple_deadline;
+use crate::path_test::fits;
+use rpq_base::{Act, Edge, Entry, Memory, Pair};
+use rpq_model::{Ended, Live, QueryDef, Window, clock, live_entries, plain_rows};
+use std::alloc::Global;
+use std::marker::Model;
+
+/// A path that shows an answer: until when the answer lasts, and the positions of the path's
+/// entries in the history, in its order, from 1.
+#[derive(Debug, Drop)]
+pub struct ShownPath {
+    pub until: u64,
+    pub positions: Vec<u64>,
+}
+
+impl Model for ShownPath {
+    ghost use Rattle.path_witness.specs.Shows.{Shown};
+
+    ghost Value = { Shown };
+
+    ghost view = { λ shown. record { until = shown.until; positions = shown.positions.items } };
+}
+
+/// The live entry with this position.
+fn entry_at<'a>(live: &[Live<'a>], position: u64) -> Option<Live<'a>>
+    ensures some { IfSome result (λ found.
+        IsAt (map placed_entry live.now) position (placed_entry found)) }
+    ensures none { IfNone result ((each : Placed) →
+        IsAt (map placed_entry live.now) position each → ⊥) }
+{
+    let place = position.checked_sub(1)?;
+    for index in 0..live.len() {
+        let each = &live[index];
+        if each.place as u64 == place {
+            let Live { place, entry } = each;
+            return Some(Live {
+                place: *place,
+                entry,
+            });
+        }
+    }
+    None
+}
+
+/// The live entries with these positions, in their order, or none where one of them is missing.
+fn path_at<'a>(
+    alloc: Global,
+    live: &[Live<'a>],
+    positions: &[u64],
+) -> Result<Option<Vec<Live<'a>>>, Memory>
+    ensures some { IfOk result (λ found. IfSome found (λ path.
+        IsPathAt (map placed_entry live.now) positions.now (map placed_entry path.items))) }
+    ensures none { IfOk result (λ found. IfNone found
+        (HasNoPathAt (map placed_entry live.now) positions.now)) }
+{
+    let mut path = Vec::new(alloc);
+    for index in 0..positions.len() {
+        match entry_at(live, positions[index]) {
+            Some(each) => path.push(each)?,
+            None => return Ok(None),
+        }
+    }
+    Ok(Some(path))
+}
+
+/// The edges that live entries insert, in their order.
+fn edges_of<'a>(alloc: Global, path: &[Live<'a>]) -> Result<Vec<&'a Edge>, Memory>
+    ensures { IfOk result (λ edges.
+        edges_of edges.items ≡ inserted_edges (map placed_entry path.now)) }
+{
+    let mut edges = Vec::new(alloc);
+    for each in path {
+        let entry = each.entry;
+        if let Act::Insert { edge, .. } = &entry.tuple.act {
+            edges.push(edge)?;
+        }
+    }
+    Ok(edges)
+}
+
+/// Whether this is the least of the deadlines of the entries.
+fn is_least<'a>(window: Window, path: &[Live<'a>], until: u64) -> bool
+    ensures { IsTrue result ↔ IsLeastDeadline window (map placed_entry path.now) until }
+{
+    let mut met = false;
+    for each in path {
+        let entry = each.entry;
+        let deadline = tuple_deadline(window, &entry.tuple);
+        if deadline < until {
+            return false;
+        }
+        met |= deadline == until;
+    }
+    met
+}
+
+/// Whether one of the rows is that of the pair with this end.
+fn has_row(rows: &[Ended], pair: &Pair, until: u64) -> bool
+    ensures { result ≡ list_any (is_row_of pair.now until) rows.now }
+{
+    rows.iter()
+        .any(|row| row.pair == *pair && row.until == until)
+}
+
+/// Whether the pair is an answer until this time.
+fn ends_at(
+    alloc: Global,
+    query: &QueryDef,
+    entries: &[Entry],
+    pair: &Pair,
+    until: u64,
+) -> Result<bool, Memory>
+    ensures { IfOk result (λ yes.
+        IsTrue yes ↔ IsUntil (path_query query.now) entries.now pair.now until) }
+{
+    let rows = plain_rows(alloc, query, entries)?;
+    Ok(has_row(&rows, pair, until))
+}
+
+/// Whether what is shown is a path for the pair over the history of these entries, as `Shows` of
+/// `specs/` has it: its entries are in the query's window and form a path that the query takes, and
+/// its least deadline is the end of the answer. The only error is [`Memory`].
+///
+/// This is a check by the definitions alone, from scratch: it looks each position up among all live
+/// entries, compares each two vertices of a simple path, and costs what [`plain_rows`] costs.
+pub fn is_shown(
+    alloc: Global,
+    query: &QueryDef,
+    entries: &[Entry],
+    pair: &Pair,
+    shown: &ShownPath,
+) -> Result<bool, Memory>
+    ensures { IfOk result (λ yes. IsTrue yes ↔ Shows query.now entries.now pair.now shown.now) }
+{
+    let live = live_entries(alloc, query.window, clock(entries), entries)?;
+    let Some(path) = path_at(alloc, &live, &shown.positions)? else {
+        return Ok(false);
+    };
+    let edges = edges_of(alloc, &path)?;
+    let is_path = fits(alloc, query, pair, &edges)?;
+    let is_least = is_least(query.window, &path, shown.until);
+    let ends = ends_at(alloc, query, entries, pair, shown.until)?;
+    Ok(is_path & is_least & ends)
+}
