@@ -19,3 +19,4 @@ mod ByParts
 mod Histories
 mod Examples
 mod BindingExamples
+mod Leading

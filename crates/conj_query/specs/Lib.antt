@@ -18,3 +18,4 @@ pub mod Partial
 pub mod Touched
 pub mod Changed
 pub mod State
+pub mod Leading

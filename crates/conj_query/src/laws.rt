@@ -5,9 +5,12 @@ ghost use Rattle.conj_query.specs.ByParts.{JoinsByParts};
 ghost use Rattle.conj_query.specs.Examples.{JoinExamples, TextExamples};
 ghost use Rattle.conj_query.specs.FileLaws.{JoinsAreSound};
 ghost use Rattle.conj_query.specs.Histories.{JoinsHoldBindings};
+ghost use Rattle.conj_query.specs.Leading.{EventsLeadOn};
 ghost use Rattle.conj_query.specs.Laws.{ChangesAreTouched, BindingsHold};
 ghost use Rattle.conj_query.specs.Parts.{LineByParts};
 ghost use Rattle.conj_query.specs.Touched.{ThroughIsTouched};
+
+use two_way::events_are_differences;
 
 /// The bindings that are lost, or gained, are those that meet an atom by a pair that is.
 pub fn changes_are_touched()
@@ -30,6 +33,14 @@ pub fn through_is_touched()
 pub fn joins_hold_bindings()
     ensures { JoinsHoldBindings }
 {}
+
+/// The events of queries from one history to another lead from their answers over the one to those
+/// over the other: so an engine's events may be applied one entry after another.
+pub fn events_lead_on()
+    ensures { EventsLeadOn }
+{
+    events_are_differences();
+}
 
 /// Exactly which fields of a line are a conjunction, and which fault is told of others.
 pub fn join_line_by_parts()

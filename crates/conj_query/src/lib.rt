@@ -48,8 +48,9 @@ pub use event::JoinEvent;
 pub use fault::{JoinsFault, JoinsKind};
 pub use joins::{JoinFault, Joins};
 pub use laws::{
-    binding_examples, bindings_hold, changes_are_touched, join_examples, join_line_by_parts,
-    joins_are_sound, joins_by_parts, joins_hold_bindings, text_examples, through_is_touched,
+    binding_examples, bindings_hold, changes_are_touched, events_lead_on, join_examples,
+    join_line_by_parts, joins_are_sound, joins_by_parts, joins_hold_bindings, text_examples,
+    through_is_touched,
 };
 pub use read::read_joins;
 pub use text::{join_text, push_join_lines};
