@@ -14,13 +14,19 @@
 //!   `;` behind each: the position and the deadline with `@` between them, or `-`.
 //! - `shown QUERIES FROM TO UNTIL POSITIONS TUPLES`: `+` where the entries at these positions show
 //!   of the first query that the pair is an answer until then, else `-`.
+//! - `both QUERIES TUPLES`: what each tuple changes of the answers of the queries, whose labels may
+//!   be taken backwards, `;` behind each.
+//! - `bindings QUERY JOINS TUPLES`: what each tuple changes of the bindings of a joins file over one
+//!   query, as lines, `;` behind each.
 //! - `cut TUPLES`: the edges of the tuples without the loops of their path.
 //!
 //! `QUERIES` is a queries file. `TUPLES` are lines of a stream, and `POSITIONS` numbers, with `;`
 //! between them.
 #![tactic(auto)]
 
+mod bindings;
 mod expressions;
+mod feeds;
 mod joins;
 mod paths;
 mod queries;
@@ -30,9 +36,10 @@ use case_lines::{Fields, Output, answer_lines};
 use request::Request;
 use std::alloc::Global;
 use std::random::RandomSource;
+use std::thread::Threads;
 
 /// Answers one request.
-fn answer<R: RandomSource>(
+fn answer<R: RandomSource + Threads + Sync>(
     rt: &R,
     alloc: Global,
     out: &mut Output,
@@ -45,12 +52,14 @@ fn answer<R: RandomSource>(
         Request::Joins => joins::answer_joins(alloc, out, fields),
         Request::Marks => paths::answer_marks(rt, alloc, out, fields),
         Request::Shown => paths::answer_shown(alloc, out, fields),
+        Request::Both => feeds::answer_both(rt, alloc, out, fields),
+        Request::Bindings => bindings::answer_bindings(rt, alloc, out, fields),
         Request::Cut => paths::answer_cut(alloc, out, fields),
     }
 }
 
 /// Answers the request of this keyword, if there is one. Whether there is.
-fn answer_keyword<R: RandomSource>(
+fn answer_keyword<R: RandomSource + Threads + Sync>(
     rt: &R,
     alloc: Global,
     out: &mut Output,

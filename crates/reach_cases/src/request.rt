@@ -8,6 +8,8 @@ pub enum Request {
     Joins,
     Marks,
     Shown,
+    Both,
+    Bindings,
     Cut,
 }
 
@@ -20,6 +22,8 @@ impl Request {
             b"joins" => Some(Request::Joins),
             b"marks" => Some(Request::Marks),
             b"shown" => Some(Request::Shown),
+            b"both" => Some(Request::Both),
+            b"bindings" => Some(Request::Bindings),
             b"cut" => Some(Request::Cut),
             _ => None,
         }

@@ -1,0 +1,53 @@
+//! Engines that are fed entries and their inverses.
+
+ghost use Rattle.std.specs.Prelude.{[]};
+ghost use Rattle.path_engine.specs.Engine.{StandsFor};
+
+use anyhow::ensure;
+use case_lines::{Fields, Output, decoded, entries_of, put_events};
+use engine_feed::feed_entries;
+use path_engine::Engine;
+use query_file::read_two_way_queries;
+use rpq_base::Entry;
+use rpq_io::{Context, OpenGate};
+use std::alloc::Global;
+use std::random::RandomSource;
+use std::thread::Threads;
+
+/// The most tuples of a request.
+const MAX_TUPLES: usize = 1_000;
+
+/// What each tuple changes of the answers of some queries that may take edges backwards.
+pub fn answer_both<R: RandomSource + Threads + Sync>(
+    rt: &R,
+    alloc: Global,
+    out: &mut Output,
+    mut fields: Fields,
+) -> anyhow::Result<()> {
+    let queries = read_two_way_queries(alloc, &decoded(alloc, fields.next())?)?;
+    let mut engine = Engine::new(rt, alloc, queries)?;
+    let entries = entries_of(alloc, fields.rest())?;
+    put_feed(rt, alloc, out, &mut engine, &entries)
+}
+
+/// Feeds the entries to a new engine as one front, both ways, and puts what each changes.
+fn put_feed<R: Threads + Sync>(
+    rt: &R,
+    alloc: Global,
+    out: &mut Output,
+    engine: &mut Engine,
+    entries: &[Entry],
+) -> anyhow::Result<()>
+    requires { StandsFor engine.old [] }
+{
+    ensure!(entries.len() <= MAX_TUPLES, "too many tuples");
+    let context = Context {
+        rt,
+        alloc,
+        gate: &OpenGate,
+    };
+    for events in &feed_entries(engine, &context, true, entries, 2)? {
+        put_events(out, events)?;
+    }
+    Ok(())
+}
