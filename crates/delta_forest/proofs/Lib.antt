@@ -15,3 +15,4 @@ pub mod Unchanged
 pub mod Holding
 pub mod Chains
 pub mod Gathering
+pub mod BestPaths

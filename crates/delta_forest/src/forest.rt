@@ -1,9 +1,11 @@
 //! The forest.
 
-ghost use Rattle.std.specs.Prelude.{◌≡◌, ◌^◌, ◌<◌, ◌≤◌, [], true, false, IfOk, IsTrue, OnErr, OnOk, length};
+ghost use Rattle.std.specs.Prelude.{◌≡◌, ◌↔◌, ◌^◌, ◌<◌, ◌≤◌, [], true, false, length, None};
+ghost use Rattle.std.specs.Prelude.{IfOk, IfSome, IsTrue, OnErr, OnOk};
 ghost use Rattle.edge_store.specs.Edges.{IsEmpty};
 ghost use Rattle.delta_forest.specs.Forest.{IsIndexed, kept};
 ghost use Rattle.delta_forest.specs.Changes.{Applies, AreReachedFrom};
+ghost use Rattle.delta_forest.specs.Paths.{IsBestPath};
 ghost use Rattle.dfa_table.specs.DfaValue.{is_final};
 ghost use Rattle.delta_forest.specs.Candidates.{Adds};
 ghost use Rattle.source_tree.specs.Product.{AreFinals};
@@ -12,7 +14,7 @@ ghost use Rattle.delta_forest.specs.Settling.{IsNewState};
 use crate::advancing::advance;
 use crate::index::{Findings, Index, State};
 use dfa_table::Dfa;
-use edge_store::EdgeStore;
+use edge_store::{EdgeId, EdgeStore};
 use rpq_base::Memory;
 use rpq_io::{Context, Gate};
 use source_index::{Dues, Holders};
@@ -188,6 +190,22 @@ impl Forest {
         match self.state.index.sources.get(x) {
             Some(source) => source.value_of(v, s),
             None => None,
+        }
+    }
+
+    /// A path for what is kept, from its first edge to its last: it goes on from the root to the
+    /// vertex, leads the automaton from its start to the state, and the least of the values of its
+    /// edges is what is kept. None where nothing is kept. The only error is [`Memory`]. The parents
+    /// of the root's tree give the path, so this costs a look-up for each of its edges.
+    pub fn path(&self, x: u32, v: u32, s: u32) -> Result<Option<Vec<EdgeId>>, Memory>
+        requires { self.now.broken ≡ false }
+        ensures none { IfOk result (λ found. (found ≡ None) ↔ (kept self.now x v s ≡ None)) }
+        ensures path { IfOk result (λ found. IfSome found (λ path.
+            IsBestPath self.now x v s path.items)) }
+    {
+        match self.state.index.sources.get(x) {
+            Some(source) => source.path_to(v, s),
+            None => Ok(None),
         }
     }
 

@@ -2,12 +2,12 @@
 //!
 //! A [`Forest`] takes changes of its store ([`Forest::apply`]) and keeps for each source, vertex
 //! and state the best of the store: up to when some path from the source leads there
-//! ([`Forest::kept`]). The contract for the layer above: what is kept is the best, for every number
-//! of workers ([`kept_is_best`]); what a change doesn't touch keeps its place and its stamp; and
-//! the list of the ends that a change changed is exact. A change costs what it touches: it goes to
-//! the trees that have a node where the edge leaves or ends, and to those with a node whose time
-//! has come. Source: the Delta index of Pacaci, Bonifati and Özsu, SIGMOD 2020; that a node has the
-//! greatest deadline is this project's own rule.
+//! ([`Forest::kept`]), and by which path ([`Forest::path`]). The contract for the layer above: what
+//! is kept is the best, for every number of workers ([`kept_is_best`]); what a change doesn't touch
+//! keeps its place and its stamp; and the list of the ends that a change changed is exact. A change
+//! costs what it touches: it goes to the trees that have a node where the edge leaves or ends, and
+//! to those with a node whose time has come. Source: the Delta index of Pacaci, Bonifati and Özsu,
+//! SIGMOD 2020; that a node has the greatest deadline is this project's own rule.
 #![tactic(auto)]
 
 mod advancing;

@@ -5,14 +5,14 @@ use Rattle.rpq_base.specs.declared.data.Entry.{Entry}
 use Rattle.rpq_base.specs.declared.data.Pair.{Pair}
 use Rattle.dfa_table.specs.DfaValue.{DfaValue}
 use Rattle.rpq_model.specs.Path.{word_of}
-use Rattle.rpq_model.specs.Window.{clock}
+use Rattle.rpq_model.specs.Window.{WindowValue, clock}
 use Rattle.rpq_model.specs.Answers.{IsAnswer}
 use Rattle.rpq_model.specs.Query.{Query, path_query}
 use Rattle.rpq_model.proofs.Paths.{some_word}
-use Rattle.edge_store.specs.Edges.{value_of}
+use Rattle.edge_store.specs.Edges.{Edges, value_of}
 use Rattle.index_laws.specs.Store.{IsStoreOf}
 use Rattle.index_laws.specs.Numbered.{AreNumbersOf, IsByNumbers}
-use Rattle.index_laws.specs.Index.{IsStoreFor, TellsOfPair, IsIndexOf}
+use Rattle.index_laws.specs.Index.{HoldsStoreOf, IsStoreFor, TellsOfPair, IsIndexOf}
 use Rattle.index_laws.specs.LawsOfNumbers.{HaveSameBests}
 use Rattle.index_laws.specs.LawsOfIndexes.{AreBestsOf, TellsAnswers, IndexKeepsBests}
 use Rattle.index_laws.specs.LawsOfIndexes.{IndexTellsAnswers}
@@ -21,28 +21,30 @@ use Rattle.index_laws.proofs.Until.{to_way}
 use Rattle.index_laws.proofs.Finals.{answer_may, best_over_finals}
 use Rattle.index_laws.proofs.Numbers.{way_numbered, best_by_numbers}
 
+-- the values by numbers are those of any store of the history
+pub any_store : (window : WindowValue) (history : List Entry) (names : List (List ℕ))
+    (dfa : DfaValue) (edges : Edges) (store : Edge → Option ℕ) →
+    HoldsStoreOf window history names dfa edges → IsStoreOf window history store →
+    IsByNumbers names dfa store (value_of edges)
+any_store window history names dfa edges store holds store_is =
+    let numbers = holds.numbers in
+    let same = λ (edge : Edge).
+    histories_have_stores.one window history holds.store store holds.is store_is edge in
+    record {
+      same = λ edge id has. numbers.same edge id has ∙ same edge;
+      edges = numbers.edges;
+      numbers = λ edge value label there placed.
+          numbers.numbers edge value label (same edge ∙ there) placed;
+    }
+
 module _ (query : Query) (history : List Entry) (names : List (List ℕ)) (dfa : DfaValue)
     (kept : ℕ → ℕ → ℕ → Option ℕ) (is : IsIndexOf query history names dfa kept) where
-  -- the values by numbers are those of any store of the history
-  any_store : (store : Edge → Option ℕ) → IsStoreOf query.window history store →
-      IsByNumbers names dfa store (value_of is.edges)
-  any_store store store_is =
-      let numbers = is.holds.numbers in
-      let same = λ (edge : Edge).
-      histories_have_stores.one query.window history is.holds.store store is.holds.is store_is
-      edge in
-      record {
-        same = λ edge id has. numbers.same edge id has ∙ same edge;
-        edges = numbers.edges;
-        numbers = λ edge value label there placed.
-            numbers.numbers edge value label (same edge ∙ there) placed;
-      }
-
-  -- and its bests are those of that store
+  -- the bests by numbers are those of any store of the history
   same_bests : (store : Edge → Option ℕ) → IsStoreOf query.window history store →
       HaveSameBests names dfa store (value_of is.edges)
   same_bests store store_is =
-      best_by_numbers names dfa store (value_of is.edges) (any_store store store_is)
+      best_by_numbers names dfa store (value_of is.edges)
+      (any_store query.window history names dfa is.edges store is.holds store_is)
 
   pub bests_of : (store : Edge → Option ℕ) → IsStoreOf query.window history store →
       AreBestsOf names dfa store kept

@@ -12,3 +12,4 @@ mod Numbers
 mod ByNumbers
 mod Following
 mod Index
+mod Paths

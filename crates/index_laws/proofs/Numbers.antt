@@ -27,7 +27,7 @@ use Rattle.index_laws.proofs.Stores.{greatest_same}
 
 -- ---- what has a number
 
-one_name : (names : List (List ℕ)) (first second : List ℕ) (number : ℕ) →
+pub one_name : (names : List (List ℕ)) (first second : List ℕ) (number : ℕ) →
     number_of names first ≡ Some number → number_of names second ≡ Some number → first ≡ second
 one_name names first second number here there =
     let at = get_or names number [] in

@@ -6,3 +6,4 @@ pub mod LawsOfStores
 pub mod LawsOfBests
 pub mod LawsOfNumbers
 pub mod LawsOfIndexes
+pub mod LawsOfPaths

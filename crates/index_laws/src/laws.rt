@@ -5,6 +5,7 @@ ghost use Rattle.index_laws.specs.LawsOfStores.{HistoriesHaveStores, StoreSteps}
 ghost use Rattle.index_laws.specs.LawsOfBests.{AnswersHaveWays, BestIsUntil, AcceptedAnswersEnd};
 ghost use Rattle.index_laws.specs.LawsOfBests.{StoresHaveBests, BestOverFinals};
 ghost use Rattle.index_laws.specs.LawsOfNumbers.{BestByNumbers, ByNumbersSteps};
+ghost use Rattle.index_laws.specs.LawsOfPaths.{PathsByNumbers, PathsShowAnswers};
 ghost use Rattle.index_laws.specs.LawsOfIndexes.{StoresFollow, IndexKeepsBests, IndexTellsAnswers};
 
 use containment_laws::accepted_queries_have_answers;
@@ -88,4 +89,12 @@ pub fn index_keeps_bests()
 /// answer. Before and after an entry this gives the events of the entry.
 pub fn index_tells_answers()
     ensures { IndexTellsAnswers }
+{}
+
+/// A path by numbers is, edge by edge, a path for the names that have the numbers. Where it leads
+/// to a final state and its least value is the end of an answer, it shows this answer: its edges
+/// are in the window, and its word is in the language.
+pub fn paths_by_numbers()
+    ensures edges { PathsByNumbers }
+    ensures answers { PathsShowAnswers }
 {}

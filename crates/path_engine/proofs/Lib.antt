@@ -12,3 +12,4 @@ pub mod Still
 pub mod Feeding
 pub mod Fronts
 pub mod Anew
+pub mod BestPaths

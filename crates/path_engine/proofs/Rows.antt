@@ -277,7 +277,7 @@ module _ (mode : Mode) (names : List (List ℕ)) (apart : AreApart names) (root 
 -- ---- the row
 
 -- numbers that count differ where they have to
-numbers_apart : (mode : Mode) (root vertex : ℕ) → counts mode root vertex ≡ true →
+pub numbers_apart : (mode : Mode) (root vertex : ℕ) → counts mode root vertex ≡ true →
     mode ≡ Simple → root ≢ vertex
 numbers_apart Arbitrary root vertex count is same = absurd cc
 numbers_apart Simple root vertex count is same =

@@ -7,3 +7,4 @@ pub mod Answering
 pub mod Front
 pub mod Sound
 pub mod Showing
+pub mod Paths

@@ -1,10 +1,11 @@
 //! The numbers of an edge's vertices.
 
-ghost use Rattle.std.specs.Prelude.{◌≡◌, ◌+◌, ◌-◌, ◌*◌, ◌^◌, ◌<◌, ◌≤◌, length, All, None, Some};
+ghost use Rattle.std.specs.Prelude.{◌≡◌, ◌+◌, ◌-◌, ◌*◌, ◌^◌, ◌<◌, ◌≤◌, ℕ, length, All, None, Some};
 ghost use Rattle.std.specs.Prelude.{◌↔◌, IfOk, IfNone, IfSome, OnOk, false};
 ghost use Rattle.rpq_base.specs.declared.data.Entry.{Entry as EntryTaken};
 ghost use Rattle.dfa_table.specs.DfaValue.{DfaValue, place_of};
 ghost use Rattle.name_table.specs.Names.{KeepsNumbers, number_of};
+ghost use Rattle.index_laws.specs.Numbered.{AreNumbersOf};
 ghost use Rattle.path_engine.specs.Answering.{AreEndsFor, AreEndsOf};
 ghost use Rattle.path_engine.specs.Front.{AreAllEndsFor, AreAllFirstEnds, AreFirstEnds};
 ghost use Rattle.path_engine.specs.Keeping.{BringsNoName};
@@ -183,7 +184,17 @@ fn find_ends(names: &Names, edge: &Edge) -> Option<Ends>
     ensures some { IfSome result (AreEndsOf names.now edge.now) }
     ensures none { IfNone result ((ends : Ends) → AreEndsOf names.now edge.now ends → ⊥) }
 {
-    match (names.find(&edge.from), names.find(&edge.to)) {
+    ends_between(names, &edge.from, &edge.to)
+}
+
+/// The numbers of the two vertices, where both have one.
+pub(crate) fn ends_between(names: &Names, from: &Name, to: &Name) -> Option<Ends>
+    ensures some { IfSome result (λ ends.
+        AreNumbersOf names.now from.now to.now ends.from ends.to) }
+    ensures none { IfNone result ((root vertex : ℕ) →
+        AreNumbersOf names.now from.now to.now root vertex → ⊥) }
+{
+    match (names.find(from), names.find(to)) {
         (Some(from), Some(to)) => Some(Ends { from, to }),
         _ => None,
     }

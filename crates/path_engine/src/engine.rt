@@ -8,6 +8,7 @@ ghost use Rattle.rpq_model.specs.Query.{path_query};
 ghost use Rattle.answer_view.specs.View.{AreRowsOf, IsViewOf};
 ghost use Rattle.query_file.specs.Compiled.{CompiledValue};
 ghost use Rattle.path_engine.specs.Engine.{StandsFor, IsForestFor, definitions, forests};
+ghost use Rattle.path_engine.specs.Paths.{ShowsPair};
 ghost use Rattle.path_engine.specs.Feeding.{Feeds, FeedsFront, Spends};
 ghost use Rattle.path_engine.specs.declared.fault.FeedFault.{FeedFault as WhyNot};
 
@@ -16,6 +17,7 @@ use crate::ends::{ends_for, ends_for_all};
 use crate::fault::FeedFault;
 use crate::front::{answer_front, told_in};
 use crate::index::{Index, indexes_of};
+use crate::paths::path_for;
 use crate::rebuilding::feed_all;
 use crate::showing::rows_of_each;
 use answer_rows::Rows;
@@ -24,7 +26,7 @@ use delta_forest::{Forest, kept_is_best};
 use index_laws::{index_keeps_bests, stores_follow};
 use name_table::Names;
 use query_file::Compiled;
-use rpq_base::{Entry, Event, Memory};
+use rpq_base::{Edge, Entry, Event, Memory, Name};
 use rpq_io::{Context, Gate};
 use std::alloc::Global;
 use std::marker::Model;
@@ -414,6 +416,23 @@ impl Engine {
         kept_is_best();
         index_keeps_bests();
         &self.indexes[q as usize].forest
+    }
+
+    /// A path that shows the pair of these two vertices as an answer of the query with this number,
+    /// or none where the pair is no answer. Its edges are in the query's window, its word is in the
+    /// query's language, and the least of their deadlines is the end of the answer. It may visit a
+    /// vertex twice, also where the query takes simple paths. The only error is [`Memory`]. This
+    /// costs a look-up for each state of the automaton and for each edge of the path.
+    pub fn best_path(&self, q: u32, x: &Name, y: &Name) -> Result<Option<Vec<Edge>>, Memory>
+        requires unspent { self.now.spent ≡ false }
+        requires some { q < length self.now.queries }
+        ensures { IfOk result (λ found. (history : List EntryTaken) → StandsFor self.now history →
+            (query : CompiledValue) → slice_get self.now.queries q ≡ Some query →
+            ShowsPair query.def history (record { from = x.now; to = y.now }) found) }
+    {
+        let query = &self.queries[q as usize];
+        let index = &self.indexes[q as usize];
+        path_for(self.alloc, query, index, &self.names, x, y)
     }
 
     /// The names of the vertices, with their numbers.

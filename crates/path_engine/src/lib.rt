@@ -2,11 +2,12 @@
 //!
 //! An [`Engine`] stands for a history (`specs/Engine`): a new one for the empty history, and one
 //! that was fed an entry for the history with this entry behind. [`Engine::feed`] answers the
-//! events that an entry brings, [`Engine::feed_front`] those of some entries at once, and
-//! [`Engine::view`] all answers with their ends. The layer above rests on that contract alone, and
-//! never on how the answers are found. Where memory runs out, the engine is spent: it answers no
-//! entry until it is rebuilt. [`Engine::rebuild`] evaluates the entries of a history from nothing,
-//! whatever the engine stood for before.
+//! events that an entry brings, [`Engine::feed_front`] those of some entries at once,
+//! [`Engine::view`] all answers with their ends, and [`Engine::best_path`] a path that shows one of
+//! them. The layer above rests on that contract alone, and never on how the answers are found.
+//! Where memory runs out, the engine is spent: it answers no entry until it is rebuilt.
+//! [`Engine::rebuild`] evaluates the entries of a history from nothing, whatever the engine stood
+//! for before.
 //!
 //! Each query has an index: the clock of its window, and a forest of best paths over the edges that
 //! its window holds, by the numbers of the names. An entry first takes away what the clock reaches,
@@ -33,6 +34,7 @@ mod engine;
 mod fault;
 mod front;
 mod index;
+mod paths;
 mod rebuilding;
 mod showing;
 mod stale;

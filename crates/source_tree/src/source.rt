@@ -1,8 +1,9 @@
 //! The tree of a source.
 
-ghost use Rattle.std.specs.Prelude.{◌≡◌, ◌↔◌, [], IfOk, IfNone, IfSome, IsTrue, OnOk, OnErr, true, false};
-ghost use Rattle.delta_tree.specs.Nodes.{node_id, value_of, IsTree};
-ghost use Rattle.delta_tree.specs.Paths.{HangsBy};
+ghost use Rattle.std.specs.Prelude.{◌≡◌, ◌↔◌, [], None, true, false};
+ghost use Rattle.std.specs.Prelude.{IfOk, IfNone, IfSome, IsTrue, OnOk, OnErr};
+ghost use Rattle.delta_tree.specs.Nodes.{node_id, node_of, value_of, IsTree};
+ghost use Rattle.delta_tree.specs.Paths.{HangsBy, IsPathTo};
 ghost use Rattle.delta_tree.specs.Changes.{IsFloor};
 ghost use Rattle.tree_insert.specs.Trees.{IsLater};
 ghost use Rattle.source_tree.specs.Ends.{AreReached};
@@ -84,6 +85,18 @@ impl SourceTree {
         ensures { IsTrue result ↔ HangsBy self.now.tree edge (node_id v s) }
     {
         self.tree.hangs_by(v, s, edge)
+    }
+
+    /// The edges of the path from the source to the node of this vertex with this state, or none
+    /// where there is no such node. The only error is [`Memory`]. This costs a look-up for each
+    /// edge.
+    pub fn path_to(&self, v: u32, s: u32) -> Result<Option<Vec<EdgeId>>, Memory>
+        ensures none { IfOk result (λ found.
+            (found ≡ None) ↔ (node_of self.now.tree (node_id v s) ≡ None)) }
+        ensures path { IfOk result (λ found. IfSome found (λ path.
+            IsPathTo self.now.tree (node_id v s) path.items)) }
+    {
+        self.tree.path_to(v, s)
     }
 
     /// Whether there is no node.
