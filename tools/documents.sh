@@ -6,10 +6,12 @@
 # - Each command of README.md, docs/examples.md, docs/your-data.md, docs/formats.md and
 #   docs/scale.md, which is an indented line behind `$ `. What follows it, up to a blank line or the
 #   next command, is what it writes; a line `...` there is any further lines.
-# - The example of the README's first screen, and the files *-events.txt of examples/.
+# - The example of the README's first screen, and the files *-events.txt of examples/, with
+#   `--two-way` and, where the queries have no `^`, without it.
 # - Whether docs/architecture.md has each crate, and docs/proved.md each law.
-# - What `main` makes of words that aren't UTF-8, of too many words, of options with three streams
-#   and readers, and of a closed output: no contract says it.
+# - What `main` makes of words that aren't UTF-8, of too many words, of `--two-way` beside readers
+#   or a saved window, of options with three streams and readers, and of a closed output: no
+#   contract says it.
 # - That a file which a run reads isn't opened to write, what stands on the output where a signal
 #   ends the program, and that ten runs, each going on with the window of the one before, write what
 #   one run writes.
@@ -147,6 +149,9 @@ count $? "README.md: the command of the first screen gives another output"
 cd "$top/examples" || exit 1
 for events in *-events.txt; do
     kind="${events%-events.txt}"
+    cmp -s "$events" <(rpq --two-way "$kind-queries.txt" "$kind-stream.txt" 2>&1)
+    count $? "examples/$events: rpq --two-way writes another text"
+    grep -q '\^' "$kind-queries.txt" && continue
     cmp -s "$events" <(rpq "$kind-queries.txt" "$kind-stream.txt" 2>&1)
     count $? "examples/$events: rpq writes another text"
 done
@@ -204,6 +209,16 @@ ends_with 1 "rpq: words" "a further word that isn't UTF-8" rpq "$queries" "$stre
 ends_with 1 "rpq: words" "65 streams" rpq "$queries" "${many[@]}"
 ends_with 1 "rpq: words" "20,000 words" rpq "$queries" "${very_many[@]}"
 ends_with 1 "rpq: words" "an option behind the files" rpq "$queries" "$stream" --workers=65
+ends_with 2 "rpq: queries line 2: unexpected byte 7" "a \`^\` without --two-way" \
+    rpq device-queries.txt device-stream.txt
+ends_with 1 "rpq: words" "readers with --two-way" \
+    rpq --two-way --asks reach-asks.txt --replies "$place/unmade" reach-queries.txt "$stream"
+ends_with 1 "rpq: words" "a window saved with --two-way" \
+    rpq --two-way --save "$place/unmade" "$queries" "$stream"
+ends_with 1 "rpq: words" "a saved window with --two-way" \
+    rpq --two-way --from "$stream" "$queries" "$stream"
+[ ! -e "$place/unmade" ]
+count $? "words with --two-way that are refused: a file was made"
 ends_with 6 "rpq: write failed: events" "a closed output" to_closed "$queries" "$stream"
 ends_with 6 "rpq: write failed: events" "a closed output of a check" to_closed --check "$queries"
 ends_with 6 "rpq: write failed: events" "a full device" to_full "$queries" "$stream"

@@ -4,13 +4,13 @@
     hostile-runs.py PROGRAM [--runs 10000] [--seed 1]
 
 Each run takes a queries file, an asks file and one or two streams, of which some bytes are changed,
-left out, repeated or put in from elsewhere, or which are random altogether; sometimes it begins with
-a saved window, which is such bytes too, or it checks or generates instead. It is to end within 5
-seconds, by no signal, with a status that docs/formats.md has, and with lines on standard error of
-the forms that it has. A window that it saves is to be taken by a further run over no stream, which
-is to end with status 0 and save the same bytes. What runs ended with which status is printed, and
-the first runs that did otherwise, whose files stay. The last line is `N passed, M failed`; the
-status is 0 where none failed.
+left out, repeated or put in from elsewhere, or which are random altogether; sometimes it begins
+with a saved window, which is such bytes too, or it checks or generates instead, or it may take
+edges backwards. It is to end within 5 seconds, by no signal, with a status that docs/formats.md
+has, and with lines on standard error of the forms that it has. A window that it saves is to be
+taken by a further run over no stream, which is to end with status 0 and save the same bytes. What
+runs ended with which status is printed, and the first runs that did otherwise, whose files stay.
+The last line is `N passed, M failed`; the status is 0 where none failed.
 """
 
 import argparse
@@ -29,6 +29,7 @@ QUERIES = [
     b"query q window 100 slide 10 arbitrary: a/b\n",
     b"# two\nquery p window 20 slide 5 arbitrary: a+\nquery r window 50 slide 50 simple: (a|b)+\n",
     b"query t window 4611686018427387903 slide 1 arbitrary: \"x y\"?/a*|b\n",
+    b"query i window 100 slide 10 arbitrary: ^a/b\nquery k window 9 slide 4 simple: (a|^ a)+\n",
 ]
 ASKS = [
     b"session\nwait 1\ncount q\nsession\nanswers q\nfrom q x\npair q x z\nuntil q x z\nwait 9\n",
@@ -76,15 +77,20 @@ def mutated(chance, base):
     return bytes(text)
 
 
-def words_of(chance):
-    """The words of a run behind the program."""
+def words_of(chance, backwards):
+    """The words of a run behind the program, whose queries take edges backwards or don't."""
     way = chance.random()
+    words = ["--two-way"] if chance.random() < (0.8 if backwards else 0.2) else []
     if way < 0.1:
-        return ["--check", "q"]
+        return words + ["--check", "q"]
     if way < 0.15:
-        return ["--generate", str(chance.choice([0, 1, 3, 300])), "q"]
-    words = ["--workers", str(chance.choice([1, 2, 64, 65]))] if chance.random() < 0.3 else []
+        return words + ["--generate", str(chance.choice([0, 1, 3, 300])), "q"]
+    # Beside a word for edges taken backwards asks and saved windows are mostly left out.
+    plain = words and chance.random() < 0.9
+    words += ["--workers", str(chance.choice([1, 2, 64, 65]))] if chance.random() < 0.3 else []
     words += ["--history", str(chance.choice([1, 3, 1000]))] if chance.random() < 0.2 else []
+    if plain:
+        return words + ["q", "s"] + (["t"] if chance.random() < 0.4 else [])
     words += ["--asks", "a", "--replies", "r"] if chance.random() < 0.6 else []
     words += ["--save", "v"] if chance.random() < 0.4 else []
     if chance.random() < 0.3:
@@ -109,12 +115,14 @@ def one_run(program, seed, place):
     chance = random.Random(seed)
     folder = os.path.join(place, str(seed))
     os.mkdir(folder)
+    backwards = False
     # Mostly one file is hostile and those before it aren't, else no run would come to the last.
     for name, base, kept in FILES:
         text = chance.choice(base)
+        backwards = backwards or b"^" in text
         with open(os.path.join(folder, name), "wb") as out:
             out.write(text if chance.random() < kept else mutated(chance, text))
-    words = words_of(chance)
+    words = words_of(chance, backwards)
     try:
         done = subprocess.run([program, *words], cwd=folder, capture_output=True,
                               stdin=subprocess.DEVNULL, timeout=SECONDS, check=False)

@@ -11,6 +11,9 @@ against the one history that its own `@` lines spell:
   and a wait is answered as ended exactly where the history ended before its position;
 - the status and the lines on errors are those of the streams' ends.
 
+A third of the runs, which neither answer readers nor save a window, may take edges backwards: their
+answers are those over the edges of the window and the same edges turned round.
+
 Half of the streams are files, and half are named pipes that are written in pieces while the program
 runs. It isn't part of the gate. The last line is `N passed, M failed`.
 """
@@ -28,18 +31,21 @@ LABELS = ["a", "b", "c"]
 # languages whose simple paths may be asked for
 CONTAINED = [("plus", ("label", "a")), ("star", ("label", "b")), ("label", "c"),
              ("plus", ("or", ("label", "a"), ("label", "b")))]
+CONTAINED_BACKWARDS = [("plus", ("or", ("label", "a"), ("label", "^a"))), ("label", "^c"),
+                       ("then", ("star", ("label", "a")), ("star", ("label", "^b")))]
 
 
 # ---- expressions: trees, their written form, and the words that they match
 
-def random_expression(rng, depth):
+def random_expression(rng, depth, labels):
     kind = rng.choice(["label"] if depth == 0 else
                       ["label", "then", "then", "or", "star", "plus", "maybe"])
     if kind == "label":
-        return ("label", rng.choice(LABELS))
+        return ("label", rng.choice(labels))
     if kind in ("then", "or"):
-        return (kind, random_expression(rng, depth - 1), random_expression(rng, depth - 1))
-    return (kind, random_expression(rng, depth - 1))
+        return (kind, random_expression(rng, depth - 1, labels),
+                random_expression(rng, depth - 1, labels))
+    return (kind, random_expression(rng, depth - 1, labels))
 
 
 def written(tree):
@@ -141,6 +147,8 @@ def simple_pairs(after, last, edges):
 
 def pairs_of(query, live):
     edges = {edge for edge, _ in live}
+    if query["two_way"]:
+        edges |= {(target, "^" + label, source) for source, label, target in edges}
     find = simple_pairs if query["mode"] == "simple" else arbitrary_pairs
     return find(*steps_of(query["tree"]), edges)
 
@@ -215,18 +223,20 @@ def random_stream(rng, queries):
 
 
 def random_case(rng):
-    queries = []
+    two_way, queries = rng.random() < 0.33, []
+    labels = LABELS + ["^" + label for label in LABELS] if two_way else LABELS
+    contained = CONTAINED + CONTAINED_BACKWARDS if two_way else CONTAINED
     for place in range(rng.randrange(1, 4)):
         simple = rng.random() < 0.3
         queries.append({
             "name": "q%d" % place, "window": rng.randrange(1, 30), "slide": rng.randrange(1, 9),
-            "mode": "simple" if simple else "arbitrary",
-            "tree": rng.choice(CONTAINED) if simple else random_expression(rng, 3),
+            "mode": "simple" if simple else "arbitrary", "two_way": two_way,
+            "tree": rng.choice(contained) if simple else random_expression(rng, 3, labels),
         })
     streams = [random_stream(rng, queries) for _ in range(rng.randrange(1, 5))]
     total = sum(len(stream["entries"]) for stream in streams)
     sessions = []
-    for _ in range(rng.randrange(4)):
+    for _ in range(0 if two_way else rng.randrange(4)):
         asks = []
         for _ in range(rng.randrange(7)):
             query, pair = rng.choice(queries)["name"], (rng.choice(NAMES), rng.choice(NAMES))
@@ -235,7 +245,8 @@ def random_case(rng):
                 ("count", query), ("until", query) + pair,
                 ("wait", str(rng.randrange(total + 3))), ("wait", str(rng.randrange(total + 3)))]))
         sessions.append(asks)
-    window = random_stream(rng, queries) if len(streams) == 1 and rng.random() < 0.5 else None
+    begins = len(streams) == 1 and not two_way and rng.random() < 0.5
+    window = random_stream(rng, queries) if begins else None
     if window is not None and window["fault"] is None:
         # The one stream is the window and then its file.
         own = streams[0]
@@ -246,7 +257,8 @@ def random_case(rng):
         window = None
     limit = rng.randrange(1, total + 2) if rng.random() < 0.2 else None
     return {"queries": queries, "streams": streams, "sessions": sessions, "limit": limit,
-            "window": window, "saves": rng.random() < 0.5, "workers": rng.choice([1, 2, 4, 8])}
+            "window": window, "saves": not two_way and rng.random() < 0.5, "two_way": two_way,
+            "workers": rng.choice([1, 2, 4, 8])}
 
 
 # ---- a run
@@ -285,6 +297,8 @@ def run(program, case, folder, seed):
         words += ["--from", "window.txt"]
         with open(folder + "/window.txt", "w") as out:
             out.write("".join(line + "\n" for line in case["window"]["lines"]))
+    if case["two_way"]:
+        words.append("--two-way")
     words.append("queries.txt")
     feeders = []
     for number, stream in enumerate(case["streams"], 1):

@@ -1,5 +1,5 @@
 -- What an engine's front of entries makes of what was told.
-use Rattle.std.proofs.Common.{◌≡◌, ℕ, ◌+◌, List, [], ◌∷◌, ◌++◌, length, map, refl, sym, ap}
+use Rattle.std.proofs.Common.{◌≡◌, ℕ, ◌+◌, Bool, List, [], ◌∷◌, ◌++◌, length, map, refl, sym, ap}
 use Rattle.std.proofs.Common.{subst, ◌∙◌, append_assoc, length-append, arith}
 use Rattle.std.specs.Prelude.{⊤}
 use Rattle.std.specs.List.{All}
@@ -10,12 +10,12 @@ use Rattle.rpq_base.specs.declared.data.Entry.{Entry}
 use Rattle.rpq_base.specs.declared.data.Event.{Event}
 use Rattle.rpq_model.specs.Events.{AreEachFrom}
 use Rattle.rpq_model.specs.Query.{Query}
-use Rattle.rpq_model.specs.QueryEvents.{AreEventsUnder, AreAllEventsFrom}
 use Rattle.rpq_model.proofs.EachEntry.{each_as_many}
+use Rattle.two_way.specs.TwoWay.{walked, AreWalkedEvents, AreAllWalkedEventsFrom}
 use Rattle.containment_laws.specs.Accepted.{IsAccepted, AcceptedHaveEvents}
 use Rattle.query_file.specs.Compiled.{CompiledValue}
 use Rattle.path_engine.specs.Engine.{EngineValue, StandsFor, definitions}
-use Rattle.path_engine.specs.Feeding.{FeedsFront}
+use Rattle.engine_feed.specs.Feeding.{FeedsEntries}
 use Rattle.standing.specs.Circles.{CircleValue}
 use Rattle.standing.specs.Objects.{ObjectValue}
 use Rattle.standing.specs.Stood.{HaveStood}
@@ -46,26 +46,28 @@ each_append (next ∷ first) (one ∷ rest) step before later more are then =
     )
 
 -- accepted queries have the events of whatever entries follow a history
-have_more : AcceptedHaveEvents → (later : List Entry) (queries : List Query) →
+have_more : AcceptedHaveEvents → (later : List Entry) (two_way : Bool) (queries : List Query) →
     All IsAccepted queries → (before : List Entry) →
-    (found : List (List Event)) × AreAllEventsFrom queries before later found
-have_more have [] queries accepted before = ([], tt)
-have_more have (entry ∷ later) queries accepted before =
-    let own = have queries accepted 0 before (before ++ entry ∷ []) in
-    let rest = have_more have later queries accepted (before ++ entry ∷ []) in
+    (found : List (List Event)) × AreAllWalkedEventsFrom two_way queries before later found
+have_more have [] two_way queries accepted before = ([], tt)
+have_more have (entry ∷ later) two_way queries accepted before =
+    let own = have queries accepted 0 (walked two_way before)
+    (walked two_way (before ++ entry ∷ [])) in
+    let rest = have_more have later two_way queries accepted (before ++ entry ∷ []) in
     (own.0 ∷ rest.0, (own.1, rest.1))
 
 -- what was told of a history is the beginning of what is to be told of a longer one
-pub told_of_longer : AcceptedHaveEvents → (queries : List Query) → All IsAccepted queries →
-    (history later : List Entry) (objects : List ObjectValue) (totals : TotalsValue)
-    (circle : CircleValue) → HaveHeardAll queries history objects totals circle →
-    AreTold queries (history ++ later) objects ⊥ circle
-told_of_longer have queries accepted history later objects totals circle was =
-    let more = have_more have later queries accepted history in
+pub told_of_longer : AcceptedHaveEvents → (two_way : Bool) (queries : List Query) →
+    All IsAccepted queries → (history later : List Entry) (objects : List ObjectValue)
+    (totals : TotalsValue) (circle : CircleValue) →
+    HaveHeardAll two_way queries history objects totals circle →
+    AreTold two_way queries (history ++ later) objects ⊥ circle
+told_of_longer have two_way queries accepted history later objects totals circle was =
+    let more = have_more have later two_way queries accepted history in
     record {
       events = was.events ++ more.0;
-      are_events = each_append history was.events (AreEventsUnder 0 queries) [] later more.0
-          was.are_events more.1;
+      are_events = each_append history was.events (AreWalkedEvents two_way queries) [] later
+          more.0 was.are_events more.1;
       told = subst (λ (events : List Event). HaveStood objects events ⊥ circle.members
           circle.left) (sym (all-append was.events more.0))
           (stood_longer objects (all_of was.events) (all_of more.0) ⊤ circle.members circle.left
@@ -75,22 +77,23 @@ told_of_longer have queries accepted history later objects totals circle was =
 -- ---- a front was answered
 
 -- each entry has its list of events
-pub as_many_lists : (old new : EngineValue) (entries : List Entry) (found : List (Vec Event))
-    (history : List Entry) → StandsFor old history →
-    FeedsFront old entries new (lists_of found) → length found ≡ length entries
-as_many_lists old new entries found history stands fed =
+pub as_many_lists : (two_way : Bool) (old new : EngineValue) (entries : List Entry)
+    (found : List (Vec Event)) (history : List Entry) → StandsFor old (walked two_way history) →
+    FeedsEntries two_way old entries new (lists_of found) → length found ≡ length entries
+as_many_lists two_way old new entries found history stands fed =
     sym (length-map found (λ (own : Vec Event). own.items))
-    ∙ each_as_many entries history (AreEventsUnder 0 (definitions old)) (lists_of found)
+    ∙ each_as_many entries history (AreWalkedEvents two_way (definitions old)) (lists_of found)
     (fed.events history stands)
 
 module _ (old new : Evaluator) (entries : List Entry) (found : List (List Event))
-    (fed : FeedsFront old.engine entries new.engine found) (first last : CircleValue)
-    (history : List Entry) (ready : IsReady history old) where
-  are_events : AreAllEventsFrom (definitions old.engine) history entries found
+    (fed : FeedsEntries old.two_way old.engine entries new.engine found)
+    (first last : CircleValue) (history : List Entry) (ready : IsReady history old) where
+  are_events : AreAllWalkedEventsFrom old.two_way (definitions old.engine) history entries found
   are_events = fed.events history ready.stands
 
   -- its events were told, and counted
-  module _ (queries : new.engine.queries ≡ old.engine.queries) (workers : new.workers ≡ old.workers)
+  module _ (queries : new.engine.queries ≡ old.engine.queries)
+      (two_way : new.two_way ≡ old.two_way) (workers : new.workers ≡ old.workers)
       (tells : TellsOn (all_of found) ⊤ first last) (count : ℕ) (as_many : count ≡ length entries)
       (counts : HasCounted count (all_of found) old.totals new.totals) where
     same_definitions : definitions new.engine ≡ definitions old.engine
@@ -102,7 +105,8 @@ module _ (old new : Evaluator) (entries : List Entry) (found : List (List Event)
           same_definitions ready.accepted;
       some_workers = omega (arith, workers, ready.some_workers);
       few_workers = omega (arith, workers, ready.few_workers);
-      stands = fed.stands history ready.stands;
+      stands = subst (λ (taken : Bool). StandsFor new.engine (walked taken (history ++ entries)))
+          (sym two_way) (fed.stands history ready.stands);
       entries = omega (
         arith,
         counts.entries,
@@ -113,14 +117,16 @@ module _ (old new : Evaluator) (entries : List Entry) (found : List (List Event)
     }
 
     then_heard : (objects : List ObjectValue) →
-        HaveHeardAll (definitions old.engine) history objects old.totals first →
-        HaveHeardAll (definitions old.engine) (history ++ entries) objects new.totals last
+        HaveHeardAll old.two_way (definitions old.engine) history objects old.totals first →
+        HaveHeardAll old.two_way (definitions old.engine) (history ++ entries) objects new.totals
+        last
     then_heard objects was =
         let all = all-append was.events found in
         record {
           events = was.events ++ found;
-          are_events = each_append history was.events (AreEventsUnder 0 (definitions old.engine))
-              [] entries found was.are_events are_events;
+          are_events = each_append history was.events
+              (AreWalkedEvents old.two_way (definitions old.engine)) [] entries found
+              was.are_events are_events;
           told = subst (λ (events : List Event). HaveStood objects events ⊤ last.members
               last.left) (sym all) (tells objects (all_of was.events) was.told);
           added = counts.added ∙ (ap (λ (n : ℕ). n + additions (all_of found)) was.added
@@ -133,14 +139,21 @@ module _ (old new : Evaluator) (entries : List Entry) (found : List (List Event)
         }
 
     pub goes_on : GoesOn history (history ++ entries) old new first last
-    goes_on = record { queries = queries; ready = then_ready; heard = then_heard }
+    goes_on = record {
+      queries = queries;
+      two_way = two_way;
+      ready = then_ready;
+      heard = then_heard;
+    }
 
   -- a part of its events was told
-  pub stops : TellsOn (all_of found) ⊥ first last → Stops history (history ++ entries) old first last
+  pub stops : TellsOn (all_of found) ⊥ first last →
+      Stops history (history ++ entries) old first last
   stops tells objects was = record {
     events = was.events ++ found;
-    are_events = each_append history was.events (AreEventsUnder 0 (definitions old.engine)) []
-        entries found was.are_events are_events;
+    are_events = each_append history was.events
+        (AreWalkedEvents old.two_way (definitions old.engine)) [] entries found was.are_events
+        are_events;
     told = subst (λ (events : List Event). HaveStood objects events ⊥ last.members last.left)
         (sym (all-append was.events found)) (tells objects (all_of was.events) was.told);
   }
@@ -150,8 +163,8 @@ pub stops_before : AcceptedHaveEvents → (old : Evaluator) (history entries : L
     (circle : CircleValue) → IsReady history old →
     Stops history (history ++ entries) old circle circle
 stops_before have old history entries circle ready objects was =
-    told_of_longer have (definitions old.engine) ready.accepted history entries objects old.totals
-    circle was
+    told_of_longer have old.two_way (definitions old.engine) ready.accepted history entries objects
+    old.totals circle was
 
 -- ---- front after front
 
@@ -159,29 +172,38 @@ stops_before have old history entries circle ready objects was =
 pub goes_nowhere : (history : List Entry) (evaluator : Evaluator) (circle : CircleValue) →
     IsReady history evaluator → GoesOn history history evaluator evaluator circle circle
 goes_nowhere history evaluator circle ready =
-    record { queries = refl; ready = ready; heard = λ objects was. was }
+    record { queries = refl; two_way = refl; ready = ready; heard = λ objects was. was }
 
 module _ (before between : List Entry) (old mid : Evaluator) (first middle : CircleValue)
     (was : GoesOn before between old mid first middle) where
   same : definitions mid.engine ≡ definitions old.engine
   same = ap (map (λ (each : CompiledValue). each.def)) was.queries
 
+  -- what was heard so far, as the next part is to know it
+  heard_by : (objects : List ObjectValue) →
+      HaveHeardAll old.two_way (definitions old.engine) before objects old.totals first →
+      HaveHeardAll mid.two_way (definitions mid.engine) between objects mid.totals middle
+  heard_by objects heard =
+      subst (λ (taken : Bool). HaveHeardAll taken (definitions mid.engine) between objects
+      mid.totals middle) (sym was.two_way)
+      (subst (λ (queries : List Query). HaveHeardAll old.two_way queries between objects
+      mid.totals middle) (sym same) (was.heard objects heard))
+
   pub goes_further : (after : List Entry) (new : Evaluator) (last : CircleValue) →
       GoesOn between after mid new middle last → GoesOn before after old new first last
   goes_further after new last more = record {
     queries = more.queries ∙ was.queries;
+    two_way = more.two_way ∙ was.two_way;
     ready = more.ready;
-    heard = λ objects heard. subst (λ (queries : List Query).
-        HaveHeardAll queries after objects new.totals last) same
-        (more.heard objects (subst (λ (queries : List Query).
-        HaveHeardAll queries between objects mid.totals middle) (sym same)
-        (was.heard objects heard)));
+    heard = λ objects heard. subst (λ (taken : Bool). HaveHeardAll taken
+        (definitions old.engine) after objects new.totals last) was.two_way
+        (subst (λ (queries : List Query). HaveHeardAll mid.two_way queries after objects
+        new.totals last) same (more.heard objects (heard_by objects heard)));
   }
 
   pub stops_further : (after : List Entry) (last : CircleValue) →
       Stops between after mid middle last → Stops before after old first last
   stops_further after last stop objects heard =
-      subst (λ (queries : List Query). AreTold queries after objects ⊥ last) same
-      (stop objects (subst (λ (queries : List Query).
-      HaveHeardAll queries between objects mid.totals middle) (sym same)
-      (was.heard objects heard)))
+      subst (λ (taken : Bool). AreTold taken (definitions old.engine) after objects ⊥ last)
+      was.two_way (subst (λ (queries : List Query). AreTold mid.two_way queries after objects ⊥
+      last) same (stop objects (heard_by objects heard)))

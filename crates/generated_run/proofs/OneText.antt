@@ -1,9 +1,11 @@
 -- A history has one summary of what is said.
-use Rattle.std.proofs.Common.{◌≡◌, ℕ, List, length, map, refl, sym, ap, ap₂, ◌∙◌}
+use Rattle.std.proofs.Common.{◌≡◌, ℕ, List, [], length, map, refl, sym, ap, ap₂, ◌∙◌}
 use Rattle.rpq_base.specs.declared.data.Entry.{Entry}
 use Rattle.rpq_base.specs.declared.data.Event.{Event}
-use Rattle.rpq_model.specs.EventLaws.{EachHasOneList}
 use Rattle.rpq_model.specs.Query.{Query}
+use Rattle.rpq_model.proofs.AllEvents.{under_one}
+use Rattle.rpq_model.proofs.EachEntry.{each_are_one}
+use Rattle.two_way.specs.TwoWay.{walked, AreWalkedEvents}
 use Rattle.answer_rows.specs.Answers.{Answer}
 use Rattle.answer_view.specs.Laws.{ViewsAreOne}
 use Rattle.answer_view.specs.View.{ViewValue}
@@ -20,14 +22,18 @@ text_by queries entries said events answers =
 view_of : (queries : List Query) (history : List Entry) (answers : List (List Answer)) → ViewValue
 view_of queries history answers = record { position = length history; rows = answers }
 
-pub one_summary : EachHasOneList → ViewsAreOne → OneSummary
+pub one_summary : ViewsAreOne → OneSummary
 unfolding text_by view_of
-one_summary one_list one_view queries history said text other first second =
+one_summary one_view two_way queries history said text other first second =
     let events : first.events ≡ second.events =
-    (one_list queries history first.events first.are_events).one second.events second.are_events in
+    each_are_one history [] (AreWalkedEvents two_way queries) first.events second.events
+    (λ old new own others.
+    under_one queries 0 (walked two_way old) (walked two_way new) own others)
+    first.are_events second.are_events in
     let answers : first.answers ≡ second.answers =
-    ap (λ (view : ViewValue). view.rows) (one_view queries history
-    (view_of queries history first.answers) (view_of queries history second.answers)
+    ap (λ (view : ViewValue). view.rows) (one_view queries (walked two_way history)
+    (view_of queries (walked two_way history) first.answers)
+    (view_of queries (walked two_way history) second.answers)
     (record { position = refl; rows = first.are_answers })
     (record { position = refl; rows = second.are_answers })) in
     first.is

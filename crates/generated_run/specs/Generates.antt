@@ -1,9 +1,9 @@
 -- What a run over generated tuples is given, and what it does.
-use Rattle.std.specs.Prelude.{◌≡◌, ℕ, ◌≤◌, min, List, ◌++◌, length, map, All, IsSome, IfSome}
+use Rattle.std.specs.Prelude.{◌≡◌, ℕ, ◌≤◌, min, Bool, List, ◌++◌, length, map, All, IsSome, IfSome}
 use Rattle.rpq_base.specs.declared.data.Entry.{Entry}
 use Rattle.rpq_base.specs.declared.data.Event.{Event}
 use Rattle.rpq_model.specs.Query.{Query}
-use Rattle.rpq_model.specs.QueryEvents.{AreAllEvents}
+use Rattle.two_way.specs.TwoWay.{AreAllWalkedEvents}
 use Rattle.containment_laws.specs.Accepted.{IsAccepted}
 use Rattle.tuple_generator.specs.Generator.{generated_history}
 use Rattle.standing.specs.Circles.{Parts, CircleValue, as_seen}
@@ -27,11 +27,12 @@ pub record IsGeneration (task : Generation) : Type 0 where
   pub few_workers : task.workers ≤ 64
   pub count : task.count ≤ 1000000
 
--- the objects were told of the events of the history, and where `whole` holds, of all of them
-pub record AreTold (queries : List Query) (history : List Entry) (objects : List ObjectValue)
-    (whole : Type 0) (circle : CircleValue) : Type 0 where
+-- the objects were told of the events of the history, of queries that may take edges backwards or
+-- not, and where `whole` holds, of all of them
+pub record AreTold (two_way : Bool) (queries : List Query) (history : List Entry)
+    (objects : List ObjectValue) (whole : Type 0) (circle : CircleValue) : Type 0 where
   pub events : List (List Event)
-  pub are_events : AreAllEvents queries history events
+  pub are_events : AreAllWalkedEvents two_way queries history events
   pub told : HaveStood objects (all_of events) whole circle.members circle.left
 
 -- what each object says: first those that stayed, then those that left
@@ -50,7 +51,7 @@ pub record Generates {O : Type 0} (seen : O → ObjectValue) (task : Generation)
   pub wanted : made ≤ task.count
   pub within : made ≤ task.limit
   pub all : IsSome run.summary → made ≡ min task.count task.limit
-  pub told : AreTold (queries_of task) run.history.items (map seen circle.members)
+  pub told : AreTold task.two_way (queries_of task) run.history.items (map seen circle.members)
       (IsSome run.summary) (as_seen seen run.circle)
-  pub summary : IfSome run.summary (λ text.
-      IsSummary (queries_of task) run.history.items (said_by (as_seen seen run.circle)) text.items)
+  pub summary : IfSome run.summary (λ text. IsSummary task.two_way (queries_of task)
+      run.history.items (said_by (as_seen seen run.circle)) text.items)

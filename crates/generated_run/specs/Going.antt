@@ -1,9 +1,9 @@
 -- How a run goes on from front to front. Only private contracts cite this file.
-use Rattle.std.specs.Prelude.{◌≡◌, ◌≤◌, ⊤, List, ◌++◌, length, All}
+use Rattle.std.specs.Prelude.{◌≡◌, ◌≤◌, ⊤, Bool, List, ◌++◌, length, All}
 use Rattle.rpq_base.specs.declared.data.Entry.{Entry}
 use Rattle.rpq_base.specs.declared.data.Event.{Event}
 use Rattle.rpq_model.specs.Query.{Query}
-use Rattle.rpq_model.specs.QueryEvents.{AreAllEvents}
+use Rattle.two_way.specs.TwoWay.{walked, AreAllWalkedEvents}
 use Rattle.containment_laws.specs.Accepted.{IsAccepted}
 use Rattle.path_engine.specs.Engine.{StandsFor, definitions}
 use Rattle.standing.specs.Circles.{CircleValue}
@@ -22,20 +22,20 @@ TellsOn events whole old new =
     HaveStood objects before ⊤ old.members old.left →
     HaveStood objects (before ++ events) whole new.members new.left
 
--- the engine, of accepted queries, with from 1 to 64 workers, stands for the history, whose entries
--- it counted
+-- the engine, of accepted queries, with from 1 to 64 workers, stands for what the queries are
+-- evaluated over, of the history, whose entries it counted
 pub record IsReady (history : List Entry) (evaluator : Evaluator) : Type 0 where
   pub accepted : All IsAccepted (definitions evaluator.engine)
   pub some_workers : 1 ≤ evaluator.workers
   pub few_workers : evaluator.workers ≤ 64
-  pub stands : StandsFor evaluator.engine history
+  pub stands : StandsFor evaluator.engine (walked evaluator.two_way history)
   pub entries : evaluator.totals.entries ≡ length history
 
 -- the objects were told of all events of the history, and they are counted
-pub record HaveHeardAll (queries : List Query) (history : List Entry)
+pub record HaveHeardAll (two_way : Bool) (queries : List Query) (history : List Entry)
     (objects : List ObjectValue) (totals : TotalsValue) (circle : CircleValue) : Type 0 where
   pub events : List (List Event)
-  pub are_events : AreAllEvents queries history events
+  pub are_events : AreAllWalkedEvents two_way queries history events
   pub told : HaveStood objects (all_of events) ⊤ circle.members circle.left
   pub added : totals.added ≡ additions (all_of events)
   pub retracted : totals.retracted ≡ retractions (all_of events)
@@ -45,15 +45,16 @@ pub record HaveHeardAll (queries : List Query) (history : List Entry)
 pub record GoesOn (before after : List Entry) (old new : Evaluator) (first last : CircleValue)
     : Type 0 where
   pub queries : new.engine.queries ≡ old.engine.queries
+  pub two_way : new.two_way ≡ old.two_way
   pub ready : IsReady after new
   pub heard : (objects : List ObjectValue) →
-      HaveHeardAll (definitions old.engine) before objects old.totals first →
-      HaveHeardAll (definitions old.engine) after objects new.totals last
+      HaveHeardAll old.two_way (definitions old.engine) before objects old.totals first →
+      HaveHeardAll old.two_way (definitions old.engine) after objects new.totals last
 
 -- on the way to the other history it stops: the objects were told of the first events of that one,
 -- where they were of all before
 abbrev pub Stops : List Entry → List Entry → Evaluator → CircleValue → CircleValue → Type 0
 Stops before after old first last =
     (objects : List ObjectValue) →
-    HaveHeardAll (definitions old.engine) before objects old.totals first →
-    AreTold (definitions old.engine) after objects ⊥ last
+    HaveHeardAll old.two_way (definitions old.engine) before objects old.totals first →
+    AreTold old.two_way (definitions old.engine) after objects ⊥ last

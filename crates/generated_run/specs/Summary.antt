@@ -1,12 +1,12 @@
 -- The summary of a history: its entries, its events and the answers over it, in numbers, and what
 -- objects say.
-use Rattle.std.specs.Prelude.{◌≡◌, ℕ, not, List, [], ◌∷◌, ◌++◌, length, map, count_by, codes}
+use Rattle.std.specs.Prelude.{◌≡◌, ℕ, Bool, not, List, [], ◌∷◌, ◌++◌, length, map, count_by, codes}
 use Rattle.std.specs.Prelude.{decimal}
 use Rattle.std.specs.List.{AllZip, flat_map}
 use Rattle.rpq_base.specs.declared.data.Entry.{Entry}
 use Rattle.rpq_base.specs.declared.data.Event.{Event}
 use Rattle.rpq_model.specs.Query.{Query, path_query}
-use Rattle.rpq_model.specs.QueryEvents.{AreAllEvents}
+use Rattle.two_way.specs.TwoWay.{walked, AreAllWalkedEvents}
 use Rattle.answer_rows.specs.Answers.{Answer}
 use Rattle.answer_view.specs.View.{AreRowsOf}
 
@@ -54,12 +54,14 @@ summary_text entries added retracted queries counts said =
     total_lines entries added retracted ++ query_lines queries counts ++ said_lines said
 
 -- the text is the summary of the history of its entries, of the events that these bring, of the
--- answers of each query over them, and of what is said
-pub record IsSummary (queries : List Query) (history : List Entry) (said : List (List ℕ))
-    (text : List ℕ) : Type 0 where
+-- answers of each query over them, and of what is said; where edges may be taken backwards, the
+-- events and the answers are those over the entries with their inverses
+pub record IsSummary (two_way : Bool) (queries : List Query) (history : List Entry)
+    (said : List (List ℕ)) (text : List ℕ) : Type 0 where
   pub events : List (List Event)
-  pub are_events : AreAllEvents queries history events
+  pub are_events : AreAllWalkedEvents two_way queries history events
   pub answers : List (List Answer)
-  pub are_answers : AllZip (λ query own. AreRowsOf (path_query query) history own) queries answers
+  pub are_answers : AllZip (λ query own.
+      AreRowsOf (path_query query) (walked two_way history) own) queries answers
   pub is : text ≡ summary_text (length history) (additions (all_of events))
       (retractions (all_of events)) queries (map (λ own. length own) answers) said

@@ -10,6 +10,7 @@ ghost use Rattle.generated_run.specs.Totals.{no_totals};
 use crate::telling::tell_front;
 use crate::totals::Totals;
 use containment_laws::accepted_queries_have_events;
+use engine_feed::feed_entries;
 use path_engine::Engine;
 use query_file::Compiled;
 use rpq_base::{Entry, Memory};
@@ -22,26 +23,33 @@ use std::thread::Threads;
 #[derive(Drop)]
 pub struct Evaluator {
     pub engine: Engine,
+    /// Whether the queries may take edges backwards. Then the engine is fed each entry with its
+    /// inverse.
+    pub two_way: bool,
     pub workers: u32,
     pub totals: Totals,
 }
 
 impl Evaluator {
-    /// An engine of the queries that has answered no entry. The only error is [`Memory`].
+    /// An engine of the queries, which may take edges backwards or not, that has answered no entry.
+    /// The only error is [`Memory`].
     pub fn new<R: RandomSource, G>(
         context: &Context<'_, R, G>,
         queries: Vec<Compiled>,
+        two_way: bool,
         workers: u32,
     ) -> Result<Evaluator, Memory>
         requires some { 1 ≤ length queries.items }
         requires few { length queries.items ≤ 64 }
         ensures queries { IfOk result (λ evaluator. evaluator.engine.queries ≡ queries.items) }
         ensures stands { IfOk result (λ evaluator. StandsFor evaluator.engine []) }
+        ensures two_way { IfOk result (λ evaluator. evaluator.two_way ≡ two_way) }
         ensures workers { IfOk result (λ evaluator. evaluator.workers ≡ workers) }
         ensures totals { IfOk result (λ evaluator. evaluator.totals ≡ no_totals) }
     {
         Ok(Evaluator {
             engine: Engine::new(context.rt, context.alloc, queries)?,
+            two_way,
             workers,
             totals: Totals::new(),
         })
@@ -56,7 +64,7 @@ impl Evaluator {
         circle: &mut Circle<O>,
     ) -> Result<(), Memory>
         requires ready { (history : List EntryTaken) × IsReady history self.old
-            × (length history + length entries.now ≤ 2 ^ 30) }
+            × (length history + length entries.now ≤ 2 ^ 29) }
         ensures ok { OnOk result ((history : List EntryTaken) → IsReady history self.old →
             GoesOn history (history ++ entries.now) self.old self.new
             (as_seen O.seen circle.old) (as_seen O.seen circle.new)) }
@@ -66,12 +74,8 @@ impl Evaluator {
     {
         accepted_queries_have_events(); // called for its clause
         let workers = self.workers;
-        let fed = self
-            .engine
-            .feed_front(context.rt, entries, workers, context.gate);
-        let Ok(found) = fed else {
-            return Err(Memory);
-        };
+        let two_way = self.two_way;
+        let found = feed_entries(&mut self.engine, context, two_way, entries, workers)?;
         tell_front(circle, &mut self.totals, &found)
     }
 }

@@ -55,21 +55,24 @@ fn run<R: Threads + RandomSource + Sync, G: Gate, O: Standing>(
     requires fresh { circle.old.left ≡ [] }
     ensures within { making.new ≤ min task.count task.limit }
     ensures all { OnOk result (making.new ≡ min task.count task.limit) }
-    ensures told { OnOk result (AreTold (queries_of task) (generated_history making.new)
-        (map O.seen circle.old.members) ⊤ (as_seen O.seen circle.new)) }
-    ensures part { OnErr result (AreTold (queries_of task) (generated_history making.new)
-        (map O.seen circle.old.members) ⊥ (as_seen O.seen circle.new)) }
-    ensures summary { IfOk result (λ text. IsSummary (queries_of task)
+    ensures told { OnOk result (AreTold task.two_way (queries_of task)
+        (generated_history making.new) (map O.seen circle.old.members) ⊤
+        (as_seen O.seen circle.new)) }
+    ensures part { OnErr result (AreTold task.two_way (queries_of task)
+        (generated_history making.new) (map O.seen circle.old.members) ⊥
+        (as_seen O.seen circle.new)) }
+    ensures summary { IfOk result (λ text. IsSummary task.two_way (queries_of task)
         (generated_history making.new) (said_by (as_seen O.seen circle.new)) text.items) }
 {
     let Generation {
         queries,
+        two_way,
         workers,
         limit,
         count,
     } = task;
     let wanted = count.min(limit);
-    let mut evaluator = Evaluator::new(context, queries, workers)?;
+    let mut evaluator = Evaluator::new(context, queries, two_way, workers)?;
     answer_all(context, &mut evaluator, making, wanted, circle)?;
     let view = evaluator.engine.view()?;
     let queries = evaluator.engine.queries();

@@ -9,6 +9,8 @@ use standing::Circle;
 pub struct Generation {
     /// The queries, in the order of their file.
     pub queries: Vec<Compiled>,
+    /// Whether the queries may take edges backwards.
+    pub two_way: bool,
     /// How many workers the engine has.
     pub workers: u32,
     /// How many entries the history may have.

@@ -3,14 +3,12 @@
 ghost use Rattle.generated_run.specs.Laws.{OneSummary, SummaryExample};
 
 use answer_view::views_are_one;
-use rpq_model::each_has_one_list;
 
 /// A history has one summary of what is said.
 pub fn one_summary()
     ensures { OneSummary }
 {
-    each_has_one_list(); // these are called for their clauses
-    views_are_one();
+    views_are_one(); // called for its clause
 }
 
 /// The lines of a summary, written out.

@@ -23,6 +23,8 @@ fn put_settings(out: &mut Output, chosen: &Chosen) -> anyhow::Result<()> {
         Some(count) => out.put_shown(count)?,
         None => out.put("-")?,
     }
+    out.put(" ")?;
+    out.put_sign(chosen.two_way)?;
     put_file(out, &chosen.asks)?;
     put_file(out, &chosen.replies)?;
     put_file(out, &chosen.save)?;

@@ -12,6 +12,7 @@ use Rattle.rpq_io.specs.Writes.{WritesProperPrefix}
 use Rattle.rpq_words.specs.Settings.{Settings}
 use Rattle.ask_text.specs.Answered.{AnsweredValue}
 use Rattle.history_model.specs.declared.line.Why.TheVariants.{Write}
+use Rattle.two_way.specs.TwoWay.{AreAllWalkedEvents}
 use Rattle.stream_tuples.specs.declared.ends.StreamEnd.{StreamEnd}
 use Rattle.stream_tuples.specs.declared.ends.StreamEnd.TheVariants.{Whole, Full, Closed, Memory}
 use Rattle.standing.specs.Circles.{Parts, as_seen}
@@ -100,8 +101,9 @@ nothing_asked status run ends ends' sources sessions same no_source no_session =
 module _ {S K T E O : Type 0} (means : Meanings S K) (given : Settings)
     (holds : List ℕ → Option (List ℕ)) (task : Generation) (sinks : Sinks K) (seen : O → ObjectValue)
     (circle : Parts O) (run : Generated O) (wrote : Result T E) (status : ℕ)
-    (limit : task.limit ≡ given.history)
-    (has : IfSome (holds given.queries) (λ bytes. HasQueries bytes (definitions_of task.queries.items)))
+    (limit : task.limit ≡ given.history) (both_ways : task.two_way ≡ given.two_way)
+    (has : IfSome (holds given.queries)
+    (λ bytes. HasQueries given.two_way bytes (definitions_of task.queries.items)))
     (made : Generates seen task circle run)
     (tells : Tells means.written means.failures (bytes_of run.summary) sinks.events_old sinks.events_new wrote)
     (short : is_some run.summary ≡ false → status ≡ 8)
@@ -176,18 +178,24 @@ module _ {S K T E O : Type 0} (means : Meanings S K) (given : Settings)
 
   -- the texts of the summary
   abbrev IsText : List ℕ → Type 0
-  IsText = IsSummary (definitions_of task.queries.items) run.history.items (said_by objects_in.after)
+  IsText =
+      IsSummary given.two_way (definitions_of task.queries.items) run.history.items (said_by objects_in.after)
 
   -- the summary
-  writes_summary : WritesSummary means (definitions_of task.queries.items) (failed_sinks (is_err wrote) false false)
-      sinks objects_in outcome_in
-  writes_summary = by run.summary refl made.summary wrote refl tells
+  writes_summary : WritesSummary means given.two_way (definitions_of task.queries.items)
+      (failed_sinks (is_err wrote) false false) sinks objects_in outcome_in
+  writes_summary = by run.summary refl of_kind wrote refl tells
     where
+      of_kind : IfSome run.summary (λ text. IsText text.items)
+      of_kind = subst (λ (two_way : Bool). IfSome run.summary (λ text. IsSummary two_way
+          (definitions_of task.queries.items) run.history.items (said_by objects_in.after) text.items)) both_ways
+          made.summary
+
       by : (summary : Option (Vec ℕ)) → run.summary ≡ summary → IfSome summary (λ text. IsText text.items)
           → (result : Result T E) → wrote ≡ result
           → Tells means.written means.failures (bytes_of summary) sinks.events_old sinks.events_new result
-          → WritesSummary means (definitions_of task.queries.items) (failed_sinks (is_err result) false false)
-          sinks objects_in outcome_in
+          → WritesSummary means given.two_way (definitions_of task.queries.items)
+          (failed_sinks (is_err result) false false) sinks objects_in outcome_in
       by None is text (Err e) result_is told =
           absurd (none_of_nothing (means.written sinks.events_old) (means.written sinks.events_new) (told.part refl))
       by None is text (Ok done) result_is told = record {
@@ -215,11 +223,12 @@ module _ {S K T E O : Type 0} (means : Meanings S K) (given : Settings)
           }
 
   -- the objects
-  are_told : AreTold (definitions_of task.queries.items) run.history.items (map seen circle.members)
-      (status ≢ 8) (as_seen seen run.circle)
+  are_told : AreTold given.two_way (definitions_of task.queries.items) run.history.items
+      (map seen circle.members) (status ≢ 8) (as_seen seen run.circle)
   are_told = record {
     events = made.told.events;
-    are_events = made.told.are_events;
+    are_events = subst (λ (two_way : Bool). AreAllWalkedEvents two_way (definitions_of task.queries.items)
+        run.history.items made.told.events) both_ways made.told.are_events;
     told = stood_weaker (map seen circle.members) (all_of made.told.events) (IsSome run.summary) (status ≢ 8)
         (map seen run.circle.members) (map seen run.circle.left) (there run.summary refl) made.told.told;
   }
@@ -234,18 +243,18 @@ module _ {S K T E O : Type 0} (means : Meanings S K) (given : Settings)
       sinks.errors_old sinks.errors_new
       → RunsGenerated means given task.count holds sinks objects_in outcome_in
   generated_runs status_is lines = record {
-    understood = is_queries_file (holds given.queries) (definitions_of task.queries.items) has;
+    understood = is_queries_file given.two_way (holds given.queries) (definitions_of task.queries.items) has;
     no_source = refl;
     no_session = refl;
     no_replies = refl;
     no_window = (refl, refl);
     failed = failed_sinks (is_err wrote) false false;
     history = holds_generated;
-    summary = for_queries (holds given.queries) (definitions_of task.queries.items) (λ queries.
-        WritesSummary means queries (failed_sinks (is_err wrote) false false) sinks objects_in outcome_in) has
+    summary = for_queries given.two_way (holds given.queries) (definitions_of task.queries.items) (λ queries.
+        WritesSummary means given.two_way queries (failed_sinks (is_err wrote) false false) sinks objects_in outcome_in) has
         writes_summary;
-    told = for_queries (holds given.queries) (definitions_of task.queries.items) (λ queries.
-        AreTold queries run.history.items (map seen circle.members) (status ≢ 8) (as_seen seen run.circle)) has
+    told = for_queries given.two_way (holds given.queries) (definitions_of task.queries.items) (λ queries.
+        AreTold given.two_way queries run.history.items (map seen circle.members) (status ≢ 8) (as_seen seen run.circle)) has
         are_told;
     causes = record {
       once = some_sinks (is_err wrote) false false;

@@ -1,6 +1,6 @@
 -- A run over streams that is done, in one piece.
-use Rattle.std.proofs.Common.{◌≡◌, ◌≢◌, ℕ, ◌+◌, List, [], ◌∷◌, ◌++◌, length, take, Option, Some, None, Result}
-use Rattle.std.proofs.Common.{Ok, refl, ap, ap₂, sym, subst, ◌∙◌, arith, inl, inr, ◌⊎◌, append-nil}
+use Rattle.std.proofs.Common.{◌≡◌, ◌≢◌, ℕ, ◌+◌, Bool, List, [], ◌∷◌, ◌++◌, length, take, Option, Some, None, Result}
+use Rattle.std.proofs.Common.{Ok, true, false, refl, ap, ap₂, sym, subst, ◌∙◌, arith, inl, inr, ◌⊎◌, append-nil}
 use Rattle.std.specs.Prelude.{⊤, IfSome, MatchOption, Contains, map, option_map, unwrap_or, slice_get}
 use Rattle.std.specs.Io.KnownBytes.{append_known}
 use Rattle.std.specs.List.{All, flat_map}
@@ -9,11 +9,11 @@ use Rattle.std.proofs.lemmas.Option.{slice_get-map, slice_get_within}
 use Rattle.rpq_base.specs.declared.data.Entry.{Entry}
 use Rattle.rpq_base.specs.declared.data.Event.{Event}
 use Rattle.rpq_model.specs.Query.{Query}
-use Rattle.rpq_model.specs.QueryEvents.{AreAllEvents}
+use Rattle.two_way.specs.TwoWay.{AreAllWalkedEvents}
 use Rattle.history_model.specs.declared.line.Why.{Why}
 use Rattle.history_model.specs.declared.line.Why.TheVariants.{Write, Memory}
 use Rattle.query_file.specs.declared.fault.QueryFault.{QueryFault}
-use Rattle.query_file.specs.Laws.{OneOutcome}
+use Rattle.query_file.specs.Laws.{OneOutcome, OneOutcomeOf, OneTwoWayOutcome}
 use Rattle.rpq_words.specs.Settings.{Settings}
 use Rattle.ask_text.specs.declared.ask.Ask.{Ask}
 use Rattle.ask_text.specs.declared.fault.AskFault.{AskFault}
@@ -47,19 +47,25 @@ use Rattle.rpq_run.proofs.Statuses.{first_of_done, sink_quietly, whole_end}
 
 -- ---- the one list of queries, and of sessions
 
+-- bytes give one thing, whether the queries may take edges backwards or not
+either_way : OneOutcome → OneTwoWayOutcome → (two_way : Bool) → OneOutcomeOf two_way
+either_way one other false = one
+either_way one other true = other
+
 -- the queries of bytes that give some
-one_query_list : OneOutcome → (bytes : List ℕ) (first second : List Query) → HasQueries bytes first
-    → HasQueries bytes second → first ≡ second
-one_query_list one bytes first second has other =
+one_query_list : (two_way : Bool) → OneOutcomeOf two_way → (bytes : List ℕ) (first second : List Query)
+    → HasQueries two_way bytes first → HasQueries two_way bytes second → first ≡ second
+one_query_list two_way one bytes first second has other =
     let same : ◌≡◌ {A = Result (List Query) QueryFault} (Ok first) (Ok second) =
     one bytes (Ok first) (Ok second) has.1 other.1 in
     cc same
 
-from_queries : OneOutcome → (file : Option (List ℕ)) (bytes : List ℕ) (queries : List Query)
-    (P : List Query → Type 0) → file ≡ Some bytes → HasQueries bytes queries → ForQueries file P → P queries
-from_queries one file bytes queries P is has holds =
-    let held = subst (λ (f : Option (List ℕ)). ForQueries f P) is holds in
-    subst P (one_query_list one bytes held.0 queries held.1 has) held.2
+from_queries : (two_way : Bool) → OneOutcomeOf two_way → (file : Option (List ℕ)) (bytes : List ℕ)
+    (queries : List Query) (P : List Query → Type 0) → file ≡ Some bytes → HasQueries two_way bytes queries
+    → ForQueries two_way file P → P queries
+from_queries two_way one file bytes queries P is has holds =
+    let held = subst (λ (f : Option (List ℕ)). ForQueries two_way f P) is holds in
+    subst P (one_query_list two_way one bytes held.0 queries held.1 has) held.2
 
 from_sessions : (given : Settings) (holds : List ℕ → Option (List ℕ)) (queries : List Query)
     (told : Option (List ℕ)) (sessions : List (List Ask)) (P : List (List Ask) → Type 0)
@@ -83,28 +89,28 @@ from_sessions given holds queries told sessions P is asked = by given.asks told 
         let same_sessions : held.0 ≡ sessions = cc same in
         subst P same_sessions held.2
 
-from_asked : OneOutcome → {S K : Type 0} (means : Meanings S K) (given : Settings)
+from_asked : {S K : Type 0} (means : Meanings S K) (given : Settings)
     (holds : List ℕ → Option (List ℕ)) (sinks : Sinks K) (told : Told) (queries : List Query)
-    (sessions : List (List Ask)) (P : List Query → List (List Ask) → Type 0)
-    → IsTold means given holds sinks told → HasQueries told.queries queries
+    (sessions : List (List Ask)) (P : List Query → List (List Ask) → Type 0) → OneOutcomeOf given.two_way
+    → IsTold means given holds sinks told → HasQueries given.two_way told.queries queries
     → AreAsked queries told.asks sessions → ForAsked given holds P → P queries sessions
-from_asked one means given holds sinks told queries sessions P is has asked p =
+from_asked means given holds sinks told queries sessions P one is has asked p =
     from_sessions given holds queries told.asks sessions (P queries) is.asks asked
-    (from_queries one (holds given.queries) told.queries queries (λ all. ForSessions given holds all (P all))
-    is.queries has p)
+    (from_queries given.two_way one (holds given.queries) told.queries queries
+    (λ all. ForSessions given holds all (P all)) is.queries has p)
 
 -- there are queries and sessions
-record AreThere (told : Told) : Type 0 where
+record AreThere (two_way : Bool) (told : Told) : Type 0 where
   queries : List Query
-  has : HasQueries told.queries queries
+  has : HasQueries two_way told.queries queries
   sessions : List (List Ask)
   asked : AreAsked queries told.asks sessions
 
 are_there : {S K : Type 0} (means : Meanings S K) (given : Settings) (holds : List ℕ → Option (List ℕ))
     (sinks : Sinks K) (told : Told) → IsTold means given holds sinks told
-    → ForAsked given holds (λ queries sessions. Unit {0}) → AreThere told
+    → ForAsked given holds (λ queries sessions. Unit {0}) → AreThere given.two_way told
 are_there means given holds sinks told is there =
-    let held = subst (λ (f : Option (List ℕ)). ForQueries f
+    let held = subst (λ (f : Option (List ℕ)). ForQueries given.two_way f
     (λ queries. ForSessions given holds queries (λ sessions. Unit {0}))) is.queries there in
     let asked = by held.0 given.asks told.asks is.asks held.2 in
     record { queries = held.0; has = held.1; sessions = asked.0; asked = asked.1 }
@@ -175,35 +181,36 @@ contents_are given holds told from streams =
 -- ---- the objects
 
 -- the events of a history, each entry's own, which were written, and told to the objects
-record AreAllTold (queries : List Query) (history : List Entry) (before now : Option (List ℕ))
+record AreAllTold (two_way : Bool) (queries : List Query) (history : List Entry) (before now : Option (List ℕ))
     (objects : List ObjectValue) (circle : CircleValue) : Type 0 where
   events : List (List Event)
-  are_events : AreAllEvents queries history events
+  are_events : AreAllWalkedEvents two_way queries history events
   written : now ≡ append_known before (blocks_from queries 1 history events)
   heard : HaveStood objects (flat_map (λ own. own) events) ⊤ circle.members circle.left
 
 -- no block begins behind the last one
-none_begun : (queries : List Query) (history : List Entry) (count : ℕ) (rest : List ℕ)
-    → count ≡ length history → (rest ≡ []) ⊎ BeginsBlock queries history count rest → rest ≡ []
-none_begun queries history count rest all (inl none) = none
-none_begun queries history count rest all (inr begun) =
+none_begun : (two_way : Bool) (queries : List Query) (history : List Entry) (count : ℕ) (rest : List ℕ)
+    → count ≡ length history → (rest ≡ []) ⊎ BeginsBlock two_way queries history count rest → rest ≡ []
+none_begun two_way queries history count rest all (inl none) = none
+none_begun two_way queries history count rest all (inr begun) =
     let inside = slice_get_within history count begun.entry begun.there in
     absurd (omega (arith, inside, all))
 
 -- where nothing ended the run early all of them were
-all_told : (queries : List Query) (history : List Entry) (before now : Option (List ℕ))
+all_told : (two_way : Bool) (queries : List Query) (history : List Entry) (before now : Option (List ℕ))
     (objects : List ObjectValue) (why : Option Why) (circle : CircleValue) → why ≡ None
-    → TellsObjects queries history before now objects why circle
-    → AreAllTold queries history before now objects circle
-all_told queries history before now objects why circle none tells =
+    → TellsObjects two_way queries history before now objects why circle
+    → AreAllTold two_way queries history before now objects circle
+all_told two_way queries history before now objects why circle none tells =
     let all : tells.count ≡ length history = tells.all none in
     let whole : take tells.count history ≡ history = take_all tells.count history (omega (arith, all)) in
     let text = λ (entries : List Entry) (rest : List ℕ). blocks_from queries 1 entries tells.events ++ rest in
     record {
       events = tells.events;
-      are_events = subst (λ (entries : List Entry). AreAllEvents queries entries tells.events) whole tells.are_events;
+      are_events = subst (λ (entries : List Entry). AreAllWalkedEvents two_way queries entries tells.events) whole
+          tells.are_events;
       written = tells.written ∙ ap (λ (t : List ℕ). append_known before t)
-          (ap₂ text whole (none_begun queries history tells.count tells.rest all tells.part)
+          (ap₂ text whole (none_begun two_way queries history tells.count tells.rest all tells.part)
           ∙ append-nil (blocks_from queries 1 history tells.events));
       heard = stood_weaker objects (flat_map (λ own. own) tells.events) (why ≢ Some Memory) ⊤
           circle.members circle.left (λ _ is.
@@ -213,23 +220,29 @@ all_told queries history before now objects why circle none tells =
 
 -- ---- all of it
 
-pub headline_holds : {S K : Type 0} (means : Meanings S K) (given : Settings)
+-- what is told, with the edges taken so
+abbrev walking : Bool → Told → Told
+walking two_way told = record told { two_way = two_way }
+
+-- it holds as the settings say
+headline_of : {S K : Type 0} (means : Meanings S K) (given : Settings)
     (holds : List ℕ → Option (List ℕ)) (sinks : Sinks K) (objects : Objects) (outcome : Outcome S K)
-    (told : Told) → OneOutcome → RunsStreams means given holds sinks objects outcome → outcome.status ≡ 0
-    → IsTold means given holds sinks told → Headline means told sinks objects outcome
-headline_holds means given holds sinks objects outcome told one runs done is =
+    (told : Told) → OneOutcomeOf given.two_way → RunsStreams means given holds sinks objects outcome
+    → outcome.status ≡ 0 → IsTold means given holds sinks told
+    → Headline means (walking given.two_way told) sinks objects outcome
+headline_of means given holds sinks objects outcome told one runs done is =
     let there = are_there means given holds sinks told is runs.understood in
     let quiet : (Contains runs.failed Events → ⊥) =
     sink_quietly outcome.ends runs.failed outcome.status Events runs.causes.status_is done in
     let not_short : outcome.status ≢ 8 = λ eight. absurd (omega (arith, eight, done)) in
-    let tells = from_queries one (holds given.queries) told.queries there.queries (λ queries.
-    TellsObjects queries outcome.history (means.written sinks.events_old) (means.written sinks.events_new)
+    let tells = from_queries given.two_way one (holds given.queries) told.queries there.queries (λ queries.
+    TellsObjects given.two_way queries outcome.history (means.written sinks.events_old) (means.written sinks.events_new)
     objects.before runs.told.why objects.after) is.queries there.has runs.told.told in
-    let all = all_told there.queries outcome.history (means.written sinks.events_old)
+    let all = all_told given.two_way there.queries outcome.history (means.written sinks.events_old)
     (means.written sinks.events_new) objects.before runs.told.why objects.after
     (unended runs.told.why refl quiet not_short) tells in
-    let sets = from_queries one (holds given.queries) told.queries there.queries
-    (λ queries. FrontsHold queries outcome.history) is.queries there.has runs.events.sets in
+    let sets = from_queries given.two_way one (holds given.queries) told.queries there.queries
+    (λ queries. FrontsHold given.two_way queries outcome.history) is.queries there.has runs.events.sets in
     let last : runs.replies.last ≡ length outcome.history = elim runs.replies.at_end [
       | inl all ↦ all
       | inr other ↦ elim other [ inl failed ↦ absurd (quiet failed) | inr eight ↦ absurd (not_short eight) ]
@@ -249,11 +262,11 @@ headline_holds means given holds sinks objects outcome told one runs done is =
       held = λ place query at count pair. sets place query all.events at all.are_events count pair;
       heard = all.heard;
       readers = subst (λ n. AreSessionsOf there.queries outcome.history n there.sessions outcome.sessions) last
-          (from_asked one means given holds sinks told there.queries there.sessions (λ queries asked.
-          AreSessionsOf queries outcome.history runs.replies.last asked outcome.sessions) is there.has there.asked
+          (from_asked means given holds sinks told there.queries there.sessions (λ queries asked.
+          AreSessionsOf queries outcome.history runs.replies.last asked outcome.sessions) one is there.has there.asked
           runs.replies.sessions);
-      all_answered = from_asked one means given holds sinks told there.queries there.sessions (λ queries asked.
-          asks_answered outcome.sessions ≡ asked) is there.has there.asked (runs.replies.all not_short);
+      all_answered = from_asked means given holds sinks told there.queries there.sessions (λ queries asked.
+          asks_answered outcome.sessions ≡ asked) one is there.has there.asked (runs.replies.all not_short);
       replied = replies_are means.written (replies (texts_of outcome.sessions)) (Contains runs.failed Replies)
           outcome.status (sink_quietly outcome.ends runs.failed outcome.status Replies runs.causes.status_is done)
           not_short outcome.replies runs.replies.text;
@@ -268,15 +281,15 @@ headline_holds means given holds sinks objects outcome told one runs done is =
     unended (Some Write) why_is quiet not_short = absurd (quiet (runs.told.write why_is))
     unended (Some Memory) why_is quiet not_short = absurd (not_short (runs.told.memory why_is))
 
-    window_is : (save : Option _) → IfSome save (λ sink. ForQueries (holds given.queries) (λ queries.
+    window_is : (save : Option _) → IfSome save (λ sink. ForQueries given.two_way (holds given.queries) (λ queries.
         GotText (Contains runs.failed Events) (Contains runs.failed Save) outcome.status
         (saved_text (saved queries outcome.history)) (means.written sink)))
         → (Contains runs.failed Save → ⊥) → (Contains runs.failed Events → ⊥) → outcome.status ≢ 8
-        → (queries : List Query) → HasQueries told.queries queries
+        → (queries : List Query) → HasQueries given.two_way told.queries queries
         → IfSome save (λ sink. IfSome (means.written sink) (λ bytes. bytes ≡ saved_text (saved queries outcome.history)))
     window_is None got none quiet not_short queries has = tt
     window_is (Some sink) got none quiet not_short queries has =
-        (from_queries one (holds given.queries) told.queries queries (λ all.
+        (from_queries given.two_way one (holds given.queries) told.queries queries (λ all.
         GotText (Contains runs.failed Events) (Contains runs.failed Save) outcome.status
         (saved_text (saved all outcome.history)) (means.written sink)) is.queries has got).whole quiet none not_short
 
@@ -299,3 +312,12 @@ headline_holds means given holds sinks objects outcome told one runs done is =
         (whole_end outcome.ends runs.failed place stream.end
         (first_of_done outcome.ends runs.failed outcome.status runs.causes.status_is done) stream.end_is)
         stream.stream.tied
+
+-- and as it is told
+pub headline_holds : {S K : Type 0} (means : Meanings S K) (given : Settings)
+    (holds : List ℕ → Option (List ℕ)) (sinks : Sinks K) (objects : Objects) (outcome : Outcome S K)
+    (told : Told) → OneOutcome → OneTwoWayOutcome → RunsStreams means given holds sinks objects outcome
+    → outcome.status ≡ 0 → IsTold means given holds sinks told → Headline means told sinks objects outcome
+headline_holds means given holds sinks objects outcome told one other runs done is =
+    subst (λ (all : Told). Headline means all sinks objects outcome) (λ i. walking (is.two_way i) told)
+    (headline_of means given holds sinks objects outcome told (either_way one other given.two_way) runs done is)

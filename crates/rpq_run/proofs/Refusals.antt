@@ -1,5 +1,5 @@
 -- A run that doesn't begin.
-use Rattle.std.proofs.Common.{◌≡◌, ℕ, zero, suc, ◌<◌, List, [], ◌∷◌, ◌++◌}
+use Rattle.std.proofs.Common.{◌≡◌, ℕ, zero, suc, ◌<◌, Bool, List, [], ◌∷◌, ◌++◌}
 use Rattle.std.proofs.Common.{length, get_or, Option, Some, None, refl, sym, subst, ◌∙◌, arith}
 use Rattle.std.proofs.Common.{inr, ◌⊎◌, Err}
 use Rattle.std.specs.Prelude.{IfSome, IsSomeAnd, option_to_list}
@@ -35,25 +35,27 @@ use Rattle.rpq_run.specs.Outcome.{Meanings, Openings, Sinks, Outcome}
 
 -- ---- its status
 
-not_long : (file : Option (List ℕ)) → IsTooLong file → IsSomeAnd file IsFaultless → ⊥
-not_long None long some = some
-not_long (Some bytes) long some = omega (arith, long, some.short)
+not_long : (two_way : Bool) (file : Option (List ℕ)) → IsTooLong file → IsSomeAnd file (IsFaultless two_way) → ⊥
+not_long two_way None long some = some
+not_long two_way (Some bytes) long some = omega (arith, long, some.short)
 
-not_faulty : (file : Option (List ℕ)) (fault : QueryFault) → IsFaultyFile file fault → IsSomeAnd file IsFaultless → ⊥
-not_faulty None fault faulty some = some
-not_faulty (Some bytes) fault faulty some = some.no_fault fault faulty.1.1
+not_faulty : (two_way : Bool) (file : Option (List ℕ)) (fault : QueryFault) → IsFaultyFile two_way file fault
+    → IsSomeAnd file (IsFaultless two_way) → ⊥
+not_faulty two_way None fault faulty some = some
+not_faulty two_way (Some bytes) fault faulty some = some.no_fault fault faulty.1.1
 
-asks_not_long : (queries file : Option (List ℕ)) → IsTooLong file → IsSomeAnd file (AreFaultlessAsks queries) → ⊥
-asks_not_long queries None long some = some
-asks_not_long queries (Some bytes) long some = omega (arith, long, some.short)
+asks_not_long : (two_way : Bool) (queries file : Option (List ℕ)) → IsTooLong file
+    → IsSomeAnd file (AreFaultlessAsks two_way queries) → ⊥
+asks_not_long two_way queries None long some = some
+asks_not_long two_way queries (Some bytes) long some = omega (arith, long, some.short)
 
-asks_not_faulty : (queries file : Option (List ℕ)) (fault : AskFault) → AreFaultyAsks queries file fault
-    → IsSomeAnd file (AreFaultlessAsks queries) → ⊥
-asks_not_faulty queries None fault faulty some = some
-asks_not_faulty queries (Some bytes) fault faulty some = some.no_fault fault (by queries faulty.1)
+asks_not_faulty : (two_way : Bool) (queries file : Option (List ℕ)) (fault : AskFault)
+    → AreFaultyAsks two_way queries file fault → IsSomeAnd file (AreFaultlessAsks two_way queries) → ⊥
+asks_not_faulty two_way queries None fault faulty some = some
+asks_not_faulty two_way queries (Some bytes) fault faulty some = some.no_fault fault (by queries faulty.1)
   where
-    by : (file : Option (List ℕ)) → ForQueries file (λ all. HasAskFault all bytes fault)
-        → ForQueries file (λ all. asks all bytes ≡ Err fault)
+    by : (file : Option (List ℕ)) → ForQueries two_way file (λ all. HasAskFault all bytes fault)
+        → ForQueries two_way file (λ all. asks all bytes ≡ Err fault)
     by None has = tt
     by (Some held) (all, are, has) = (all, are, has.1)
 
@@ -97,19 +99,20 @@ wants_memory {S} {K} means given holds openings sinks outcome start cause of ope
         (option_to_list given.from ++ given.streams) later_names
 
     asks_fault : (option : Option (List ℕ)) (fault : AskFault)
-        → IsSomeAnd option (λ name. AreFaultyAsks (holds given.queries) (holds name) fault)
-        → IfSome option (λ name. IsSomeAnd (holds name) (AreFaultlessAsks (holds given.queries))) → ⊥
+        → IsSomeAnd option (λ name. AreFaultyAsks given.two_way (holds given.queries) (holds name) fault)
+        → IfSome option (λ name. IsSomeAnd (holds name) (AreFaultlessAsks given.two_way (holds given.queries))) → ⊥
     asks_fault None fault cause can = cause
-    asks_fault (Some name) fault cause can = asks_not_faulty (holds given.queries) (holds name) fault cause can
+    asks_fault (Some name) fault cause can =
+        asks_not_faulty given.two_way (holds given.queries) (holds name) fault cause can
 
     asks_long : (option : Option (List ℕ))
-        → IsSomeAnd option (λ name. IsQueriesFile (holds given.queries) × IsTooLong (holds name))
-        → IfSome option (λ name. IsSomeAnd (holds name) (AreFaultlessAsks (holds given.queries))) → ⊥
+        → IsSomeAnd option (λ name. IsQueriesFile given.two_way (holds given.queries) × IsTooLong (holds name))
+        → IfSome option (λ name. IsSomeAnd (holds name) (AreFaultlessAsks given.two_way (holds given.queries))) → ⊥
     asks_long None cause can = cause
-    asks_long (Some name) cause can = asks_not_long (holds given.queries) (holds name) cause.1 can
+    asks_long (Some name) cause can = asks_not_long given.two_way (holds given.queries) (holds name) cause.1 can
 
     asks_opened : (option : Option (List ℕ)) → given.asks ≡ option
-        → IsSomeAnd option (λ name. IsQueriesFile (holds given.queries))
+        → IsSomeAnd option (λ name. IsQueriesFile given.two_way (holds given.queries))
         → ((name : List ℕ) → given.asks ≡ Some name → Rose (openings.unread_old name) (openings.unread_new name)) → ⊥
     asks_opened None is cause rose = cause
     asks_opened (Some name) is cause rose =
@@ -149,7 +152,8 @@ wants_memory {S} {K} means given holds openings sinks outcome start cause of ope
         → ((name : List ℕ) → IsMakingOf given name fault → Rose (openings.unmade_old name) (openings.unmade_new name))
         → (status_of_start fault ≡ 0) ⊎ (status_of_start fault ≡ 8)
     by Words cause of opened made = absurd cause
-    by (QueriesFault fault) cause of opened made = absurd (not_faulty (holds given.queries) fault cause can.understood)
+    by (QueriesFault fault) cause of opened made =
+        absurd (not_faulty given.two_way (holds given.queries) fault cause can.understood)
     by (AsksFault fault) cause of opened made = absurd (asks_fault given.asks fault cause can.asks)
     by (Open Queries) cause of opened made =
         absurd (All-head (Quiet openings.unread_old openings.unread_new) given.queries
@@ -169,7 +173,8 @@ wants_memory {S} {K} means given holds openings sinks outcome start cause of ope
     by (ReadAtStart which) cause of opened made =
         absurd (All-head (λ source. ¬ Rose 0 (means.faults source)) of.0 []
         (subst (λ (ss : List S). All (λ source. ¬ Rose 0 (means.faults source)) ss) of.1 none.reads) of.2)
-    by (Long Queries) cause of opened made = absurd (not_long (holds given.queries) cause can.understood)
+    by (Long Queries) cause of opened made =
+        absurd (not_long given.two_way (holds given.queries) cause can.understood)
     by (Long Asks) cause of opened made = absurd (asks_long given.asks cause can.asks)
     by (Long From) cause of opened made = absurd cause
     by (Long Replies) cause of opened made = absurd cause

@@ -40,7 +40,7 @@ use Rattle.standing.specs.Circles.{Parts, as_seen}
 use Rattle.standing.specs.Objects.{ObjectValue}
 use Rattle.rpq_threads.specs.declared.task.Outcome.{Outcome as ThreadsOutcome}
 use Rattle.rpq_threads.specs.declared.task.Task.{Task}
-use Rattle.rpq_threads.specs.Runs.{AreSessionsOf, Holds, asks_answered}
+use Rattle.rpq_threads.specs.Runs.{AreSessionsOf, Holds, WritesText, asks_answered}
 use Rattle.rpq_threads.specs.Told.{TellsObjects}
 use Rattle.rpq_threads.specs.Written.{Grew, GrewByProperPrefix}
 use Rattle.rpq_run.specs.declared.fault.TextFault.{TextFault}
@@ -68,15 +68,16 @@ use Rattle.rpq_run.proofs.Windows.{window_written}
 -- ---- what is asked
 
 -- what holds of the queries that a file gives
-pub for_queries : (file : Option (List ℕ)) (queries : List Query) (P : List Query → Type 0)
-    → IfSome file (λ bytes. HasQueries bytes queries) → P queries → ForQueries file P
-for_queries None queries P is holds = tt
-for_queries (Some bytes) queries P is holds = (queries, is, holds)
+pub for_queries : (two_way : Bool) (file : Option (List ℕ)) (queries : List Query)
+    (P : List Query → Type 0) → IfSome file (λ bytes. HasQueries two_way bytes queries) → P queries
+    → ForQueries two_way file P
+for_queries two_way None queries P is holds = tt
+for_queries two_way (Some bytes) queries P is holds = (queries, is, holds)
 
-pub is_queries_file : (file : Option (List ℕ)) (queries : List Query)
-    → IfSome file (λ bytes. HasQueries bytes queries) → IsQueriesFile file
-is_queries_file None queries is = tt
-is_queries_file (Some bytes) queries is = (queries, is)
+pub is_queries_file : (two_way : Bool) (file : Option (List ℕ)) (queries : List Query)
+    → IfSome file (λ bytes. HasQueries two_way bytes queries) → IsQueriesFile two_way file
+is_queries_file two_way None queries is = tt
+is_queries_file two_way (Some bytes) queries is = (queries, is)
 
 -- what holds of the sessions that a file gives
 pub for_sessions : (given : Settings) (holds : List ℕ → Option (List ℕ)) (queries : List Query)
@@ -102,11 +103,11 @@ for_sessions given holds queries sessions P are p = by given.asks are
 -- what holds of both
 pub for_asked : (given : Settings) (holds : List ℕ → Option (List ℕ)) (queries : List Query)
     (sessions : List (List Ask)) (P : List Query → List (List Ask) → Type 0)
-    → IfSome (holds given.queries) (λ bytes. HasQueries bytes queries)
+    → IfSome (holds given.queries) (λ bytes. HasQueries given.two_way bytes queries)
     → ForSessions given holds queries (λ asked. sessions ≡ asked) → P queries sessions
     → ForAsked given holds P
 for_asked given holds queries sessions P has are p =
-    for_queries (holds given.queries) queries (λ all. ForSessions given holds all (P all)) has
+    for_queries given.two_way (holds given.queries) queries (λ all. ForSessions given holds all (P all)) has
     (for_sessions given holds queries sessions (P queries) are p)
 
 -- ---- the objects
@@ -252,14 +253,17 @@ module _ {S K O : Type 0} (means : Meanings S K) (given : Settings)
   -- the events
   writes_events : FrontsHoldAnswers → WritesEvents means given holds failed_in sinks answer
   writes_events fronts = record {
-    text = for_queries (holds given.queries) queries_in (λ all.
-        WritesWhere (Contains failed_in Events) status (IsText all threads.history.items)
+    text = for_queries given.two_way (holds given.queries) queries_in (λ all.
+        WritesWhere (Contains failed_in Events) status (IsText given.two_way all threads.history.items)
         (means.written sinks.events_old) (means.written sinks.events_new)) asked.has
-        (events_written means.written means.failures queries_in threads.history.items sinks.events_old
-        sinks.events_new threads.why (is_failed written.replied) (is_failed written.saved) status for_engine held.text);
-    sets = for_queries (holds given.queries) queries_in (λ all. FrontsHold all threads.history.items) asked.has
+        (events_written means.written means.failures given.two_way queries_in threads.history.items sinks.events_old
+        sinks.events_new threads.why (is_failed written.replied) (is_failed written.saved) status for_engine
+        (subst (λ (two_way : Bool). WritesText means.written means.failures two_way queries_in threads.history.items
+        sinks.events_old sinks.events_new threads.why) asked.two_way held.text));
+    sets = for_queries given.two_way (holds given.queries) queries_in (λ all.
+        FrontsHold given.two_way all threads.history.items) asked.has
         (λ place query events here all count pair.
-        fronts queries_in place query threads.history.items events here all count pair);
+        fronts given.two_way queries_in place query threads.history.items events here all count pair);
   }
 
   replies_text : IfSome new.replies (λ sink. WritesWhere (Contains failed_in Replies) status
@@ -376,10 +380,10 @@ module _ {S K O : Type 0} (means : Meanings S K) (given : Settings)
     where
       by : (sink : Option K) → IfSome sink (λ s. GotText (Contains failed_in Events) (Contains failed_in Save) status
           window_in (means.written s))
-          → IfSome sink (λ s. ForQueries (holds given.queries) (λ queries. GotText (Contains failed_in Events)
+          → IfSome sink (λ s. ForQueries given.two_way (holds given.queries) (λ queries. GotText (Contains failed_in Events)
           (Contains failed_in Save) status (saved_text (saved queries threads.history.items)) (means.written s)))
       by None got = tt
-      by (Some sink) got = for_queries (holds given.queries) queries_in (λ all. GotText (Contains failed_in Events)
+      by (Some sink) got = for_queries given.two_way (holds given.queries) queries_in (λ all. GotText (Contains failed_in Events)
           (Contains failed_in Save) status (saved_text (saved all threads.history.items)) (means.written sink))
           asked.has got
 
@@ -409,9 +413,13 @@ module _ {S K O : Type 0} (means : Meanings S K) (given : Settings)
     why = threads.why;
     write = write_told;
     memory = for_engine;
-    told = for_queries (holds given.queries) queries_in (λ all. TellsObjects all threads.history.items
+    told = for_queries given.two_way (holds given.queries) queries_in (λ all.
+        TellsObjects given.two_way all threads.history.items
         (means.written sinks.events_old) (means.written sinks.events_new) (map seen circle.members) threads.why
-        (as_seen seen threads.circle)) asked.has held.objects;
+        (as_seen seen threads.circle)) asked.has
+        (subst (λ (two_way : Bool). TellsObjects two_way queries_in threads.history.items
+        (means.written sinks.events_old) (means.written sinks.events_new) (map seen circle.members) threads.why
+        (as_seen seen threads.circle)) asked.two_way held.objects);
   }
 
   -- the run over streams
@@ -559,7 +567,7 @@ verdicts_written written failures queries old new (Err e) status all told =
 check_runs : {S K T E : Type 0} (means : Meanings S K) (given : Settings)
     (holds : List ℕ → Option (List ℕ)) (queries : List CompiledValue) (sinks : Sinks K)
     (result : Result T E) (status : ℕ) (all : Objects) → LeavesObjects all
-    → IfSome (holds given.queries) (λ bytes. HasQueries bytes (definitions_of queries))
+    → IfSome (holds given.queries) (λ bytes. HasQueries given.two_way bytes (definitions_of queries))
     → All IsCompiled queries
     → Tells means.written means.failures (flat_map compiled_line queries) sinks.events_old sinks.events_new result
     → IsStatusOf [] (failed_sinks (is_err result) false false) status
@@ -567,11 +575,11 @@ check_runs : {S K T E : Type 0} (means : Meanings S K) (given : Settings)
     sinks.errors_old sinks.errors_new
     → RunsCheck {S = S} {K = K} means given holds sinks all (check_outcome status)
 check_runs means given holds queries sinks result status all kept has compiled told status_is lines = record {
-  understood = is_queries_file (holds given.queries) (definitions_of queries) has;
+  understood = is_queries_file given.two_way (holds given.queries) (definitions_of queries) has;
   nothing = record { no_history = refl; no_stream = refl; no_session = refl; no_replies = refl; no_window = (refl, refl) };
   no_source = refl;
   failed = failed_sinks (is_err result) false false;
-  text = for_queries (holds given.queries) (definitions_of queries) (λ each.
+  text = for_queries given.two_way (holds given.queries) (definitions_of queries) (λ each.
       WritesWhere (Contains (failed_sinks (is_err result) false false) Events) status (AreVerdicts each)
       (means.written sinks.events_old) (means.written sinks.events_new)) has
       (verdicts_written means.written means.failures queries sinks.events_old sinks.events_new result status compiled told);
@@ -601,7 +609,7 @@ pub runs_check : {S K T E : Type 0} (means : Meanings S K) (given : Settings)
     (result : Result T E) (status : ℕ) (all : Objects) (history : List Entry) (ends : List StreamEnd)
     (sources : List S) (sessions : List (List AnsweredValue)) → history ≡ [] → ends ≡ [] → sources ≡ []
     → sessions ≡ [] → LeavesObjects all
-    → IfSome (holds given.queries) (λ bytes. HasQueries bytes (definitions_of queries))
+    → IfSome (holds given.queries) (λ bytes. HasQueries given.two_way bytes (definitions_of queries))
     → All IsCompiled queries
     → Tells means.written means.failures (flat_map compiled_line queries) sinks.events_old sinks.events_new result
     → IsStatusOf [] (failed_sinks (is_err result) false false) status

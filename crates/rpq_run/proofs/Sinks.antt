@@ -162,24 +162,24 @@ some_is_write (Some Memory) is = absurd (cc is)
 
 -- what the threads wrote, by the failed sinks and the status
 pub events_written : {K : Type 0} (written : K → Option (List ℕ)) (failures : K → ℕ)
-    (queries : List Query) (history : List Entry) (before after : K) (why : Option Why)
+    (two_way : Bool) (queries : List Query) (history : List Entry) (before after : K) (why : Option Why)
     (replies save : Bool) (status : ℕ) → (why ≡ Some Memory → status ≡ 8)
-    → WritesText written failures queries history before after why
-    → WritesWhere (Contains (failed_sinks (is_write why) replies save) Events) status (IsText queries history)
-    (written before) (written after)
-events_written written failures queries history before after None replies save status memory writes = record {
+    → WritesText written failures two_way queries history before after why
+    → WritesWhere (Contains (failed_sinks (is_write why) replies save) Events) status
+    (IsText two_way queries history) (written before) (written after)
+events_written written failures two_way queries history before after None replies save status memory writes = record {
   whole = λ none other. writes.whole refl;
   part = λ has.
       let no : false ≡ true = in_events false replies save has in
       absurd (cc no);
-  memory = λ is. whole_is_prefix (IsText queries history) (written before) (written after) (writes.whole refl);
+  memory = λ is. whole_is_prefix (IsText two_way queries history) (written before) (written after) (writes.whole refl);
 }
-events_written written failures queries history before after (Some Write) replies save status memory writes = record {
+events_written written failures two_way queries history before after (Some Write) replies save status memory writes = record {
   whole = λ none other. absurd (none (events_in true replies save refl));
   part = λ has. writes.write refl;
-  memory = λ is. proper_is_prefix (IsText queries history) (written before) (written after) (writes.write refl);
+  memory = λ is. proper_is_prefix (IsText two_way queries history) (written before) (written after) (writes.write refl);
 }
-events_written written failures queries history before after (Some Memory) replies save status memory writes = record {
+events_written written failures two_way queries history before after (Some Memory) replies save status memory writes = record {
   whole = λ none other. absurd (other (memory refl));
   part = λ has.
       let no : false ≡ true = in_events false replies save has in

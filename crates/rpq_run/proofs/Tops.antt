@@ -1,20 +1,25 @@
 -- What the top call hands on, and what it says of it.
-use Rattle.std.proofs.Common.{◌≡◌, ℕ, Bool, true, false, List, length, Option, Some, None, sym}
+use Rattle.std.proofs.Common.{◌≡◌, ℕ, Bool, true, false, List, [], length, Option, Some, None, sym}
 use Rattle.std.proofs.Common.{ap, subst, ◌∙◌, arith, refl}
 use Rattle.std.specs.Prelude.{IfSome, IsSomeAnd, MatchBool, MatchOption, is_some}
 use Rattle.std.specs.List.{All}
 use Rattle.std.proofs.lemmas.List.{length-map}
 use Rattle.rpq_io.specs.Reader.{ReaderState}
+use Rattle.rpq_model.specs.Query.{Query}
+use Rattle.query_file.specs.Compiled.{CompiledValue}
+use Rattle.ask_text.specs.declared.ask.Ask.{Ask}
 use Rattle.ask_text.specs.Ranges.{IsSession}
 use Rattle.rpq_words.specs.Modes.{AreSettings, BeginsWith, IsWithin, ReadsStreams}
 use Rattle.rpq_words.specs.Settings.{Settings}
 use Rattle.saved_window.specs.Then.{TwoSources, count_of, left_of_both, faults_of_both}
-use Rattle.run_start.specs.Files.{stream_contents}
+use Rattle.rpq_text.specs.Definitions.{definitions_of}
+use Rattle.run_start.specs.Files.{ForSessions, HasSessions, stream_contents}
 use Rattle.run_start.specs.Readers.{AreNewReaders, lefts_of}
 use Rattle.run_start.specs.Ready.{IsReady}
 use Rattle.run_start.specs.declared.ready.Reads.{Reads}
 use Rattle.rpq_threads.specs.Runs.{IsTask}
 use Rattle.rpq_threads.specs.declared.task.Task.{Task}
+use Rattle.rpq_run.specs.Asked.{IsAsked}
 use Rattle.rpq_run.proofs.Done.{as_many_streams}
 
 -- of two facts the one that holds where a test passes, and where it fails
@@ -75,24 +80,78 @@ as_many_readers {S} left given holds readers contents =
     ∙ (ap (λ (files : List (Option (List ℕ))). length files) (sym {A = List (Option (List ℕ))} contents)
     ∙ as_many_streams given holds)
 
--- what a run begins with is a task for its threads
-pub task_is : {S K : Type 0} (left : S → Option (List ℕ)) (faults : S → ℕ) (written : K → Option (List ℕ))
-    (failures : K → ℕ) (given : Settings) (holds : List ℕ → Option (List ℕ)) (reads : Reads S K)
-    (task : Task (TwoSources S)) → AreSettings given → ReadsStreams given
-    → IsReady left faults written failures given holds task.queries.items (Some reads)
-    → stream_contents given holds ≡ lefts_of left task.readers.items
-    → AreNewReaders left faults task.readers.items → task.sessions.items ≡ reads.sessions.items
-    → task.workers ≡ given.workers → task.limit ≡ given.history
-    → IsTask (left_of_both left) (faults_of_both faults) task
-task_is left faults written failures given holds reads task settings mode ready contents fresh sessions workers limit =
-    let all = ready.understood in
-    let many = as_many_readers left given holds task.readers.items contents in
-    record {
-      understood = record { some = all.some; few = all.few; accepted = all.accepted; compiled = all.compiled };
-      workers = subst (λ n. IsWithin 64 n) (sym workers) settings.workers;
-      streams = (omega (arith, many, mode.some), omega (arith, many, mode.few));
-      fresh = fresh;
-      few = omega (arith, ready.reads.few, ap (λ ss. length ss) sessions);
-      sessions = subst (λ ss. All (IsSession (length task.queries.items)) ss) (sym sessions) ready.reads.ranges;
-      limit = subst (λ n. IsWithin 2000000 n) (sym limit) settings.history;
-    }
+-- nobody asks where no asks file is named
+none_asked : (given : Settings) (holds : List ℕ → Option (List ℕ)) (queries : List Query)
+    (sessions : List (List Ask)) → ForSessions given holds queries (λ asked. sessions ≡ asked)
+    → given.asks ≡ None → sessions ≡ []
+none_asked given holds queries sessions = by given.asks
+  where
+    by : (asks : Option (List ℕ)) → MatchOption asks (sessions ≡ []) (λ name. IfSome (holds name)
+        (λ bytes. (asked : List (List Ask)) × HasSessions queries bytes asked × (sessions ≡ asked)))
+        → asks ≡ None → sessions ≡ []
+    by None is none = is
+    by (Some name) is none = absurd (cc none)
+
+-- the task of these settings, with these queries and readers
+pub record IsTaskOf {S K : Type 0} (given : Settings) (queries : List CompiledValue)
+    (readers : List (ReaderState (TwoSources S))) (reads : Reads S K) (task : Task (TwoSources S))
+    : Type 0 where
+  pub queries_are : task.queries.items ≡ queries
+  pub readers_are : task.readers.items ≡ readers
+  pub sessions_are : task.sessions.items ≡ reads.sessions.items
+  pub ways_are : task.two_way ≡ given.two_way
+  pub workers_are : task.workers ≡ given.workers
+  pub limit_is : task.limit ≡ given.history
+
+module _ {S K : Type 0} (left : S → Option (List ℕ)) (faults : S → ℕ) (written : K → Option (List ℕ))
+    (failures : K → ℕ) (given : Settings) (holds : List ℕ → Option (List ℕ))
+    (queries : List CompiledValue) (reads : Reads S K) (readers : List (ReaderState (TwoSources S)))
+    (task : Task (TwoSources S)) (of : IsTaskOf given queries readers reads task)
+    (ready : IsReady left faults written failures given holds queries (Some reads))
+    (contents : stream_contents given holds ≡ lefts_of left readers) where
+  -- what is ready, of the queries of the task
+  ready_queries : IsReady left faults written failures given holds task.queries.items (Some reads)
+  ready_queries = subst (λ (qs : List CompiledValue).
+      IsReady left faults written failures given holds qs (Some reads)) (sym {A = List CompiledValue} of.queries_are)
+      ready
+
+  -- what the streams hold, of the readers of the task
+  contents_left : stream_contents given holds ≡ lefts_of left task.readers.items
+  contents_left = contents
+      ∙ ap (lefts_of left) (sym {A = List (ReaderState (TwoSources S))} of.readers_are)
+
+  asked_in : ForSessions given holds (definitions_of task.queries.items) (λ asked. task.sessions.items ≡ asked)
+  asked_in = subst (λ (ss : List (List Ask)). ForSessions given holds (definitions_of task.queries.items)
+      (λ asked. ss ≡ asked)) (sym {A = List (List Ask)} of.sessions_are) ready_queries.reads.asked
+
+  -- what a run begins with is a task for its threads
+  pub task_is : AreSettings given → ReadsStreams given → AreNewReaders left faults readers
+      → IsTask (left_of_both left) (faults_of_both faults) task
+  task_is settings mode fresh =
+      let all = ready_queries.understood in
+      let many = as_many_readers left given holds task.readers.items contents_left in
+      record {
+        understood = record { some = all.some; few = all.few; accepted = all.accepted; compiled = all.compiled };
+        workers = subst (λ n. IsWithin 64 n) (sym of.workers_are) settings.workers;
+        streams = (omega (arith, many, mode.some), omega (arith, many, mode.few));
+        fresh = subst (AreNewReaders left faults) (sym {A = List (ReaderState (TwoSources S))} of.readers_are) fresh;
+        few = omega (arith, ready_queries.reads.few, ap (λ (ss : List (List Ask)). length ss) of.sessions_are);
+        sessions = subst (λ (ss : List (List Ask)). All (IsSession (length task.queries.items)) ss)
+            (sym {A = List (List Ask)} of.sessions_are) ready_queries.reads.ranges;
+        unasked = λ both. none_asked given holds (definitions_of task.queries.items) task.sessions.items asked_in
+            (mode.both_ways (sym {A = Bool} of.ways_are ∙ both)).no_asks;
+        limit = subst (λ n. IsWithin 2000000 n) (sym of.limit_is) settings.history;
+      }
+
+  -- and it is what the settings ask for
+  pub task_asked : (firsts : ℕ) → firsts ≡ count_of given.from
+      → IsAsked left written failures given holds firsts task reads.sinks
+  task_asked firsts behind = record {
+    has = ready_queries.has;
+    contents = contents_left;
+    behind = behind;
+    asked = asked_in;
+    two_way = of.ways_are;
+    limit = of.limit_is;
+    sinks = ready_queries.reads.sinks;
+  }

@@ -16,10 +16,11 @@ pub record IsAsked {S K : Type 0} (left : S → Option (List ℕ)) (written : K 
     (failures : K → ℕ) (given : Settings) (holds : List ℕ → Option (List ℕ)) (firsts : ℕ)
     (task : Task (TwoSources S)) (own : OwnSinks K) : Type 0 where
   pub has : IfSome (holds given.queries)
-      (λ bytes. HasQueries bytes (definitions_of task.queries.items))
+      (λ bytes. HasQueries given.two_way bytes (definitions_of task.queries.items))
   pub contents : stream_contents given holds ≡ lefts_of left task.readers.items
   pub behind : firsts ≡ count_of given.from
   pub asked : ForSessions given holds (definitions_of task.queries.items)
       (λ asked. task.sessions.items ≡ asked)
+  pub two_way : task.two_way ≡ given.two_way
   pub limit : task.limit ≡ given.history
   pub sinks : AreNewSinks written failures given own

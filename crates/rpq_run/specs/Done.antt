@@ -21,9 +21,9 @@ tuple_count file = unwrap_or (option_map (λ text. length (stream_tuples text).t
 -- the bytes of all files are told and have no fault, and the history can hold the streams' tuples,
 -- or those that are generated
 pub record CanBeDone (given : Settings) (holds : List ℕ → Option (List ℕ)) : Type 0 where
-  pub understood : IsSomeAnd (holds given.queries) IsFaultless
+  pub understood : IsSomeAnd (holds given.queries) (IsFaultless given.two_way)
   pub asks : IfSome given.asks (λ name.
-      IsSomeAnd (holds name) (AreFaultlessAsks (holds given.queries)))
+      IsSomeAnd (holds name) (AreFaultlessAsks given.two_way (holds given.queries)))
   pub whole : All IsWholeStream (stream_contents given holds)
   pub few : sum (map tuple_count (stream_contents given holds)) ≤ given.history
   pub made : IfSome given.generate (λ count. count ≤ given.history)

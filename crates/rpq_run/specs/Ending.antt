@@ -23,8 +23,8 @@ HasMemoryEnd ends = list_any (λ end. status_of_end end == memory_status) ends �
 -- why no window is saved: a write of the events failed, or memory ran out, for the engine, for a
 -- session, for a stream, or for the replies
 abbrev pub IsUnsaved : Option Why → Bool → List StreamEnd → Result (Unit {0}) TextFault → Type 0
-IsUnsaved why session ends replied = (why ≡ Some Write) ⊎ ((why ≡ Some Memory)
-    ⊎ ((session ≡ true) ⊎ (HasMemoryEnd ends ⊎ (replied ≡ Err MemoryForText))))
+IsUnsaved why short_of_memory ends replied = (why ≡ Some Write) ⊎ ((why ≡ Some Memory)
+    ⊎ ((short_of_memory ≡ true) ⊎ (HasMemoryEnd ends ⊎ (replied ≡ Err MemoryForText))))
 
 -- a text was to be written on a sink, if there is one, where the engine went on to the end; it
 -- wasn't only for this reason
@@ -36,7 +36,7 @@ SavesIfThere written faults text why reason old new result =
 
 -- memory ran out: for a session, for the engine, or for a text behind the events
 abbrev pub IsShort : Option Why → Bool → WrittenTexts → Type 0
-IsShort why session written = (session ≡ true) ⊎ ((why ≡ Some Memory)
+IsShort why short_of_memory written = (short_of_memory ≡ true) ⊎ ((why ≡ Some Memory)
     ⊎ ((written.replied ≡ Err MemoryForText) ⊎ (written.saved ≡ Err MemoryForText)))
 
 -- the sinks of which a write failed

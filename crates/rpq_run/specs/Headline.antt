@@ -1,13 +1,14 @@
 -- What a run over streams that is done comes to, in one piece.
-use Rattle.std.specs.Prelude.{◌≡◌, ℕ, ◌+◌, ◌↔◌, ⊤, List, [], ◌∷◌, ◌++◌, length, map, take, All}
-use Rattle.std.specs.Prelude.{Option, Some, option_map, unwrap_or, slice_get, IfSome, MatchOption}
+use Rattle.std.specs.Prelude.{◌≡◌, ℕ, ◌+◌, ◌↔◌, ⊤, Bool, List, [], ◌∷◌, ◌++◌, length, map, take}
+use Rattle.std.specs.Prelude.{All, Option, Some, option_map, unwrap_or, slice_get, IfSome}
+use Rattle.std.specs.Prelude.{MatchOption}
 use Rattle.std.specs.List.{flat_map}
 use Rattle.rpq_base.specs.declared.data.Event.{Event}
 use Rattle.rpq_base.specs.declared.data.Pair.{Pair}
 use Rattle.rpq_model.specs.Answers.{IsAnswer}
 use Rattle.rpq_model.specs.Events.{IsHeld}
 use Rattle.rpq_model.specs.Query.{Query, path_query}
-use Rattle.rpq_model.specs.QueryEvents.{AreAllEvents}
+use Rattle.two_way.specs.TwoWay.{walked, AreAllWalkedEvents}
 use Rattle.rpq_words.specs.Settings.{Settings}
 use Rattle.ask_text.specs.declared.ask.Ask.{Ask}
 use Rattle.ask_text.specs.Replies.{replies}
@@ -21,9 +22,11 @@ use Rattle.run_start.specs.Files.{HasQueries, HasSessions}
 use Rattle.rpq_threads.specs.Runs.{AreSessionsOf, asks_answered}
 use Rattle.rpq_run.specs.Outcome.{Meanings, Sinks, Objects, Outcome}
 
--- the bytes of the queries file; of the asks file and of the saved window with which the run
--- begins, if there are such; of the streams' files; and those that stood on the events before
+-- whether edges may be taken backwards; the bytes of the queries file; of the asks file and of the
+-- saved window with which the run begins, if there are such; of the streams' files; and those that
+-- stood on the events before
 pub record Told : Type 0 where
+  pub two_way : Bool
   pub queries : List ℕ
   pub asks : Option (List ℕ)
   pub from : Option (List ℕ)
@@ -39,9 +42,10 @@ behind_text first (text ∷ texts) = (first ++ text) ∷ texts
 abbrev pub stream_texts : Told → List (List ℕ)
 stream_texts told = behind_text (unwrap_or told.from []) told.streams
 
--- the files of the settings hold these bytes, and the sink of the events had these
+-- the settings say so, their files hold these bytes, and the sink of the events had these
 pub record IsTold {S K : Type 0} (means : Meanings S K) (given : Settings)
     (holds : List ℕ → Option (List ℕ)) (sinks : Sinks K) (told : Told) : Type 0 where
+  pub two_way : given.two_way ≡ told.two_way
   pub queries : holds given.queries ≡ Some told.queries
   pub asks : option_map holds given.asks ≡ option_map (λ bytes. Some bytes) told.asks
   pub from : option_map holds given.from ≡ option_map (λ bytes. Some bytes) told.from
@@ -56,26 +60,27 @@ AreAsked queries file sessions =
 -- there are queries and sessions, those of their files; one history, in which each stream's tuples
 -- stand once, in order, and nothing else; and the events that it brings, which were written behind
 -- what stood on the sink, with each entry its own. After each entry the pairs of a query emitted
--- and not retracted are exactly its answers over the entries so far. Each session has exactly its
+-- and not retracted are exactly its answers over the entries so far, and over their inverses where
+-- edges may be taken backwards. Each session has exactly its
 -- asks answered, each by the answers at a position of the history that never falls within the
 -- session; and these replies were written. Each object that stayed heard all events that it wants,
 -- and one that left a front of them. Where a window is saved, it is that of the history
 pub record Headline {S K : Type 0} (means : Meanings S K) (told : Told) (sinks : Sinks K)
     (objects : Objects) (outcome : Outcome S K) : Type 0 where
   pub queries : List Query
-  pub accepted : HasQueries told.queries queries
+  pub accepted : HasQueries told.two_way told.queries queries
   pub sessions : List (List Ask)
   pub asked : AreAsked queries told.asks sessions
   pub in_order : (place : ℕ) (text : List ℕ) → slice_get (stream_texts told) place ≡ Some text
       → own_tuples (place + 1) outcome.history ≡ (stream_tuples text).tuples
   pub no_other : All (λ entry. IsNumberOf (length told.streams) entry.stream) outcome.history
   pub events : List (List Event)
-  pub are_events : AreAllEvents queries outcome.history events
+  pub are_events : AreAllWalkedEvents told.two_way queries outcome.history events
   pub written : means.written sinks.events_new
       ≡ Some (told.events ++ blocks_from queries 1 outcome.history events)
   pub held : (place : ℕ) (query : Query) → slice_get queries place ≡ Some query
       → (count : ℕ) (pair : Pair) → IsHeld place (flat_map (λ list. list) (take count events)) pair
-      ↔ IsAnswer (path_query query) (take count outcome.history) pair
+      ↔ IsAnswer (path_query query) (walked told.two_way (take count outcome.history)) pair
   pub heard : HaveStood objects.before (flat_map (λ list. list) events) ⊤
       objects.after.members objects.after.left
   pub readers : AreSessionsOf queries outcome.history (length outcome.history)

@@ -27,11 +27,11 @@ pub record LeavesObjects (objects : Objects) : Type 0 where
 pub record RunsCheck {S K : Type 0} (means : Meanings S K) (given : Settings)
     (holds : List ℕ → Option (List ℕ)) (sinks : Sinks K) (objects : Objects) (outcome : Outcome S K)
     : Type 0 where
-  pub understood : IsQueriesFile (holds given.queries)
+  pub understood : IsQueriesFile given.two_way (holds given.queries)
   pub nothing : TakesNothing outcome
   pub no_source : outcome.sources ≡ []
   pub failed : List SinkName
-  pub text : ForQueries (holds given.queries) (λ queries.
+  pub text : ForQueries given.two_way (holds given.queries) (λ queries.
       WritesWhere (Contains failed Events) outcome.status (AreVerdicts queries)
       (means.written sinks.events_old) (means.written sinks.events_new))
   pub causes : HasCauses means failed sinks outcome

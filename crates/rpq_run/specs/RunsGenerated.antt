@@ -1,6 +1,6 @@
 -- What the run over generated tuples does.
-use Rattle.std.specs.Prelude.{◌≡◌, ◌≢◌, ℕ, ◌≤◌, ◌<◌, ◌⊎◌, ◌↔◌, List, [], ◌∷◌, Option, None}
-use Rattle.std.specs.Prelude.{Contains}
+use Rattle.std.specs.Prelude.{◌≡◌, ◌≢◌, ℕ, ◌≤◌, ◌<◌, ◌⊎◌, ◌↔◌, Bool, List, [], ◌∷◌}
+use Rattle.std.specs.Prelude.{Option, None, Contains}
 use Rattle.rpq_model.specs.Query.{Query}
 use Rattle.rpq_words.specs.Settings.{Settings}
 use Rattle.stream_tuples.specs.declared.ends.StreamEnd.{StreamEnd}
@@ -32,14 +32,14 @@ pub record HoldsGenerated {S K : Type 0} (given : Settings) (count : ℕ) (outco
 
 -- the summary of the run was written; less than the whole of it where a write failed, and nothing
 -- where memory ran out
-pub record WritesSummary {S K : Type 0} (means : Meanings S K) (queries : List Query)
-    (failed : List SinkName) (sinks : Sinks K) (objects : Objects) (outcome : Outcome S K)
-    : Type 0 where
+pub record WritesSummary {S K : Type 0} (means : Meanings S K) (two_way : Bool)
+    (queries : List Query) (failed : List SinkName) (sinks : Sinks K) (objects : Objects)
+    (outcome : Outcome S K) : Type 0 where
   pub whole : (Contains failed Events → ⊥) → outcome.status ≢ memory_status
-      → Grew (IsSummary queries outcome.history (said_by objects.after))
+      → Grew (IsSummary two_way queries outcome.history (said_by objects.after))
       (means.written sinks.events_old) (means.written sinks.events_new)
   pub part : Contains failed Events
-      → GrewByProperPrefix (IsSummary queries outcome.history (said_by objects.after))
+      → GrewByProperPrefix (IsSummary two_way queries outcome.history (said_by objects.after))
       (means.written sinks.events_old) (means.written sinks.events_new)
   pub nothing : outcome.status ≡ memory_status
       → means.written sinks.events_new ≡ means.written sinks.events_old
@@ -50,15 +50,16 @@ pub record WritesSummary {S K : Type 0} (means : Meanings S K) (queries : List Q
 pub record RunsGenerated {S K : Type 0} (means : Meanings S K) (given : Settings) (count : ℕ)
     (holds : List ℕ → Option (List ℕ)) (sinks : Sinks K) (objects : Objects)
     (outcome : Outcome S K) : Type 0 where
-  pub understood : IsQueriesFile (holds given.queries)
+  pub understood : IsQueriesFile given.two_way (holds given.queries)
   pub no_source : outcome.sources ≡ []
   pub no_session : outcome.sessions ≡ []
   pub no_replies : outcome.replies ≡ None
   pub no_window : (outcome.from ≡ None) × (outcome.save ≡ None)
   pub failed : List SinkName
   pub history : HoldsGenerated given count outcome
-  pub summary : ForQueries (holds given.queries) (λ queries.
-      WritesSummary means queries failed sinks objects outcome)
-  pub told : ForQueries (holds given.queries) (λ queries. AreTold queries outcome.history
+  pub summary : ForQueries given.two_way (holds given.queries) (λ queries.
+      WritesSummary means given.two_way queries failed sinks objects outcome)
+  pub told : ForQueries given.two_way (holds given.queries) (λ queries.
+      AreTold given.two_way queries outcome.history
       objects.before (outcome.status ≢ memory_status) objects.after)
   pub causes : HasCauses means failed sinks outcome

@@ -1,5 +1,5 @@
 -- What the run over streams does.
-use Rattle.std.specs.Prelude.{◌≡◌, ◌≢◌, ℕ, ◌≤◌, ◌⊎◌, ◌↔◌, List, [], length, map, take, All}
+use Rattle.std.specs.Prelude.{◌≡◌, ◌≢◌, ℕ, ◌≤◌, ◌⊎◌, ◌↔◌, Bool, List, [], length, map, take, All}
 use Rattle.std.specs.Prelude.{Contains, slice_get, Option, Some, is_some, option_map, IfSome}
 use Rattle.std.specs.List.{flat_map}
 use Rattle.rpq_base.specs.declared.data.Entry.{Entry}
@@ -8,7 +8,7 @@ use Rattle.rpq_base.specs.declared.data.Pair.{Pair}
 use Rattle.rpq_model.specs.Answers.{IsAnswer}
 use Rattle.rpq_model.specs.Events.{IsHeld}
 use Rattle.rpq_model.specs.Query.{Query, path_query}
-use Rattle.rpq_model.specs.QueryEvents.{AreAllEvents}
+use Rattle.two_way.specs.TwoWay.{walked, AreAllWalkedEvents}
 use Rattle.rpq_words.specs.Settings.{Settings}
 use Rattle.history_model.specs.declared.line.Why.{Why}
 use Rattle.history_model.specs.declared.line.Why.TheVariants.{Write, Memory}
@@ -42,22 +42,24 @@ pub record HoldsStreams {S K : Type 0} (means : Meanings S K) (given : Settings)
   pub few : length outcome.history ≤ given.history
 
 -- going through the events of the first blocks of the history's text leaves exactly each query's
--- answers over as many entries
-abbrev pub FrontsHold : List Query → List Entry → Type 0
-FrontsHold queries history = (place : ℕ) (query : Query) (events : List (List Event))
-    → slice_get queries place ≡ Some query → AreAllEvents queries history events
+-- answers over as many entries, and over their inverses where edges may be taken backwards
+abbrev pub FrontsHold : Bool → List Query → List Entry → Type 0
+FrontsHold two_way queries history = (place : ℕ) (query : Query) (events : List (List Event))
+    → slice_get queries place ≡ Some query → AreAllWalkedEvents two_way queries history events
     → (count : ℕ) (pair : Pair) → IsHeld place (flat_map (λ list. list) (take count events)) pair
-    ↔ IsAnswer (path_query query) (take count history) pair
+    ↔ IsAnswer (path_query query) (walked two_way (take count history)) pair
 
 -- the events: the text of the history was written, or a prefix of it, and after each block the
 -- pairs emitted and not retracted are the answers
 pub record WritesEvents {S K : Type 0} (means : Meanings S K) (given : Settings)
     (holds : List ℕ → Option (List ℕ)) (failed : List SinkName) (sinks : Sinks K)
     (outcome : Outcome S K) : Type 0 where
-  pub text : ForQueries (holds given.queries) (λ queries.
-      WritesWhere (Contains failed Events) outcome.status (IsText queries outcome.history)
+  pub text : ForQueries given.two_way (holds given.queries) (λ queries.
+      WritesWhere (Contains failed Events) outcome.status
+      (IsText given.two_way queries outcome.history)
       (means.written sinks.events_old) (means.written sinks.events_new))
-  pub sets : ForQueries (holds given.queries) (λ queries. FrontsHold queries outcome.history)
+  pub sets : ForQueries given.two_way (holds given.queries) (λ queries.
+      FrontsHold given.two_way queries outcome.history)
 
 -- nothing, where what is written on the sink is told
 abbrev pub nothing_told : Option (List ℕ) → Option (List ℕ)
@@ -101,7 +103,7 @@ pub record SavesWindow {S K : Type 0} (means : Meanings S K) (given : Settings)
     (holds : List ℕ → Option (List ℕ)) (failed : List SinkName) (outcome : Outcome S K)
     : Type 0 where
   pub sink : is_some outcome.save ≡ is_some given.save
-  pub text : IfSome outcome.save (λ sink. ForQueries (holds given.queries) (λ queries.
+  pub text : IfSome outcome.save (λ sink. ForQueries given.two_way (holds given.queries) (λ queries.
       GotText (Contains failed Events) (Contains failed Save) outcome.status
       (saved_text (saved queries outcome.history)) (means.written sink)))
 
@@ -113,7 +115,8 @@ pub record TellsHistory {S K : Type 0} (means : Meanings S K) (given : Settings)
   pub why : Option Why
   pub write : why ≡ Some Write → Contains failed Events
   pub memory : why ≡ Some Memory → outcome.status ≡ memory_status
-  pub told : ForQueries (holds given.queries) (λ queries. TellsObjects queries outcome.history
+  pub told : ForQueries given.two_way (holds given.queries) (λ queries.
+      TellsObjects given.two_way queries outcome.history
       (means.written sinks.events_old) (means.written sinks.events_new) objects.before why
       objects.after)
 

@@ -33,7 +33,8 @@ pub fn run_check<F: Files>(
     ensures left { result.left.items ≡ [] }
     ensures runs { (given : Settings) (holds : List ℕ → Option (List ℕ))
         (objects : Objects) → LeavesObjects objects
-        → IfSome (holds given.queries) (λ bytes. HasQueries bytes (definitions_of queries.now))
+        → IfSome (holds given.queries)
+        (λ bytes. HasQueries given.two_way bytes (definitions_of queries.now))
         → RunsCheck (meanings F.Source.left F.Source.faults F.Sink.written F.Sink.faults)
         given holds (sinks events.old events.new errors.old errors.new) objects (outcome result) }
 {

@@ -35,9 +35,9 @@ pub fn run_generated<R: Threads + RandomSource + Sync, G: Gate, F: Files>(
     requires { IsGeneration generation }
     ensures start { IfOk result (λ report. report.start ≡ None) }
     ensures runs { IfOk result (λ report. (given : Settings) (holds : List ℕ → Option (List ℕ))
-        → generation.limit ≡ given.history
+        → generation.limit ≡ given.history → generation.two_way ≡ given.two_way
         → IfSome (holds given.queries) (λ bytes.
-        HasQueries bytes (definitions_of generation.queries.items))
+        HasQueries given.two_way bytes (definitions_of generation.queries.items))
         → RunsGenerated (meanings F.Source.left F.Source.faults F.Sink.written F.Sink.faults)
         given generation.count holds (sinks events.old events.new errors.old errors.new)
         (objects (λ b. seen b) standing.old.items standing.new.items report.left.items)

@@ -7,7 +7,7 @@ ghost use Rattle.rpq_run.specs.Headline.{Headline, IsTold, Told};
 ghost use Rattle.rpq_run.specs.Outcome.{Objects, Outcome, Sinks, meanings};
 ghost use Rattle.rpq_run.specs.RunsStreams.{RunsStreams};
 
-use query_file::one_outcome;
+use query_file::{one_outcome, one_two_way_outcome};
 use rpq_io::Files;
 
 /// A run over streams that is done, where the files and the sink of the events tell their bytes:
@@ -25,5 +25,6 @@ pub fn headline<F: Files>()
         → Headline (meanings F.Source.left F.Source.faults F.Sink.written F.Sink.faults)
         told sinks objects outcome }
 {
-    one_outcome(); // called for its clause
+    one_outcome(); // these are called for their clauses
+    one_two_way_outcome();
 }

@@ -7,8 +7,9 @@
 //! written is its summary; where it checks queries it writes what there is to say of each; or it
 //! writes nothing and says why it didn't begin; and what went wrong is told on the errors. The
 //! objects of the caller are told of the history's events, those of a block once it is written
-//! whole, and come back. [`headline`] says the same of a run over streams that is done, in one
-//! piece.
+//! whole, and come back. Where the words say so, queries may take edges backwards: then an entry's
+//! events are the difference that it and its inverse bring together. [`headline`] says the same of
+//! a run over streams that is done, in one piece.
 #![tactic(auto)]
 
 mod check;

@@ -20,18 +20,19 @@ use std::alloc::Global;
 use stream_tuples::StreamEnd;
 use tuple_text::write_tuple;
 
-/// Whether the window of a run is saved: no write of the events failed, and memory didn't run out.
+/// Whether the window of a run is saved: no write of the events failed, and memory didn't run out,
+/// for a session, a stream, or another part of the run.
 pub fn can_save(
     why: Option<Why>,
-    session: bool,
+    short_of_memory: bool,
     ends: &[StreamEnd],
     replied: Result<(), TextFault>,
 ) -> bool
     ensures yes { result ≡ true → why ≡ None }
-    ensures no { result ≡ false → IsUnsaved why session ends.now replied }
+    ensures no { result ≡ false → IsUnsaved why short_of_memory ends.now replied }
 {
     why.is_none()
-        && !session
+        && !short_of_memory
         && !ends.iter().any(|end| status_of_end(end) == status::MEMORY)
         && !matches!(replied, Err(TextFault::Memory))
 }

@@ -47,6 +47,9 @@ use std::thread::Threads;
 /// The run over streams: takes their tuples, tells the objects of the events, and answers the
 /// sessions; writes the replies and then the saved window, and tells what went wrong. The only
 /// error is [`Memory`], before anything is written or told.
+///
+/// Where edges may be taken backwards, an entry's events are the difference that it and its inverse
+/// bring together, and nothing is asked.
 pub fn run_streams<R: Threads + Wait + RandomSource + Sync, G: Gate, F: Files, P: Front + Send>(
     context: &Context<'_, R, G>,
     task: Task<Then<F::Source, P>>,
@@ -153,16 +156,9 @@ fn end_run<F: Files, P: Front>(
     let OwnSinks { replies, save } = own;
     let left = put_back(standing, circle);
     let (from, sources) = parted(sources, room);
-    let failed = failed_sinks(
-        is_write(why),
-        is_failed(written.replied),
-        is_failed(written.saved),
-    );
-    let status = run_status(
-        &ends,
-        failed,
-        is_short_of_memory(short_of_memory, why, written),
-    );
+    let failed = failed_of(why, written);
+    let is_short = is_short_of_memory(short_of_memory, why, written);
+    let status = run_status(&ends, failed, is_short);
     // A fault of the errors changes no status.
     let _ = tell_end(errors, &ends, failed, status);
     Report {
@@ -177,6 +173,17 @@ fn end_run<F: Files, P: Front>(
         save,
         left,
     }
+}
+
+/// The sinks of which a write failed, by why the engine shut and by the texts behind the events.
+fn failed_of(why: Option<Why>, written: WrittenTexts) -> &'static [SinkName]
+    ensures { result.now ≡ failed_of why written }
+{
+    failed_sinks(
+        is_write(why),
+        is_failed(written.replied),
+        is_failed(written.saved),
+    )
 }
 
 /// Whether a write of the events failed.
@@ -194,10 +201,10 @@ fn is_failed(written: Result<(), TextFault>) -> bool
 }
 
 /// Whether memory ran out: for a session, for the engine, or for a text behind the events.
-fn is_short_of_memory(session: bool, why: Option<Why>, written: WrittenTexts) -> bool
-    ensures { IsShort why session written → result ≡ true }
+fn is_short_of_memory(short_of_memory: bool, why: Option<Why>, written: WrittenTexts) -> bool
+    ensures { IsShort why short_of_memory written → result ≡ true }
 {
-    session
+    short_of_memory
         || matches!(why, Some(Why::Memory))
         || matches!(written.replied, Err(TextFault::Memory))
         || matches!(written.saved, Err(TextFault::Memory))

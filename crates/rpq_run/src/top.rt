@@ -19,9 +19,11 @@ use crate::generated::run_generated;
 use crate::report::Report;
 use crate::room::Room;
 use crate::streams::run_streams;
+use ask_text::Session;
 use generated_run::Generation;
+use query_file::Compiled;
 use rpq_base::Memory;
-use rpq_io::{Context, Files, Gate};
+use rpq_io::{Context, Files, Gate, LineReader, Source};
 use rpq_text::StartFault;
 use rpq_threads::Task;
 use rpq_words::Chosen;
@@ -36,6 +38,9 @@ use std::thread::Threads;
 /// query; answers the asks of sessions meanwhile, and writes the replies; or generates the tuples
 /// and writes a summary; or checks the queries, and writes on `events` what there is to say of
 /// each.
+///
+/// Where the words say so, the queries may take edges backwards. Then the events of an entry are
+/// the difference that the entry and its inverse bring together.
 ///
 /// The words are those of the command line, the program's name first. The queries file is read
 /// whole and understood, then the asks file, then the saved window of an earlier run and the
@@ -143,8 +148,6 @@ fn run_begun<R: Threads + Wait + RandomSource + Sync, G: Gate, F: Files>(
     ensures objects_kept { OnErr result (standing.new.items ≡ standing.old.items) }
 {
     let Ready { queries, reads } = ready;
-    let workers = chosen.workers;
-    let limit = chosen.history;
     if let Some(reads) = reads {
         let Reads {
             readers,
@@ -153,23 +156,11 @@ fn run_begun<R: Threads + Wait + RandomSource + Sync, G: Gate, F: Files>(
         } = reads;
         return match readers {
             Readers::Alone(readers) => {
-                let task = Task {
-                    queries,
-                    workers,
-                    limit,
-                    readers,
-                    sessions,
-                };
+                let task = task_of(chosen, queries, readers, sessions);
                 run_streams(context, task, sinks, standing, events, errors)
             }
             Readers::Behind(readers) => {
-                let task = Task {
-                    queries,
-                    workers,
-                    limit,
-                    readers,
-                    sessions,
-                };
+                let task = task_of(chosen, queries, readers, sessions);
                 run_streams(context, task, sinks, standing, events, errors)
             }
         };
@@ -179,11 +170,37 @@ fn run_begun<R: Threads + Wait + RandomSource + Sync, G: Gate, F: Files>(
     };
     let generation = Generation {
         queries,
-        workers,
-        limit,
+        two_way: chosen.two_way,
+        workers: chosen.workers,
+        limit: chosen.history,
         count,
     };
     run_generated(context, generation, standing, events, errors)
+}
+
+/// What the threads of a run with these settings are given: its queries, the readers of its
+/// streams, and what is asked.
+fn task_of<S: Source>(
+    chosen: &Chosen,
+    queries: Vec<Compiled>,
+    readers: Vec<LineReader<S>>,
+    sessions: Vec<Session>,
+) -> Task<S>
+    ensures queries { result.queries ≡ queries }
+    ensures two_way { result.two_way ≡ chosen.now.two_way }
+    ensures workers { result.workers ≡ chosen.now.workers }
+    ensures limit { result.limit ≡ chosen.now.history }
+    ensures readers { result.readers ≡ readers }
+    ensures sessions { result.sessions ≡ sessions }
+{
+    Task {
+        queries,
+        two_way: chosen.two_way,
+        workers: chosen.workers,
+        limit: chosen.history,
+        readers,
+        sessions,
+    }
 }
 
 /// The report of a run that doesn't begin for this cause and leaves these sources, which is told.

@@ -1,5 +1,5 @@
 -- The text of a history with one entry more, and of a longer history.
-use Rattle.std.proofs.Common.{◌≡◌, ℕ, ◌+◌, List, [], ◌∷◌, ◌++◌, length, refl, ap, sym, subst, ◌∙◌}
+use Rattle.std.proofs.Common.{◌≡◌, ℕ, ◌+◌, Bool, List, [], ◌∷◌, ◌++◌, length, refl, ap, sym, subst, ◌∙◌}
 use Rattle.std.proofs.Common.{append_assoc, arith}
 use Rattle.std.specs.List.{All}
 use Rattle.std.proofs.lemmas.List.{append-nil}
@@ -7,7 +7,7 @@ use Rattle.rpq_base.specs.declared.data.Entry.{Entry}
 use Rattle.rpq_base.specs.declared.data.Event.{Event}
 use Rattle.containment_laws.specs.Accepted.{IsAccepted, AcceptedHaveEvents}
 use Rattle.rpq_model.specs.Query.{Query}
-use Rattle.rpq_model.specs.QueryEvents.{AreEventsUnder}
+use Rattle.two_way.specs.TwoWay.{walked, AreWalkedEvents}
 use Rattle.rpq_model.proofs.EachEntry.{each_are_one, each_as_many, each_push}
 use Rattle.rpq_model.proofs.AllEvents.{under_one}
 use Rattle.rpq_text.specs.Laws.{EveryHistoryHasOneText}
@@ -34,55 +34,56 @@ blocks_push (next ∷ later) (one ∷ rest) queries position entry found as_many
     (position + 1) later rest) ++ block queries n entry found) there)
 
 -- the text of a history, and the block of the entry that follows it
-pub text_push : (queries : List Query) (history : List Entry) (text : List ℕ) (entry : Entry)
-    (found : List Event) → IsText queries history text
-    → AreEventsUnder 0 queries history (history ++ entry ∷ []) found
-    → IsText queries (history ++ entry ∷ []) (text ++ block queries (length history + 1) entry found)
-text_push queries history text entry found is_text brings =
+pub text_push : (two_way : Bool) (queries : List Query) (history : List Entry) (text : List ℕ) (entry : Entry)
+    (found : List Event) → IsText two_way queries history text
+    → AreWalkedEvents two_way queries history (history ++ entry ∷ []) found
+    → IsText two_way queries (history ++ entry ∷ []) (text ++ block queries (length history + 1) entry found)
+text_push two_way queries history text entry found is_text brings =
     let events = is_text.0 in
-    let many = sym (each_as_many history [] (AreEventsUnder 0 queries) events is_text.1) in
+    let many = sym (each_as_many history [] (AreWalkedEvents two_way queries) events is_text.1) in
     let position : length history + 1 ≡ 1 + length history = omega arith in (
       events ++ found ∷ [],
-      each_push history events (AreEventsUnder 0 queries) [] entry found is_text.1 brings,
+      each_push history events (AreWalkedEvents two_way queries) [] entry found is_text.1 brings,
       ap (λ (t : List ℕ). t ++ block queries (length history + 1) entry found) is_text.2
           ∙ (ap (λ (n : ℕ). blocks_from queries 1 history events ++ block queries n entry found) position
           ∙ sym (blocks_push history events queries 1 entry found many)),
     )
 
 -- a text of a history is at the front of one of each longer history
-pub text_goes_on : AcceptedHaveEvents → (more : List Entry) (queries : List Query)
+pub text_goes_on : AcceptedHaveEvents → (more : List Entry) (two_way : Bool) (queries : List Query)
     → All IsAccepted queries → (history : List Entry) (text : List ℕ)
-    → IsText queries history text → (rest : List ℕ) × IsText queries (history ++ more) (text ++ rest)
-text_goes_on have [] queries all history text is_text = (
+    → IsText two_way queries history text → (rest : List ℕ) × IsText two_way queries (history ++ more) (text ++ rest)
+text_goes_on have [] two_way queries all history text is_text = (
   [],
-  subst (λ (h : List Entry). IsText queries h (text ++ [])) (sym (append-nil history))
-      (subst (IsText queries history) (sym (append-nil text)) is_text),
+  subst (λ (h : List Entry). IsText two_way queries h (text ++ [])) (sym (append-nil history))
+      (subst (IsText two_way queries history) (sym (append-nil text)) is_text),
 )
-text_goes_on have (entry ∷ more) queries all history text is_text =
-    let found = have queries all 0 history (history ++ entry ∷ []) in
+text_goes_on have (entry ∷ more) two_way queries all history text is_text =
+    let found = have queries all 0 (walked two_way history) (walked two_way (history ++ entry ∷ [])) in
     let next = block queries (length history + 1) entry found.0 in
-    let later = text_goes_on have more queries all (history ++ entry ∷ []) (text ++ next)
-    (text_push queries history text entry found.0 is_text found.1) in (
+    let later = text_goes_on have more two_way queries all (history ++ entry ∷ []) (text ++ next)
+    (text_push two_way queries history text entry found.0 is_text found.1) in (
       next ++ later.0,
-      subst (λ (h : List Entry). IsText queries h (text ++ (next ++ later.0)))
+      subst (λ (h : List Entry). IsText two_way queries h (text ++ (next ++ later.0)))
           (append_assoc history (entry ∷ []) more)
-          (subst (IsText queries ((history ++ entry ∷ []) ++ more)) (append_assoc text next later.0) later.1),
+          (subst (IsText two_way queries ((history ++ entry ∷ []) ++ more)) (append_assoc text next later.0) later.1),
     )
 
 -- the empty history has the empty text
-pub no_text : (queries : List Query) → IsText queries [] []
-no_text queries = ([], tt, refl)
+pub no_text : (two_way : Bool) (queries : List Query) → IsText two_way queries [] []
+no_text two_way queries = ([], tt, refl)
 
 -- each history has one text
 pub one_text : AcceptedHaveEvents → EveryHistoryHasOneText
-one_text have queries all history =
-    let text = text_goes_on have history queries all [] [] (no_text queries) in (
+one_text have two_way queries all history =
+    let text = text_goes_on have history two_way queries all [] [] (no_text two_way queries) in (
       text.0,
       text.1,
       λ other is_text.
           is_text.2
           ∙ (ap (blocks_from queries 1 history)
-          (each_are_one history [] (AreEventsUnder 0 queries) is_text.0 text.1.0
-          (λ old new events others. under_one queries 0 old new events others) is_text.1 text.1.1)
+          (each_are_one history [] (AreWalkedEvents two_way queries) is_text.0 text.1.0
+          (λ old new events others.
+          under_one queries 0 (walked two_way old) (walked two_way new) events others) is_text.1 text.1.1)
           ∙ sym text.1.2),
     )

@@ -5,7 +5,7 @@ ghost use Rattle.rpq_text.specs.Laws.{EveryHistoryHasOneText, FrontsHoldAnswers,
 
 use containment_laws::accepted_queries_have_events;
 use minimal_dfa::least_has_fewest;
-use rpq_model::each_held_is_answers;
+use rpq_base::same_is_equal;
 
 /// Each history has exactly one text, where all queries are accepted.
 pub fn every_history_has_one_text()
@@ -15,11 +15,11 @@ pub fn every_history_has_one_text()
 }
 
 /// Going through the events of the first blocks of a text leaves exactly each query's answers over
-/// as many entries.
+/// as many entries, and over their inverses where edges may be taken backwards.
 pub fn fronts_hold_answers()
     ensures { FrontsHoldAnswers }
 {
-    each_held_is_answers();
+    same_is_equal();
 }
 
 /// A query has one verdict line at most, and queries have one text of them.

@@ -1,6 +1,6 @@
 -- The blocks of a history, and of what follows it.
-use Rattle.std.proofs.Common.{◌≡◌, ◌≢◌, ℕ, suc, ◌+◌, ◌<◌, ◌≤◌, List, [], ◌∷◌, ◌++◌, length, map}
-use Rattle.std.proofs.Common.{take, drop, get_or, Option, Some, option_map, slice_get}
+use Rattle.std.proofs.Common.{◌≡◌, ◌≢◌, ℕ, suc, ◌+◌, ◌<◌, ◌≤◌, Bool, List, [], ◌∷◌, ◌++◌, length}
+use Rattle.std.proofs.Common.{map, take, drop, get_or, Option, Some, option_map, slice_get}
 use Rattle.std.proofs.Common.{refl, ap, sym, subst, ◌∙◌, append_assoc, arith}
 use Rattle.std.specs.Global.{Vec}
 use Rattle.std.specs.Io.KnownBytes.{append_known}
@@ -13,7 +13,7 @@ use Rattle.rpq_io.specs.Writes.{WritesProperPrefix}
 use Rattle.rpq_io.proofs.Bytes.{append_known-append}
 use Rattle.rpq_model.specs.Events.{AreEachFrom}
 use Rattle.rpq_model.specs.Query.{Query}
-use Rattle.rpq_model.specs.QueryEvents.{AreEventsUnder, AreAllEventsFrom}
+use Rattle.two_way.specs.TwoWay.{AreWalkedEvents, AreAllWalkedEventsFrom}
 use Rattle.rpq_model.proofs.EachEntry.{each_as_many}
 use Rattle.rpq_text.specs.Text.{block, blocks_from, IsText}
 use Rattle.rpq_threads.specs.Fed.{WritesFront}
@@ -59,16 +59,17 @@ blocks_append (next ∷ first) (one ∷ rest) queries position later more as_man
     ++ blocks_from queries n later more) there)
 
 -- the text of a history, and the blocks of the entries that follow it
-pub text_append : (queries : List Query) (history : List Entry) (text : List ℕ)
-    (later : List Entry) (found : List (List Event)) → IsText queries history text →
-    AreAllEventsFrom queries history later found →
-    IsText queries (history ++ later) (text ++ blocks_from queries (length history + 1) later found)
-text_append queries history text later found is_text brings =
+pub text_append : (two_way : Bool) (queries : List Query) (history : List Entry) (text : List ℕ)
+    (later : List Entry) (found : List (List Event)) → IsText two_way queries history text →
+    AreAllWalkedEventsFrom two_way queries history later found →
+    IsText two_way queries (history ++ later)
+    (text ++ blocks_from queries (length history + 1) later found)
+text_append two_way queries history text later found is_text brings =
     let events = is_text.0 in
-    let many = sym (each_as_many history [] (AreEventsUnder 0 queries) events is_text.1) in
+    let many = sym (each_as_many history [] (AreWalkedEvents two_way queries) events is_text.1) in
     let position : length history + 1 ≡ 1 + length history = omega arith in (
       events ++ found,
-      each_append history events (AreEventsUnder 0 queries) [] later found is_text.1 brings,
+      each_append history events (AreWalkedEvents two_way queries) [] later found is_text.1 brings,
       ap (λ (t : List ℕ). t ++ blocks_from queries (length history + 1) later found) is_text.2
           ∙ (ap (λ (n : ℕ). blocks_from queries 1 history events
           ++ blocks_from queries n later found) position

@@ -1,17 +1,23 @@
 -- An engine that is rebuilt over the entries that it had answered.
-use Rattle.std.proofs.Common.{◌≡◌, ℕ, zero, suc, ◌-◌, ◌<◌, ◌≤◌, List, [], ◌∷◌, length}
-use Rattle.std.proofs.Common.{take, drop, refl, sym, ap, subst, ◌∙◌, arith}
-use Rattle.std.proofs.lemmas.List.{length-take, length-drop}
+use Rattle.std.proofs.Common.{◌≡◌, ℕ, zero, suc, ◌+◌, ◌-◌, ◌<◌, ◌≤◌, Bool, true, false}
+use Rattle.std.proofs.Common.{List, [], ◌∷◌, ◌++◌, length, take, drop, length-append}
+use Rattle.std.proofs.Common.{refl, sym, ap, subst, ◌∙◌, arith}
+use Rattle.std.specs.List.{All}
+use Rattle.std.proofs.lemmas.List.{length-take, length-take-le, length-drop}
 use Rattle.rpq_base.specs.declared.data.Entry.{Entry}
 use Rattle.rpq_base.specs.declared.data.Event.{Event}
-use Rattle.path_engine.specs.Engine.{EngineValue, StandsFor}
-use Rattle.path_engine.specs.Feeding.{FeedsFront}
+use Rattle.query_file.specs.Compiled.{CompiledValue}
+use Rattle.two_way.specs.TwoWay.{walked, AreAllWalkedEventsFrom}
+use Rattle.path_engine.specs.Engine.{StandsFor}
+use Rattle.rpq_text.specs.Definitions.{definitions_of}
+use Rattle.engine_feed.specs.Feeding.{FeedsEntries}
 use Rattle.history_model.specs.Lines.{entries, published}
 use Rattle.stream_history.specs.History.{HistoryValue, IsFeedingPass, HasSeen}
 use Rattle.stream_history.proofs.Steps.{still_feeds}
 use Rattle.rpq_workers.proofs.Numbering.{Each}
 use Rattle.rpq_workers.proofs.Seen.{entries_grow, same_front, take_part}
-use Rattle.rpq_threads.specs.Fed.{MayAskTo, LooksOn, answered}
+use Rattle.rpq_threads.specs.declared.evaluator.Evaluator.{Evaluator}
+use Rattle.rpq_threads.specs.Fed.{MayAskTo, LooksOn, StandsOver, Finds, answered}
 
 -- a call that adds no line leaves a pass that has looked on
 pub looks_by_call : (history : HistoryValue) (before after : Each) →
@@ -30,23 +36,72 @@ own_front (suc k) zero xs = refl
 own_front (suc k) (suc m) [] = refl
 own_front (suc k) (suc m) (x ∷ xs) = ap (λ l. x ∷ l) (own_front k m xs)
 
+-- where there are no entries none are walked
+pub walked_none : (two_way : Bool) → ◌≡◌ {A = List Entry} (walked two_way []) []
+walked_none false = refl
+walked_none true = refl
+
+-- an engine that stands for no entry
+pub stands_over_none : (evaluator : Evaluator) → StandsFor evaluator.engine [] →
+    evaluator.position ≡ 0 → StandsOver evaluator []
+stands_over_none evaluator stands none = record {
+  stands = subst (StandsFor evaluator.engine) (sym (walked_none evaluator.two_way)) stands;
+  counted = none;
+}
+
+-- an engine that stands for the first entries answered so many
+pub as_many_answered : (evaluator : Evaluator) (n : ℕ) (all : List Entry) → n ≤ length all →
+    StandsOver evaluator (take n all) → evaluator.position ≡ n
+as_many_answered evaluator n all within stands = stands.counted ∙ length-take-le n all within
+
+-- the engine was fed the entries, and their number was added to the position
+module _ (old new : Evaluator) (entries : List Entry) (lists : List (List Event))
+    (feeds : FeedsEntries old.two_way old.engine entries new.engine lists)
+    (queries : new.engine.queries ≡ old.engine.queries) (two_way : new.two_way ≡ old.two_way)
+    (further : new.position ≡ old.position + length entries) (history : List Entry)
+    (was : StandsOver old history) where
+  stands_behind : StandsOver new (history ++ entries)
+  stands_behind = record {
+    stands = subst (λ (taken : Bool). StandsFor new.engine (walked taken (history ++ entries)))
+        (sym two_way) (feeds.stands history was.stands);
+    counted = omega (arith, further, was.counted, length-append history entries);
+  }
+
+  -- these are the events behind each history over which the engine stood
+  pub finds_behind : Finds history new entries lists
+  finds_behind = record {
+    stands = stands_behind;
+    events = subst (λ (taken : Bool). AreAllWalkedEventsFrom taken
+        (definitions_of new.engine.queries) history entries lists) (sym two_way)
+        (subst (λ (qs : List CompiledValue). AreAllWalkedEventsFrom old.two_way
+        (definitions_of qs) history entries lists) (sym queries)
+        (feeds.events history was.stands));
+    numbers = subst (λ (qs : List CompiledValue). All (λ (own : List Event).
+        All (λ (event : Event). event.query < length qs) own) lists) (sym queries) feeds.numbers;
+  }
+
 -- the engine stood for what was answered, and was fed the next entries, at most as many as were
 -- missing
-module _ (history : HistoryValue) (before mid : Each) (old : EngineValue) (position : ℕ)
+module _ (history : HistoryValue) (before mid : Each) (old : Evaluator) (position : ℕ)
     (may_ask : MayAskTo history position before) (seen : HasSeen history before mid)
-    (behind : old.position < position) (from : ℕ) (from_is : from ≡ old.position)
-    (front part : List Entry) (front_is : front ≡ take 256 (drop from (entries mid.seen)))
-    (part_is : part ≡ take (position - from) front) (new : EngineValue)
-    (lists : List (List Event)) (feeds : FeedsFront old part new lists) where
+    (behind : old.position < position) (front part : List Entry)
+    (front_is : front ≡ take 256 (drop old.position (entries mid.seen)))
+    (part_is : part ≡ take (position - old.position) front) (new : Evaluator)
+    (lists : List (List Event)) (was : StandsOver old (answered old before))
+    (finds : Finds (answered old before) new part lists) where
   abbrev rest : List Entry
   rest = drop old.position (entries mid.seen)
 
   is_cut : part ≡ take (position - old.position) (take 256 rest)
-  is_cut =
-      let cut = ap (take (position - from)) front_is in
-      let here =
-      ap (λ (n : ℕ). take (position - n) (take 256 (drop n (entries mid.seen)))) from_is in
-      ◌∙◌ {A = List Entry} part_is (◌∙◌ {A = List Entry} cut here)
+  is_cut = ◌∙◌ {A = List Entry} part_is (ap (take (position - old.position)) front_is)
+
+  further : new.position ≡ old.position + length part
+  further = omega (
+    arith,
+    finds.stands.counted,
+    was.counted,
+    length-append (answered old before) part,
+  )
 
   -- the engine got on, and not beyond the position
   pub gets_on : (old.position < new.position) × (new.position ≤ position)
@@ -57,23 +112,24 @@ module _ (history : HistoryValue) (before mid : Each) (old : EngineValue) (posit
       let next = length-take 256 rest in
       let more = length-drop old.position (entries mid.seen) in
       let grown = entries_grow mid.seen before.seen seen.seen in (
-        omega (arith, feeds.position, many, cut, next, more, grown, may_ask.there),
-        omega (arith, feeds.position, many, cut),
+        omega (arith, further, many, cut, next, more, grown, may_ask.there, behind),
+        omega (arith, further, many, cut, behind),
       )
 
   -- and stands for what it has answered then
-  pub stands_further : StandsFor old (answered old before) → StandsFor new (answered new mid)
-  stands_further stands =
+  pub stands_further : StandsOver new (answered new mid)
+  stands_further =
       let next : part ≡ take (length part) rest =
       subst (λ (l : List Entry). l ≡ take (length l) rest) (sym is_cut)
       (own_front (position - old.position) 256 rest) in
-      let there : old.position ≤ length (entries before.seen) = omega (arith, may_ask.there) in
+      let there : old.position ≤ length (entries before.seen) =
+      omega (arith, may_ask.there, behind) in
       let stays : answered old mid ≡ answered old before =
       same_front mid.seen before.seen seen.seen old.position there in
-      subst (StandsFor new)
-      (sym (take_part old.position (length part) (entries mid.seen) part next)
-      ∙ ap (λ (n : ℕ). take n (entries mid.seen)) (sym feeds.position))
-      (feeds.stands (answered old mid) (subst (StandsFor old) (sym stays) stands))
+      subst (StandsOver new)
+      (ap (λ (first : List Entry). first ++ part) (sym stays)
+      ∙ (sym (take_part old.position (length part) (entries mid.seen) part next)
+      ∙ ap (λ (n : ℕ). take n (entries mid.seen)) (sym further))) finds.stands
 
 -- the pass has looked on since the rebuild began
 module _ (history : HistoryValue) (position : ℕ) (before after : Each)
@@ -88,10 +144,10 @@ module _ (history : HistoryValue) (position : ℕ) (before after : Each)
   }
 
   -- an engine that has got there again stands for what it had answered
-  pub stands_again : (engine : EngineValue) → engine.position ≡ position →
-      StandsFor engine (answered engine after) →
-      StandsFor engine (take position (entries before.seen))
-  stands_again engine there stands =
-      subst (StandsFor engine)
+  pub stands_again : (evaluator : Evaluator) → evaluator.position ≡ position →
+      StandsOver evaluator (answered evaluator after) →
+      StandsOver evaluator (take position (entries before.seen))
+  stands_again evaluator there stands =
+      subst (StandsOver evaluator)
       (ap (λ (n : ℕ). take n (entries after.seen)) there
       ∙ same_front after.seen before.seen looks_on.seen position may_ask.there) stands

@@ -5,24 +5,42 @@ use Rattle.std.specs.List.{All}
 use Rattle.std.proofs.lemmas.List.Elements.{All-map, All-same}
 use Rattle.containment_laws.specs.Accepted.{IsAccepted}
 use Rattle.query_file.specs.Compiled.{CompiledValue}
-use Rattle.path_engine.specs.Engine.{StandsFor}
+use Rattle.rpq_base.specs.declared.data.Entry.{Entry}
+use Rattle.rpq_model.specs.Query.{Query}
+use Rattle.two_way.specs.TwoWay.{walked}
+use Rattle.answer_view.specs.View.{ViewValue, IsViewOf}
+use Rattle.path_engine.specs.Engine.{definitions}
 use Rattle.rpq_text.specs.Definitions.{definitions_of}
 use Rattle.history_model.specs.World.{Terms}
 use Rattle.stream_history.specs.History.{HistoryValue}
+use Rattle.stream_history.specs.Journal.{empty_view}
+use Rattle.stream_history.specs.Laws.{FirstView}
 use Rattle.ask_text.specs.declared.ask.Ask.{Ask}
 use Rattle.ask_text.specs.Ranges.{IsInRange, IsSession}
 use Rattle.rpq_workers.specs.Started.{new_pass}
 use Rattle.rpq_threads.specs.declared.evaluator.Evaluator.{Evaluator}
 use Rattle.rpq_threads.specs.declared.task.Task.{Task}
-use Rattle.rpq_threads.specs.Fed.{IsFed}
+use Rattle.rpq_threads.specs.Fed.{StandsOver, IsFed}
 use Rattle.rpq_threads.specs.Runs.{IsTask}
 use Rattle.rpq_threads.specs.Served.{AreAbout}
+use Rattle.rpq_threads.proofs.Rebuilt.{walked_none}
 use Rattle.rpq_threads.proofs.Turns.{first_fed}
 
 length-definitions : (queries : List CompiledValue) →
     length (definitions_of queries) ≡ length queries
 length-definitions [] = refl
 length-definitions (each ∷ queries) = ap suc (length-definitions queries)
+
+-- the view over no entries is the one with which a history begins
+pub first_shown : FirstView → (evaluator : Evaluator) (queries : List Query) (view : ViewValue) →
+    definitions evaluator.engine ≡ queries →
+    IsViewOf (definitions evaluator.engine) (walked evaluator.two_way []) view →
+    view ≡ empty_view (length queries)
+first_shown law evaluator queries view same shows =
+    (law queries view).0
+    (subst (λ (qs : List Query). IsViewOf qs [] view) same
+    (subst (λ (history : List Entry). IsViewOf (definitions evaluator.engine) history view)
+    (walked_none evaluator.two_way) shows))
 
 -- what a history is made with for a task
 abbrev pub terms_of : {S : Type 0} → Task S → Terms
@@ -40,15 +58,18 @@ module _ {S : Type 0} (left : S → Option (List ℕ)) (faults : S → ℕ) (tas
 
   -- the engine begins at the first position
   pub begun_fed : (evaluator : Evaluator) → evaluator.engine.queries ≡ task.queries.items →
-      evaluator.workers ≡ task.workers → StandsFor evaluator.engine [] →
+      evaluator.workers ≡ task.workers → evaluator.two_way ≡ task.two_way →
+      history.readers ≡ length task.sessions.items → StandsOver evaluator [] →
       IsFed history evaluator (new_pass history 0)
-  begun_fed evaluator queries workers stands =
+  begun_fed evaluator queries workers two_way readers stands =
       first_fed history evaluator (omega (arith, workers, given.workers.0))
       (omega (arith, workers, given.workers.1))
       (ap definitions_of queries ∙ sym same_queries)
       (All-same IsAccepted history.terms.queries (definitions_of task.queries.items) same_queries
       (All-map IsAccepted (λ (each : CompiledValue). each.def) task.queries.items
       given.understood.accepted))
+      (λ is. readers ∙ ap (λ (sessions : List (List Ask)). length sessions)
+      (given.unasked (sym two_way ∙ is)))
       (omega (arith, ap (λ (t : Terms). t.cap) terms, given.limit.1)) stands
 
   -- what is asked is about the queries of the history

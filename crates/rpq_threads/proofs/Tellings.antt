@@ -1,23 +1,22 @@
 -- What the objects of a circle were told of.
-use Rattle.std.proofs.Common.{◌≡◌, ◌≢◌, ℕ, zero, suc, ◌+◌, ◌<◌, ◌≤◌, List, [], ◌∷◌, ◌++◌}
-use Rattle.std.proofs.Common.{length, take, drop}
+use Rattle.std.proofs.Common.{◌≡◌, ◌≢◌, ℕ, zero, suc, ◌+◌, ◌<◌, Bool, List, [], ◌∷◌, ◌++◌}
+use Rattle.std.proofs.Common.{length, take}
 use Rattle.std.proofs.Common.{Option, Some, None, slice_get, inl, inr, ⊎_elim}
 use Rattle.std.proofs.Common.{refl, ap, sym, subst, ◌∙◌, append_assoc, length-append, arith}
 use Rattle.std.specs.Prelude.{⊤}
 use Rattle.std.specs.Io.KnownBytes.{append_known}
-use Rattle.std.specs.List.{All}
 use Rattle.std.proofs.lemmas.Grind.{flat_map-append}
-use Rattle.std.proofs.lemmas.List.{append-nil, length-take-le, take-append-le, take_at, take_all}
+use Rattle.std.proofs.lemmas.List.{append-nil, take-append-le, take_at}
 use Rattle.std.proofs.lemmas.List.{get_or_append_left, get_or-append-add}
 use Rattle.std.proofs.lemmas.Option.{slice_get_within, slice_get-get_or, get_or_from_slice_get}
 use Rattle.std.proofs.Math.Seq.{take-append-add}
 use Rattle.rpq_base.specs.declared.data.Entry.{Entry}
 use Rattle.rpq_base.specs.declared.data.Event.{Event}
 use Rattle.rpq_io.specs.Writes.{WritesProperPrefix}
-use Rattle.rpq_io.proofs.Bytes.{append_known-append}
 use Rattle.rpq_model.specs.Events.{AreEachFrom}
 use Rattle.rpq_model.specs.Query.{Query}
-use Rattle.rpq_model.specs.QueryEvents.{AreEventsUnder, AreAllEvents, AreAllEventsFrom}
+use Rattle.two_way.specs.TwoWay.{walked, AreWalkedEvents, AreAllWalkedEvents}
+use Rattle.two_way.specs.TwoWay.{AreAllWalkedEventsFrom}
 use Rattle.rpq_model.proofs.AllEvents.{under_one}
 use Rattle.rpq_model.proofs.EachEntry.{each_are_one, each_as_many, each_fronts}
 use Rattle.turn_lock.specs.Lines.{StartsWith}
@@ -191,18 +190,21 @@ get_before first later i entry there =
     ∙ get_or_from_slice_get first i entry entry there)
 
 -- the text of a history is that of its events
-text_of : (queries : List Query) (history : List Entry) (events : List (List Event))
-    (text : List ℕ) → AreAllEvents queries history events → IsText queries history text →
+text_of : (two_way : Bool) (queries : List Query) (history : List Entry)
+    (events : List (List Event)) (text : List ℕ) →
+    AreAllWalkedEvents two_way queries history events → IsText two_way queries history text →
     text ≡ blocks_from queries 1 history events
-text_of queries history events text are is =
+text_of two_way queries history events text are is =
     is.2 ∙ ap (blocks_from queries 1 history)
-    (each_are_one history [] (AreEventsUnder 0 queries) is.0 events
-    (λ old new one others. under_one queries 0 old new one others) is.1 are)
+    (each_are_one history [] (AreWalkedEvents two_way queries) is.0 events
+    (λ old new one others.
+    under_one queries 0 (walked two_way old) (walked two_way new) one others) is.1 are)
 
 -- what objects heard that were just handed in
-pub heard_nothing : (queries : List Query) (circle : CircleValue) → circle.left ≡ [] →
-    HaveHeardAll queries [] circle.members circle
-heard_nothing queries circle fresh = record {
+pub heard_nothing : (two_way : Bool) (queries : List Query) (circle : CircleValue) →
+    circle.left ≡ [] →
+    HaveHeardAll two_way queries [] circle.members circle
+heard_nothing two_way queries circle fresh = record {
   events = [];
   are_events = tt;
   heard = subst (λ (left : List ObjectValue). HaveStood circle.members [] ⊤ circle.members left)
@@ -210,19 +212,19 @@ heard_nothing queries circle fresh = record {
 }
 
 -- objects that heard all events of a history were told of its blocks, all of which were written
-module _ (queries : List Query) (front : List Entry) (start now : Option (List ℕ))
+module _ (two_way : Bool) (queries : List Query) (front : List Entry) (start now : Option (List ℕ))
     (objects : List ObjectValue) (circle : CircleValue)
-    (heard : HaveHeardAll queries front objects circle)
-    (text : Grew (IsText queries front) start now) where
+    (heard : HaveHeardAll two_way queries front objects circle)
+    (text : Grew (IsText two_way queries front) start now) where
   written_all : now ≡ append_known start (blocks_from queries 1 front heard.events ++ [])
   written_all =
       text.written ∙ ap (append_known start)
-      (text_of queries front heard.events text.text heard.are_events text.of_kind
+      (text_of two_way queries front heard.events text.text heard.are_events text.of_kind
       ∙ sym (append-nil (blocks_from queries 1 front heard.events)))
 
   pub tells_front : (why : Option Why) (entries : List Entry) → StartsWith entries front →
       (why ≡ None → length front ≡ length entries) →
-      TellsObjects queries entries start now objects why circle
+      TellsObjects two_way queries entries start now objects why circle
   tells_front why entries starts whole =
       let same : take (length front) entries ≡ front =
       ap (take (length front)) starts.1 ∙ take_at front starts.0 (length front) refl in
@@ -232,7 +234,8 @@ module _ (queries : List Query) (front : List Entry) (start now : Option (List �
         count = length front;
         within = omega (arith, many);
         events = heard.events;
-        are_events = subst (λ (h : List Entry). AreAllEvents queries h heard.events) (sym same)
+        are_events = subst (λ (h : List Entry).
+            AreAllWalkedEvents two_way queries h heard.events) (sym same)
             heard.are_events;
         rest = [];
         part = inl refl;
@@ -245,13 +248,14 @@ module _ (queries : List Query) (front : List Entry) (start now : Option (List �
       }
 
 -- the objects of a circle heard the events of a history and then those of the entries behind it
-module _ (queries : List Query) (front later : List Entry) (lists : List (List Event))
-    (found : AreAllEventsFrom queries front later lists) (old new : CircleValue) where
+module _ (two_way : Bool) (queries : List Query) (front later : List Entry)
+    (lists : List (List Event))
+    (found : AreAllWalkedEventsFrom two_way queries front later lists) (old new : CircleValue) where
   pub hears_all : TellsOn (all_events lists) ⊤ old new →
-      HearsOn queries front (front ++ later) old new
+      HearsOn two_way queries front (front ++ later) old new
   hears_all tells objects heard = record {
     events = heard.events ++ lists;
-    are_events = each_append front heard.events (AreEventsUnder 0 queries) [] later lists
+    are_events = each_append front heard.events (AreWalkedEvents two_way queries) [] later lists
         heard.are_events found;
     heard = subst (λ (events : List Event). HaveStood objects events ⊤ new.members new.left)
         (sym (flat_map-append (λ (own : List Event). own) heard.events lists))
@@ -262,19 +266,19 @@ module _ (queries : List Query) (front later : List Entry) (lists : List (List E
   pub tells_part : (why : Why) (written_before written_after : Option (List ℕ)) →
       WritesAndTells queries (length front + 1) later lists why written_before written_after old
       new →
-      (objects : List ObjectValue) → HaveHeardAll queries front objects old →
-      (start : Option (List ℕ)) → Grew (IsText queries front) start written_before →
-      TellsObjects queries (front ++ later) start written_after objects (Some why) new
+      (objects : List ObjectValue) → HaveHeardAll two_way queries front objects old →
+      (start : Option (List ℕ)) → Grew (IsText two_way queries front) start written_before →
+      TellsObjects two_way queries (front ++ later) start written_after objects (Some why) new
   tells_part why written_before written_after part objects heard start text =
       let count = part.count in
       let first = take count later in
       let events = take count lists in
       let same : take (length front + count) (front ++ later) ≡ front ++ first =
       take-append-add front later count in
-      let fronts : AreAllEventsFrom queries front first events =
-      each_fronts later lists count (AreEventsUnder 0 queries) front found in
+      let fronts : AreAllWalkedEventsFrom two_way queries front first events =
+      each_fronts later lists count (AreWalkedEvents two_way queries) front found in
       let as_many : length front ≡ length heard.events =
-      sym (each_as_many front [] (AreEventsUnder 0 queries) heard.events heard.are_events) in
+      sym (each_as_many front [] (AreWalkedEvents two_way queries) heard.events heard.are_events) in
       let done = blocks_from queries 1 front heard.events in
       let next = blocks_from queries (length front + 1) first events in
       let place : length front + 1 ≡ 1 + length front = omega arith in
@@ -283,7 +287,7 @@ module _ (queries : List Query) (front later : List Entry) (lists : List (List E
       ∙ sym (blocks_append front heard.events queries 1 first events as_many) in
       let known : written_before ≡ append_known start done =
       text.written ∙ ap (append_known start)
-      (text_of queries front heard.events text.text heard.are_events text.of_kind) in
+      (text_of two_way queries front heard.events text.text heard.are_events text.of_kind) in
       let written : written_after
       ≡ append_known start (blocks_from queries 1 (front ++ first) (heard.events ++ events)
       ++ part.rest) =
@@ -294,9 +298,10 @@ module _ (queries : List Query) (front later : List Entry) (lists : List (List E
         count = length front + count;
         within = omega (arith, part.within, length-append front later);
         events = heard.events ++ events;
-        are_events = subst (λ (h : List Entry). AreAllEvents queries h (heard.events ++ events))
+        are_events = subst (λ (h : List Entry).
+            AreAllWalkedEvents two_way queries h (heard.events ++ events))
             (sym same)
-            (each_append front heard.events (AreEventsUnder 0 queries) [] first events
+            (each_append front heard.events (AreWalkedEvents two_way queries) [] first events
             heard.are_events fronts);
         rest = part.rest;
         part = ⊎_elim (λ none. inl none) (λ some. inr (begins_at some)) part.part;
@@ -313,7 +318,7 @@ module _ (queries : List Query) (front later : List Entry) (lists : List (List E
       }
     where
       begins_at : BeginsNext queries (length front + 1) later lists part.count part.rest →
-          BeginsBlock queries (front ++ later) (length front + part.count) part.rest
+          BeginsBlock two_way queries (front ++ later) (length front + part.count) part.rest
       begins_at next =
           let same : take (length front + part.count) (front ++ later)
           ≡ front ++ take part.count later = take-append-add front later part.count in
@@ -324,21 +329,21 @@ module _ (queries : List Query) (front later : List Entry) (lists : List (List E
             events = next.events;
             more = next.more;
             there = get_behind front later part.count next.entry next.there;
-            are_events = subst (λ (h : List Entry). AreEventsUnder 0 queries h
+            are_events = subst (λ (h : List Entry). AreWalkedEvents two_way queries h
                 (h ++ next.entry ∷ []) next.events) (sym same)
-                (each_at later lists part.count (AreEventsUnder 0 queries) front next.entry
+                (each_at later lists part.count (AreWalkedEvents two_way queries) front next.entry
                 next.events found next.there next.are_events);
             cut = ap (λ (n : ℕ). block queries n next.entry next.events) (sym place) ∙ next.cut;
             proper = next.proper;
           }
 
 -- what is so of the first entries is so of all, where something ended the run early
-pub tells_of_longer : (queries : List Query) (front entries : List Entry) →
+pub tells_of_longer : (two_way : Bool) (queries : List Query) (front entries : List Entry) →
     StartsWith entries front → (start now : Option (List ℕ)) (objects : List ObjectValue)
     (why : Why) (circle : CircleValue) →
-    TellsObjects queries front start now objects (Some why) circle →
-    TellsObjects queries entries start now objects (Some why) circle
-tells_of_longer queries front entries starts start now objects why circle tells =
+    TellsObjects two_way queries front start now objects (Some why) circle →
+    TellsObjects two_way queries entries start now objects (Some why) circle
+tells_of_longer two_way queries front entries starts start now objects why circle tells =
     let many : length entries ≡ length front + length starts.0 =
     ap length starts.1 ∙ length-append front starts.0 in
     let same : take tells.count front ≡ take tells.count entries =
@@ -348,7 +353,8 @@ tells_of_longer queries front entries starts start now objects why circle tells 
       count = tells.count;
       within = omega (arith, many, tells.within);
       events = tells.events;
-      are_events = subst (λ (h : List Entry). AreAllEvents queries h tells.events) same
+      are_events = subst (λ (h : List Entry).
+          AreAllWalkedEvents two_way queries h tells.events) same
           tells.are_events;
       rest = tells.rest;
       part = ⊎_elim (λ none. inl none) (λ some. inr (record {
@@ -357,7 +363,7 @@ tells_of_longer queries front entries starts start now objects why circle tells 
         more = some.more;
         there = subst (λ (h : List Entry). slice_get h tells.count ≡ Some some.entry)
             (sym starts.1) (get_before front starts.0 tells.count some.entry some.there);
-        are_events = subst (λ (h : List Entry). AreEventsUnder 0 queries h
+        are_events = subst (λ (h : List Entry). AreWalkedEvents two_way queries h
             (h ++ some.entry ∷ []) some.events) same some.are_events;
         cut = some.cut;
         proper = some.proper;

@@ -1,14 +1,15 @@
 -- What the engine of a run does with the entries of the history. Only private contracts cite this
 -- file.
-use Rattle.std.specs.Prelude.{◌≡◌, ◌≢◌, ℕ, ◌+◌, ◌<◌, ◌≤◌, ◌^◌, ◌⊎◌, List, [], ◌++◌, length, take}
+use Rattle.std.specs.Prelude.{◌≡◌, ◌≢◌, ℕ, ◌+◌, ◌<◌, ◌≤◌, ◌^◌, ◌⊎◌, Bool, true, List, [], ◌++◌}
+use Rattle.std.specs.Prelude.{length, take}
 use Rattle.std.specs.Prelude.{Option, Some, None, All, ⊤, slice_get}
 use Rattle.std.specs.Io.KnownBytes.{append_known}
 use Rattle.containment_laws.specs.Accepted.{IsAccepted}
 use Rattle.rpq_base.specs.declared.data.Entry.{Entry}
 use Rattle.rpq_base.specs.declared.data.Event.{Event}
 use Rattle.rpq_model.specs.Query.{Query}
-use Rattle.rpq_model.specs.QueryEvents.{AreAllEvents, AreAllEventsFrom}
-use Rattle.path_engine.specs.Engine.{EngineValue, StandsFor, definitions}
+use Rattle.two_way.specs.TwoWay.{walked, AreAllWalkedEvents, AreAllWalkedEventsFrom}
+use Rattle.path_engine.specs.Engine.{StandsFor, definitions}
 use Rattle.rpq_words.specs.Modes.{IsWithin}
 use Rattle.rpq_text.specs.Text.{block, blocks_from, IsText}
 use Rattle.standing.specs.Objects.{ObjectValue}
@@ -68,81 +69,99 @@ pub record WritesAndTells (queries : List Query) (position : ℕ) (entries : Lis
       (blocks_from queries position (take count entries) (take count lists) ++ rest)
   pub told : TellsOn (all_events (take count lists)) (why ≢ Memory) old new
 
--- objects that were handed in have heard the events of all these entries
-pub record HaveHeardAll (queries : List Query) (history : List Entry)
+-- objects that were handed in have heard the events of all these entries, of queries that may take
+-- edges backwards or not
+pub record HaveHeardAll (two_way : Bool) (queries : List Query) (history : List Entry)
     (objects : List ObjectValue) (circle : CircleValue) : Type 0 where
   pub events : List (List Event)
-  pub are_events : AreAllEvents queries history events
+  pub are_events : AreAllWalkedEvents two_way queries history events
   pub heard : HaveStood objects (all_events events) ⊤ circle.members circle.left
 
 -- objects that had heard the events of the first of these histories have heard those of the second
-abbrev pub HearsOn : List Query → List Entry → List Entry → CircleValue → CircleValue → Type 0
-HearsOn queries first second old new =
-    (objects : List ObjectValue) → HaveHeardAll queries first objects old
-    → HaveHeardAll queries second objects new
+abbrev pub HearsOn : Bool → List Query → List Entry → List Entry → CircleValue → CircleValue
+    → Type 0
+HearsOn two_way queries first second old new =
+    (objects : List ObjectValue) → HaveHeardAll two_way queries first objects old
+    → HaveHeardAll two_way queries second objects new
 
 -- where what was written since some start is the text of these entries, this is so of the start
-abbrev pub Onward : List Query → List Entry → Option (List ℕ) → (Option (List ℕ) → Type 0) → Type 0
-Onward queries front written P =
-    (start : Option (List ℕ)) → Grew (IsText queries front) start written → P start
+abbrev pub Onward : Bool → List Query → List Entry → Option (List ℕ)
+    → (Option (List ℕ) → Type 0) → Type 0
+Onward two_way queries front written P =
+    (start : Option (List ℕ)) → Grew (IsText two_way queries front) start written → P start
+
+-- the queries, how they take edges, and the workers stay
+pub record KeepsSetup (old new : Evaluator) : Type 0 where
+  pub queries : new.engine.queries ≡ old.engine.queries
+  pub two_way : new.two_way ≡ old.two_way
+  pub workers : new.workers ≡ old.workers
+
+-- the engine stands for what its queries are evaluated over, of so many entries, which are these
+pub record StandsOver (evaluator : Evaluator) (history : List Entry) : Type 0 where
+  pub stands : StandsFor evaluator.engine (walked evaluator.two_way history)
+  pub counted : evaluator.position ≡ length history
 
 -- behind this history the engine answered these entries, each by the events in its place, and now
 -- it stands for all of them; each event has the number of a query
-pub record Finds (before : List Entry) (engine : EngineValue) (later : List Entry)
+pub record Finds (before : List Entry) (evaluator : Evaluator) (later : List Entry)
     (lists : List (List Event)) : Type 0 where
-  pub stands : StandsFor engine (before ++ later)
-  pub events : AreAllEventsFrom (definitions engine) before later lists
+  pub stands : StandsOver evaluator (before ++ later)
+  pub events : AreAllWalkedEventsFrom evaluator.two_way (definitions evaluator.engine)
+      before later lists
   pub numbers : All (λ (own : List Event).
-      All (λ (event : Event). event.query < length engine.queries) own) lists
+      All (λ (event : Event). event.query < length evaluator.engine.queries) own) lists
 
 -- behind this history the engine answered these entries; what was written since a start, where it
 -- was the text of the history, is now that of the history with them; and the objects have heard
 -- their events
-pub record Emits (before : List Entry) (old new : EngineValue) (later : List Entry)
+pub record Emits (before : List Entry) (old new : Evaluator) (later : List Entry)
     (written_before written_after : Option (List ℕ)) (circle_before circle_after : CircleValue)
     : Type 0 where
-  pub queries : new.queries ≡ old.queries
-  pub position : new.position ≡ old.position + length later
-  pub stands : StandsFor new (before ++ later)
-  pub text : Onward (definitions old) before written_before (λ start.
-      Grew (IsText (definitions old) (before ++ later)) start written_after)
-  pub heard : HearsOn (definitions old) before (before ++ later) circle_before circle_after
+  pub setup : KeepsSetup old new
+  pub stands : StandsOver new (before ++ later)
+  pub text : Onward old.two_way (definitions old.engine) before written_before (λ start.
+      Grew (IsText old.two_way (definitions old.engine) (before ++ later)) start written_after)
+  pub heard : HearsOn old.two_way (definitions old.engine) before (before ++ later)
+      circle_before circle_after
 
 -- for this reason not all entries were answered: what was written since a start, where it was the
 -- text of the first of them, is now a prefix of the text of all, a proper one where a write failed;
 -- and the objects were told of the events of the blocks that were written whole, and of no other
-pub record Stops (queries : List Query) (first all : List Entry) (why : Why)
+pub record Stops (two_way : Bool) (queries : List Query) (first all : List Entry) (why : Why)
     (written_before written_after : Option (List ℕ)) (circle_before circle_after : CircleValue)
     : Type 0 where
-  pub write : why ≡ Write → Onward queries first written_before (λ start.
-      GrewByProperPrefix (IsText queries all) start written_after)
-  pub memory : why ≡ Memory → Onward queries first written_before (λ start.
-      GrewByPrefix (IsText queries all) start written_after)
-  pub told : (objects : List ObjectValue) → HaveHeardAll queries first objects circle_before
-      → Onward queries first written_before (λ start.
-      TellsObjects queries all start written_after objects (Some why) circle_after)
+  pub write : why ≡ Write → Onward two_way queries first written_before (λ start.
+      GrewByProperPrefix (IsText two_way queries all) start written_after)
+  pub memory : why ≡ Memory → Onward two_way queries first written_before (λ start.
+      GrewByPrefix (IsText two_way queries all) start written_after)
+  pub told : (objects : List ObjectValue)
+      → HaveHeardAll two_way queries first objects circle_before
+      → Onward two_way queries first written_before (λ start.
+      TellsObjects two_way queries all start written_after objects (Some why) circle_after)
 
 -- the entries that the engine answered, of those that the pass has seen
-abbrev pub answered : EngineValue → PassValue Line Terms → List Entry
-answered engine pass = take engine.position (entries pass.seen)
+abbrev pub answered : Evaluator → PassValue Line Terms → List Entry
+answered evaluator pass = take evaluator.position (entries pass.seen)
 
 -- the pass is the engine's, and the engine, which has from 1 to 64 workers and the queries of the
--- history, all accepted, stands for the first entries that the pass has seen
+-- history, all accepted, stands for the first entries that the pass has seen; nobody reads along
+-- where edges may be taken backwards
 pub record KeepsUp (history : HistoryValue) (evaluator : Evaluator) (pass : PassValue Line Terms)
     : Type 0 where
   pub feeds : IsFeedingPass history pass
   pub workers : IsWithin 64 evaluator.workers
   pub queries : definitions evaluator.engine ≡ history.terms.queries
   pub accepted : All IsAccepted history.terms.queries
-  pub few : history.terms.cap ≤ 2 ^ 30
-  pub there : evaluator.engine.position ≤ length (entries pass.seen)
-  pub stands : StandsFor evaluator.engine (answered evaluator.engine pass)
+  pub unread : evaluator.two_way ≡ true → history.readers ≡ 0
+  pub few : history.terms.cap ≤ 2 ^ 29
+  pub there : evaluator.position ≤ length (entries pass.seen)
+  pub stands : StandsOver evaluator (answered evaluator pass)
 
 -- and its answers are published, where the history has readers
 pub record IsFed (history : HistoryValue) (evaluator : Evaluator) (pass : PassValue Line Terms)
     : Type 0 where
   pub keeps_up : KeepsUp history evaluator pass
-  pub told : 0 < history.readers → published pass.mine ≡ evaluator.engine.position
+  pub told : 0 < history.readers → published pass.mine ≡ evaluator.position
 
 -- the pass is the engine's, and may ask for the entries up to this position, which isn't too far:
 -- it has seen so many, and published as many where the history has readers
@@ -150,7 +169,7 @@ pub record MayAskTo (history : HistoryValue) (position : ℕ) (pass : PassValue 
     : Type 0 where
   pub feeds : IsFeedingPass history pass
   pub there : position ≤ length (entries pass.seen)
-  pub short : position ≤ 2 ^ 30
+  pub short : position ≤ 2 ^ 29
   pub told : 0 < history.readers → position ≤ published pass.mine
 
 -- the pass, still the engine's, has added no line: it has seen what it had seen, and maybe more
@@ -159,37 +178,34 @@ pub record LooksOn (history : HistoryValue) (before after : PassValue Line Terms
   pub seen : StartsWith after.seen before.seen
   pub mine : after.mine ≡ before.mine
 
--- the queries and the workers stay
-pub record KeepsSetup (old new : Evaluator) : Type 0 where
-  pub queries : new.engine.queries ≡ old.engine.queries
-  pub workers : new.workers ≡ old.workers
-
 -- the engine keeps up with what its pass has seen, and has answered nothing; and none of the
 -- objects has left
 pub record IsAtStart (history : HistoryValue) (evaluator : Evaluator)
     (pass : PassValue Line Terms) (circle : CircleValue) : Type 0 where
   pub fed : IsFed history evaluator pass
-  pub none : answered evaluator.engine pass ≡ []
+  pub none : answered evaluator pass ≡ []
   pub fresh : circle.left ≡ []
 
 -- all streams have ended, and the engine answered all entries
 pub record IsWhole (history : HistoryValue) (evaluator : Evaluator) (pass : PassValue Line Terms)
     : Type 0 where
   pub ended : AllEnded history.terms.streams pass.seen
-  pub all : evaluator.engine.position ≡ length (entries pass.seen)
+  pub all : evaluator.position ≡ length (entries pass.seen)
 
 -- the engine's loop has ended, without a shut or with one for this reason: the text of all entries
 -- was written, or a prefix of it; a write failed exactly where that is the reason; and the objects
 -- were told of the events of the blocks that were written whole
 pub record HasFed {K : Type 0} (written : K → Option (List ℕ)) (faults : K → ℕ)
-    (history : HistoryValue) (before after : K) (circle_before circle_after : CircleValue)
-    (pass : PassValue Line Terms) (why : Option Why) : Type 0 where
+    (two_way : Bool) (history : HistoryValue) (before after : K)
+    (circle_before circle_after : CircleValue) (pass : PassValue Line Terms) (why : Option Why)
+    : Type 0 where
   pub is : IsPassOf history pass
   pub number : pass.number ≡ 0
   pub ended : why ≡ None → AllEnded history.terms.streams pass.seen
   pub told : why ≡ None → 0 < history.readers → published pass.mine ≡ length (entries pass.seen)
   pub shut : (other : Why) → IsShutFor pass.mine other → why ≡ Some other
   pub seen_shut : (other : Why) → why ≡ Some other → IsShutFor pass.seen other
-  pub text : WritesText written faults history.terms.queries (entries pass.seen) before after why
-  pub objects : TellsObjects history.terms.queries (entries pass.seen) (written before)
+  pub text : WritesText written faults two_way history.terms.queries (entries pass.seen)
+      before after why
+  pub objects : TellsObjects two_way history.terms.queries (entries pass.seen) (written before)
       (written after) circle_before.members why circle_after

@@ -30,8 +30,8 @@ use Rattle.rpq_threads.specs.Written.{Grew, GrewByPrefix, GrewByProperPrefix}
 use Rattle.rpq_threads.specs.Told.{TellsObjects}
 
 -- what is given to the threads of a run: queries, understood; from 1 to 64 workers; new readers of
--- from 1 to 64 streams; at most 64 sessions about the queries; and how many entries the history
--- may have
+-- from 1 to 64 streams; at most 64 sessions about the queries, and none where edges may be taken
+-- backwards; and how many entries the history may have
 pub record IsTask {S : Type 0} (left : S → Option (List ℕ)) (faults : S → ℕ) (task : Task S)
     : Type 0 where
   pub understood : AreUnderstood task.queries.items
@@ -40,17 +40,18 @@ pub record IsTask {S : Type 0} (left : S → Option (List ℕ)) (faults : S → 
   pub fresh : All (IsNewReader left faults) task.readers.items
   pub few : length task.sessions.items ≤ 64
   pub sessions : All (IsSession (length task.queries.items)) task.sessions.items
+  pub unasked : task.two_way ≡ true → task.sessions.items ≡ []
   pub limit : IsWithin 2000000 task.limit
 
 -- the text of the history was written, or a prefix of it: a proper one where a write failed
 pub record WritesText {K : Type 0} (written : K → Option (List ℕ)) (failures : K → ℕ)
-    (queries : List Query) (history : List Entry) (before after : K) (why : Option Why)
-    : Type 0 where
-  pub whole : why ≡ None → Grew (IsText queries history) (written before) (written after)
+    (two_way : Bool) (queries : List Query) (history : List Entry) (before after : K)
+    (why : Option Why) : Type 0 where
+  pub whole : why ≡ None → Grew (IsText two_way queries history) (written before) (written after)
   pub write : why ≡ Some Write →
-      GrewByProperPrefix (IsText queries history) (written before) (written after)
+      GrewByProperPrefix (IsText two_way queries history) (written before) (written after)
   pub memory : why ≡ Some Memory →
-      GrewByPrefix (IsText queries history) (written before) (written after)
+      GrewByPrefix (IsText two_way queries history) (written before) (written after)
   pub counted : CountsFault (why ≡ Some Write) (failures before) (failures after)
 
 -- the answered ask is the reply over the entries up to its position, which isn't above the last one
@@ -110,11 +111,11 @@ pub record Holds {S K O : Type 0} (left : S → Option (List ℕ)) (faults : S �
       outcome.history.items
   pub few : length outcome.history.items ≤ task.limit
   pub plain : All IsPlain outcome.history.items
-  pub text : WritesText written failures (definitions_of task.queries.items)
+  pub text : WritesText written failures task.two_way (definitions_of task.queries.items)
       outcome.history.items events_old events_new outcome.why
   pub answers : HasAnswered (definitions_of task.queries.items) outcome.history.items
       task.sessions.items (map (λ (own : Vec AnsweredValue). own.items) outcome.sessions.items)
       outcome.why outcome.short_of_memory
-  pub objects : TellsObjects (definitions_of task.queries.items) outcome.history.items
-      (written events_old) (written events_new) (as_seen seen circle).members outcome.why
-      (as_seen seen outcome.circle)
+  pub objects : TellsObjects task.two_way (definitions_of task.queries.items)
+      outcome.history.items (written events_old) (written events_new)
+      (as_seen seen circle).members outcome.why (as_seen seen outcome.circle)

@@ -1,11 +1,11 @@
 -- What the caller's objects were told of.
-use Rattle.std.specs.Prelude.{◌≡◌, ◌≢◌, ℕ, ◌+◌, ◌≤◌, ◌⊎◌, List, [], ◌++◌, length, take, flat_map}
-use Rattle.std.specs.Prelude.{Option, Some, None, slice_get}
+use Rattle.std.specs.Prelude.{◌≡◌, ◌≢◌, ℕ, ◌+◌, ◌≤◌, ◌⊎◌, Bool, List, [], ◌∷◌, ◌++◌, length, take}
+use Rattle.std.specs.Prelude.{flat_map, Option, Some, None, slice_get}
 use Rattle.std.specs.Io.KnownBytes.{append_known}
 use Rattle.rpq_base.specs.declared.data.Entry.{Entry}
 use Rattle.rpq_base.specs.declared.data.Event.{Event}
 use Rattle.rpq_model.specs.Query.{Query}
-use Rattle.rpq_model.specs.QueryEvents.{AreEntryEvents, AreAllEvents}
+use Rattle.two_way.specs.TwoWay.{AreWalkedEvents, AreAllWalkedEvents}
 use Rattle.history_model.specs.declared.line.Why.{Why}
 use Rattle.history_model.specs.declared.line.Why.TheVariants.{Memory}
 use Rattle.rpq_text.specs.Text.{block, blocks_from}
@@ -18,28 +18,30 @@ abbrev pub all_events : List (List Event) → List Event
 all_events lists = flat_map (λ own. own) lists
 
 -- the bytes begin the block of the entry behind the first ones, so many, and aren't all of it
-pub record BeginsBlock (queries : List Query) (history : List Entry) (count : ℕ) (bytes : List ℕ)
-    : Type 0 where
+pub record BeginsBlock (two_way : Bool) (queries : List Query) (history : List Entry) (count : ℕ)
+    (bytes : List ℕ) : Type 0 where
   pub entry : Entry
   pub events : List Event
   pub more : List ℕ
   pub there : slice_get history count ≡ Some entry
-  pub are_events : AreEntryEvents queries (take count history) entry events
+  pub are_events : AreWalkedEvents two_way queries (take count history)
+      (take count history ++ entry ∷ []) events
   pub cut : block queries (count + 1) entry events ≡ bytes ++ more
   pub proper : more ≢ []
 
--- so many blocks of the history's text were written whole, and of the next one a part or nothing.
+-- so many blocks of the history's text were written whole, and of the next one a part or nothing:
+-- the text of queries that may take edges backwards or not.
 -- Of the events of these blocks, and of no other, the objects were told: each that stayed of all,
 -- unless memory ran out. Where nothing ended the run early these are all blocks
-pub record TellsObjects (queries : List Query) (history : List Entry)
+pub record TellsObjects (two_way : Bool) (queries : List Query) (history : List Entry)
     (before now : Option (List ℕ)) (objects : List ObjectValue) (why : Option Why)
     (circle : CircleValue) : Type 0 where
   pub count : ℕ
   pub within : count ≤ length history
   pub events : List (List Event)
-  pub are_events : AreAllEvents queries (take count history) events
+  pub are_events : AreAllWalkedEvents two_way queries (take count history) events
   pub rest : List ℕ
-  pub part : (rest ≡ []) ⊎ BeginsBlock queries history count rest
+  pub part : (rest ≡ []) ⊎ BeginsBlock two_way queries history count rest
   pub written : now
       ≡ append_known before (blocks_from queries 1 (take count history) events ++ rest)
   pub told : HaveStood objects (all_events events) (why ≢ Some Memory) circle.members circle.left

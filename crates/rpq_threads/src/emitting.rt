@@ -40,24 +40,23 @@ pub fn emit_front<R: Threads + Wait + Sync, G: Gate, K: Sink, O: Standing>(
     circle: &mut Circle<O>,
 ) -> Result<(), Why>
     requires fed { IsFed shared.now.history.now evaluator.old pass.old }
-    requires short { evaluator.old.engine.position + length entries.now ≤ 2 ^ 30 }
+    requires short { evaluator.old.position + length entries.now ≤ 2 ^ 29 }
     requires plain { All IsPlain entries.now }
     ensures looks_on { LooksOn shared.now.history.now pass.old pass.new }
-    ensures ok { OnOk result (Emits (answered evaluator.old.engine pass.old)
-        evaluator.old.engine evaluator.new.engine entries.now
+    ensures ok { OnOk result (Emits (answered evaluator.old pass.old)
+        evaluator.old evaluator.new entries.now
         (K.written events.old) (K.written events.new)
         (as_seen O.seen circle.old) (as_seen O.seen circle.new)) }
-    ensures stops { IfErr result (λ why. Stops (definitions evaluator.old.engine)
-        (answered evaluator.old.engine pass.old)
-        (answered evaluator.old.engine pass.old ++ entries.now) why
+    ensures stops { IfErr result (λ why. Stops evaluator.old.two_way
+        (definitions evaluator.old.engine) (answered evaluator.old pass.old)
+        (answered evaluator.old pass.old ++ entries.now) why
         (K.written events.old) (K.written events.new)
         (as_seen O.seen circle.old) (as_seen O.seen circle.new)) }
     ensures counted { CountsFault (result ≡ Err Why.Write)
         (K.faults events.old) (K.faults events.new) }
-    ensures workers { evaluator.new.workers ≡ evaluator.old.workers }
 {
     accepted_queries_have_events(); // called for its clause
-    let position = evaluator.engine.position() + 1;
+    let position = evaluator.position + 1;
     let Ok(found) = find_events(shared, pass, evaluator, entries) else {
         return Err(Why::Memory);
     };

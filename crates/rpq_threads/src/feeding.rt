@@ -35,8 +35,9 @@ pub fn feed_all<R: Threads + Wait + Sync, G: Gate, K: Sink, O: Standing>(
 ) -> Option<Why>
     requires { IsAtStart shared.now.history.now evaluator.old pass.old
         (as_seen O.seen circle.old) }
-    ensures { HasFed K.written K.faults shared.now.history.now events.old events.new
-        (as_seen O.seen circle.old) (as_seen O.seen circle.new) pass.new result }
+    ensures { HasFed K.written K.faults evaluator.old.two_way shared.now.history.now
+        events.old events.new (as_seen O.seen circle.old) (as_seen O.seen circle.new)
+        pass.new result }
 {
     accepted_queries_have_events(); // called for its clause
     for _ in shared.rt.forever() {
@@ -64,16 +65,20 @@ fn turn<R: Threads + Wait + Sync, G: Gate, K: Sink, O: Standing>(
     requires { IsFed shared.now.history.now evaluator.old pass.old }
     ensures feeds { IsFeedingPass shared.now.history.now pass.new }
     ensures fed { OnOk result (IsFed shared.now.history.now evaluator.new pass.new) }
+    ensures two_way { OnOk result (evaluator.new.two_way ≡ evaluator.old.two_way) }
     ensures over { result ≡ Ok true → IsWhole shared.now.history.now evaluator.new pass.new }
-    ensures text { OnOk result (Onward shared.now.history.now.terms.queries
-        (answered evaluator.old.engine pass.old) (K.written events.old) (λ start.
-        Grew (IsText shared.now.history.now.terms.queries
-        (answered evaluator.new.engine pass.new)) start (K.written events.new))) }
-    ensures heard { OnOk result (HearsOn shared.now.history.now.terms.queries
-        (answered evaluator.old.engine pass.old) (answered evaluator.new.engine pass.new)
+    ensures text { OnOk result (Onward evaluator.old.two_way
+        shared.now.history.now.terms.queries
+        (answered evaluator.old pass.old) (K.written events.old) (λ start.
+        Grew (IsText evaluator.old.two_way shared.now.history.now.terms.queries
+        (answered evaluator.new pass.new)) start (K.written events.new))) }
+    ensures heard { OnOk result (HearsOn evaluator.old.two_way
+        shared.now.history.now.terms.queries
+        (answered evaluator.old pass.old) (answered evaluator.new pass.new)
         (as_seen O.seen circle.old) (as_seen O.seen circle.new)) }
-    ensures stops { IfErr result (λ why. Stops shared.now.history.now.terms.queries
-        (answered evaluator.old.engine pass.old) (entries pass.new.seen) why
+    ensures stops { IfErr result (λ why. Stops evaluator.old.two_way
+        shared.now.history.now.terms.queries
+        (answered evaluator.old pass.old) (entries pass.new.seen) why
         (K.written events.old) (K.written events.new)
         (as_seen O.seen circle.old) (as_seen O.seen circle.new)) }
     ensures counted { CountsFault (result ≡ Err Why.Write)
@@ -82,7 +87,7 @@ fn turn<R: Threads + Wait + Sync, G: Gate, K: Sink, O: Standing>(
     accepted_queries_have_events(); // called for its clause
     let history = shared.history;
     let heard = history.entries_heard();
-    let position = evaluator.engine.position();
+    let position = evaluator.position;
     let Ok(front) = history.after(shared.rt, shared.alloc, pass, position) else {
         return Err(Why::Memory);
     };
@@ -114,11 +119,12 @@ fn publish_answers<R: Wait>(
 ) -> Result<(), Memory>
     requires keeps_up { KeepsUp history.now evaluator.old pass.old }
     requires ahead { 0 < history.now.readers
-        → published pass.old.mine < evaluator.old.engine.position }
+        → published pass.old.mine < evaluator.old.position }
     ensures feeds { IsFeedingPass history.now pass.new }
     ensures seen { StartsWith pass.new.seen pass.old.seen }
     ensures fed { OnOk result (IsFed history.now evaluator.new pass.new) }
-    ensures position { evaluator.new.engine.position ≡ evaluator.old.engine.position }
+    ensures kept { (evaluator.new.position ≡ evaluator.old.position)
+        × (evaluator.new.two_way ≡ evaluator.old.two_way) }
 {
     if history.readers() == 0 {
         return Ok(());

@@ -1,14 +1,16 @@
 //! The events of entries, by an engine that is rebuilt where memory runs out for the first time.
 
-ghost use Rattle.std.specs.Prelude.{◌≡◌, ◌<◌, ◌≤◌, ◌+◌, ◌^◌, length, map, IfOk, OnOk, OnErr};
-ghost use Rattle.path_engine.specs.Engine.{StandsFor};
-ghost use Rattle.path_engine.specs.Feeding.{FeedsFront};
+ghost use Rattle.std.specs.Prelude.{◌≡◌, ◌<◌, ◌≤◌, ◌+◌, ◌^◌, ◌++◌, List, length, map};
+ghost use Rattle.std.specs.Prelude.{IfOk, OnOk, OnErr};
+ghost use Rattle.rpq_base.specs.declared.data.Entry.{Entry as EntryTaken};
 ghost use Rattle.rpq_words.specs.Modes.{IsWithin};
-ghost use Rattle.rpq_threads.specs.Fed.{IsFed, LooksOn, MayAskTo, KeepsSetup, Finds, answered};
+ghost use Rattle.rpq_threads.specs.Fed.{IsFed, LooksOn, MayAskTo, KeepsSetup, StandsOver, Finds};
+ghost use Rattle.rpq_threads.specs.Fed.{answered};
 
 use crate::evaluator::Evaluator;
+use engine_feed::feed_entries;
 use rpq_base::{Entry, Event, Memory};
-use rpq_io::Gate;
+use rpq_io::{Context, Gate};
 use rpq_workers::Shared;
 use std::sync::Wait;
 use std::thread::Threads;
@@ -25,10 +27,10 @@ pub fn find_events<R: Threads + Wait + Sync, G: Gate>(
     entries: &[Entry],
 ) -> Result<Vec<Vec<Event>>, Memory>
     requires fed { IsFed shared.now.history.now evaluator.old pass.old }
-    requires short { evaluator.old.engine.position + length entries.now ≤ 2 ^ 30 }
+    requires short { evaluator.old.position + length entries.now ≤ 2 ^ 29 }
     ensures looks_on { LooksOn shared.now.history.now pass.old pass.new }
-    ensures finds { IfOk result (λ found. Finds (answered evaluator.old.engine pass.old)
-        evaluator.new.engine entries.now (map (λ own. own.items) found.items)) }
+    ensures finds { IfOk result (λ found. Finds (answered evaluator.old pass.old)
+        evaluator.new entries.now (map (λ own. own.items) found.items)) }
     ensures keeps { KeepsSetup evaluator.old evaluator.new }
 {
     if let Ok(found) = feed(shared, evaluator, entries) {
@@ -51,19 +53,19 @@ fn rebuild<R: Threads + Wait + Sync, G: Gate>(
     pass: &mut Pass,
     evaluator: &mut Evaluator,
 ) -> Result<(), Memory>
-    requires may_ask { MayAskTo shared.now.history.now evaluator.old.engine.position pass.old }
+    requires may_ask { MayAskTo shared.now.history.now evaluator.old.position pass.old }
     requires workers { IsWithin 64 evaluator.old.workers }
     ensures looks_on { LooksOn shared.now.history.now pass.old pass.new }
-    ensures stands { OnOk result (StandsFor evaluator.new.engine
-        (answered evaluator.old.engine pass.old)) }
+    ensures stands { OnOk result (StandsOver evaluator.new (answered evaluator.old pass.old)) }
     ensures keeps { KeepsSetup evaluator.old evaluator.new }
 {
-    let position = evaluator.engine.position();
+    let position = evaluator.position;
     let workers = evaluator.workers;
     evaluator
         .engine
         .rebuild(shared.rt, &[], workers, shared.gate)?;
-    while evaluator.engine.position() < position {
+    evaluator.position = 0;
+    while evaluator.position < position {
         feed_next(shared, pass, evaluator, position)?;
     }
     Ok(())
@@ -78,44 +80,46 @@ fn feed_next<R: Threads + Wait + Sync, G: Gate>(
     position: u64,
 ) -> Result<(), Memory>
     requires may_ask { MayAskTo shared.now.history.now position pass.old }
-    requires stands { StandsFor evaluator.old.engine (answered evaluator.old.engine pass.old) }
-    requires behind { evaluator.old.engine.position < position }
+    requires stands { StandsOver evaluator.old (answered evaluator.old pass.old) }
+    requires behind { evaluator.old.position < position }
     requires workers { IsWithin 64 evaluator.old.workers }
     ensures looks_on { LooksOn shared.now.history.now pass.old pass.new }
-    ensures stands { OnOk result (StandsFor evaluator.new.engine
-        (answered evaluator.new.engine pass.new)) }
-    ensures forward { OnOk result ((evaluator.old.engine.position < evaluator.new.engine.position)
-        × (evaluator.new.engine.position ≤ position)) }
+    ensures stands { OnOk result (StandsOver evaluator.new (answered evaluator.new pass.new)) }
+    ensures forward { OnOk result ((evaluator.old.position < evaluator.new.position)
+        × (evaluator.new.position ≤ position)) }
     ensures keeps { KeepsSetup evaluator.old evaluator.new }
 {
-    let from = evaluator.engine.position();
+    let from = evaluator.position;
     let mut front = shared.history.after(shared.rt, shared.alloc, pass, from)?;
     front.entries.truncate((position - from) as usize);
     feed(shared, evaluator, &front.entries)?;
     Ok(())
 }
 
-/// Feeds the engine with the entries. The only error is [`Memory`], after which the engine has its
-/// old position.
+/// Feeds the engine with the entries, each with its inverse where edges may be taken backwards. The
+/// only error is [`Memory`], after which the engine may stand for anything.
 fn feed<R: Threads + Sync, G: Gate>(
     shared: &Shared<'_, R, G>,
     evaluator: &mut Evaluator,
     entries: &[Entry],
 ) -> Result<Vec<Vec<Event>>, Memory>
-    requires short { evaluator.old.engine.position + length entries.now ≤ 2 ^ 30 }
+    requires stands { (history : List EntryTaken) × StandsOver evaluator.old history }
+    requires short { evaluator.old.position + length entries.now ≤ 2 ^ 29 }
     requires workers { IsWithin 64 evaluator.old.workers }
-    ensures feeds { IfOk result (λ found. FeedsFront evaluator.old.engine entries.now
-        evaluator.new.engine (map (λ own. own.items) found.items)) }
-    ensures position { OnErr result
-        (evaluator.new.engine.position ≡ evaluator.old.engine.position) }
+    ensures finds { IfOk result (λ found. (history : List EntryTaken)
+        → StandsOver evaluator.old history → Finds history evaluator.new entries.now
+        (map (λ own. own.items) found.items)) }
+    ensures position { OnErr result (evaluator.new.position ≡ evaluator.old.position) }
     ensures keeps { KeepsSetup evaluator.old evaluator.new }
 {
+    let context = Context {
+        rt: shared.rt,
+        alloc: shared.alloc,
+        gate: shared.gate,
+    };
     let workers = evaluator.workers;
-    let fed = evaluator
-        .engine
-        .feed_front(shared.rt, entries, workers, shared.gate);
-    match fed {
-        Ok(found) => Ok(found),
-        Err(_) => Err(Memory),
-    }
+    let two_way = evaluator.two_way;
+    let found = feed_entries(&mut evaluator.engine, &context, two_way, entries, workers)?;
+    evaluator.position += entries.len() as u64;
+    Ok(found)
 }

@@ -114,6 +114,7 @@ fn begin<R: RandomSource, G: Gate, S: Source + Drop>(
     first_view(); // called for its clause
     let Task {
         queries,
+        two_way,
         workers,
         limit,
         readers,
@@ -121,7 +122,7 @@ fn begin<R: RandomSource, G: Gate, S: Source + Drop>(
     } = task;
     let alloc = context.alloc;
     let definitions = Arc::new(alloc, copied_definitions(alloc, &queries)?)?;
-    let mut evaluator = Evaluator::new(context.rt, alloc, queries, workers)?;
+    let mut evaluator = Evaluator::new(context.rt, alloc, queries, two_way, workers)?;
     let first = evaluator.engine.view()?;
     let streams = readers.len() as u32;
     let asking = sessions.len() as u32;

@@ -3,7 +3,7 @@ use Rattle.std.specs.Prelude.{refl}
 use Rattle.clap.proofs.OnLiterals.{clap_on_literals}
 use Rattle.text_parts.specs.Numbers.{number_within}
 use Rattle.rpq_words.specs.Command.{found_in, is_taken, rpq_command}
-use Rattle.rpq_words.specs.Examples.{SavedExamples, SettingsExamples}
+use Rattle.rpq_words.specs.Examples.{SavedExamples, SettingsExamples, TwoWayExamples}
 use Rattle.rpq_words.specs.Settings.{clash, number_from_one, optional_number, settings, settings_of}
 use Rattle.rpq_words.specs.Settings.{settled}
 
@@ -20,6 +20,19 @@ saved_examples = record {
   same_file = refl;
   checked = refl;
   made = refl;
+}
+
+two_way_examples : TwoWayExamples
+unfolding clap_on_literals number_within found_in is_taken rpq_command clash number_from_one
+    optional_number settings settings_of settled
+two_way_examples = record {
+  over_stream = refl;
+  checked = refl;
+  made = refl;
+  asked = refl;
+  saved = refl;
+  begun = refl;
+  twice = refl;
 }
 
 pub examples : SettingsExamples
@@ -47,4 +60,5 @@ examples = record {
   short = refl;
   help = refl;
   windows = saved_examples;
+  both_ways = two_way_examples;
 }

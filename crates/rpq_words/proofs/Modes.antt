@@ -17,20 +17,22 @@ use Rattle.rpq_words.specs.Settings.{names_file, number_from_one}
 use Rattle.rpq_words.specs.Settings.{only_if, optional_number, reads_none, settings, settings_of}
 use Rattle.rpq_words.specs.Settings.{settled, ◌>>=◌}
 use Rattle.rpq_words.specs.Modes.{AreSettings, BeginsWith, ClashHasNoMode, HasMode, IsWithin}
-use Rattle.rpq_words.specs.Modes.{ReadsNothing, ReadsStreams, WordsAreSettings}
+use Rattle.rpq_words.specs.Modes.{NamesNoFile, ReadsNothing, ReadsStreams, WordsAreSettings}
 
 -- ---- no clash is a mode
 
-none_holds : (a b c d e f g : Bool) → (a || (b || (c || (d || (e || (f || g)))))) ≡ false
+none_holds : (a b c d e f g h : Bool) → (a || (b || (c || (d || (e || (f || (g || h))))))) ≡ false
     → (a ≡ false) × (b ≡ false) × (c ≡ false) × (d ≡ false) × (e ≡ false) × (f ≡ false)
-    × (g ≡ false)
-none_holds true b c d e f g is = absurd cc
-none_holds false true c d e f g is = absurd cc
-none_holds false false true d e f g is = absurd cc
-none_holds false false false true e f g is = absurd cc
-none_holds false false false false true f g is = absurd cc
-none_holds false false false false false true g is = absurd cc
-none_holds false false false false false false g is = (refl, refl, refl, refl, refl, refl, is)
+    × (g ≡ false) × (h ≡ false)
+none_holds true b c d e f g h is = absurd cc
+none_holds false true c d e f g h is = absurd cc
+none_holds false false true d e f g h is = absurd cc
+none_holds false false false true e f g h is = absurd cc
+none_holds false false false false true f g h is = absurd cc
+none_holds false false false false false true g h is = absurd cc
+none_holds false false false false false false true h is = absurd cc
+none_holds false false false false false false false h is =
+    (refl, refl, refl, refl, refl, refl, refl, is)
 
 neither : (a b : Bool) → a ≡ false → b ≡ false → (a || b) ≡ false
 neither false b first second = second
@@ -81,6 +83,25 @@ nothing_from : (given : Settings) → is_one_alone given.asks given.replies ≡ 
 nothing_from given alone reads = reads_nothing given given.asks given.replies given.save given.from
     refl refl refl refl alone reads
 
+names_none : (given : Settings) (asks save from : Option Text) → given.asks ≡ asks →
+    given.save ≡ save → given.from ≡ from →
+    (is_some asks || (is_some save || is_some from)) ≡ false → NamesNoFile given
+names_none given None None None no_asks no_save no_from is = record {
+  no_asks = no_asks;
+  no_save = no_save;
+  no_from = no_from;
+}
+names_none given (Some ask) save from no_asks no_save no_from is = absurd cc
+names_none given None (Some file) from no_asks no_save no_from is = absurd cc
+names_none given None None (Some file) no_asks no_save no_from is = absurd cc
+
+-- where edges may be taken backwards
+both_ways_from : (given : Settings) (two_way : Bool) → (two_way && names_file given) ≡ false →
+    two_way ≡ true → NamesNoFile given
+both_ways_from given true is backwards =
+    names_none given given.asks given.save given.from refl refl refl is
+both_ways_from given false is backwards = absurd cc
+
 some_same : (x y : Text) → Some x ≡ Some y → x ≡ y
 some_same x y same = cc
 
@@ -111,25 +132,28 @@ mode_by : (given : Settings) (check : Bool) (generate : Option ℕ) → given.ch
     (check && is_some generate) ≡ false →
     ((check || is_some generate) && (names_file given || not (is_empty given.streams))) ≡ false →
     (not (check || is_some generate) && is_empty given.streams) ≡ false →
-    nat_lt 64 (length given.streams) ≡ false → IfSome given.from (BeginsWith given) → HasMode given
-mode_by given true (Some number) checked made alone one reads some few begun = absurd cc
-mode_by given true None checked made alone one reads some few begun = inr (inl (record {
+    nat_lt 64 (length given.streams) ≡ false → IfSome given.from (BeginsWith given) →
+    (given.two_way ≡ true → NamesNoFile given) → HasMode given
+mode_by given true (Some number) checked made alone one reads some few begun both_ways = absurd cc
+mode_by given true None checked made alone one reads some few begun both_ways = inr (inl (record {
   checked = checked;
   none_made = made;
   alone = nothing_from given alone reads;
 }))
-mode_by given false (Some number) checked made alone one reads some few begun = inr (inr (record {
-  unchecked = checked;
-  made = ap is_some made;
-  alone = nothing_from given alone reads;
-}))
-mode_by given false None checked made alone one reads some few begun = inl (record {
+mode_by given false (Some number) checked made alone one reads some few begun both_ways =
+    inr (inr (record {
+      unchecked = checked;
+      made = ap is_some made;
+      alone = nothing_from given alone reads;
+    }))
+mode_by given false None checked made alone one reads some few begun both_ways = inl (record {
   unchecked = checked;
   none_made = made;
   some = some_stream given.streams some;
   few = ltb-false 64 (length given.streams) few;
   paired = paired_from given.asks given.replies alone;
   begun = begun;
+  both_ways = both_ways;
 })
 
 mode_from : (given : Settings) → clash given ≡ false → HasMode given
@@ -138,18 +162,20 @@ mode_from given is =
     let parts = none_holds (is_one_alone given.asks given.replies)
     (given.check && is_some given.generate)
     (reads_none given && (names_file given || not (is_empty given.streams)))
+    (given.two_way && names_file given)
     (not (reads_none given) && is_empty given.streams) (nat_lt 64 (length given.streams))
     (is_some given.from && not (length given.streams == 1)) (is_same_file given.save given.from)
     is in
-    mode_by given given.check given.generate refl refl parts.0 parts.1 parts.2 parts.3 parts.4
-    (begins_with given given.from parts.5 parts.6)
+    mode_by given given.check given.generate refl refl parts.0 parts.1 parts.2 parts.4 parts.5
+    (begins_with given given.from parts.6 parts.7) (both_ways_from given given.two_way parts.3)
 
 -- ---- a mode is no clash
 
-none_of : (a b c d e f g : Bool) → a ≡ false → b ≡ false → c ≡ false → d ≡ false → e ≡ false →
-    f ≡ false → g ≡ false → (a || (b || (c || (d || (e || (f || g)))))) ≡ false
-none_of a b c d e f g p q r s t u v =
-    neither a _ p (neither b _ q (neither c _ r (neither d _ s (neither e _ t (neither f g u v)))))
+none_of : (a b c d e f g h : Bool) → a ≡ false → b ≡ false → c ≡ false → d ≡ false → e ≡ false →
+    f ≡ false → g ≡ false → h ≡ false → (a || (b || (c || (d || (e || (f || (g || h))))))) ≡ false
+none_of a b c d e f g h p q r s t u v w =
+    neither a _ p (neither b _ q (neither c _ r (neither d _ s (neither e _ t (neither f _ u
+    (neither g h v w))))))
 
 one_stream : (given : Settings) (from : Option Text) → IfSome from (BeginsWith given) →
     (is_some from && not (length given.streams == 1)) ≡ false
@@ -174,32 +200,47 @@ files_differ : (given : Settings) (from : Option Text) → IfSome from (BeginsWi
 files_differ given None begun = same_as_none given.save
 files_differ given (Some file) begun = not_same given.save file begun.another
 
+no_file : (given : Settings) → NamesNoFile given → names_file given ≡ false
+no_file given none = ap₂ (λ asks others. is_some asks || others) none.no_asks
+    (ap₂ (λ save from. is_some save || is_some from) none.no_save none.no_from)
+
+both_ways_agree : (given : Settings) (two_way : Bool) → (two_way ≡ true → NamesNoFile given) →
+    (two_way && names_file given) ≡ false
+both_ways_agree given true both_ways = no_file given (both_ways refl)
+both_ways_agree given false both_ways = refl
+
 streams_agree : (given : Settings) → ReadsStreams given → clash given ≡ false
 unfolding clash
-streams_agree given reads = none_of _ _ _ _ _ _ _
+streams_agree given reads = none_of _ _ _ _ _ _ _ _
     (none_alone given.asks given.replies reads.paired)
     (ap (λ check. check && is_some given.generate) reads.unchecked)
     (ap₂ (λ check generate. (check || is_some generate)
     && (names_file given || not (is_empty given.streams))) reads.unchecked reads.none_made)
+    (both_ways_agree given given.two_way reads.both_ways)
     (ap₂ (λ check generate. not (check || is_some generate) && is_empty given.streams)
     reads.unchecked reads.none_made ∙ not_empty given.streams reads.some)
     (le-ltb 64 (length given.streams) reads.few)
     (one_stream given given.from reads.begun)
     (files_differ given given.from reads.begun)
 
-no_file : (given : Settings) → ReadsNothing given → names_file given ≡ false
-no_file given alone = ap₂ (λ asks others. is_some asks || others) alone.no_asks
-    (ap₂ (λ save from. is_some save || is_some from) alone.no_save alone.no_from)
+alone_names_none : (given : Settings) → ReadsNothing given → NamesNoFile given
+alone_names_none given alone = record {
+  no_asks = alone.no_asks;
+  no_save = alone.no_save;
+  no_from = alone.no_from;
+}
 
 -- where one of the two says that nothing is read
 alone_agrees : (given : Settings) → ReadsNothing given →
     (given.check && is_some given.generate) ≡ false → reads_none given ≡ true → clash given ≡ false
 unfolding clash
-alone_agrees given alone one none = none_of _ _ _ _ _ _ _
+alone_agrees given alone one none = none_of _ _ _ _ _ _ _ _
     (ap₂ is_one_alone alone.no_asks alone.no_replies)
     one
     (ap₂ (λ reads others. reads && others) none
-    (ap₂ (λ named streams. named || not (is_empty streams)) (no_file given alone) alone.no_stream))
+    (ap₂ (λ named streams. named || not (is_empty streams))
+    (no_file given (alone_names_none given alone)) alone.no_stream))
+    (both_ways_agree given given.two_way (λ backwards. alone_names_none given alone))
     (ap (λ reads. not reads && is_empty given.streams) none)
     (ap (λ streams. nat_lt 64 (length streams)) alone.no_stream)
     (ap (λ from. is_some from && not (length given.streams == 1)) alone.no_from)
@@ -295,6 +336,7 @@ are_settings rows given is mode =
       history = history;
       check = has_flag (codes "check") rows;
       generate = generate;
+      two_way = has_flag (codes "two-way") rows;
       asks = first_of (codes "asks") rows;
       replies = first_of (codes "replies") rows;
       save = first_of (codes "save") rows;

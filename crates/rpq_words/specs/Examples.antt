@@ -10,6 +10,7 @@ plain streams = record {
   history = 1000000;
   check = false;
   generate = None;
+  two_way = false;
   asks = None;
   replies = None;
   save = None;
@@ -46,12 +47,30 @@ pub record SavedExamples : Type 0 where
   pub made : settings (codes "rpq" ∷ codes "--generate" ∷ codes "3" ∷ codes "--from" ∷ codes "f"
       ∷ codes "q" ∷ []) ≡ None
 
+-- Edges taken backwards in a run over a stream, in a check, and over generated tuples. Refused: with
+-- asks and replies; with a file to save to; with one to begin with; and the flag given twice.
+pub record TwoWayExamples : Type 0 where
+  pub over_stream : settings (codes "rpq" ∷ codes "--two-way" ∷ codes "q" ∷ codes "t" ∷ [])
+      ≡ Some (record (plain (codes "t" ∷ [])) { two_way = true })
+  pub checked : settings (codes "rpq" ∷ codes "--check" ∷ codes "--two-way" ∷ codes "q" ∷ [])
+      ≡ Some (record (plain []) { check = true; two_way = true })
+  pub made : settings (codes "rpq" ∷ codes "--generate=5" ∷ codes "--two-way" ∷ codes "q" ∷ [])
+      ≡ Some (record (plain []) { generate = Some 5; two_way = true })
+  pub asked : settings (codes "rpq" ∷ codes "--two-way" ∷ codes "--asks=a" ∷ codes "--replies=r"
+      ∷ codes "q" ∷ codes "t" ∷ []) ≡ None
+  pub saved : settings (codes "rpq" ∷ codes "--two-way" ∷ codes "--save=s" ∷ codes "q" ∷ codes "t"
+      ∷ []) ≡ None
+  pub begun : settings (codes "rpq" ∷ codes "--two-way" ∷ codes "--from=f" ∷ codes "q" ∷ codes "t"
+      ∷ []) ≡ None
+  pub twice : settings (codes "rpq" ∷ codes "--two-way" ∷ codes "--two-way" ∷ codes "q"
+      ∷ codes "t" ∷ []) ≡ None
+
 -- The defaults. An option between streams, and zeros in front of its number. Values that begin with
 -- `-` or are empty behind `=`, and words behind `--`. A check; generated tuples. The greatest
 -- numbers. Refused: too many tuples to generate; no stream; no queries; a number above its range,
 -- below it, or with a sign; a flag given twice; asks without replies; a check with generated
 -- tuples, or with a stream; a value that begins with `-`; a name cut short; and `--help`.
--- And the examples of files to save to and to begin with.
+-- And the examples of files to save to and to begin with, and of edges taken backwards.
 pub record SettingsExamples : Type 0 where
   pub defaults : settings (codes "rpq" ∷ codes "q" ∷ codes "s" ∷ [])
       ≡ Some (plain (codes "s" ∷ []))
@@ -87,3 +106,4 @@ pub record SettingsExamples : Type 0 where
   pub short : settings (codes "rpq" ∷ codes "--work=4" ∷ codes "q" ∷ codes "s" ∷ []) ≡ None
   pub help : settings (codes "rpq" ∷ codes "--help" ∷ codes "q" ∷ codes "s" ∷ []) ≡ None
   pub windows : SavedExamples
+  pub both_ways : TwoWayExamples

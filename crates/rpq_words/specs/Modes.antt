@@ -9,7 +9,14 @@ pub record BeginsWith (given : Settings) (file : Text) : Type 0 where
   pub one_stream : length given.streams ≡ 1
   pub another : given.save ≢ Some file
 
--- some streams are read, 64 at most; asks and replies stand together
+-- nothing is asked, and nothing is saved or taken from an earlier run
+pub record NamesNoFile (given : Settings) : Type 0 where
+  pub no_asks : given.asks ≡ None
+  pub no_save : given.save ≡ None
+  pub no_from : given.from ≡ None
+
+-- some streams are read, 64 at most; asks and replies stand together; where edges may be taken
+-- backwards, no such file is named
 pub record ReadsStreams (given : Settings) : Type 0 where
   pub unchecked : given.check ≡ false
   pub none_made : given.generate ≡ None
@@ -17,6 +24,7 @@ pub record ReadsStreams (given : Settings) : Type 0 where
   pub few : length given.streams ≤ 64
   pub paired : is_some given.asks ≡ is_some given.replies
   pub begun : IfSome given.from (BeginsWith given)
+  pub both_ways : given.two_way ≡ true → NamesNoFile given
 
 -- no stream is read, nothing is asked, and nothing is saved or taken from an earlier run
 pub record ReadsNothing (given : Settings) : Type 0 where

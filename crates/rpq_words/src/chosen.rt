@@ -20,6 +20,8 @@ pub struct Chosen {
     pub check: bool,
     /// How many tuples are generated in the place of streams.
     pub generate: Option<u64>,
+    /// Whether expressions may take edges backwards.
+    pub two_way: bool,
     /// The file of the asks, which stands there exactly where `replies` does.
     pub asks: Option<FileWord>,
     /// The file that the replies are written to.
@@ -44,6 +46,7 @@ impl Model for Chosen {
       history = chosen.history;
       check = chosen.check;
       generate = chosen.generate;
+      two_way = chosen.two_way;
       asks = chosen.asks;
       replies = chosen.replies;
       save = chosen.save;
@@ -63,12 +66,14 @@ impl Chosen {
         self.asks.is_some() != self.replies.is_some()
             || self.check && self.generate.is_some()
             || reads_none && (self.names_file() || !self.streams.is_empty())
+            || self.two_way && self.names_file()
             || !reads_none && self.streams.is_empty()
             || self.streams.len() > MAX_STREAMS
             || self.from_clashes()
     }
 
-    /// Whether a file is named that only a run over streams has.
+    /// Whether a file is named that only a run over streams has. It can't stand with edges taken
+    /// backwards.
     fn names_file(&self) -> bool
         ensures { result ≡ names_file self.now }
     {

@@ -1,8 +1,8 @@
 //! The words of a command line and the settings that they are.
 //!
 //! The command is `rpq [--workers N] [--history N] [--asks FILE --replies FILE] [--check]
-//! [--generate N] [--save FILE] [--from FILE] QUERIES [STREAM...]`, read by `clap` as one simple
-//! command. The contract for the layer above: [`read_words`] answers the settings of the words, as
+//! [--generate N] [--two-way] [--save FILE] [--from FILE] QUERIES [STREAM...]`, read by `clap` as
+//! one simple command. The contract for the layer above: [`read_words`] answers the settings of the words, as
 //! `specs/Settings` defines them by clap's own definition of such a command and the table of the
 //! ranges, or that the words have none, unless memory runs out.
 //!

@@ -104,6 +104,7 @@ fn read_choices(alloc: Global, matches: &ArgMatches<'_>) -> Result<Chosen, Words
         history,
         check: has_flag(matches, "check"),
         generate,
+        two_way: has_flag(matches, "two-way"),
         asks: optional_file_word(alloc, first_of(matches, "asks"))?,
         replies: optional_file_word(alloc, first_of(matches, "replies"))?,
         save: optional_file_word(alloc, first_of(matches, "save"))?,

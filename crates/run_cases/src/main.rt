@@ -43,6 +43,7 @@
 mod blocks;
 mod engines;
 mod faults;
+mod given;
 mod left;
 mod readers;
 mod request;

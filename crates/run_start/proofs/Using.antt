@@ -323,7 +323,8 @@ opening_refuses {S} left faults given holds which refusal may is = record {
 
 -- the files that were read whole are understood
 pub understood_by : (given : Settings) (holds : List ℕ → Option (List ℕ)) (queries : List Query)
-    (sessions : List (List Ask)) → IfSome (holds given.queries) (λ bytes. HasQueries bytes queries)
+    (sessions : List (List Ask)) → IfSome (holds given.queries)
+    (λ bytes. HasQueries given.two_way bytes queries)
     → ForSessions given holds queries (λ asked. sessions ≡ asked) → AreUnderstoodFiles given holds
 understood_by given holds queries sessions has are = by (holds given.queries) has
   where
@@ -341,7 +342,7 @@ understood_by given holds queries sessions has are = by (holds given.queries) ha
     by_asks None same = tt
     by_asks (Some name) told = by_file (holds name) told
 
-    by : (file : Option (List ℕ)) → IfSome file (λ bytes. HasQueries bytes queries)
-        → ForQueries file (λ all. ForSessions given holds all (λ asked. Unit {0}))
+    by : (file : Option (List ℕ)) → IfSome file (λ bytes. HasQueries given.two_way bytes queries)
+        → ForQueries given.two_way file (λ all. ForSessions given holds all (λ asked. Unit {0}))
     by None has = tt
     by (Some bytes) has = (queries, has, by_asks given.asks are)

@@ -1,11 +1,11 @@
 -- The files of a run that are read whole: what they hold, and what can be wrong with them.
-use Rattle.std.specs.Prelude.{◌≡◌, ◌≢◌, ℕ, ◌<◌, ◌≤◌, List, [], ◌∷◌, length, map, Option, Some}
+use Rattle.std.specs.Prelude.{◌≡◌, ◌≢◌, ℕ, ◌<◌, ◌≤◌, Bool, List, [], ◌∷◌, length, map, Option, Some}
 use Rattle.std.specs.Prelude.{option_map, unwrap_or, IfSome, MatchOption, Ok, Err}
 use Rattle.std.specs.Io.KnownBytes.{prepend_known}
 use Rattle.rpq_model.specs.Query.{Query}
 use Rattle.query_file.specs.declared.fault.QueryFault.{QueryFault}
 use Rattle.query_file.specs.declared.fault.QueryKind.TheVariants.{Memory}
-use Rattle.query_file.specs.Queries.{Queries}
+use Rattle.query_file.specs.Queries.{QueriesOf}
 use Rattle.ask_text.specs.declared.ask.Ask.{Ask}
 use Rattle.ask_text.specs.declared.fault.AskFault.{AskFault}
 use Rattle.ask_text.specs.declared.fault.AskKind.TheVariants.{Memory as MemoryOfAsks}
@@ -14,26 +14,31 @@ use Rattle.rpq_words.specs.Settings.{Settings}
 use Rattle.saved_window.specs.Then.{join_known}
 use Rattle.rpq_text.specs.Limits.{file_limit}
 
--- a queries file has these bytes, which are not too many, and these queries
-abbrev pub HasQueries : List ℕ → List Query → Type 0
-HasQueries bytes queries = (length bytes < file_limit) × Queries bytes (Ok queries)
+-- a queries file has these bytes, which are not too many, and these queries, which may take edges
+-- backwards where the first value is `true`
+abbrev pub HasQueries : Bool → List ℕ → List Query → Type 0
+HasQueries two_way bytes queries =
+    (length bytes < file_limit) × QueriesOf two_way bytes (Ok queries)
 
 -- a queries file has these bytes, which are not too many, and this fault
-abbrev pub HasFault : List ℕ → QueryFault → Type 0
-HasFault bytes fault = (length bytes < file_limit) × Queries bytes (Err fault)
+abbrev pub HasFault : Bool → List ℕ → QueryFault → Type 0
+HasFault two_way bytes fault =
+    (length bytes < file_limit) × QueriesOf two_way bytes (Err fault)
 
 -- the bytes of a queries file, where they are told, give queries, and this holds of them
-abbrev pub ForQueries : Option (List ℕ) → (List Query → Type 0) → Type 0
-ForQueries file P =
-    IfSome file (λ bytes. (queries : List Query) × HasQueries bytes queries × P queries)
+abbrev pub ForQueries : Bool → Option (List ℕ) → (List Query → Type 0) → Type 0
+ForQueries two_way file P =
+    IfSome file (λ bytes. (queries : List Query) × HasQueries two_way bytes queries × P queries)
 
 -- the bytes of a queries file, where they are told, give queries
-abbrev pub IsQueriesFile : Option (List ℕ) → Type 0
-IsQueriesFile file = IfSome file (λ bytes. (queries : List Query) × HasQueries bytes queries)
+abbrev pub IsQueriesFile : Bool → Option (List ℕ) → Type 0
+IsQueriesFile two_way file =
+    IfSome file (λ bytes. (queries : List Query) × HasQueries two_way bytes queries)
 
 -- the bytes of a queries file, where they are told, have this fault, which isn't out of memory
-abbrev pub IsFaultyFile : Option (List ℕ) → QueryFault → Type 0
-IsFaultyFile file fault = (fault.kind ≢ Memory) × IfSome file (λ bytes. HasFault bytes fault)
+abbrev pub IsFaultyFile : Bool → Option (List ℕ) → QueryFault → Type 0
+IsFaultyFile two_way file fault =
+    (fault.kind ≢ Memory) × IfSome file (λ bytes. HasFault two_way bytes fault)
 
 -- an asks file about these queries has these bytes, which are not too many, and these sessions
 abbrev pub HasSessions : List Query → List ℕ → List (List Ask) → Type 0
@@ -55,7 +60,7 @@ ForSessions given holds queries P = MatchOption given.asks (P []) (λ name. IfSo
 -- and this holds of them
 abbrev pub ForAsked : Settings → (List ℕ → Option (List ℕ))
     → (List Query → List (List Ask) → Type 0) → Type 0
-ForAsked given holds P = ForQueries (holds given.queries)
+ForAsked given holds P = ForQueries given.two_way (holds given.queries)
     (λ queries. ForSessions given holds queries (P queries))
 
 -- what is read of the saved window with which a run begins: no byte where none is named
@@ -77,9 +82,10 @@ AreUnderstoodFiles given holds = ForAsked given holds (λ queries sessions. Unit
 
 -- the bytes of an asks file, where they are told, have this fault, which isn't out of memory, about
 -- the queries of the queries file, where its bytes are told
-abbrev pub AreFaultyAsks : Option (List ℕ) → Option (List ℕ) → AskFault → Type 0
-AreFaultyAsks queries_file file fault = (fault.kind ≢ MemoryOfAsks)
-    × ForQueries queries_file (λ queries. IfSome file (λ bytes. HasAskFault queries bytes fault))
+abbrev pub AreFaultyAsks : Bool → Option (List ℕ) → Option (List ℕ) → AskFault → Type 0
+AreFaultyAsks two_way queries_file file fault = (fault.kind ≢ MemoryOfAsks)
+    × ForQueries two_way queries_file
+    (λ queries. IfSome file (λ bytes. HasAskFault queries bytes fault))
 
 -- the bytes of a file, where they are told, are too many
 abbrev pub IsTooLong : Option (List ℕ) → Type 0
@@ -90,13 +96,14 @@ abbrev pub IsRestOf : Option (List ℕ) → Option (List ℕ) → Type 0
 IsRestOf file left = (bytes : List ℕ) × (file ≡ prepend_known bytes left)
 
 -- a queries file that isn't too long and has no fault
-pub record IsFaultless (bytes : List ℕ) : Type 0 where
+pub record IsFaultless (two_way : Bool) (bytes : List ℕ) : Type 0 where
   pub short : length bytes < file_limit
-  pub no_fault : (fault : QueryFault) → Queries bytes (Err fault) → ⊥
+  pub no_fault : (fault : QueryFault) → QueriesOf two_way bytes (Err fault) → ⊥
 
 -- an asks file that isn't too long and has no fault about the queries of this queries file, whose
 -- bytes are told
-pub record AreFaultlessAsks (queries_file : Option (List ℕ)) (bytes : List ℕ) : Type 0 where
+pub record AreFaultlessAsks (two_way : Bool) (queries_file : Option (List ℕ)) (bytes : List ℕ)
+    : Type 0 where
   pub short : length bytes < file_limit
   pub no_fault : (fault : AskFault)
-      → ForQueries queries_file (λ queries. asks queries bytes ≡ Err fault) → ⊥
+      → ForQueries two_way queries_file (λ queries. asks queries bytes ≡ Err fault) → ⊥

@@ -67,7 +67,8 @@ pub record IsReady {S K : Type 0} (left : S → Option (List ℕ)) (faults : S �
     (written : K → Option (List ℕ)) (failures : K → ℕ) (given : Settings)
     (holds : List ℕ → Option (List ℕ)) (queries : List CompiledValue)
     (reading : Option (Reads S K)) : Type 0 where
-  pub has : IfSome (holds given.queries) (λ bytes. HasQueries bytes (definitions_of queries))
+  pub has : IfSome (holds given.queries)
+      (λ bytes. HasQueries given.two_way bytes (definitions_of queries))
   pub understood : AreUnderstood queries
   pub reads : MatchOption reading (reads_none given ≡ true)
       (IsReading left faults written failures given holds queries)

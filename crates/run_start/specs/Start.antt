@@ -20,12 +20,14 @@ use Rattle.run_start.specs.Given.{names_up_to}
 -- file is looked at only where all that come before it are understood, and only one that is given
 abbrev pub IsRefusedFor : Settings → (List ℕ → Option (List ℕ)) → StartFault → Type 0
 IsRefusedFor given holds Words = ⊥
-IsRefusedFor given holds (QueriesFault fault) = IsFaultyFile (holds given.queries) fault
+IsRefusedFor given holds (QueriesFault fault) =
+    IsFaultyFile given.two_way (holds given.queries) fault
 IsRefusedFor given holds (AsksFault fault) =
-    IsSomeAnd given.asks (λ name. AreFaultyAsks (holds given.queries) (holds name) fault)
+    IsSomeAnd given.asks (λ name.
+    AreFaultyAsks given.two_way (holds given.queries) (holds name) fault)
 IsRefusedFor given holds (Open Queries) = Unit {0}
 IsRefusedFor given holds (Open Asks) =
-    IsSomeAnd given.asks (λ name. IsQueriesFile (holds given.queries))
+    IsSomeAnd given.asks (λ name. IsQueriesFile given.two_way (holds given.queries))
 IsRefusedFor given holds (Open From) =
     IsSomeAnd given.from (λ name. AreUnderstoodFiles given holds)
 IsRefusedFor given holds (Open (Stream number)) =
@@ -36,14 +38,15 @@ IsRefusedFor given holds (Open Save) =
     IsSomeAnd given.save (λ name. AreUnderstoodFiles given holds)
 IsRefusedFor given holds (Read Queries) = Unit {0}
 IsRefusedFor given holds (Read Asks) =
-    IsSomeAnd given.asks (λ name. IsQueriesFile (holds given.queries))
+    IsSomeAnd given.asks (λ name. IsQueriesFile given.two_way (holds given.queries))
 IsRefusedFor given holds (Read From) = ⊥
 IsRefusedFor given holds (Read (Stream number)) = ⊥
 IsRefusedFor given holds (Read Replies) = ⊥
 IsRefusedFor given holds (Read Save) = ⊥
 IsRefusedFor given holds (Long Queries) = IsTooLong (holds given.queries)
 IsRefusedFor given holds (Long Asks) =
-    IsSomeAnd given.asks (λ name. IsQueriesFile (holds given.queries) × IsTooLong (holds name))
+    IsSomeAnd given.asks (λ name.
+    IsQueriesFile given.two_way (holds given.queries) × IsTooLong (holds name))
 IsRefusedFor given holds (Long From) = ⊥
 IsRefusedFor given holds (Long (Stream number)) = ⊥
 IsRefusedFor given holds (Long Replies) = ⊥

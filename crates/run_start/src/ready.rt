@@ -99,7 +99,7 @@ fn begin_reading<F: Files>(
     requires reads_some { reads_none chosen.now ≡ false }
     requires understood { AreUnderstood queries.now }
     requires has { IfSome (F.holds files.old chosen.now.queries)
-        (λ bytes. HasQueries bytes (definitions_of queries.now)) }
+        (λ bytes. HasQueries chosen.now.two_way bytes (definitions_of queries.now)) }
     ensures reading { IfOk result (IsReading F.Source.left F.Source.faults
         F.Sink.written F.Sink.faults chosen.now (F.holds files.old) queries.now) }
     ensures read { IfOk result (λ reads. IfSome chosen.now.asks (λ name.

@@ -32,7 +32,7 @@ pub fn sessions_of_file<F: Files>(
 ) -> Result<Vec<Session>, Refusal<F::Source>>
     requires few { length queries.now ≤ 64 }
     requires has { IfSome (F.holds files.old chosen.now.queries)
-        (λ bytes. HasQueries bytes (definitions_of queries.now)) }
+        (λ bytes. HasQueries chosen.now.two_way bytes (definitions_of queries.now)) }
     ensures sessions { IfOk result (λ sessions. ForSessions chosen.now (F.holds files.old)
         (definitions_of queries.now) (λ asked. sessions.items ≡ asked)) }
     ensures few { IfOk result (λ sessions. length sessions.items ≤ 64) }

@@ -5,4 +5,5 @@ use Rattle.rpq_run.proofs.laws.headline.Goals as goal
 pub returns : goal.returns
 returns g c = λ given holds sinks objects outcome told runs done is.
     headline_holds (meanings g.F.Source.Source.left g.F.Source.Source.faults g.F.Sink.Sink.written
-    g.F.Sink.Sink.faults) given holds sinks objects outcome told c.one_outcome.ensures runs done is
+    g.F.Sink.Sink.faults) given holds sinks objects outcome told c.one_outcome.ensures
+    c.one_two_way_outcome.ensures runs done is

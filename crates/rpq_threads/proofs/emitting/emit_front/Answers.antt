@@ -9,71 +9,75 @@ use Rattle.standing.specs.Circles.{as_seen}
 use Rattle.rpq_threads.specs.Fed.{Finds, answered}
 use Rattle.rpq_threads.proofs.Blocks.{lists_of}
 use Rattle.rpq_threads.proofs.Fronts.{ok_then_both, err_with, numbers_found, many_found}
-use Rattle.rpq_threads.proofs.Fronts.{emits_all, emits_stops}
+use Rattle.rpq_threads.proofs.Fronts.{emits_all, emits_with_block, emits_stops}
 use Rattle.rpq_threads.proofs.Stopping.{stops_before}
 use Rattle.rpq_threads.proofs.emitting.emit_front.Goals as goal
 
 pub returns-in_default-clause-stops : goal.returns-in_default-clause-stops
 returns-in_default-clause-stops g c =
     let was = c.requires.fed.keeps_up in
-    let engine = c.args.evaluator.now.engine in
-    let before = answered engine c.args.pass.now in
+    let old = c.args.evaluator.now in
+    let queries = definitions old.engine in
+    let before = answered old c.args.pass.now in
     let entries = c.args.entries.now in
-    stops_before c.accepted_queries_have_events.ensures.steps (definitions engine)
-    (All-same IsAccepted (definitions engine) c.args.shared.now.history.now.terms.queries
+    stops_before c.accepted_queries_have_events.ensures.steps old.two_way queries
+    (All-same IsAccepted queries c.args.shared.now.history.now.terms.queries
     was.queries was.accepted) before (before ++ entries) (entries, refl)
     (g.K.Sink.written c.args.events.now) (as_seen g.O.Standing.seen c.args.circle.now)
 
 pub write_blocks-requires-clause-numbers : goal.write_blocks-requires-clause-numbers
 write_blocks-requires-clause-numbers g c =
-    let old = c.args.evaluator.now.engine in
-    let new = c.find_events.new.evaluator.engine in
+    let old = c.args.evaluator.now in
+    let new = c.find_events.new.evaluator in
     let before = answered old c.args.pass.now in
     let finds = subst (λ (found : List (Vec Event)). Finds before new c.args.entries.now
     (lists_of found)) (sym c.deref.ensures.value) c.in-Ok.ensures.finds in
     numbers_found before old new c.args.entries.now c.deref.result.now finds
-    c.find_events.ensures.keeps.queries c.queries-queries.result.now c.queries-queries.ensures
+    c.find_events.ensures.keeps c.queries-queries.result.now c.queries-queries.ensures
 
 pub write_blocks-requires-clause-as_many : goal.write_blocks-requires-clause-as_many
 write_blocks-requires-clause-as_many g c =
-    let old = c.args.evaluator.now.engine in
-    let new = c.find_events.new.evaluator.engine in
+    let old = c.args.evaluator.now in
+    let new = c.find_events.new.evaluator in
     let before = answered old c.args.pass.now in
     let finds = subst (λ (found : List (Vec Event)). Finds before new c.args.entries.now
     (lists_of found)) (sym c.deref.ensures.value) c.in-Ok.ensures.finds in
     many_found before old new c.args.entries.now c.deref.result.now finds
-    c.find_events.ensures.keeps.queries c.queries-queries.result.now c.queries-queries.ensures
+    c.find_events.ensures.keeps c.queries-queries.result.now c.queries-queries.ensures
 
 pub returns-clause-ok : goal.returns-clause-ok
 returns-clause-ok g c =
-    let old = c.args.evaluator.now.engine in
-    let new = c.find_events.new.evaluator.engine in
+    let old = c.args.evaluator.now in
+    let new = c.find_events.new.evaluator in
     let before = answered old c.args.pass.now in
     let seen = g.O.Standing.seen in
     let finds = subst (λ (found : List (Vec Event)). Finds before new c.args.entries.now
     (lists_of found)) (sym c.deref.ensures.value) c.in-Ok.ensures.finds in
+    let start = g.K.Sink.written c.args.events.now in
+    let end = g.K.Sink.written c.write_blocks.new.events in
+    let first = as_seen seen c.args.circle.now in
+    let after = as_seen seen c.write_blocks.new.circle in
     ok_then_both c.write_blocks.result
+    (λ wrote tells.
+    emits_with_block before old new (record new { block = c.write_blocks.new.text })
+    c.args.entries.now start end first after
     (emits_all before old new c.args.entries.now c.deref.result.now finds
-    c.find_events.ensures.keeps.queries c.queries-queries.result.now c.queries-queries.ensures
-    c.requires.fed.keeps_up.stands
-    (c.position-position.result + 1) (ap (λ n. n + 1) c.position-position.ensures)
-    (g.K.Sink.written c.args.events.now) (g.K.Sink.written c.write_blocks.new.events)
-    (as_seen seen c.args.circle.now) (as_seen seen c.write_blocks.new.circle))
+    c.find_events.ensures.keeps c.queries-queries.result.now c.queries-queries.ensures
+    c.requires.fed.keeps_up.stands (old.position + 1) refl start end first after wrote tells))
     c.write_blocks.ensures.ok c.write_blocks.ensures.told
 
 pub returns-clause-stops : goal.returns-clause-stops
 returns-clause-stops g c =
-    let old = c.args.evaluator.now.engine in
-    let new = c.find_events.new.evaluator.engine in
+    let old = c.args.evaluator.now in
+    let new = c.find_events.new.evaluator in
     let before = answered old c.args.pass.now in
     let seen = g.O.Standing.seen in
     let finds = subst (λ (found : List (Vec Event)). Finds before new c.args.entries.now
     (lists_of found)) (sym c.deref.ensures.value) c.in-Ok.ensures.finds in
     err_with c.write_blocks.result _ _ (λ why is.
     emits_stops before old new c.args.entries.now c.deref.result.now finds
-    c.find_events.ensures.keeps.queries c.queries-queries.result.now c.queries-queries.ensures
-    c.requires.fed.keeps_up.stands
-    (c.position-position.result + 1) (ap (λ n. n + 1) c.position-position.ensures)
+    c.find_events.ensures.keeps c.queries-queries.result.now c.queries-queries.ensures
+    c.requires.fed.keeps_up.stands (old.position + 1) refl
     (g.K.Sink.written c.args.events.now) (g.K.Sink.written c.write_blocks.new.events)
     (as_seen seen c.args.circle.now) (as_seen seen c.write_blocks.new.circle) why
     (λ same. c.write_blocks.ensures.write (is ∙ ap (λ (w : Why). Err w) same))

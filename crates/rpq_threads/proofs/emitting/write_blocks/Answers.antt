@@ -1,8 +1,7 @@
-use Rattle.std.proofs.Common.{◌≡◌, ℕ, ◌+◌, ◌<◌, ◌≤◌, List, Option, Some, Err, take, length}
+use Rattle.std.proofs.Common.{◌≡◌, ℕ, ◌+◌, ◌<◌, List, Option, Some, Err, take, length}
 use Rattle.std.proofs.Common.{get_or, slice_get}
 use Rattle.std.proofs.Common.{refl, sym, ap, subst, ◌∙◌, arith}
 use Rattle.std.specs.Prelude.{⊤}
-use Rattle.std.specs.Global.{Vec}
 use Rattle.std.specs.Io.KnownBytes.{append_known}
 use Rattle.std.proofs.lemmas.Option.{slice_get_read}
 use Rattle.rpq_base.specs.declared.data.Entry.{Entry}
@@ -10,14 +9,12 @@ use Rattle.rpq_base.specs.declared.data.Event.{Event}
 use Rattle.rpq_base.proofs.Outcomes.{handed_on}
 use Rattle.rpq_io.proofs.Bytes.{append_known-nil}
 use Rattle.rpq_io.specs.Writes.{WritesProperPrefix}
-use Rattle.rpq_model.specs.Query.{Query}
 use Rattle.history_model.specs.declared.line.Why.{Why}
 use Rattle.history_model.specs.declared.line.Why.TheVariants.{Write, Memory}
 use Rattle.rpq_text.specs.Definitions.{definitions_of}
 use Rattle.rpq_text.specs.Text.{block, blocks_from}
-use Rattle.standing.specs.Circles.{CircleValue, as_seen}
+use Rattle.standing.specs.Circles.{as_seen}
 use Rattle.rpq_threads.specs.Fed.{TellsOn, WritesAndTells}
-use Rattle.rpq_threads.specs.Told.{all_events}
 use Rattle.rpq_threads.proofs.Blocks.{lists_of, length-lists, list_at, proper_at, front_at}
 use Rattle.rpq_threads.proofs.Fronts.{handed_err}
 use Rattle.rpq_threads.proofs.Tellings.{tells_nothing, written_with, told_with, block_stops}

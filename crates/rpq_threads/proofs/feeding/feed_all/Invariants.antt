@@ -9,9 +9,12 @@ use Rattle.rpq_threads.proofs.feeding.feed_all.Given as goal
 abbrev pub invariant-loop : goal.invariant-loop
 invariant-loop g l = record {
   fed : IsFed l.shared.history.now l.evaluator l.pass;
-  text : Grew (IsText l.shared.history.now.terms.queries (answered l.evaluator.engine l.pass))
+  ways : l.evaluator.two_way ≡ l.fn.evaluator.two_way;
+  text : Grew (IsText l.fn.evaluator.two_way l.shared.history.now.terms.queries
+      (answered l.evaluator l.pass))
       (g.K.Sink.written l.fn.events) (g.K.Sink.written l.events);
-  heard : HaveHeardAll l.shared.history.now.terms.queries (answered l.evaluator.engine l.pass)
+  heard : HaveHeardAll l.fn.evaluator.two_way l.shared.history.now.terms.queries
+      (answered l.evaluator l.pass)
       (as_seen g.O.Standing.seen l.fn.circle).members (as_seen g.O.Standing.seen l.circle);
   quiet : g.K.Sink.faults l.events ≡ g.K.Sink.faults l.fn.events;
 }

@@ -1,9 +1,10 @@
-use Rattle.std.proofs.Common.{◌≡◌, ◌<◌, refl, Err, sym, ap, ◌∙◌, arith}
+use Rattle.std.proofs.Common.{◌≡◌, ◌<◌, Err, ap, ◌∙◌, arith}
 use Rattle.stream_history.specs.declared.fault.PublishFault.{PublishFault}
 use Rattle.stream_history.specs.declared.fault.PublishFault.TheVariants.{Behind}
-use Rattle.rpq_threads.specs.declared.evaluator.Evaluator.{Evaluator}
+use Rattle.two_way.specs.TwoWay.{walked}
 use Rattle.rpq_threads.specs.Fed.{answered}
-use Rattle.rpq_threads.proofs.Turns.{view_place, keeps_up_viewed, fed_published}
+use Rattle.rpq_threads.proofs.Turns.{view_place, view_there, view_shows, keeps_up_viewed}
+use Rattle.rpq_threads.proofs.Turns.{fed_published}
 use Rattle.rpq_threads.proofs.feeding.publish_answers.Goals as goal
 
 pub unreachable-requires : goal.unreachable-requires
@@ -13,7 +14,8 @@ unreachable-requires g c =
     let pass = c.args.pass.now in
     let was = c.requires.keeps_up in
     let view = c.in_ok-view.view.value in
-    let shows = c.in_ok-view.ensures.view (answered evaluator.engine pass) was.stands in
+    let sees = c.in_ok-view.ensures.view (walked evaluator.two_way (answered evaluator pass))
+    was.stands.stands in
     let last = c.in-Err-Behind.field-0-0 in
     let said : c.publish.result ≡ Err (Behind last) =
     c.in-Err-Behind.is ∙ ap (λ (fault : PublishFault). Err fault) c.in-Err-Behind.field-0-is in
@@ -24,7 +26,7 @@ unreachable-requires g c =
       both.0,
       both.1,
       c.requires.ahead some,
-      view_place history evaluator pass was view shows,
+      view_place history evaluator pass was some view sees,
     )
 
 pub returns-in-Ok-clause-fed : goal.returns-in-Ok-clause-fed
@@ -35,9 +37,29 @@ returns-in-Ok-clause-fed g c =
     let was = c.requires.keeps_up in
     let view = c.in_ok-view.view.value in
     let kept = c.view.ensures in
-    let shows = c.in_ok-view.ensures.view (answered old.engine pass) was.stands in
-    let new : Evaluator = record old { engine = c.view.new.self } in
-    fed_published history new pass c.publish.new.pass
-    (keeps_up_viewed history old new pass refl kept.queries kept.position kept.stands was)
-    view.position (view_place history old pass was view shows ∙ sym kept.position)
-    c.in-Ok.ensures.line
+    let sees = c.in_ok-view.ensures.view (walked old.two_way (answered old pass))
+    was.stands.stands in
+    let some : 0 < history.readers = omega (arith, c.readers.ensures) in
+    fed_published history (record old { engine = c.view.new.self }) pass c.publish.new.pass
+    (keeps_up_viewed history old c.view.new.self pass kept.queries kept.stands was)
+    view.position (view_place history old pass was some view sees) c.in-Ok.ensures.line
+
+pub publish-requires-clause-there : goal.publish-requires-clause-there
+publish-requires-clause-there g c =
+    let history = c.args.history.now in
+    let old = c.args.evaluator.now in
+    let pass = c.args.pass.now in
+    let was = c.requires.keeps_up in
+    let some : 0 < history.readers = omega (arith, c.readers.ensures) in
+    view_there history old pass was some c.in_ok-view.view.value
+    (c.in_ok-view.ensures.view (walked old.two_way (answered old pass)) was.stands.stands)
+
+pub publish-requires-clause-shows : goal.publish-requires-clause-shows
+publish-requires-clause-shows g c =
+    let history = c.args.history.now in
+    let old = c.args.evaluator.now in
+    let pass = c.args.pass.now in
+    let was = c.requires.keeps_up in
+    let some : 0 < history.readers = omega (arith, c.readers.ensures) in
+    view_shows history old pass was some c.in_ok-view.view.value
+    (c.in_ok-view.ensures.view (walked old.two_way (answered old pass)) was.stands.stands)

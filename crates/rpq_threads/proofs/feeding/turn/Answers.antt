@@ -1,5 +1,4 @@
-use Rattle.std.proofs.Common.{◌≡◌, ℕ, take, drop, length, ap, ◌∙◌, rules}
-use Rattle.history_model.specs.Lines.{entries}
+use Rattle.std.proofs.Common.{◌≡◌, length, ◌∙◌, rules}
 use Rattle.rpq_workers.proofs.Seen.{starts_then}
 use Rattle.standing.specs.Circles.{as_seen}
 use Rattle.rpq_threads.proofs.Fronts.{handed_err}
@@ -28,8 +27,7 @@ returns-then-is_empty-clause-over g c = λ is.
       ended = c.in-Ok.ensures.all_ended.0 cc;
       all = none_is_left c.args.shared.now.history.now c.args.evaluator.now c.args.pass.now mid
           c.requires c.after.ensures.pass part
-          (c.in-Ok.ensures.entries ∙ ap (λ (n : ℕ). take 256 (drop n (entries mid.seen)))
-          c.position-position.ensures) none;
+          c.in-Ok.ensures.entries none;
     }
 
 pub returns-then-is_empty-clause-text : goal.returns-then-is_empty-clause-text
@@ -53,16 +51,14 @@ emit_front-requires-clause-short g c = λ _ _.
     let mid = c.after.new.pass in
     front_is_short c.args.shared.now.history.now c.args.evaluator.now c.args.pass.now mid
     c.requires c.after.ensures.pass c.deref.result.now
-    (c.deref.ensures.value ∙ (c.in-Ok.ensures.entries
-    ∙ ap (λ (n : ℕ). take 256 (drop n (entries mid.seen))) c.position-position.ensures))
+    (c.deref.ensures.value ∙ c.in-Ok.ensures.entries)
 
 pub emit_front-requires-clause-plain : goal.emit_front-requires-clause-plain
 emit_front-requires-clause-plain g c = λ _ _.
     let mid = c.after.new.pass in
     front_is_plain c.args.shared.now.history.now c.args.evaluator.now c.args.pass.now mid
     c.requires c.after.ensures.pass c.deref.result.now
-    (c.deref.ensures.value ∙ (c.in-Ok.ensures.entries
-    ∙ ap (λ (n : ℕ). take 256 (drop n (entries mid.seen))) c.position-position.ensures))
+    (c.deref.ensures.value ∙ c.in-Ok.ensures.entries)
 
 pub returns-in_err-emit_front-clause-stops : goal.returns-in_err-emit_front-clause-stops
 returns-in_err-emit_front-clause-stops g c =
@@ -72,8 +68,7 @@ returns-in_err-emit_front-clause-stops g c =
     handed_err c.from_residual.result fault _ c.from_residual.ensures.1
     (front_stops c.args.shared.now.history.now c.args.evaluator.now c.args.pass.now mid
     c.requires c.after.ensures.pass c.deref.result.now
-    (c.deref.ensures.value ∙ (c.in-Ok.ensures.entries
-    ∙ ap (λ (n : ℕ). take 256 (drop n (entries mid.seen))) c.position-position.ensures))
+    (c.deref.ensures.value ∙ c.in-Ok.ensures.entries)
     (g.K.Sink.written c.args.events.now) (g.K.Sink.written c.emit_front.new.events)
     (as_seen seen c.args.circle.now) (as_seen seen c.emit_front.new.circle)
     c.accepted_queries_have_events.ensures.steps c.emit_front.new.pass
@@ -85,11 +80,10 @@ publish_answers-requires-clause-keeps_up g c =
     let seen = g.O.Standing.seen in
     front_keeps_up c.args.shared.now.history.now c.args.evaluator.now c.args.pass.now mid
     c.requires c.after.ensures.pass c.deref.result.now
-    (c.deref.ensures.value ∙ (c.in-Ok.ensures.entries
-    ∙ ap (λ (n : ℕ). take 256 (drop n (entries mid.seen))) c.position-position.ensures))
+    (c.deref.ensures.value ∙ c.in-Ok.ensures.entries)
     (g.K.Sink.written c.args.events.now) (g.K.Sink.written c.emit_front.new.events)
     (as_seen seen c.args.circle.now) (as_seen seen c.emit_front.new.circle)
-    c.emit_front.new.evaluator c.in_ok-emit_front.ensures.ok c.emit_front.ensures.workers
+    c.emit_front.new.evaluator c.in_ok-emit_front.ensures.ok
     c.emit_front.new.pass c.emit_front.ensures.looks_on
 
 pub returns-in_default-publish_answers-clause-stops :
@@ -99,11 +93,10 @@ returns-in_default-publish_answers-clause-stops g c =
     let seen = g.O.Standing.seen in
     stops_then c.args.shared.now.history.now c.args.evaluator.now c.args.pass.now mid
     c.requires c.after.ensures.pass c.deref.result.now
-    (c.deref.ensures.value ∙ (c.in-Ok.ensures.entries
-    ∙ ap (λ (n : ℕ). take 256 (drop n (entries mid.seen))) c.position-position.ensures))
+    (c.deref.ensures.value ∙ c.in-Ok.ensures.entries)
     (g.K.Sink.written c.args.events.now) (g.K.Sink.written c.emit_front.new.events)
     (as_seen seen c.args.circle.now) (as_seen seen c.emit_front.new.circle)
-    c.emit_front.new.evaluator c.in_ok-emit_front.ensures.ok c.emit_front.ensures.workers
+    c.emit_front.new.evaluator c.in_ok-emit_front.ensures.ok
     c.accepted_queries_have_events.ensures.steps c.publish_answers.new.pass
     (starts_then c.publish_answers.new.pass.seen c.emit_front.new.pass.seen mid.seen
     c.publish_answers.ensures.seen c.emit_front.ensures.looks_on.seen)
@@ -114,16 +107,15 @@ returns-clause-text g c =
     let seen = g.O.Standing.seen in
     text_then c.args.shared.now.history.now c.args.evaluator.now c.args.pass.now mid
     c.requires c.after.ensures.pass c.deref.result.now
-    (c.deref.ensures.value ∙ (c.in-Ok.ensures.entries
-    ∙ ap (λ (n : ℕ). take 256 (drop n (entries mid.seen))) c.position-position.ensures))
+    (c.deref.ensures.value ∙ c.in-Ok.ensures.entries)
     (g.K.Sink.written c.args.events.now) (g.K.Sink.written c.emit_front.new.events)
     (as_seen seen c.args.circle.now) (as_seen seen c.emit_front.new.circle)
-    c.emit_front.new.evaluator c.in_ok-emit_front.ensures.ok c.emit_front.ensures.workers
+    c.emit_front.new.evaluator c.in_ok-emit_front.ensures.ok
     c.publish_answers.new.pass
     (starts_then c.publish_answers.new.pass.seen c.emit_front.new.pass.seen mid.seen
     c.publish_answers.ensures.seen c.emit_front.ensures.looks_on.seen)
     c.publish_answers.new.evaluator
-    c.publish_answers.ensures.position
+    c.publish_answers.ensures.kept.0
 
 pub returns-clause-heard : goal.returns-clause-heard
 returns-clause-heard g c =
@@ -131,13 +123,12 @@ returns-clause-heard g c =
     let seen = g.O.Standing.seen in
     hears_then c.args.shared.now.history.now c.args.evaluator.now c.args.pass.now mid
     c.requires c.after.ensures.pass c.deref.result.now
-    (c.deref.ensures.value ∙ (c.in-Ok.ensures.entries
-    ∙ ap (λ (n : ℕ). take 256 (drop n (entries mid.seen))) c.position-position.ensures))
+    (c.deref.ensures.value ∙ c.in-Ok.ensures.entries)
     (g.K.Sink.written c.args.events.now) (g.K.Sink.written c.emit_front.new.events)
     (as_seen seen c.args.circle.now) (as_seen seen c.emit_front.new.circle)
-    c.emit_front.new.evaluator c.in_ok-emit_front.ensures.ok c.emit_front.ensures.workers
+    c.emit_front.new.evaluator c.in_ok-emit_front.ensures.ok
     c.publish_answers.new.pass
     (starts_then c.publish_answers.new.pass.seen c.emit_front.new.pass.seen mid.seen
     c.publish_answers.ensures.seen c.emit_front.ensures.looks_on.seen)
     c.publish_answers.new.evaluator
-    c.publish_answers.ensures.position
+    c.publish_answers.ensures.kept.0

@@ -1,5 +1,6 @@
 use Rattle.std.proofs.Common.{List, ◌∙◌}
 use Rattle.rpq_base.specs.declared.data.Entry.{Entry}
+use Rattle.rpq_threads.specs.Fed.{answered}
 use Rattle.rpq_threads.proofs.Rebuilt.{looks_by_call, gets_on, stands_further}
 use Rattle.rpq_threads.proofs.rebuilding.feed_next.Goals as goal
 
@@ -22,16 +23,16 @@ pub returns-clause-stands : goal.returns-clause-stands
 returns-clause-stands g c =
     let cut = ◌∙◌ {A = List Entry} c.deref.ensures.value c.truncate.ensures.items in
     stands_further c.args.shared.now.history.now c.args.pass.now c.after.new.pass
-    c.args.evaluator.now.engine c.args.position c.requires.may_ask c.after.ensures.pass
-    c.requires.behind c.position-from.result c.position-from.ensures
-    c.in_ok-front.front.entries.items c.deref.result.now c.in_ok-front.ensures.entries cut
-    c.feed.new.evaluator.engine _ c.in_ok-feed.ensures.feeds c.requires.stands
+    c.args.evaluator.now c.args.position c.requires.may_ask c.after.ensures.pass
+    c.requires.behind c.in_ok-front.front.entries.items c.deref.result.now
+    c.in_ok-front.ensures.entries cut c.feed.new.evaluator _ c.requires.stands
+    (c.in_ok-feed.ensures.finds (answered c.args.evaluator.now c.args.pass.now) c.requires.stands)
 
 pub returns-clause-forward : goal.returns-clause-forward
 returns-clause-forward g c =
     let cut = ◌∙◌ {A = List Entry} c.deref.ensures.value c.truncate.ensures.items in
     gets_on c.args.shared.now.history.now c.args.pass.now c.after.new.pass
-    c.args.evaluator.now.engine c.args.position c.requires.may_ask c.after.ensures.pass
-    c.requires.behind c.position-from.result c.position-from.ensures
-    c.in_ok-front.front.entries.items c.deref.result.now c.in_ok-front.ensures.entries cut
-    c.feed.new.evaluator.engine _ c.in_ok-feed.ensures.feeds
+    c.args.evaluator.now c.args.position c.requires.may_ask c.after.ensures.pass
+    c.requires.behind c.in_ok-front.front.entries.items c.deref.result.now
+    c.in_ok-front.ensures.entries cut c.feed.new.evaluator _ c.requires.stands
+    (c.in_ok-feed.ensures.finds (answered c.args.evaluator.now c.args.pass.now) c.requires.stands)

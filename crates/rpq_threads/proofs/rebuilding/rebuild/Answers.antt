@@ -1,25 +1,16 @@
-use Rattle.std.proofs.Common.{ℕ, sym, subst, arith}
-use Rattle.rpq_threads.specs.Fed.{MayAskTo}
+use Rattle.std.proofs.Common.{arith}
 use Rattle.rpq_threads.proofs.Rebuilt.{may_still_ask, stands_again}
 use Rattle.rpq_threads.proofs.rebuilding.rebuild.Goals as goal
 
 pub feed_next-requires-clause-may_ask : goal.feed_next-requires-clause-may_ask
 feed_next-requires-clause-may_ask g c = λ _ _.
-    let history = c.args.shared.now.history.now in
-    subst (λ (n : ℕ). MayAskTo history n c.loop-pass.pass) (sym c.position-position.ensures)
-    (may_still_ask history c.args.evaluator.now.engine.position c.args.pass.now c.loop-pass.pass
-    c.requires.may_ask c.loop-pass.invariant.looks_on)
+    may_still_ask c.args.shared.now.history.now c.args.evaluator.now.position c.args.pass.now
+    c.loop-evaluator.pass c.requires.may_ask c.loop-evaluator.invariant.looks_on
 
 pub returns-clause-stands : goal.returns-clause-stands
 returns-clause-stands g c =
-    stands_again c.args.shared.now.history.now c.args.evaluator.now.engine.position
-    c.args.pass.now c.loop-pass.pass c.requires.may_ask c.loop-pass.invariant.looks_on
-    c.loop-pass.evaluator.engine
-    (omega (
-      arith,
-      c.loop-pass.invariant.within,
-      c.loop-pass-test.false,
-      c.position.ensures,
-      c.position-position.ensures,
-    ))
-    c.loop-pass.invariant.stands
+    stands_again c.args.shared.now.history.now c.args.evaluator.now.position
+    c.args.pass.now c.loop-evaluator.pass c.requires.may_ask c.loop-evaluator.invariant.looks_on
+    c.loop-evaluator.evaluator
+    (omega (arith, c.loop-evaluator.invariant.within, c.loop-evaluator-test.false))
+    c.loop-evaluator.invariant.stands

@@ -1,10 +1,22 @@
 use Rattle.std.proofs.Common.{◌≡◌, [], length, refl, sym, ap, ◌∙◌, arith, rules}
 use Rattle.history_model.specs.World.{Terms}
 use Rattle.rpq_text.specs.Definitions.{definitions_of}
+use Rattle.two_way.specs.TwoWay.{walked}
 use Rattle.rpq_workers.proofs.Numbering.{new_length}
 use Rattle.rpq_threads.specs.declared.evaluator.Evaluator.{Evaluator}
-use Rattle.rpq_threads.proofs.Starting.{terms_of, begun_fed, begun_asks}
+use Rattle.rpq_threads.proofs.Starting.{first_shown, terms_of, begun_fed, begun_asks}
 use Rattle.rpq_threads.proofs.run.begin.Goals as goal
+
+pub new-requires-3-clause-first : goal.new-requires-3-clause-first
+new-requires-3-clause-first g c =
+    let evaluator = c.in_ok-evaluator.evaluator in
+    let given : c.in_ok-given.given.value.items ≡ definitions_of c.args.task.queries.items =
+    search rules in
+    first_shown c.first_view.ensures evaluator c.in_ok-given.given.value.items
+    c.in_ok-first.first.value
+    (ap definitions_of c.in_ok-evaluator.ensures.queries ∙ sym given)
+    (c.in_ok-first.ensures.view (walked evaluator.two_way [])
+    c.in_ok-evaluator.ensures.stands.stands)
 
 pub new-requires-4-clause-passes : goal.new-requires-4-clause-passes
 new-requires-4-clause-passes g c =
@@ -49,13 +61,20 @@ returns g c =
         count = made.count;
         fed = begun_fed g.S.Source.left g.S.Source.faults task c.requires history terms
             evaluator (kept.queries ∙ c.in_ok-evaluator.ensures.queries)
-            c.in_ok-evaluator.ensures.workers (kept.stands [] c.in_ok-evaluator.ensures.stands);
+            c.in_ok-evaluator.ensures.workers c.in_ok-evaluator.ensures.two_way
+            (made.readers ∙ asking)
+            (record {
+              stands = kept.stands (walked c.in_ok-evaluator.evaluator.two_way [])
+                  c.in_ok-evaluator.ensures.stands.stands;
+              counted = c.in_ok-evaluator.ensures.stands.counted;
+            });
         streams = sym (ap (λ (t : Terms). t.streams) terms);
         fresh = c.requires.fresh;
         readers = sym (made.readers ∙ asking);
         asks = begun_asks g.S.Source.left g.S.Source.faults task c.requires history terms;
         room = c.in_ok-room.ensures;
       };
+      two_way = c.in_ok-evaluator.ensures.two_way;
       readers = refl;
       sessions = refl;
     }

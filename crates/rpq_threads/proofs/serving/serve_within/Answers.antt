@@ -1,7 +1,7 @@
-use Rattle.std.proofs.Common.{◌≡◌, ℕ, zero, suc, refl, take, ◌+◌, ◌≤◌, List, [], ◌∷◌, ◌++◌, length}
+use Rattle.std.proofs.Common.{◌≡◌, ℕ, zero, suc, refl, take, ◌+◌, List, [], ◌∷◌, ◌++◌, length}
 use Rattle.std.proofs.Common.{Option, map, sym, ap, subst, ◌∙◌, arith}
 use Rattle.std.specs.Global.{Vec}
-use Rattle.std.specs.Vec.{vec_len, vec_capacity}
+use Rattle.std.specs.Vec.{vec_len}
 use Rattle.std.specs.Vec.Iter.{into_iter_items}
 use Rattle.rpq_base.specs.declared.data.Entry.{Entry}
 use Rattle.ask_text.specs.Answered.{AnsweredValue}
@@ -57,8 +57,8 @@ feed_beside-beside-requires-clause-start g c κs within =
     (omega (arith, c.requires.job_is.count))).0 in
     record {
       fed = subst (IsFed history evaluator) (sym first) c.requires.job_is.fed;
-      none = ap (λ (pass : Each). answered evaluator.engine pass) first
-          ∙ nothing evaluator.engine.position;
+      none = ap (λ (pass : Each). answered evaluator pass) first
+          ∙ nothing evaluator.position;
       fresh = ap (map g.O.Standing.seen) c.requires.fresh;
     }
 
@@ -117,6 +117,7 @@ returns-clause-served g c =
     let seen = g.O.Standing.seen in
     let written = g.K.Sink.written in
     let failures = g.K.Sink.faults in
+    let two_way = c.args.job.evaluator.two_way in
     let before = c.args.events.now in
     let first = as_seen seen c.args.circle in
     let streamed = c.join_streams-streamed.result.items in
@@ -136,12 +137,13 @@ returns-clause-served g c =
           c.start_streams-started.ensures.started c.join_streams-streamed.ensures.gives;
       answered_all = c.feed_beside-beside.ensures.replied;
       fed =
-          subst (λ (events : _). HasFed written failures history before events first
+          subst (λ (events : _). HasFed written failures two_way history before events first
           (as_seen seen served.circle) beside.engine served.why) (sym gathered.events.0)
-          (subst (λ (circle : Parts _). HasFed written failures history before beside.events.now
-          first (as_seen seen circle) beside.engine served.why) (sym gathered.circle)
-          (subst (λ (why : Option Why). HasFed written failures history before beside.events.now
-          first (as_seen seen beside.circle) beside.engine why) (sym gathered.why)
+          (subst (λ (circle : Parts _). HasFed written failures two_way history before
+          beside.events.now first (as_seen seen circle) beside.engine served.why)
+          (sym gathered.circle)
+          (subst (λ (why : Option Why). HasFed written failures two_way history before
+          beside.events.now first (as_seen seen beside.circle) beside.engine why) (sym gathered.why)
           c.feed_beside-beside.ensures.fed));
       passes_are = gathered.passes;
       sources_are = gathered.sources;
