@@ -1,6 +1,7 @@
-//! A program that asks the libraries which no run uses yet, so that what they answer can be
-//! compared with what it should be. `stdin` has the requests, and `stdout` the answers, which an
-//! evaluator from outside gave. `case_lines` says what a line and its fields are.
+//! A program that asks the libraries for edges that are taken backwards, and those for joins and
+//! for paths that show an answer, which no run uses yet, so that what they answer can be compared
+//! with what it should be. `stdin` has the requests, and `stdout` the answers, which an evaluator
+//! from outside gave. `case_lines` says what a line and its fields are.
 //!
 //! - `read EXPR`: an expression whose labels may be taken backwards, as it is written, how many
 //!   labels stand in it, and `+` where it has the empty word, else `-`; or the fault of the text.
@@ -16,8 +17,8 @@
 //!   of the first query that the pair is an answer until then, else `-`.
 //! - `both QUERIES TUPLES`: what each tuple changes of the answers of the queries, whose labels may
 //!   be taken backwards, `;` behind each.
-//! - `bindings QUERY JOINS TUPLES`: what each tuple changes of the bindings of a joins file over one
-//!   query, as lines, `;` behind each.
+//! - `bindings QUERY JOINS TUPLES`: what each tuple changes of the bindings of a joins file over
+//!   one query, as lines, `;` behind each.
 //! - `cut TUPLES`: the edges of the tuples without the loops of their path.
 //!
 //! `QUERIES` is a queries file. `TUPLES` are lines of a stream, and `POSITIONS` numbers, with `;`
