@@ -479,9 +479,9 @@ module _ (law : LegalIsSound) (fronts : FrontsAreLegal) (terms : Terms) (lines :
       as_many_ends = ap length did.ends_are ∙ (length-ends did.streamed ∙ many);
       each = λ place file source end f s e.
           streams_at written failures given.two_way history same given.events gave.events
-          given.circle gave.circle did.engine gave.why did.fed engine_knew left faults 1 given.readers
-          did.streamed (map (λ (r : Replied). r.pass) did.replied) did.did others_knew place file
-          source end f
+          given.circle gave.circle did.engine gave.why did.fed engine_knew left faults 1
+          given.readers did.streamed (map (λ (r : Replied). r.pass) did.replied) did.did
+          others_knew place file source end f
           (ap (λ (l : List S). slice_get l place) (sym did.sources_are) ∙ s)
           (ap (λ (l : List StreamEnd). slice_get l place) (sym did.ends_are) ∙ e);
     }
@@ -490,8 +490,9 @@ module _ (law : LegalIsSound) (fronts : FrontsAreLegal) (terms : Terms) (lines :
     all_closed reason there =
         let ends = map (λ (d : Streamed S). d.end) did.streamed in
         let all = closed_all written failures given.two_way history same given.events gave.events
-        given.circle gave.circle did.engine gave.why did.fed engine_knew left faults 1 given.readers did.streamed
-        (map (λ (r : Replied). r.pass) did.replied) did.did others_knew in
+        given.circle gave.circle did.engine gave.why did.fed engine_knew left faults 1
+        given.readers did.streamed (map (λ (r : Replied). r.pass) did.replied) did.did
+        others_knew in
         let is : Contains ends (Closed reason) =
         subst (λ (each : List StreamEnd). Contains each (Closed reason)) did.ends_are there in
         all is.0 (Closed reason) is.1 reason is.2

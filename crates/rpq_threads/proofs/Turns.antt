@@ -378,8 +378,8 @@ module _ (history : HistoryValue) (old : Evaluator) (before mid : Each)
               ∙ ap (λ (n : ℕ). take n (entries after.seen)) (sym place)
 
           pub text_then : Onward old.two_way history.terms.queries (answered old before)
-              written_before (λ start. Grew (IsText old.two_way history.terms.queries (answered last after)) start
-              written_after)
+              written_before (λ start. Grew (IsText old.two_way history.terms.queries
+              (answered last after)) start written_after)
           text_then start so_far =
               subst (λ (h : List Entry). Grew (IsText old.two_way history.terms.queries h) start
               written_after) same_answered (front_text start so_far)

@@ -48,8 +48,8 @@ loop-preserved g c =
       fed = c.in-Ok-false.ensures.fed;
       ways = c.in-Ok-false.ensures.two_way ∙ was.ways;
       text = goes_on
-          (λ (two_way : Bool). Grew (IsText two_way history.terms.queries (answered old c.loop.pass)) start
-          (g.K.Sink.written c.loop.events))
+          (λ (two_way : Bool). Grew (IsText two_way history.terms.queries
+          (answered old c.loop.pass)) start (g.K.Sink.written c.loop.events))
           (λ (two_way : Bool). Grew (IsText two_way history.terms.queries
           (answered new c.turn.new.pass)) start (g.K.Sink.written c.turn.new.events))
           old.two_way c.args.evaluator.now.two_way was.ways
@@ -79,8 +79,8 @@ returns-in-Ok-true g c =
     c.args.events.now c.turn.new.events first (as_seen seen c.turn.new.circle)
     new c.turn.new.pass c.in-Ok-true.ensures.fed (did.over said)
     (goes_on
-    (λ (two_way : Bool). Grew (IsText two_way history.terms.queries (answered old c.loop.pass)) start
-    (g.K.Sink.written c.loop.events))
+    (λ (two_way : Bool). Grew (IsText two_way history.terms.queries
+    (answered old c.loop.pass)) start (g.K.Sink.written c.loop.events))
     (λ (two_way : Bool). Grew (IsText two_way history.terms.queries
     (answered new c.turn.new.pass)) start (g.K.Sink.written c.turn.new.events))
     old.two_way c.args.evaluator.now.two_way was.ways
