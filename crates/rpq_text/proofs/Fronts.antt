@@ -40,8 +40,10 @@ held_on (entry ∷ later) before two_way queries place query (own ∷ rest) held
     (walked two_way (before ++ entry ∷ [])) own held pair there are.0 holds in
     let further = held_on later (before ++ entry ∷ []) two_way queries place query rest
     (held_from held place pair own) pair same there are.1 now in
-    rw (held_after own (flat_map (λ (list : List Event). list) rest) held place pair,
-    ← append_assoc before (entry ∷ []) later) further
+    rw (
+      held_after own (flat_map (λ (list : List Event). list) rest) held place pair,
+      ← append_assoc before (entry ∷ []) later,
+    ) further
 
 -- over the empty history nothing is an answer, and nothing is held
 none_walked : (two_way : Bool) (query : Query) (pair : Pair) →
