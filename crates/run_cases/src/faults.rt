@@ -2,10 +2,10 @@
 
 ghost use Rattle.std.specs.Prelude.{◌≤◌};
 
-use crate::given::{Given, Reading, Taking, add_files};
 use crate::left::{Left, put_left};
-use case_lines::{Fields, Output, words_of};
-use rpq_io::MemoryFiles;
+use case_lines::{Fields, Output, decoded, words_of};
+use rpq_io::{MemoryFiles, MemorySink, OpenGate};
+use rpq_run::run;
 use standing::{Standing, Tally};
 use std::alloc::Global;
 use std::random::RandomSource;
@@ -45,12 +45,12 @@ impl<'a> Faults<'a> {
         }
     }
 
-    /// How the file of this name is read.
-    fn reading<'n>(self, name: &'n str) -> Reading<'n> {
+    /// The read of the file of this name that fails, or 0.
+    fn read_of(self, name: &str) -> u64 {
         if self.file == name.as_bytes() {
-            Reading::failing(name, self.read)
+            self.read
         } else {
-            Reading::sound(name)
+            0
         }
     }
 }
@@ -63,41 +63,29 @@ pub fn answer_faults<R: RandomSource + Threads + Wait + Sync>(
     mut fields: Fields,
 ) -> anyhow::Result<()> {
     let faults = Faults::of(&mut fields);
-    let mut given = given_of(alloc, faults, &mut fields)?;
-    let mut standing = Vec::new(alloc);
-    standing.push(tally(alloc)?)?;
-    let report = given.run(rt, alloc, &mut standing);
+    let words = words_of(alloc, fields.next())?;
+    let mut files = files_of(alloc, faults, fields)?;
+    let mut events = MemorySink::new(alloc, ROOM, faults.piece, &[faults.event])?;
+    let mut errors = MemorySink::new(alloc, ROOM, faults.piece, &[faults.error])?;
+    let mut standing: Vec<Box<dyn Standing>> = Vec::new(alloc);
+    standing.push(Box::new(alloc, Tally::all(alloc)?)?)?;
+    let report = run(
+        rt,
+        alloc,
+        &words,
+        &mut files,
+        &mut events,
+        &mut errors,
+        &mut standing,
+        &OpenGate,
+    );
     let left = Left {
         report: &report,
         standing: &standing,
-        events: given.events.bytes(),
-        errors: given.errors.bytes(),
+        events: events.bytes(),
+        errors: errors.bytes(),
     };
     put_left(alloc, out, fields.next(), &left)
-}
-
-/// An object that counts all events.
-fn tally(alloc: Global) -> anyhow::Result<Box<dyn Standing>> {
-    Ok(Box::new(alloc, Tally::all(alloc)?)?)
-}
-
-/// The words, the files and the sinks of a request. The field of the queries is left to be read once
-/// more.
-fn given_of(alloc: Global, faults: Faults, fields: &mut Fields) -> anyhow::Result<Given>
-    requires { 1 ≤ faults.piece }
-{
-    let words = words_of(alloc, fields.next())?;
-    let files = files_of(alloc, faults, *fields)?;
-    let events = Taking {
-        room: ROOM,
-        piece: faults.piece,
-        fails: faults.event,
-    };
-    let errors = Taking {
-        fails: faults.error,
-        ..events
-    };
-    Given::new(alloc, words, files, events, errors)
 }
 
 /// The files `q`, `a`, `s`, `t` and `u` with the bytes of five fields.
@@ -106,13 +94,15 @@ fn files_of(alloc: Global, faults: Faults, mut fields: Fields) -> anyhow::Result
 {
     let piece = faults.piece;
     let mut files = MemoryFiles::new(alloc, ROOM, piece, &[faults.reply], &[faults.opening])?;
-    let readings = [
-        faults.reading("q"),
-        faults.reading("a"),
-        faults.reading("s"),
-        faults.reading("t"),
-        faults.reading("u"),
-    ];
-    add_files(alloc, &mut files, &mut fields, piece, &readings)?;
+    let queries = decoded(alloc, fields.next())?;
+    files.add("q", &queries, piece, &[faults.read_of("q")])?;
+    let asks = decoded(alloc, fields.next())?;
+    files.add("a", &asks, piece, &[faults.read_of("a")])?;
+    let first = decoded(alloc, fields.next())?;
+    files.add("s", &first, piece, &[faults.read_of("s")])?;
+    let second = decoded(alloc, fields.next())?;
+    files.add("t", &second, piece, &[faults.read_of("t")])?;
+    let third = decoded(alloc, fields.next())?;
+    files.add("u", &third, piece, &[faults.read_of("u")])?;
     Ok(files)
 }

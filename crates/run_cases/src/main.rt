@@ -43,7 +43,6 @@
 mod blocks;
 mod engines;
 mod faults;
-mod given;
 mod left;
 mod readers;
 mod request;

@@ -2,11 +2,10 @@
 
 ghost use Rattle.std.specs.Prelude.{◌≤◌};
 
-use crate::given::{Given, Reading, Taking, add_files};
-use case_lines::{Fields, Output, words_of};
+use case_lines::{Fields, Output, decoded, words_of};
 use rpq_base::Entry;
-use rpq_io::MemoryFiles;
-use rpq_run::Report;
+use rpq_io::{MemoryFiles, MemorySink, OpenGate};
+use rpq_run::{Report, run};
 use std::alloc::Global;
 use std::random::RandomSource;
 use std::sync::Wait;
@@ -25,24 +24,24 @@ pub fn answer_readers<R: RandomSource + Threads + Wait + Sync>(
     rt: &R,
     alloc: Global,
     out: &mut Output,
-    fields: Fields,
+    mut fields: Fields,
 ) -> anyhow::Result<()> {
-    let mut given = given_of(alloc, fields)?;
-    let report = given.run(rt, alloc, &mut Vec::new(alloc));
-    put_report(out, &report, given.errors.bytes())
-}
-
-/// The words, the files and the sinks of a request.
-fn given_of(alloc: Global, mut fields: Fields) -> anyhow::Result<Given> {
     let piece = (fields.number() as usize).max(1);
     let words = words_of(alloc, fields.next())?;
-    let files = files_of(alloc, piece, fields)?;
-    let taking = Taking {
-        room: ROOM,
-        piece,
-        fails: 0,
-    };
-    Given::new(alloc, words, files, taking, taking)
+    let mut files = files_of(alloc, piece, fields)?;
+    let mut events = MemorySink::new(alloc, ROOM, piece, &[])?;
+    let mut errors = MemorySink::new(alloc, ROOM, piece, &[])?;
+    let report = run(
+        rt,
+        alloc,
+        &words,
+        &mut files,
+        &mut events,
+        &mut errors,
+        &mut Vec::new(alloc),
+        &OpenGate,
+    );
+    put_report(out, &report, errors.bytes())
 }
 
 /// Puts what a run with readers answered, and what it told on the errors.
@@ -63,13 +62,10 @@ fn files_of(alloc: Global, piece: usize, mut fields: Fields) -> anyhow::Result<M
     requires { 1 ≤ piece }
 {
     let mut files = MemoryFiles::new(alloc, ROOM, piece, &[], &[])?;
-    let readings = [
-        Reading::sound("q"),
-        Reading::sound("a"),
-        Reading::sound("s"),
-        Reading::sound("t"),
-    ];
-    add_files(alloc, &mut files, &mut fields, piece, &readings)?;
+    files.add("q", &decoded(alloc, fields.next())?, piece, &[])?;
+    files.add("a", &decoded(alloc, fields.next())?, piece, &[])?;
+    files.add("s", &decoded(alloc, fields.next())?, piece, &[])?;
+    files.add("t", &decoded(alloc, fields.rest())?, piece, &[])?;
     Ok(files)
 }
 

@@ -2,10 +2,9 @@
 
 ghost use Rattle.std.specs.Prelude.{◌≤◌};
 
-use crate::given::{Given, Reading, Taking, add_files};
-use case_lines::{Fields, Output, words_of};
-use rpq_io::{MemoryFiles, MemorySink};
-use rpq_run::Report;
+use case_lines::{Fields, Output, decoded, words_of};
+use rpq_io::{MemoryFiles, MemorySink, OpenGate};
+use rpq_run::run;
 use std::alloc::Global;
 use std::random::RandomSource;
 use std::sync::Wait;
@@ -20,25 +19,26 @@ pub fn answer_run<R: RandomSource + Threads + Wait + Sync>(
     rt: &R,
     alloc: Global,
     out: &mut Output,
-    fields: Fields,
+    mut fields: Fields,
 ) -> anyhow::Result<()> {
-    let mut given = given_of(alloc, fields)?;
-    let report = given.run(rt, alloc, &mut Vec::new(alloc));
-    put_run(out, &given, &report)
-}
-
-/// The words, the files and the sinks of a request.
-fn given_of(alloc: Global, mut fields: Fields) -> anyhow::Result<Given> {
     let piece = (fields.number() as usize).max(1);
     let opening = fields.number();
     let words = words_of(alloc, fields.next())?;
-    let files = files_of(alloc, piece, opening, fields)?;
-    let taking = Taking {
-        room: ROOM,
-        piece,
-        fails: 0,
-    };
-    Given::new(alloc, words, files, taking, taking)
+    let mut files = files_of(alloc, piece, opening, fields)?;
+    let mut events = MemorySink::new(alloc, ROOM, piece, &[])?;
+    let mut errors = MemorySink::new(alloc, ROOM, piece, &[])?;
+    let report = run(
+        rt,
+        alloc,
+        &words,
+        &mut files,
+        &mut events,
+        &mut errors,
+        &mut Vec::new(alloc),
+        &OpenGate,
+    );
+    put_run(out, report.status, events.bytes(), errors.bytes())?;
+    put_saved(out, report.save)
 }
 
 /// The files `q`, `s` and `w` with the bytes of three fields, of which the opening of this number
@@ -52,39 +52,20 @@ fn files_of(
 ) -> anyhow::Result<MemoryFiles>
     requires { 1 ≤ piece }
 {
-    let mut numbers = behind_three(fields);
-    let read = numbers.number();
-    let write = numbers.number();
+    let queries = decoded(alloc, fields.next())?;
+    let stream = decoded(alloc, fields.next())?;
+    let window = decoded(alloc, fields.next())?;
+    let read = fields.number();
+    let write = fields.number();
     let mut files = MemoryFiles::new(alloc, ROOM, piece, &[write], &[opening])?;
-    let readings = [
-        Reading::sound("q"),
-        Reading::sound("s"),
-        Reading::failing("w", read),
-    ];
-    add_files(alloc, &mut files, &mut fields, piece, &readings)?;
+    files.add("q", &queries, piece, &[])?;
+    files.add("s", &stream, piece, &[])?;
+    files.add("w", &window, piece, &[read])?;
     Ok(files)
 }
 
-/// The fields behind the next three.
-fn behind_three(mut fields: Fields) -> Fields {
-    for _ in 0..3 {
-        fields.next();
-    }
-    fields
-}
-
-/// Puts what a run answered and wrote.
-fn put_run(out: &mut Output, given: &Given, report: &Report<MemoryFiles>) -> anyhow::Result<()> {
-    out.put_shown(&report.status)?;
-    out.put(" ")?;
-    out.put_bytes(given.events.bytes())?;
-    out.put("|")?;
-    out.put_bytes(given.errors.bytes())?;
-    put_saved(out, &report.save)
-}
-
 /// Puts the saved window, if there is one.
-fn put_saved(out: &mut Output, save: &Option<MemorySink>) -> anyhow::Result<()> {
+fn put_saved(out: &mut Output, save: Option<MemorySink>) -> anyhow::Result<()> {
     match save {
         Some(sink) => {
             out.put("|")?;
@@ -92,4 +73,13 @@ fn put_saved(out: &mut Output, save: &Option<MemorySink>) -> anyhow::Result<()> 
         }
         None => Ok(()),
     }
+}
+
+/// Puts what a run answered.
+fn put_run(out: &mut Output, status: u8, events: &[u8], errors: &[u8]) -> anyhow::Result<()> {
+    out.put_shown(&status)?;
+    out.put(" ")?;
+    out.put_bytes(events)?;
+    out.put("|")?;
+    out.put_bytes(errors)
 }
