@@ -10,4 +10,6 @@ mod Places
 mod Raising
 mod Showing
 mod Simple
+mod Telling
 mod Visits
+mod WindowPaths

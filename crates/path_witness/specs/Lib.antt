@@ -1,3 +1,4 @@
+pub mod BestPaths
 pub mod Cuts
 pub mod Example
 pub mod Found
@@ -8,3 +9,4 @@ pub mod Marks
 pub mod PathTests
 pub mod Shows
 pub mod Taking
+pub mod Told

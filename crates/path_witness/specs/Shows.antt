@@ -1,14 +1,15 @@
 -- Paths that show an answer: entries of the window which join the pair as the query wants it, and
 -- of which none can be replaced by one that makes the answer last longer.
-use Rattle.std.specs.Prelude.{◌≡◌, ℕ, ◌≤◌, List, All, Contains, map}
+use Rattle.std.specs.Prelude.{◌≡◌, ℕ, ◌<◌, ◌≤◌, List, All, Contains, map}
 use Rattle.rpq_base.specs.declared.data.Entry.{Entry}
 use Rattle.rpq_base.specs.declared.data.Pair.{Pair}
 use Rattle.rpq_model.specs.Window.{WindowValue, Placed, clock, live_entries}
 use Rattle.rpq_model.specs.Window.{inserted_edges, edges_at}
 use Rattle.rpq_model.specs.WindowLaws.{IsTupleDeadline}
-use Rattle.rpq_model.specs.Answers.{Joins}
+use Rattle.rpq_model.specs.Answers.{Joins, IsAnswer}
 use Rattle.rpq_model.specs.Ends.{IsUntil}
 use Rattle.rpq_model.specs.Query.{Query, language_of, path_query}
+use Rattle.containment_laws.specs.Accepted.{IsAccepted}
 use Rattle.path_witness.specs.Found.{position_of}
 
 -- until when the answer lasts, and the positions of a path's entries, in its order
@@ -38,3 +39,9 @@ pub record Shows (query : Query) (history : List Entry) (pair : Pair) (shown : S
   pub is_path : IsWindowPath query history pair path
   pub least : IsLeastDeadline query.window path shown.until
   pub until : IsUntil (path_query query) history pair shown.until
+
+-- each answer of an accepted query has what shows it
+abbrev pub AnswersAreShown : Type 0
+AnswersAreShown = (query : Query) (history : List Entry) (pair : Pair) →
+    0 < query.window.slide → IsAccepted query → IsAnswer (path_query query) history pair →
+    (shown : Shown) × Shows query history pair shown

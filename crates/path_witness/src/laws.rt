@@ -1,9 +1,12 @@
-//! The laws. The functions compute nothing: their contracts are the laws.
+//! The laws. The functions compute nothing: their contracts are the laws, and a law that rests on
+//! one of the layer below calls it.
 
 ghost use Rattle.path_witness.specs.Example.{ShownExample};
 ghost use Rattle.path_witness.specs.Keeps.{CutKeeps};
 ghost use Rattle.path_witness.specs.Marks.{OneMarkIsEnough};
+ghost use Rattle.path_witness.specs.Shows.{AnswersAreShown};
 
+use index_laws::accepted_answers_end;
 use path_syntax::Language;
 
 /// Where a language has the property of containment, what is left of a path between two vertices
@@ -23,3 +26,11 @@ pub fn one_mark_is_enough()
 pub fn shown_example()
     ensures { ShownExample }
 {}
+
+/// Each answer of an accepted query has a path of entries that shows it: one that is still there at
+/// the last clock before the end.
+pub fn answers_are_shown()
+    ensures { AnswersAreShown }
+{
+    accepted_answers_end();
+}

@@ -25,8 +25,8 @@ use std::sync::Arc;
 /// Contracts see the queries, and what is kept of the history, of which only `StandsFor` speaks.
 #[derive(Drop)]
 pub struct Marks {
-    alloc: Global,
-    queries: Arc<Vec<QueryDef>>,
+    pub(crate) alloc: Global,
+    pub(crate) queries: Arc<Vec<QueryDef>>,
     /// How many entries were taken.
     taken: u64,
     /// The greatest time among them.
