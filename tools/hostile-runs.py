@@ -6,7 +6,7 @@
 Each run takes a queries file, an asks file and one or two streams, of which some bytes are changed,
 left out, repeated or put in from elsewhere, or which are random altogether; sometimes it begins
 with a saved window, which is such bytes too, or it checks or generates instead, or it may take
-edges backwards. It is to end within 5 seconds, by no signal, with a status that docs/formats.md
+edges backwards or tell paths. It is to end within 5 seconds, by no signal, with a status that docs/formats.md
 has, and with lines on standard error of the forms that it has. A window that it saves is to be
 taken by a further run over no stream, which is to end with status 0 and save the same bytes. What
 runs ended with which status is printed, and the first runs that did otherwise, whose files stay.
@@ -81,12 +81,13 @@ def words_of(chance, backwards):
     """The words of a run behind the program, whose queries take edges backwards or don't."""
     way = chance.random()
     words = ["--two-way"] if chance.random() < (0.8 if backwards else 0.2) else []
+    words += ["--paths"] if chance.random() < (0.05 if words else 0.4) else []
     if way < 0.1:
         return words + ["--check", "q"]
     if way < 0.15:
         return words + ["--generate", str(chance.choice([0, 1, 3, 300])), "q"]
     # Beside a word for edges taken backwards asks and saved windows are mostly left out.
-    plain = words and chance.random() < 0.9
+    plain = "--two-way" in words and chance.random() < 0.9
     words += ["--workers", str(chance.choice([1, 2, 64, 65]))] if chance.random() < 0.3 else []
     words += ["--history", str(chance.choice([1, 3, 1000]))] if chance.random() < 0.2 else []
     if plain:

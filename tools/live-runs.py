@@ -5,14 +5,17 @@ Runs PROGRAM, an `rpq`, on random queries, streams and asks, on real threads, an
 against the one history that its own `@` lines spell:
 
 - each stream's tuples stand there in their order, once, up to the stream's end;
-- after each line the events are the pairs lost and gained, found from scratch by the definitions;
+- after each line the events are the pairs lost and gained, found from scratch by the definitions,
+  and where the run tells paths, behind each gained pair there is one of the window that lasts
+  exactly as long as the pair does;
 - the window that it saves is what the history leaves;
 - each reply is what the history has at the reply's position, positions never fall within a session,
   and a wait is answered as ended exactly where the history ended before its position;
 - the status and the lines on errors are those of the streams' ends.
 
 A third of the runs, which neither answer readers nor save a window, may take edges backwards: their
-answers are those over the edges of the window and the same edges turned round.
+answers are those over the edges of the window and the same edges turned round. Half of the others
+tell paths.
 
 Half of the streams are files, and half are named pipes that are written in pieces while the program
 runs. It isn't part of the gate. The last line is `N passed, M failed`.
@@ -153,6 +156,35 @@ def pairs_of(query, live):
     return find(*steps_of(query["tree"]), edges)
 
 
+def path_fault(query, history, pair, until, line):
+    """What is wrong with the line of a path that shows a pair, if anything is."""
+    if line[:2] != "= ":
+        return "no path behind %s %s" % pair
+    end, *places = (int(field) for field in line.split(" ")[1:])
+    live = {edge for edge, _ in window_of(query, history, clock_of(history))}
+    path = [history[place - 1] for place in places if 0 < place <= len(history)]
+    if not path or len(path) < len(places) or any(entry["edge"] not in live for entry in path):
+        return "entries that aren't live: %s" % line
+    deleted = [place for place in places for late in history[place:]
+               if late["act"] == "-" and late["edge"] == history[place - 1]["edge"]]
+    if deleted or any(entry["act"] != "+" for entry in path):
+        return "entries that are deleted, or no inserts: %s" % line
+    if not end == until == min(deadline(query, entry) for entry in path):
+        return "its end isn't %d: %s" % (until, line)
+    visited, after, last = [pair[0]], *steps_of(query["tree"])
+    reached = [None]
+    for entry in path:
+        if entry["edge"][0] != visited[-1]:
+            return "edges that don't follow each other: %s" % line
+        visited.append(entry["edge"][2])
+        reached = [q for place in reached for q in after(place, entry["edge"][1])]
+    if visited[-1] != pair[1] or not set(reached) & set(last):
+        return "another pair, or a word of another language: %s" % line
+    if query["mode"] == "simple" and len(set(visited)) < len(visited):
+        return "a vertex twice: %s" % line
+    return None
+
+
 def clock_of(history):
     return max([entry["time"] for entry in history], default=0)
 
@@ -258,6 +290,7 @@ def random_case(rng):
     limit = rng.randrange(1, total + 2) if rng.random() < 0.2 else None
     return {"queries": queries, "streams": streams, "sessions": sessions, "limit": limit,
             "window": window, "saves": not two_way and rng.random() < 0.5, "two_way": two_way,
+            "paths": not two_way and rng.random() < 0.5,
             "workers": rng.choice([1, 2, 4, 8])}
 
 
@@ -299,6 +332,8 @@ def run(program, case, folder, seed):
             out.write("".join(line + "\n" for line in case["window"]["lines"]))
     if case["two_way"]:
         words.append("--two-way")
+    if case["paths"]:
+        words.append("--paths")
     words.append("queries.txt")
     feeders = []
     for number, stream in enumerate(case["streams"], 1):
@@ -403,6 +438,23 @@ def check_replies(case, history, ends, replies):
     return None if replies == "" else "text behind the last session"
 
 
+def without_paths(case, history, block, ends):
+    """What is wrong with the paths in a block, if anything is, and the block without them."""
+    names, rest, events = [query["name"] for query in case["queries"]], list(block), []
+    while rest:
+        event = rest.pop(0)
+        events.append(event)
+        if event[0] != "+":
+            continue
+        _, name, *pair = event.split(" ")
+        number, pair = names.index(name), tuple(pair)
+        wrong = path_fault(case["queries"][number], history, pair, ends[number].get(pair),
+                           rest.pop(0) if rest else "")
+        if wrong:
+            return wrong, events
+    return None, events
+
+
 def check(case, status, events, errors, replies, saved):
     history, numbers, blocks = [], [], []
     for line in events.splitlines():
@@ -421,6 +473,10 @@ def check(case, status, events, errors, replies, saved):
     ends = [[ends_of(query, history[:count]) for query in case["queries"]]
             for count in range(len(history) + 1)]
     for place, block in enumerate(blocks):
+        if case["paths"]:
+            wrong, block = without_paths(case, history[:place + 1], block, ends[place + 1])
+            if wrong:
+                return "block %d: %s" % (place + 1, wrong)
         due = []
         for query, old, new in zip(case["queries"], ends[place], ends[place + 1]):
             for sign, pairs in (("-", set(old) - set(new)), ("+", set(new) - set(old))):

@@ -45,7 +45,8 @@ live = other("live-runs")
 
 
 def query(tree, window=100, slide=10):
-    return {"name": "q", "window": window, "slide": slide, "mode": "arbitrary", "tree": tree}
+    return {"name": "q", "window": window, "slide": slide, "mode": "arbitrary", "two_way": False,
+            "tree": tree}
 
 
 def stream(text):
@@ -73,16 +74,19 @@ def long_stream(count):
     return stream(";".join(lines))
 
 
-# Each case: its queries, its streams, the asks of its sessions, and whether each allocation is
-# refused or a part of them.
+# Each case: its queries, its streams, the asks of its sessions, whether each allocation is refused
+# or a part of them, and the words of the run beside these.
 CASES = {
     "a cycle survives the delete of its root's edge": (
-        [query(("plus", A))], [stream("1 r a x;1 x a y;1 y a x;1 r a x -")], [], 1),
+        [query(("plus", A))], [stream("1 r a x;1 x a y;1 y a x;1 r a x -")], [], 1, []),
     "two streams and a session": (
         [query(("then", A, B))], [stream("1 x a y;2 y b z;3 x a w"), stream("4 w b z;5")],
-        [[("wait", "2"), ("answers", "q"), ("wait", "9")]], 1),
+        [[("wait", "2"), ("answers", "q"), ("wait", "9")]], 1, []),
+    "paths, with a session": (
+        [query(("then", A, ("star", B)))], [stream("1 x a y;2 y b z;3 z b y;4 w a y;5 y b z -")],
+        [[("wait", "2"), ("until", "q", "x", "z")]], 1, ["--paths"]),
     "600 tuples": (
-        [query(("then", A, ("star", ("or", B, C))), 30, 5)], [long_stream(600)], [], 41),
+        [query(("then", A, ("star", ("or", B, C))), 30, 5)], [long_stream(600)], [], 41, []),
 }
 
 
@@ -112,9 +116,13 @@ def blocks_of(text):
     return history, numbers, blocks
 
 
-def check_blocks(queries, blocks, ends):
+def check_blocks(queries, history, blocks, ends, has_paths):
     for place, block in enumerate(blocks):
         due = []
+        if has_paths:
+            wrong, block = live.without_paths({"queries": queries}, history[:place + 1], block,
+                                              ends[place + 1])
+            expect(wrong is None, "block %d: %s" % (place + 1, wrong))
         for one, old, new in zip(queries, ends[place], ends[place + 1]):
             for sign, pairs in (("-", set(old) - set(new)), ("+", set(new) - set(old))):
                 due += ["%s %s %s %s" % ((sign, one["name"]) + pair) for pair in sorted(pairs)]
@@ -146,7 +154,7 @@ class Case:
     """A case, over files in a folder of its own."""
 
     def __init__(self, name, folder):
-        self.queries, self.streams, self.sessions, self.step = CASES[name]
+        self.queries, self.streams, self.sessions, self.step, self.options = CASES[name]
         self.folder, self.known = folder, {}
         with open(folder + "/q", "w") as out:
             for one in self.queries:
@@ -168,7 +176,8 @@ class Case:
         settings = dict(os.environ, LD_PRELOAD=library, REFUSED=str(number), REFUSED_COUNT=counted)
         if on:
             settings["REFUSED_ON"] = "1"
-        done = subprocess.run([program] + words + self.words, cwd=self.folder, env=settings,
+        words += self.options + self.words
+        done = subprocess.run([program] + words, cwd=self.folder, env=settings,
                               stdin=subprocess.DEVNULL, capture_output=True, timeout=SECONDS)
         told = None
         if os.path.exists(f"{self.folder}/{replies}"):
@@ -196,7 +205,7 @@ class Case:
             due = one["entries"] if status == 0 else one["entries"][:len(own)]
             expect(own == due, "the tuples of stream %d" % number)
         ends = self.ends(history)
-        check_blocks(self.queries, blocks, ends)
+        check_blocks(self.queries, history, blocks, ends, "--paths" in self.options)
         if replies is not None:
             check_replies(self.sessions, replies, ends, len(history), status == 0)
         expect(status == 8 or not self.sessions or replies is not None, "no replies")

@@ -25,6 +25,8 @@ fn put_settings(out: &mut Output, chosen: &Chosen) -> anyhow::Result<()> {
     }
     out.put(" ")?;
     out.put_sign(chosen.two_way)?;
+    out.put(" ")?;
+    out.put_sign(chosen.paths)?;
     put_file(out, &chosen.asks)?;
     put_file(out, &chosen.replies)?;
     put_file(out, &chosen.save)?;

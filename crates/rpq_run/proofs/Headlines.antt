@@ -1,15 +1,15 @@
 -- A run over streams that is done, in one piece.
-use Rattle.std.proofs.Common.{◌≡◌, ◌≢◌, ℕ, ◌+◌, Bool, List, [], ◌∷◌, ◌++◌, length, take, Option, Some, None, Result}
-use Rattle.std.proofs.Common.{Ok, true, false, refl, ap, ap₂, sym, subst, ◌∙◌, arith, inl, inr, ◌⊎◌, append-nil}
-use Rattle.std.specs.Prelude.{⊤, IfSome, MatchOption, Contains, map, option_map, unwrap_or, slice_get}
+use Rattle.std.proofs.Common.{◌≡◌, ◌≢◌, ℕ, ◌+◌, Bool, List, [], ◌∷◌, ◌++◌, length, take, Option}
+use Rattle.std.proofs.Common.{Some, None, Result, Ok, true, false, refl, ap, ap₂, sym, subst, ◌∙◌}
+use Rattle.std.proofs.Common.{arith, inl, inr, ◌⊎◌, append-nil}
+use Rattle.std.specs.Prelude.{⊤, IfSome, MatchOption, Contains, map, option_map, unwrap_or}
+use Rattle.std.specs.Prelude.{slice_get}
 use Rattle.std.specs.Io.KnownBytes.{append_known}
 use Rattle.std.specs.List.{All, flat_map}
 use Rattle.std.proofs.lemmas.List.{length-map, take_all}
 use Rattle.std.proofs.lemmas.Option.{slice_get-map, slice_get_within}
 use Rattle.rpq_base.specs.declared.data.Entry.{Entry}
-use Rattle.rpq_base.specs.declared.data.Event.{Event}
 use Rattle.rpq_model.specs.Query.{Query}
-use Rattle.two_way.specs.TwoWay.{AreAllWalkedEvents}
 use Rattle.history_model.specs.declared.line.Why.{Why}
 use Rattle.history_model.specs.declared.line.Why.TheVariants.{Write, Memory}
 use Rattle.query_file.specs.declared.fault.QueryFault.{QueryFault}
@@ -24,6 +24,9 @@ use Rattle.stream_tuples.specs.History.{IsNumberOf, AreTuplesOfEnd, own_tuples}
 use Rattle.stream_tuples.specs.Limits.{byte_limit}
 use Rattle.stream_tuples.specs.StreamText.{StreamTuples, stream_tuples}
 use Rattle.rpq_text.specs.declared.ends.SinkName.TheVariants.{Events, Replies, Save}
+use Rattle.rpq_text.specs.declared.options.Options.{Options}
+use Rattle.rpq_text.specs.Laws.{StepsHaveTheEvents}
+use Rattle.rpq_text.specs.Steps.{StepValue, AreSteps, events_of}
 use Rattle.rpq_text.specs.Text.{blocks_from}
 use Rattle.saved_window.specs.Saved.{saved}
 use Rattle.saved_window.specs.SavedText.{saved_text}
@@ -37,6 +40,7 @@ use Rattle.standing.specs.Objects.{ObjectValue}
 use Rattle.standing.specs.Stood.{HaveStood}
 use Rattle.standing.proofs.HavingStood.{stood_weaker}
 use Rattle.rpq_run.specs.Headline.{Told, IsTold, AreAsked, Headline, behind_text, stream_texts}
+use Rattle.rpq_run.specs.Options.{options_of}
 use Rattle.rpq_run.specs.Outcome.{Meanings, Sinks, Objects, Outcome}
 use Rattle.rpq_run.specs.Replies.{texts_of}
 use Rattle.rpq_run.specs.RunsStreams.{GotText, RunsStreams, FrontsHold, nothing_told}
@@ -53,7 +57,8 @@ either_way one other false = one
 either_way one other true = other
 
 -- the queries of bytes that give some
-one_query_list : (two_way : Bool) → OneOutcomeOf two_way → (bytes : List ℕ) (first second : List Query)
+one_query_list : (two_way : Bool) → OneOutcomeOf two_way → (bytes : List ℕ)
+    (first second : List Query)
     → HasQueries two_way bytes first → HasQueries two_way bytes second → first ≡ second
 one_query_list two_way one bytes first second has other =
     let same : ◌≡◌ {A = Result (List Query) QueryFault} (Ok first) (Ok second) =
@@ -61,7 +66,8 @@ one_query_list two_way one bytes first second has other =
     cc same
 
 from_queries : (two_way : Bool) → OneOutcomeOf two_way → (file : Option (List ℕ)) (bytes : List ℕ)
-    (queries : List Query) (P : List Query → Type 0) → file ≡ Some bytes → HasQueries two_way bytes queries
+    (queries : List Query) (P : List Query → Type 0) → file ≡ Some bytes
+    → HasQueries two_way bytes queries
     → ForQueries two_way file P → P queries
 from_queries two_way one file bytes queries P is has holds =
     let held = subst (λ (f : Option (List ℕ)). ForQueries two_way f P) is holds in
@@ -69,11 +75,13 @@ from_queries two_way one file bytes queries P is has holds =
 
 from_sessions : (given : Settings) (holds : List ℕ → Option (List ℕ)) (queries : List Query)
     (told : Option (List ℕ)) (sessions : List (List Ask)) (P : List (List Ask) → Type 0)
-    → option_map holds given.asks ≡ option_map (λ bytes. Some bytes) told → AreAsked queries told sessions
+    → option_map holds given.asks ≡ option_map (λ bytes. Some bytes) told
+    → AreAsked queries told sessions
     → ForSessions given holds queries P → P sessions
 from_sessions given holds queries told sessions P is asked = by given.asks told is asked
   where
-    by : (asks known : Option (List ℕ)) → option_map holds asks ≡ option_map (λ bytes. Some bytes) known
+    by : (asks known : Option (List ℕ))
+        → option_map holds asks ≡ option_map (λ bytes. Some bytes) known
         → AreAsked queries known sessions
         → MatchOption asks (P []) (λ name. IfSome (holds name)
         (λ bytes. (all : List (List Ask)) × HasSessions queries bytes all × P all)) → P sessions
@@ -91,7 +99,8 @@ from_sessions given holds queries told sessions P is asked = by given.asks told 
 
 from_asked : {S K : Type 0} (means : Meanings S K) (given : Settings)
     (holds : List ℕ → Option (List ℕ)) (sinks : Sinks K) (told : Told) (queries : List Query)
-    (sessions : List (List Ask)) (P : List Query → List (List Ask) → Type 0) → OneOutcomeOf given.two_way
+    (sessions : List (List Ask)) (P : List Query → List (List Ask) → Type 0)
+    → OneOutcomeOf given.two_way
     → IsTold means given holds sinks told → HasQueries given.two_way told.queries queries
     → AreAsked queries told.asks sessions → ForAsked given holds P → P queries sessions
 from_asked means given holds sinks told queries sessions P one is has asked p =
@@ -106,8 +115,9 @@ record AreThere (two_way : Bool) (told : Told) : Type 0 where
   sessions : List (List Ask)
   asked : AreAsked queries told.asks sessions
 
-are_there : {S K : Type 0} (means : Meanings S K) (given : Settings) (holds : List ℕ → Option (List ℕ))
-    (sinks : Sinks K) (told : Told) → IsTold means given holds sinks told
+are_there : {S K : Type 0} (means : Meanings S K) (given : Settings)
+    (holds : List ℕ → Option (List ℕ)) (sinks : Sinks K) (told : Told)
+    → IsTold means given holds sinks told
     → ForAsked given holds (λ queries sessions. Unit {0}) → AreThere given.two_way told
 are_there means given holds sinks told is there =
     let held = subst (λ (f : Option (List ℕ)). ForQueries given.two_way f
@@ -126,7 +136,8 @@ are_there means given holds sinks told is there =
     by queries (Some name) (Some bytes) is there =
         let content : holds name ≡ Some bytes = cc is in
         let file = subst (λ (f : Option (List ℕ)). IfSome f
-        (λ text. (all : List (List Ask)) × HasSessions queries text all × Unit {0})) content there in
+        (λ text. (all : List (List Ask)) × HasSessions queries text all × Unit {0}))
+        content there in
         (file.0, file.1)
 
 -- ---- the parts
@@ -137,22 +148,26 @@ from_nothing : (now : Option (List ℕ)) (text : List ℕ) → now ≡ append_kn
 from_nothing None text is = tt
 from_nothing (Some bytes) text is = cc is
 
-replies_are : {K : Type 0} (written : K → Option (List ℕ)) (text : List ℕ) (failed : Type 0) (status : ℕ)
+replies_are : {K : Type 0} (written : K → Option (List ℕ)) (text : List ℕ) (failed : Type 0)
+    (status : ℕ)
     → (failed → ⊥) → status ≢ 8 → (replies : Option K)
-    → IfSome replies (λ sink. WritesWhere failed status (λ t. t ≡ text) (nothing_told (written sink)) (written sink))
+    → IfSome replies (λ sink. WritesWhere failed status (λ t. t ≡ text)
+    (nothing_told (written sink)) (written sink))
     → IfSome replies (λ sink. IfSome (written sink) (λ bytes. bytes ≡ text))
 replies_are written text failed status none other None writes = tt
 replies_are written text failed status none other (Some sink) writes =
     let whole = writes.whole none other in
-    from_nothing (written sink) text (subst (λ (t : List ℕ). written sink ≡ append_known (nothing_told (written sink)) t)
-    whole.of_kind whole.written)
+    from_nothing (written sink) text (subst (λ (t : List ℕ).
+    written sink ≡ append_known (nothing_told (written sink)) t) whole.of_kind whole.written)
 
 -- the tuples of a stream
-tuples_are : (text : List ℕ) (left : Option (List ℕ)) (number : ℕ) (history : List Entry) (end : StreamEnd)
+tuples_are : (text : List ℕ) (left : Option (List ℕ)) (number : ℕ) (history : List Entry)
+    (end : StreamEnd)
     → end ≡ Whole → AreTuplesOfEnd byte_limit text left (own_tuples number history) end
     → own_tuples number history ≡ (stream_tuples text).tuples
 tuples_are text left number history end whole tied =
-    let at_whole = subst (λ (e : StreamEnd). AreTuplesOfEnd byte_limit text left (own_tuples number history) e)
+    let at_whole =
+    subst (λ (e : StreamEnd). AreTuplesOfEnd byte_limit text left (own_tuples number history) e)
     whole tied in
     sym (ap (λ (ts : StreamTuples). ts.tuples) at_whole.0)
 
@@ -171,7 +186,8 @@ contents_are given holds told from streams =
     ap₂ (λ (first : Option (List ℕ)) (files : List (Option (List ℕ))). with_first first files)
     (by given.from told.from from) streams ∙ texts_behind (unwrap_or told.from []) told.streams
   where
-    by : (name known : Option (List ℕ)) → option_map holds name ≡ option_map (λ bytes. Some bytes) known
+    by : (name known : Option (List ℕ))
+        → option_map holds name ≡ option_map (λ bytes. Some bytes) known
         → unwrap_or (option_map holds name) (Some []) ≡ Some (unwrap_or known [])
     by None None is = refl
     by None (Some bytes) is = absurd (cc is)
@@ -180,72 +196,85 @@ contents_are given holds told from streams =
 
 -- ---- the objects
 
--- the events of a history, each entry's own, which were written, and told to the objects
-record AreAllTold (two_way : Bool) (queries : List Query) (history : List Entry) (before now : Option (List ℕ))
-    (objects : List ObjectValue) (circle : CircleValue) : Type 0 where
-  events : List (List Event)
-  are_events : AreAllWalkedEvents two_way queries history events
-  written : now ≡ append_known before (blocks_from queries 1 history events)
-  heard : HaveStood objects (flat_map (λ own. own) events) ⊤ circle.members circle.left
+-- the steps of a history, one for each entry, which were written, and whose events were told to the
+-- objects
+record AreAllTold (options : Options) (queries : List Query) (history : List Entry)
+    (before now : Option (List ℕ)) (objects : List ObjectValue) (circle : CircleValue)
+    : Type 0 where
+  steps : List StepValue
+  are_steps : AreSteps options queries history steps
+  written : now ≡ append_known before (blocks_from queries 1 history steps)
+  heard : HaveStood objects (flat_map (λ own. own) (events_of steps)) ⊤ circle.members circle.left
 
 -- no block begins behind the last one
-none_begun : (two_way : Bool) (queries : List Query) (history : List Entry) (count : ℕ) (rest : List ℕ)
-    → count ≡ length history → (rest ≡ []) ⊎ BeginsBlock two_way queries history count rest → rest ≡ []
-none_begun two_way queries history count rest all (inl none) = none
-none_begun two_way queries history count rest all (inr begun) =
+none_begun : (options : Options) (queries : List Query) (history : List Entry) (count : ℕ)
+    (rest : List ℕ) → count ≡ length history
+    → (rest ≡ []) ⊎ BeginsBlock options queries history count rest → rest ≡ []
+none_begun options queries history count rest all (inl none) = none
+none_begun options queries history count rest all (inr begun) =
     let inside = slice_get_within history count begun.entry begun.there in
     absurd (omega (arith, inside, all))
 
 -- where nothing ended the run early all of them were
-all_told : (two_way : Bool) (queries : List Query) (history : List Entry) (before now : Option (List ℕ))
-    (objects : List ObjectValue) (why : Option Why) (circle : CircleValue) → why ≡ None
-    → TellsObjects two_way queries history before now objects why circle
-    → AreAllTold two_way queries history before now objects circle
-all_told two_way queries history before now objects why circle none tells =
+all_told : (options : Options) (queries : List Query) (history : List Entry)
+    (before now : Option (List ℕ)) (objects : List ObjectValue) (why : Option Why)
+    (circle : CircleValue) → why ≡ None
+    → TellsObjects options queries history before now objects why circle
+    → AreAllTold options queries history before now objects circle
+all_told options queries history before now objects why circle none tells =
     let all : tells.count ≡ length history = tells.all none in
-    let whole : take tells.count history ≡ history = take_all tells.count history (omega (arith, all)) in
-    let text = λ (entries : List Entry) (rest : List ℕ). blocks_from queries 1 entries tells.events ++ rest in
+    let whole : take tells.count history ≡ history =
+    take_all tells.count history (omega (arith, all)) in
+    let text = λ (entries : List Entry) (rest : List ℕ).
+    blocks_from queries 1 entries tells.steps ++ rest in
     record {
-      events = tells.events;
-      are_events = subst (λ (entries : List Entry). AreAllWalkedEvents two_way queries entries tells.events) whole
-          tells.are_events;
+      steps = tells.steps;
+      are_steps = subst (λ (entries : List Entry). AreSteps options queries entries tells.steps)
+          whole tells.are_steps;
       written = tells.written ∙ ap (λ (t : List ℕ). append_known before t)
-          (ap₂ text whole (none_begun two_way queries history tells.count tells.rest all tells.part)
-          ∙ append-nil (blocks_from queries 1 history tells.events));
-      heard = stood_weaker objects (flat_map (λ own. own) tells.events) (why ≢ Some Memory) ⊤
-          circle.members circle.left (λ _ is.
+          (ap₂ text whole (none_begun options queries history tells.count tells.rest all tells.part)
+          ∙ append-nil (blocks_from queries 1 history tells.steps));
+      heard = stood_weaker objects (flat_map (λ own. own) (events_of tells.steps))
+          (why ≢ Some Memory) ⊤ circle.members circle.left (λ _ is.
           let no : None ≡ Some Memory = sym none ∙ is in
           absurd (cc no)) tells.told;
     }
 
 -- ---- all of it
 
--- what is told, with the edges taken so
-abbrev walking : Bool → Told → Told
-walking two_way told = record told { two_way = two_way }
+-- what is told, with these options
+abbrev telling : Options → Told → Told
+telling options told = record told { options = options }
 
 -- it holds as the settings say
 headline_of : {S K : Type 0} (means : Meanings S K) (given : Settings)
     (holds : List ℕ → Option (List ℕ)) (sinks : Sinks K) (objects : Objects) (outcome : Outcome S K)
-    (told : Told) → OneOutcomeOf given.two_way → RunsStreams means given holds sinks objects outcome
-    → outcome.status ≡ 0 → IsTold means given holds sinks told
-    → Headline means (walking given.two_way told) sinks objects outcome
-headline_of means given holds sinks objects outcome told one runs done is =
+    (told : Told) → OneOutcomeOf given.two_way → StepsHaveTheEvents
+    → RunsStreams means given holds sinks objects outcome → outcome.status ≡ 0
+    → IsTold means given holds sinks told
+    → Headline means (telling (options_of given) told) sinks objects outcome
+headline_of means given holds sinks objects outcome told one law runs done is =
     let there = are_there means given holds sinks told is runs.understood in
     let quiet : (Contains runs.failed Events → ⊥) =
     sink_quietly outcome.ends runs.failed outcome.status Events runs.causes.status_is done in
     let not_short : outcome.status ≢ 8 = λ eight. absurd (omega (arith, eight, done)) in
-    let tells = from_queries given.two_way one (holds given.queries) told.queries there.queries (λ queries.
-    TellsObjects given.two_way queries outcome.history (means.written sinks.events_old) (means.written sinks.events_new)
-    objects.before runs.told.why objects.after) is.queries there.has runs.told.told in
-    let all = all_told given.two_way there.queries outcome.history (means.written sinks.events_old)
-    (means.written sinks.events_new) objects.before runs.told.why objects.after
-    (unended runs.told.why refl quiet not_short) tells in
+    let tells = from_queries given.two_way one (holds given.queries) told.queries there.queries
+    (λ queries. TellsObjects (options_of given) queries outcome.history
+    (means.written sinks.events_old) (means.written sinks.events_new) objects.before
+    runs.told.why objects.after) is.queries there.has runs.told.told in
+    let all = all_told (options_of given) there.queries outcome.history
+    (means.written sinks.events_old) (means.written sinks.events_new) objects.before
+    runs.told.why objects.after (unended runs.told.why refl quiet not_short) tells in
+    let events = law.are (options_of given) there.queries outcome.history all.steps all.are_steps in
     let sets = from_queries given.two_way one (holds given.queries) told.queries there.queries
-    (λ queries. FrontsHold given.two_way queries outcome.history) is.queries there.has runs.events.sets in
+    (λ queries. FrontsHold given.two_way queries outcome.history) is.queries there.has
+    runs.events.sets in
     let last : runs.replies.last ≡ length outcome.history = elim runs.replies.at_end [
       | inl all ↦ all
-      | inr other ↦ elim other [ inl failed ↦ absurd (quiet failed) | inr eight ↦ absurd (not_short eight) ]
+      | inr other ↦ elim other [
+        | inl failed ↦ absurd (quiet failed)
+        | inr eight ↦ absurd (not_short eight)
+      ]
     ] in
     record {
       queries = there.queries;
@@ -255,43 +284,51 @@ headline_of means given holds sinks objects outcome told one runs done is =
       in_order = in_order;
       no_other = subst (λ n. All (λ (e : Entry). IsNumberOf n e.stream) outcome.history) as_many
           runs.history.no_other;
-      events = all.events;
-      are_events = all.are_events;
-      written = all.written
-          ∙ ap (λ (w : Option (List ℕ)). append_known w (blocks_from there.queries 1 outcome.history all.events)) is.events;
-      held = λ place query at count pair. sets place query all.events at all.are_events count pair;
+      steps = all.steps;
+      are_steps = all.are_steps;
+      written = all.written ∙ ap (λ (w : Option (List ℕ)). append_known w
+          (blocks_from there.queries 1 outcome.history all.steps)) is.events;
+      held = λ place query at count pair.
+          sets place query (events_of all.steps) at events count pair;
       heard = all.heard;
-      readers = subst (λ n. AreSessionsOf there.queries outcome.history n there.sessions outcome.sessions) last
+      readers = subst (λ n.
+          AreSessionsOf there.queries outcome.history n there.sessions outcome.sessions) last
           (from_asked means given holds sinks told there.queries there.sessions (λ queries asked.
-          AreSessionsOf queries outcome.history runs.replies.last asked outcome.sessions) one is there.has there.asked
-          runs.replies.sessions);
-      all_answered = from_asked means given holds sinks told there.queries there.sessions (λ queries asked.
-          asks_answered outcome.sessions ≡ asked) one is there.has there.asked (runs.replies.all not_short);
-      replied = replies_are means.written (replies (texts_of outcome.sessions)) (Contains runs.failed Replies)
-          outcome.status (sink_quietly outcome.ends runs.failed outcome.status Replies runs.causes.status_is done)
+          AreSessionsOf queries outcome.history runs.replies.last asked outcome.sessions) one is
+          there.has there.asked runs.replies.sessions);
+      all_answered = from_asked means given holds sinks told there.queries there.sessions
+          (λ queries asked. asks_answered outcome.sessions ≡ asked) one is there.has there.asked
+          (runs.replies.all not_short);
+      replied = replies_are means.written (replies (texts_of outcome.sessions))
+          (Contains runs.failed Replies) outcome.status
+          (sink_quietly outcome.ends runs.failed outcome.status Replies runs.causes.status_is done)
           not_short outcome.replies runs.replies.text;
       saved_is = window_is outcome.save runs.saves.text
-          (sink_quietly outcome.ends runs.failed outcome.status Save runs.causes.status_is done) quiet not_short
-          there.queries there.has;
+          (sink_quietly outcome.ends runs.failed outcome.status Save runs.causes.status_is done)
+          quiet not_short there.queries there.has;
     }
   where
-    unended : (why : Option Why) → runs.told.why ≡ why → (Contains runs.failed Events → ⊥) → outcome.status ≢ 8
+    unended : (why : Option Why) → runs.told.why ≡ why → (Contains runs.failed Events → ⊥)
+        → outcome.status ≢ 8
         → runs.told.why ≡ None
     unended None why_is quiet not_short = why_is
     unended (Some Write) why_is quiet not_short = absurd (quiet (runs.told.write why_is))
     unended (Some Memory) why_is quiet not_short = absurd (not_short (runs.told.memory why_is))
 
-    window_is : (save : Option _) → IfSome save (λ sink. ForQueries given.two_way (holds given.queries) (λ queries.
+    window_is : (save : Option _)
+        → IfSome save (λ sink. ForQueries given.two_way (holds given.queries) (λ queries.
         GotText (Contains runs.failed Events) (Contains runs.failed Save) outcome.status
         (saved_text (saved queries outcome.history)) (means.written sink)))
         → (Contains runs.failed Save → ⊥) → (Contains runs.failed Events → ⊥) → outcome.status ≢ 8
         → (queries : List Query) → HasQueries given.two_way told.queries queries
-        → IfSome save (λ sink. IfSome (means.written sink) (λ bytes. bytes ≡ saved_text (saved queries outcome.history)))
+        → IfSome save (λ sink. IfSome (means.written sink)
+        (λ bytes. bytes ≡ saved_text (saved queries outcome.history)))
     window_is None got none quiet not_short queries has = tt
     window_is (Some sink) got none quiet not_short queries has =
         (from_queries given.two_way one (holds given.queries) told.queries queries (λ all.
         GotText (Contains runs.failed Events) (Contains runs.failed Save) outcome.status
-        (saved_text (saved all outcome.history)) (means.written sink)) is.queries has got).whole quiet none not_short
+        (saved_text (saved all outcome.history)) (means.written sink)) is.queries has got).whole
+        quiet none not_short
 
     as_many : length given.streams ≡ length told.streams
     as_many = sym (length-map given.streams holds)
@@ -302,22 +339,27 @@ headline_of means given holds sinks objects outcome told one runs done is =
         → own_tuples (place + 1) outcome.history ≡ (stream_tuples text).tuples
     in_order place text at =
         let file : slice_get (stream_contents given holds) place ≡ Some (Some text) =
-        ap (λ (fs : List (Option (List ℕ))). slice_get fs place) (contents_are given holds told is.from is.streams)
+        ap (λ (fs : List (Option (List ℕ))). slice_get fs place)
+        (contents_are given holds told is.from is.streams)
         ∙ (slice_get-map (λ (bytes : List ℕ). Some bytes) (stream_texts told) place
         ∙ ap (option_map (λ (bytes : List ℕ). Some bytes)) at) in
         let stream = stream_at (left_of_both means.left) (faults_of_both means.faults) given.history
-        (stream_contents given holds) (stream_sources outcome.from outcome.sources) outcome.history outcome.ends
-        runs.history.each_stream place (Some text) file in
-        tuples_are text (left_of_both means.left stream.source) (place + 1) outcome.history stream.end
+        (stream_contents given holds) (stream_sources outcome.from outcome.sources) outcome.history
+        outcome.ends runs.history.each_stream place (Some text) file in
+        tuples_are text (left_of_both means.left stream.source) (place + 1) outcome.history
+        stream.end
         (whole_end outcome.ends runs.failed place stream.end
-        (first_of_done outcome.ends runs.failed outcome.status runs.causes.status_is done) stream.end_is)
-        stream.stream.tied
+        (first_of_done outcome.ends runs.failed outcome.status runs.causes.status_is done)
+        stream.end_is) stream.stream.tied
 
 -- and as it is told
 pub headline_holds : {S K : Type 0} (means : Meanings S K) (given : Settings)
     (holds : List ℕ → Option (List ℕ)) (sinks : Sinks K) (objects : Objects) (outcome : Outcome S K)
-    (told : Told) → OneOutcome → OneTwoWayOutcome → RunsStreams means given holds sinks objects outcome
-    → outcome.status ≡ 0 → IsTold means given holds sinks told → Headline means told sinks objects outcome
-headline_holds means given holds sinks objects outcome told one other runs done is =
-    subst (λ (all : Told). Headline means all sinks objects outcome) (λ i. walking (is.two_way i) told)
-    (headline_of means given holds sinks objects outcome told (either_way one other given.two_way) runs done is)
+    (told : Told) → OneOutcome → OneTwoWayOutcome → StepsHaveTheEvents
+    → RunsStreams means given holds sinks objects outcome → outcome.status ≡ 0
+    → IsTold means given holds sinks told → Headline means told sinks objects outcome
+headline_holds means given holds sinks objects outcome told one other law runs done is =
+    subst (λ (all : Told). Headline means all sinks objects outcome)
+    (λ i. telling (is.options i) told)
+    (headline_of means given holds sinks objects outcome told
+    (either_way one other given.two_way) law runs done is)

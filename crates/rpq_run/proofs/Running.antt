@@ -24,6 +24,7 @@ use Rattle.ask_text.specs.Replies.{replies}
 use Rattle.rpq_text.specs.Definitions.{compiled_line, definitions_of}
 use Rattle.rpq_text.specs.declared.ends.SinkName.{SinkName}
 use Rattle.rpq_text.specs.declared.ends.SinkName.TheVariants.{Events, Replies, Save}
+use Rattle.rpq_text.specs.declared.options.Options.{Options}
 use Rattle.rpq_text.specs.ErrorLines.{run_lines}
 use Rattle.rpq_text.specs.Laws.{FrontsHoldAnswers}
 use Rattle.rpq_text.specs.Statuses.{IsStatusOf}
@@ -33,8 +34,8 @@ use Rattle.rpq_text.proofs.VerdictLines.{are_verdicts}
 use Rattle.saved_window.specs.Saved.{saved}
 use Rattle.saved_window.specs.SavedText.{saved_text}
 use Rattle.saved_window.specs.Then.{TwoSources, count_of, left_of_both, faults_of_both}
-use Rattle.run_start.specs.Files.{HasQueries, HasSessions, IsQueriesFile, ForQueries, ForSessions, ForAsked}
-use Rattle.run_start.specs.Files.{from_content, stream_contents}
+use Rattle.run_start.specs.Files.{HasQueries, HasSessions, IsQueriesFile, ForQueries, ForSessions}
+use Rattle.run_start.specs.Files.{ForAsked, from_content, stream_contents}
 use Rattle.run_start.specs.declared.sinks.OwnSinks.{OwnSinks}
 use Rattle.standing.specs.Circles.{Parts, as_seen}
 use Rattle.standing.specs.Objects.{ObjectValue}
@@ -49,6 +50,7 @@ use Rattle.rpq_run.specs.Asked.{IsAsked}
 use Rattle.rpq_run.specs.Ending.{IsShort, IsUnsaved, KeepsParts, SavesIfThere, failed_of}
 use Rattle.rpq_run.specs.declared.report.Report.{Report}
 use Rattle.rpq_run.specs.Failed.{failed_sinks, is_failed, is_write}
+use Rattle.rpq_run.specs.Options.{options_of}
 use Rattle.rpq_run.specs.Sources.{stream_sources}
 use Rattle.rpq_run.specs.declared.streams.WrittenTexts.{WrittenTexts}
 use Rattle.rpq_run.specs.Outcome.{Meanings, Sinks, Objects, Outcome, objects, outcome}
@@ -58,12 +60,13 @@ use Rattle.rpq_run.specs.RunsCheck.{LeavesObjects, RunsCheck}
 use Rattle.rpq_run.specs.RunsStreams.{HoldsStreams, WritesEvents, AnswersSessions, TellsHistory}
 use Rattle.rpq_run.specs.RunsStreams.{GotText, RunsStreams, SavesWindow, FrontsHold, nothing_told}
 use Rattle.rpq_run.specs.Written.{Tells, TellsLines, WritesWhere}
-use Rattle.rpq_run.proofs.Sinks.{some_sinks, in_replies, in_save, events_in, is_write_some, events_written}
-use Rattle.rpq_run.proofs.Sinks.{events_counted, in_events, none_contained, proper_is_prefix, replies_in, save_in}
-use Rattle.rpq_run.proofs.Sinks.{some_is_write, text_counted, text_written, whole_is_prefix}
+use Rattle.rpq_run.proofs.Sinks.{some_sinks, in_replies, in_save, events_in, is_write_some}
+use Rattle.rpq_run.proofs.Sinks.{events_written, events_counted, in_events, none_contained}
+use Rattle.rpq_run.proofs.Sinks.{proper_is_prefix, replies_in, save_in, some_is_write, text_counted}
+use Rattle.rpq_run.proofs.Sinks.{text_written, whole_is_prefix}
 use Rattle.rpq_run.proofs.Statuses.{memory_first}
-use Rattle.rpq_run.proofs.Windows.{as_many_contents, none_written, same_sink, there_by_count, window_unwritten}
-use Rattle.rpq_run.proofs.Windows.{window_written}
+use Rattle.rpq_run.proofs.Windows.{as_many_contents, none_written, same_sink, there_by_count}
+use Rattle.rpq_run.proofs.Windows.{window_unwritten, window_written}
 
 -- ---- what is asked
 
@@ -87,8 +90,10 @@ pub for_sessions : (given : Settings) (holds : List ℕ → Option (List ℕ)) (
 for_sessions given holds queries sessions P are p = by given.asks are
   where
     by_file : (file : Option (List ℕ))
-        → IfSome file (λ bytes. (asked : List (List Ask)) × HasSessions queries bytes asked × (sessions ≡ asked))
-        → IfSome file (λ bytes. (asked : List (List Ask)) × HasSessions queries bytes asked × P asked)
+        → IfSome file (λ bytes. (asked : List (List Ask)) × HasSessions queries bytes asked
+        × (sessions ≡ asked))
+        → IfSome file (λ bytes. (asked : List (List Ask)) × HasSessions queries bytes asked
+        × P asked)
     by_file None told = tt
     by_file (Some bytes) (asked, has, same) = (asked, has, subst P same p)
 
@@ -107,13 +112,15 @@ pub for_asked : (given : Settings) (holds : List ℕ → Option (List ℕ)) (que
     → ForSessions given holds queries (λ asked. sessions ≡ asked) → P queries sessions
     → ForAsked given holds P
 for_asked given holds queries sessions P has are p =
-    for_queries given.two_way (holds given.queries) queries (λ all. ForSessions given holds all (P all)) has
+    for_queries given.two_way (holds given.queries) queries
+    (λ all. ForSessions given holds all (P all)) has
     (for_sessions given holds queries sessions (P queries) are p)
 
 -- ---- the objects
 
 -- they are these, as they are seen
-pub objects_are : {X : Type 0} (seen : X → ObjectValue) (before before' stayed stayed' left left' : List X)
+pub objects_are : {X : Type 0} (seen : X → ObjectValue)
+    (before before' stayed stayed' left left' : List X)
     → before ≡ before' → stayed ≡ stayed' → left ≡ left'
     → objects seen before stayed left ≡ objects seen before' stayed' left'
 objects_are seen before before' stayed stayed' left left' befores stays leaves = λ i.
@@ -151,8 +158,8 @@ replies_of threads =
     replies (texts_of (map (λ (each : Vec AnsweredValue). each.items) threads.sessions.items))
 
 -- the report has these in its lists
-pub answers_are : {T O F S K V : Type 0} {W : V → Type 0} (threads : ThreadsOutcome T O) (own : OwnSinks K)
-    (report : Report F S K V W) → KeepsParts threads own report
+pub answers_are : {T O F S K V : Type 0} {W : V → Type 0} (threads : ThreadsOutcome T O)
+    (own : OwnSinks K) (report : Report F S K V W) → KeepsParts threads own report
     → outcome_of report.status threads report.from report.sources.items own ≡ outcome report
 answers_are threads own report parts = λ i. record {
   status = report.status;
@@ -166,18 +173,20 @@ answers_are threads own report parts = λ i. record {
 }
 
 module _ {S K O : Type 0} (means : Meanings S K) (given : Settings)
-    (holds : List ℕ → Option (List ℕ)) (firsts : ℕ) (task : Task (TwoSources S)) (old new : OwnSinks K)
-    (sinks : Sinks K) (seen : O → ObjectValue) (circle : Parts O) (threads : ThreadsOutcome (TwoSources S) O)
-    (from : Option S) (sources : List S) (written : WrittenTexts) (status : ℕ)
+    (holds : List ℕ → Option (List ℕ)) (firsts : ℕ) (task : Task (TwoSources S))
+    (old new : OwnSinks K) (sinks : Sinks K) (seen : O → ObjectValue) (circle : Parts O)
+    (threads : ThreadsOutcome (TwoSources S) O) (from : Option S) (sources : List S)
+    (written : WrittenTexts) (status : ℕ)
     (asked : IsAsked means.left means.written means.failures given holds firsts task old)
-    (held : Holds (left_of_both means.left) (faults_of_both means.faults) means.written means.failures seen task
+    (held : Holds (left_of_both means.left) (faults_of_both means.faults) means.written
+    means.failures seen task
     sinks.events_old sinks.events_new circle threads)
-    (replied : WritesIfThere means.written means.failures (replies_of threads) old.replies new.replies
-    written.replied)
+    (replied : WritesIfThere means.written means.failures (replies_of threads) old.replies
+    new.replies written.replied)
     (saved_is : SavesIfThere means.written means.failures
     (saved_text (saved (definitions_of task.queries.items) threads.history.items)) threads.why
-    (IsUnsaved threads.why threads.short_of_memory threads.ends.items written.replied) old.save new.save
-    written.saved)
+    (IsUnsaved threads.why threads.short_of_memory threads.ends.items written.replied) old.save
+    new.save written.saved)
     (parts : stream_sources from sources ≡ threads.sources.items) (from_is : count_of from ≡ firsts)
     (short : IsShort threads.why threads.short_of_memory written → status ≡ 8)
     (status_is : IsStatusOf threads.ends.items (failed_of threads.why written) status) where
@@ -193,7 +202,8 @@ module _ {S K O : Type 0} (means : Meanings S K) (given : Settings)
   abbrev queries_in : List Query
   queries_in = definitions_of task.queries.items
 
-  for_both : (P : List Query → List (List Ask) → Type 0) → P queries_in task.sessions.items → ForAsked given holds P
+  for_both : (P : List Query → List (List Ask) → Type 0) → P queries_in task.sessions.items
+      → ForAsked given holds P
   for_both P p = for_asked given holds queries_in task.sessions.items P asked.has asked.asked p
 
   for_engine : threads.why ≡ Some Memory → status ≡ 8
@@ -207,18 +217,20 @@ module _ {S K O : Type 0} (means : Meanings S K) (given : Settings)
 
   -- a failed write of the events is told, and told of no other
   write_told : threads.why ≡ Some Write → Contains failed_in Events
-  write_told is = events_in (is_write threads.why) (is_failed written.replied) (is_failed written.saved)
-      (is_write_some threads.why is)
+  write_told is = events_in (is_write threads.why) (is_failed written.replied)
+      (is_failed written.saved) (is_write_some threads.why is)
 
   told_write : Contains failed_in Events → threads.why ≡ Some Write
   told_write has = some_is_write threads.why
       (in_events (is_write threads.why) (is_failed written.replied) (is_failed written.saved) has)
 
   replies_told : is_failed written.replied ≡ true → Contains failed_in Replies
-  replies_told = replies_in (is_write threads.why) (is_failed written.replied) (is_failed written.saved)
+  replies_told = replies_in (is_write threads.why) (is_failed written.replied)
+      (is_failed written.saved)
 
   told_replies : Contains failed_in Replies → is_failed written.replied ≡ true
-  told_replies = in_replies (is_write threads.why) (is_failed written.replied) (is_failed written.saved)
+  told_replies = in_replies (is_write threads.why) (is_failed written.replied)
+      (is_failed written.saved)
 
   save_told : is_failed written.saved ≡ true → Contains failed_in Save
   save_told = save_in (is_write threads.why) (is_failed written.replied) (is_failed written.saved)
@@ -231,22 +243,27 @@ module _ {S K O : Type 0} (means : Meanings S K) (given : Settings)
   holds_streams =
       let left = left_of_both means.left in
       let as_many : length task.readers.items ≡ length given.streams =
-      sym (length-map task.readers.items (λ (reader : ReaderState (TwoSources S)). left reader.source))
-      ∙ (ap (λ (fs : List (Option (List ℕ))). length fs) (sym {A = List (Option (List ℕ))} asked.contents)
+      sym (length-map task.readers.items (λ (reader : ReaderState (TwoSources S)).
+      left reader.source))
+      ∙ (ap (λ (fs : List (Option (List ℕ))). length fs)
+      (sym {A = List (Option (List ℕ))} asked.contents)
       ∙ (as_many_contents (from_content given holds) (map holds given.streams)
       ∙ length-map given.streams holds)) in
       record {
         from = there_by_count from given.from (from_is ∙ asked.behind);
-        each_stream = subst (λ (ss : List (TwoSources S)). AreStreamsOf left (faults_of_both means.faults)
+        each_stream = subst
+            (λ (ss : List (TwoSources S)). AreStreamsOf left (faults_of_both means.faults)
             given.history (stream_contents given holds) ss threads.history.items threads.ends.items)
             (sym {A = List (TwoSources S)} parts)
-            (subst (λ (fs : List (Option (List ℕ))). AreStreamsOf left (faults_of_both means.faults) given.history fs
-            threads.sources.items threads.history.items threads.ends.items)
+            (subst (λ (fs : List (Option (List ℕ))). AreStreamsOf left (faults_of_both means.faults)
+            given.history fs threads.sources.items threads.history.items threads.ends.items)
             (sym {A = List (Option (List ℕ))} asked.contents)
             (subst (λ limit. AreStreamsOf left (faults_of_both means.faults) limit
             (map (λ (reader : ReaderState (TwoSources S)). left reader.source) task.readers.items)
-            threads.sources.items threads.history.items threads.ends.items) asked.limit held.streams));
-        no_other = subst (λ n. All (λ (e : Entry). IsNumberOf n e.stream) threads.history.items) as_many held.numbers;
+            threads.sources.items threads.history.items threads.ends.items) asked.limit
+            held.streams));
+        no_other = subst (λ n. All (λ (e : Entry). IsNumberOf n e.stream) threads.history.items)
+            as_many held.numbers;
         few = omega (arith, held.few, asked.limit);
       }
 
@@ -254,16 +271,20 @@ module _ {S K O : Type 0} (means : Meanings S K) (given : Settings)
   writes_events : FrontsHoldAnswers → WritesEvents means given holds failed_in sinks answer
   writes_events fronts = record {
     text = for_queries given.two_way (holds given.queries) queries_in (λ all.
-        WritesWhere (Contains failed_in Events) status (IsText given.two_way all threads.history.items)
+        WritesWhere (Contains failed_in Events) status
+        (IsText (options_of given) all threads.history.items)
         (means.written sinks.events_old) (means.written sinks.events_new)) asked.has
-        (events_written means.written means.failures given.two_way queries_in threads.history.items sinks.events_old
-        sinks.events_new threads.why (is_failed written.replied) (is_failed written.saved) status for_engine
-        (subst (λ (two_way : Bool). WritesText means.written means.failures two_way queries_in threads.history.items
-        sinks.events_old sinks.events_new threads.why) asked.two_way held.text));
+        (events_written means.written means.failures (options_of given) queries_in
+        threads.history.items sinks.events_old sinks.events_new threads.why
+        (is_failed written.replied) (is_failed written.saved) status for_engine
+        (subst (λ (options : Options). WritesText means.written means.failures options queries_in
+        threads.history.items sinks.events_old sinks.events_new threads.why) asked.options
+        held.text));
     sets = for_queries given.two_way (holds given.queries) queries_in (λ all.
         FrontsHold given.two_way all threads.history.items) asked.has
         (λ place query events here all count pair.
-        fronts given.two_way queries_in place query threads.history.items events here all count pair);
+        fronts given.two_way queries_in place query threads.history.items events here all count
+        pair);
   }
 
   replies_text : IfSome new.replies (λ sink. WritesWhere (Contains failed_in Replies) status
@@ -271,36 +292,43 @@ module _ {S K O : Type 0} (means : Meanings S K) (given : Settings)
   replies_text = by old.replies new.replies asked.sinks.new_replies replied
     where
       by : (before after : Option K) → IfSome before (IsNewSink means.written means.failures)
-          → WritesIfThere means.written means.failures (replies_of threads) before after written.replied
+          → WritesIfThere means.written means.failures (replies_of threads) before after
+          written.replied
           → IfSome after (λ sink. WritesWhere (Contains failed_in Replies) status
-          (λ text. text ≡ replies_of threads) (nothing_told (means.written sink)) (means.written sink))
+          (λ text. text ≡ replies_of threads) (nothing_told (means.written sink))
+          (means.written sink))
       by before None fresh wrote = tt
       by None (Some after) fresh wrote = absurd wrote
-      by (Some before) (Some after) fresh wrote = text_written means.written means.failures (replies_of threads)
-          before after (Contains failed_in Replies) written.replied status replies_told told_replies for_replies fresh
-          wrote
+      by (Some before) (Some after) fresh wrote =
+          text_written means.written means.failures (replies_of threads)
+          before after (Contains failed_in Replies) written.replied status replies_told told_replies
+          for_replies fresh wrote
 
   -- a failed write of a text is counted
   text_failed : (text : List ℕ) (failed : Type 0) (result : Result (Unit {0}) TextFault)
-      → (is_failed result ≡ true → failed) → (failed → is_failed result ≡ true) → (before after : Option K)
+      → (is_failed result ≡ true → failed) → (failed → is_failed result ≡ true)
+      → (before after : Option K)
       → IfSome before (IsNewSink means.written means.failures)
       → WritesIfThere means.written means.failures text before after result
       → IfSome after (λ sink. CountsFault failed 0 (means.failures sink))
   text_failed text failed result there back before None fresh wrote = tt
   text_failed text failed result there back None (Some after) fresh wrote = absurd wrote
   text_failed text failed result there back (Some before) (Some after) fresh wrote =
-      text_counted failed result (means.failures before) (means.failures after) there back fresh.no_fault wrote.counted
+      text_counted failed result (means.failures before) (means.failures after) there back
+      fresh.no_fault wrote.counted
 
   -- the last entry that was published is the last of the history, unless the engine shut
   at_end : (why : Option Why) → threads.why ≡ why
-      → (held.answers.last ≡ length threads.history.items) ⊎ (Contains failed_in Events ⊎ (status ≡ 8))
+      → (held.answers.last ≡ length threads.history.items)
+      ⊎ (Contains failed_in Events ⊎ (status ≡ 8))
   at_end None is = inl (held.answers.at_end is)
   at_end (Some Write) is = inr (inl (write_told is))
   at_end (Some Memory) is = inr (inr (for_engine is))
 
   -- where memory didn't run out all was answered
   all_answered : (some : Bool) → threads.short_of_memory ≡ some → status ≢ 8
-      → asks_answered (map (λ (each : Vec AnsweredValue). each.items) threads.sessions.items) ≡ task.sessions.items
+      → asks_answered (map (λ (each : Vec AnsweredValue). each.items) threads.sessions.items)
+      ≡ task.sessions.items
   all_answered true is other = absurd (other (short (inl is)))
   all_answered false is other = held.answers.all is
 
@@ -309,12 +337,15 @@ module _ {S K O : Type 0} (means : Meanings S K) (given : Settings)
     last = held.answers.last;
     within = held.answers.within;
     at_end = at_end threads.why refl;
-    sessions = for_both (λ queries asks. AreSessionsOf queries threads.history.items held.answers.last asks
-        (map (λ (each : Vec AnsweredValue). each.items) threads.sessions.items)) held.answers.sessions;
+    sessions = for_both (λ queries asks.
+        AreSessionsOf queries threads.history.items held.answers.last asks
+        (map (λ (each : Vec AnsweredValue). each.items) threads.sessions.items))
+        held.answers.sessions;
     all = λ other. for_both (λ queries asks.
-        asks_answered (map (λ (each : Vec AnsweredValue). each.items) threads.sessions.items) ≡ asks)
-        (all_answered threads.short_of_memory refl other);
-    sink = same_sink means.written means.failures (replies_of threads) old.replies new.replies written.replied replied
+        asks_answered (map (λ (each : Vec AnsweredValue). each.items) threads.sessions.items)
+        ≡ asks) (all_answered threads.short_of_memory refl other);
+    sink = same_sink means.written means.failures (replies_of threads) old.replies new.replies
+        written.replied replied
         ∙ asked.sinks.replies;
     text = replies_text;
   }
@@ -330,7 +361,8 @@ module _ {S K O : Type 0} (means : Meanings S K) (given : Settings)
   unsaved (inl is) = inl (write_told is)
   unsaved (inr (inl is)) = inr (for_engine is)
   unsaved (inr (inr (inl is))) = inr (short (inl is))
-  unsaved (inr (inr (inr (inl is)))) = inr (status_is.memory (memory_first threads.ends.items failed_in is))
+  unsaved (inr (inr (inr (inl is)))) =
+      inr (status_is.memory (memory_first threads.ends.items failed_in is))
   unsaved (inr (inr (inr (inr is)))) = inr (for_replies is)
 
   -- and then no write of it failed
@@ -341,12 +373,13 @@ module _ {S K O : Type 0} (means : Meanings S K) (given : Settings)
 
   window_sink : is_some new.save ≡ is_some old.save
   window_sink = elim saved_is [
-    | inl wrote ↦ same_sink means.written means.failures window_in old.save new.save written.saved wrote.1
+    | inl wrote ↦ same_sink means.written means.failures window_in old.save new.save
+        written.saved wrote.1
     | inr none ↦ ap (λ (sink : Option K). is_some sink) none.2
   ]
 
-  window_text : IfSome new.save (λ sink. GotText (Contains failed_in Events) (Contains failed_in Save) status
-      window_in (means.written sink))
+  window_text : IfSome new.save (λ sink. GotText (Contains failed_in Events)
+      (Contains failed_in Save) status window_in (means.written sink))
   window_text = elim saved_is [
     | inl wrote ↦ by (λ has.
         let no : ◌≡◌ {A = Option Why} None (Some Write) = sym wrote.0 ∙ told_write has in
@@ -359,67 +392,78 @@ module _ {S K O : Type 0} (means : Meanings S K) (given : Settings)
       by : (Contains failed_in Events → ⊥) → (before after : Option K)
           → IfSome before (IsNewSink means.written means.failures)
           → WritesIfThere means.written means.failures window_in before after written.saved
-          → IfSome after (λ sink. GotText (Contains failed_in Events) (Contains failed_in Save) status
-          window_in (means.written sink))
+          → IfSome after (λ sink. GotText (Contains failed_in Events) (Contains failed_in Save)
+          status window_in (means.written sink))
       by unfailed before None fresh wrote = tt
       by unfailed None (Some after) fresh wrote = absurd wrote
-      by unfailed (Some before) (Some after) fresh wrote = window_written means.written means.failures window_in
-          before after (Contains failed_in Events) (Contains failed_in Save) written.saved status unfailed save_told
-          told_save for_save fresh wrote
+      by unfailed (Some before) (Some after) fresh wrote =
+          window_written means.written means.failures window_in before after
+          (Contains failed_in Events) (Contains failed_in Save) written.saved status unfailed
+          save_told told_save for_save fresh wrote
 
-      as_before : (sink : Option K) → Contains failed_in Events ⊎ (status ≡ 8) → (Contains failed_in Save → ⊥)
+      as_before : (sink : Option K) → Contains failed_in Events ⊎ (status ≡ 8)
+          → (Contains failed_in Save → ⊥)
           → IfSome sink (IsNewSink means.written means.failures)
           → IfSome sink (λ s. GotText (Contains failed_in Events) (Contains failed_in Save) status
           window_in (means.written s))
       as_before None reason none fresh = tt
-      as_before (Some sink) reason none fresh = window_unwritten means.written means.failures window_in sink
+      as_before (Some sink) reason none fresh =
+          window_unwritten means.written means.failures window_in sink
           (Contains failed_in Events) (Contains failed_in Save) status reason none fresh
 
   saves_window : SavesWindow means given holds failed_in answer
   saves_window = record { sink = window_sink ∙ asked.sinks.save; text = by new.save window_text }
     where
-      by : (sink : Option K) → IfSome sink (λ s. GotText (Contains failed_in Events) (Contains failed_in Save) status
-          window_in (means.written s))
-          → IfSome sink (λ s. ForQueries given.two_way (holds given.queries) (λ queries. GotText (Contains failed_in Events)
-          (Contains failed_in Save) status (saved_text (saved queries threads.history.items)) (means.written s)))
+      by : (sink : Option K) → IfSome sink (λ s. GotText (Contains failed_in Events)
+          (Contains failed_in Save) status window_in (means.written s))
+          → IfSome sink (λ s. ForQueries given.two_way (holds given.queries)
+          (λ queries. GotText (Contains failed_in Events) (Contains failed_in Save) status
+          (saved_text (saved queries threads.history.items)) (means.written s)))
       by None got = tt
-      by (Some sink) got = for_queries given.two_way (holds given.queries) queries_in (λ all. GotText (Contains failed_in Events)
-          (Contains failed_in Save) status (saved_text (saved all threads.history.items)) (means.written sink))
+      by (Some sink) got = for_queries given.two_way (holds given.queries) queries_in
+          (λ all. GotText (Contains failed_in Events) (Contains failed_in Save) status
+          (saved_text (saved all threads.history.items)) (means.written sink))
           asked.has got
 
-  save_failed : IfSome new.save (λ sink. CountsFault (Contains failed_in Save) 0 (means.failures sink))
+  save_failed : IfSome new.save (λ sink. CountsFault (Contains failed_in Save) 0
+      (means.failures sink))
   save_failed = elim saved_is [
-    | inl wrote ↦ text_failed window_in (Contains failed_in Save) written.saved save_told told_save old.save new.save
-        asked.sinks.new_save wrote.1
-    | inr none ↦ subst (λ (sink : Option K). IfSome sink (λ s. CountsFault (Contains failed_in Save) 0
-        (means.failures s))) (sym none.2) (quiet old.save (none_of_save none.1) asked.sinks.new_save)
+    | inl wrote ↦ text_failed window_in (Contains failed_in Save) written.saved save_told told_save
+        old.save new.save asked.sinks.new_save wrote.1
+    | inr none ↦ subst (λ (sink : Option K). IfSome sink (λ s.
+        CountsFault (Contains failed_in Save) 0 (means.failures s))) (sym none.2)
+        (quiet old.save (none_of_save none.1) asked.sinks.new_save)
   ]
     where
-      quiet : (sink : Option K) → (Contains failed_in Save → ⊥) → IfSome sink (IsNewSink means.written means.failures)
+      quiet : (sink : Option K) → (Contains failed_in Save → ⊥)
+          → IfSome sink (IsNewSink means.written means.failures)
           → IfSome sink (λ s. CountsFault (Contains failed_in Save) 0 (means.failures s))
       quiet None none fresh = tt
-      quiet (Some sink) none fresh = counts_none (Contains failed_in Save) 0 (means.failures sink) none fresh.no_fault
+      quiet (Some sink) none fresh = counts_none (Contains failed_in Save) 0 (means.failures sink)
+          none fresh.no_fault
 
   no_save : new.save ≡ None → Contains failed_in Save → ⊥
   no_save is has = elim saved_is [
-    | inl wrote ↦ none_written means.written means.failures window_in old.save new.save written.saved is wrote.1
-        (told_save has)
+    | inl wrote ↦ none_written means.written means.failures window_in old.save new.save
+        written.saved is wrote.1 (told_save has)
     | inr none ↦ none_of_save none.1 has
   ]
 
   -- the objects
-  tells_history : TellsHistory means given holds failed_in sinks (objects_of seen circle threads) answer
+  tells_history : TellsHistory means given holds failed_in sinks
+      (objects_of seen circle threads) answer
   tells_history = record {
     why = threads.why;
     write = write_told;
     memory = for_engine;
     told = for_queries given.two_way (holds given.queries) queries_in (λ all.
-        TellsObjects given.two_way all threads.history.items
-        (means.written sinks.events_old) (means.written sinks.events_new) (map seen circle.members) threads.why
-        (as_seen seen threads.circle)) asked.has
-        (subst (λ (two_way : Bool). TellsObjects two_way queries_in threads.history.items
-        (means.written sinks.events_old) (means.written sinks.events_new) (map seen circle.members) threads.why
-        (as_seen seen threads.circle)) asked.two_way held.objects);
+        TellsObjects (options_of given) all threads.history.items
+        (means.written sinks.events_old) (means.written sinks.events_new)
+        (map seen circle.members) threads.why (as_seen seen threads.circle)) asked.has
+        (subst (λ (options : Options). TellsObjects options queries_in threads.history.items
+        (means.written sinks.events_old) (means.written sinks.events_new)
+        (map seen circle.members) threads.why (as_seen seen threads.circle)) asked.options
+        held.objects);
   }
 
   -- the run over streams
@@ -436,13 +480,15 @@ module _ {S K O : Type 0} (means : Meanings S K) (given : Settings)
     saves = saves_window;
     told = tells_history;
     causes = record {
-      once = some_sinks (is_write threads.why) (is_failed written.replied) (is_failed written.saved);
-      events_failed = events_counted threads.why (is_failed written.replied) (is_failed written.saved)
-          (means.failures sinks.events_old) (means.failures sinks.events_new) held.text.counted;
-      replies_failed = text_failed (replies_of threads) (Contains failed_in Replies) written.replied replies_told
-          told_replies old.replies new.replies asked.sinks.new_replies replied;
-      no_replies = λ is has. none_written means.written means.failures (replies_of threads) old.replies new.replies
-          written.replied is replied (told_replies has);
+      once = some_sinks (is_write threads.why) (is_failed written.replied)
+          (is_failed written.saved);
+      events_failed = events_counted threads.why (is_failed written.replied)
+          (is_failed written.saved) (means.failures sinks.events_old)
+          (means.failures sinks.events_new) held.text.counted;
+      replies_failed = text_failed (replies_of threads) (Contains failed_in Replies) written.replied
+          replies_told told_replies old.replies new.replies asked.sinks.new_replies replied;
+      no_replies = λ is has. none_written means.written means.failures (replies_of threads)
+          old.replies new.replies written.replied is replied (told_replies has);
       save_failed = save_failed;
       no_save = no_save;
       closed = λ closed. write_told (held.closed Write closed);
@@ -465,31 +511,37 @@ module _ {S K O : Type 0} (means : Meanings S K) (given : Settings)
 
 -- the same of a report
 pub run_reported : {S K O F V : Type 0} {W : V → Type 0} (means : Meanings S K) (given : Settings)
-    (holds : List ℕ → Option (List ℕ)) (firsts : ℕ) (task : Task (TwoSources S)) (old new : OwnSinks K)
-    (sinks : Sinks K) (seen : O → ObjectValue) (circle : Parts O) (threads : ThreadsOutcome (TwoSources S) O)
-    (report : Report F S K V W) (written : WrittenTexts)
+    (holds : List ℕ → Option (List ℕ)) (firsts : ℕ) (task : Task (TwoSources S))
+    (old new : OwnSinks K) (sinks : Sinks K) (seen : O → ObjectValue) (circle : Parts O)
+    (threads : ThreadsOutcome (TwoSources S) O) (report : Report F S K V W) (written : WrittenTexts)
     → IsAsked means.left means.written means.failures given holds firsts task old
-    → Holds (left_of_both means.left) (faults_of_both means.faults) means.written means.failures seen task
-    sinks.events_old sinks.events_new circle threads
-    → WritesIfThere means.written means.failures (replies_of threads) old.replies new.replies written.replied
+    → Holds (left_of_both means.left) (faults_of_both means.faults) means.written means.failures
+    seen task sinks.events_old sinks.events_new circle threads
+    → WritesIfThere means.written means.failures (replies_of threads) old.replies new.replies
+    written.replied
     → SavesIfThere means.written means.failures
     (saved_text (saved (definitions_of task.queries.items) threads.history.items)) threads.why
-    (IsUnsaved threads.why threads.short_of_memory threads.ends.items written.replied) old.save new.save written.saved
-    → stream_sources report.from report.sources.items ≡ threads.sources.items → count_of report.from ≡ firsts
+    (IsUnsaved threads.why threads.short_of_memory threads.ends.items written.replied) old.save
+    new.save written.saved
+    → stream_sources report.from report.sources.items ≡ threads.sources.items
+    → count_of report.from ≡ firsts
     → (IsShort threads.why threads.short_of_memory written → report.status ≡ 8)
-    → IsStatusOf threads.ends.items (failed_of threads.why written) report.status → KeepsParts threads new report
+    → IsStatusOf threads.ends.items (failed_of threads.why written) report.status
+    → KeepsParts threads new report
     → (before stayed left : List O) → circle.members ≡ before → threads.circle.members ≡ stayed
     → threads.circle.left ≡ left → FrontsHoldAnswers
     → TellsLines means.written means.failures
-    (run_lines threads.ends.items (failed_of threads.why written) report.status) sinks.errors_old sinks.errors_new
+    (run_lines threads.ends.items (failed_of threads.why written) report.status) sinks.errors_old
+    sinks.errors_new
     → RunsStreams means given holds sinks (objects seen before stayed left) (outcome report)
-run_reported means given holds firsts task old new sinks seen circle threads report written asked held replied saved_is
+run_reported means given holds firsts task old new sinks seen circle threads report written asked
+    held replied saved_is
     parts from_is short status_is keeps before stayed left befores stays leaves fronts told =
-    subst (λ (answer : Outcome _ _). RunsStreams means given holds sinks (objects seen before stayed left) answer)
-    (answers_are threads new report keeps)
-    (runs_streams means given holds firsts task old new sinks seen circle threads report.from report.sources.items written
-    report.status asked held replied saved_is parts from_is short status_is before stayed left befores stays leaves fronts
-    told)
+    subst (λ (answer : Outcome _ _). RunsStreams means given holds sinks
+    (objects seen before stayed left) answer) (answers_are threads new report keeps)
+    (runs_streams means given holds firsts task old new sinks seen circle threads report.from
+    report.sources.items written report.status asked held replied saved_is parts from_is short
+    status_is before stayed left befores stays leaves fronts told)
 
 -- ---- the check
 
@@ -509,7 +561,8 @@ check_outcome status =
 
 -- it has no member in any list
 nothing_taken : {S K : Type 0} (status : ℕ) (history : List Entry) (ends : List StreamEnd)
-    (sources : List S) (sessions : List (List AnsweredValue)) → history ≡ [] → ends ≡ [] → sources ≡ []
+    (sources : List S) (sessions : List (List AnsweredValue)) → history ≡ [] → ends ≡ []
+    → sources ≡ []
     → sessions ≡ [] → check_outcome {S = S} {K = K} status ≡ record {
       status = status;
       history = history;
@@ -520,21 +573,23 @@ nothing_taken : {S K : Type 0} (status : ℕ) (history : List Entry) (ends : Lis
       replies = None;
       save = None;
     }
-nothing_taken status history ends sources sessions no_history no_end no_source no_session = λ i. record {
-  status = status;
-  history = sym {A = List Entry} no_history i;
-  ends = sym {A = List StreamEnd} no_end i;
-  sources = sym no_source i;
-  from = None;
-  sessions = sym {A = List (List AnsweredValue)} no_session i;
-  replies = None;
-  save = None;
-}
+nothing_taken status history ends sources sessions no_history no_end no_source no_session =
+    λ i. record {
+      status = status;
+      history = sym {A = List Entry} no_history i;
+      ends = sym {A = List StreamEnd} no_end i;
+      sources = sym no_source i;
+      from = None;
+      sessions = sym {A = List (List AnsweredValue)} no_session i;
+      replies = None;
+      save = None;
+    }
 
 -- the verdicts, by whether a write failed
 verdicts_written : {K T E : Type 0} (written : K → Option (List ℕ)) (failures : K → ℕ)
     (queries : List CompiledValue) (old new : K) (result : Result T E) (status : ℕ)
-    → All IsCompiled queries → Tells written failures (flat_map compiled_line queries) old new result
+    → All IsCompiled queries → Tells written failures (flat_map compiled_line queries)
+    old new result
     → WritesWhere (Contains (failed_sinks (is_err result) false false) Events) status
     (AreVerdicts (definitions_of queries)) (written old) (written new)
 verdicts_written written failures queries old new (Ok x) status all told =
@@ -546,11 +601,13 @@ verdicts_written written failures queries old new (Ok x) status all told =
     record {
       whole = λ none other. whole;
       part = λ has. absurd (none_contained Events has);
-      memory = λ is. whole_is_prefix (AreVerdicts (definitions_of queries)) (written old) (written new) whole;
+      memory = λ is. whole_is_prefix (AreVerdicts (definitions_of queries)) (written old)
+          (written new) whole;
     }
 verdicts_written written failures queries old new (Err e) status all told =
     let part = told.part refl in
-    let proper : GrewByProperPrefix (AreVerdicts (definitions_of queries)) (written old) (written new) = record {
+    let proper : GrewByProperPrefix (AreVerdicts (definitions_of queries)) (written old)
+    (written new) = record {
       front = part.front;
       rest = part.rest;
       of_kind = subst (AreVerdicts (definitions_of queries)) part.cut (are_verdicts queries all);
@@ -560,34 +617,47 @@ verdicts_written written failures queries old new (Err e) status all told =
     record {
       whole = λ none other. absurd (none (events_in true false false refl));
       part = λ has. proper;
-      memory = λ is. proper_is_prefix (AreVerdicts (definitions_of queries)) (written old) (written new) proper;
+      memory = λ is. proper_is_prefix (AreVerdicts (definitions_of queries)) (written old)
+          (written new) proper;
     }
 
 -- the check of queries
 check_runs : {S K T E : Type 0} (means : Meanings S K) (given : Settings)
     (holds : List ℕ → Option (List ℕ)) (queries : List CompiledValue) (sinks : Sinks K)
     (result : Result T E) (status : ℕ) (all : Objects) → LeavesObjects all
-    → IfSome (holds given.queries) (λ bytes. HasQueries given.two_way bytes (definitions_of queries))
+    → IfSome (holds given.queries) (λ bytes. HasQueries given.two_way bytes
+    (definitions_of queries))
     → All IsCompiled queries
-    → Tells means.written means.failures (flat_map compiled_line queries) sinks.events_old sinks.events_new result
+    → Tells means.written means.failures (flat_map compiled_line queries) sinks.events_old
+    sinks.events_new result
     → IsStatusOf [] (failed_sinks (is_err result) false false) status
-    → TellsLines means.written means.failures (run_lines [] (failed_sinks (is_err result) false false) status)
+    → TellsLines means.written means.failures
+    (run_lines [] (failed_sinks (is_err result) false false) status)
     sinks.errors_old sinks.errors_new
     → RunsCheck {S = S} {K = K} means given holds sinks all (check_outcome status)
-check_runs means given holds queries sinks result status all kept has compiled told status_is lines = record {
+check_runs means given holds queries sinks result status all kept has are told is lines = record {
   understood = is_queries_file given.two_way (holds given.queries) (definitions_of queries) has;
-  nothing = record { no_history = refl; no_stream = refl; no_session = refl; no_replies = refl; no_window = (refl, refl) };
+  nothing = record {
+    no_history = refl;
+    no_stream = refl;
+    no_session = refl;
+    no_replies = refl;
+    no_window = (refl, refl);
+  };
   no_source = refl;
   failed = failed_sinks (is_err result) false false;
   text = for_queries given.two_way (holds given.queries) (definitions_of queries) (λ each.
-      WritesWhere (Contains (failed_sinks (is_err result) false false) Events) status (AreVerdicts each)
-      (means.written sinks.events_old) (means.written sinks.events_new)) has
-      (verdicts_written means.written means.failures queries sinks.events_old sinks.events_new result status compiled told);
+      WritesWhere (Contains (failed_sinks (is_err result) false false) Events) status
+      (AreVerdicts each) (means.written sinks.events_old) (means.written sinks.events_new)) has
+      (verdicts_written means.written means.failures queries sinks.events_old sinks.events_new
+      result status are told);
   causes = record {
     once = some_sinks (is_err result) false false;
-    events_failed = counts_as (is_err result ≡ true) (Contains (failed_sinks (is_err result) false false) Events)
+    events_failed = counts_as (is_err result ≡ true)
+        (Contains (failed_sinks (is_err result) false false) Events)
         (means.failures sinks.events_old) (means.failures sinks.events_new)
-        (events_in (is_err result) false false) (in_events (is_err result) false false) told.counted;
+        (events_in (is_err result) false false) (in_events (is_err result) false false)
+        told.counted;
     replies_failed = tt;
     no_replies = λ none has.
         let no : false ≡ true = in_replies (is_err result) false false has in
@@ -597,7 +667,7 @@ check_runs means given holds queries sinks result status all kept has compiled t
         let no : false ≡ true = in_save (is_err result) false false has in
         absurd (cc no);
     closed = λ closed. absurd (none_contained (Closed Write) closed);
-    status_is = status_is;
+    status_is = is;
     told = lines;
   };
   objects_kept = kept;
@@ -606,14 +676,18 @@ check_runs means given holds queries sinks result status all kept has compiled t
 -- the same with what it answers in its lists
 pub runs_check : {S K T E : Type 0} (means : Meanings S K) (given : Settings)
     (holds : List ℕ → Option (List ℕ)) (queries : List CompiledValue) (sinks : Sinks K)
-    (result : Result T E) (status : ℕ) (all : Objects) (history : List Entry) (ends : List StreamEnd)
-    (sources : List S) (sessions : List (List AnsweredValue)) → history ≡ [] → ends ≡ [] → sources ≡ []
+    (result : Result T E) (status : ℕ) (all : Objects) (history : List Entry)
+    (ends : List StreamEnd) (sources : List S) (sessions : List (List AnsweredValue)) → history ≡ []
+    → ends ≡ [] → sources ≡ []
     → sessions ≡ [] → LeavesObjects all
-    → IfSome (holds given.queries) (λ bytes. HasQueries given.two_way bytes (definitions_of queries))
+    → IfSome (holds given.queries) (λ bytes. HasQueries given.two_way bytes
+    (definitions_of queries))
     → All IsCompiled queries
-    → Tells means.written means.failures (flat_map compiled_line queries) sinks.events_old sinks.events_new result
+    → Tells means.written means.failures (flat_map compiled_line queries) sinks.events_old
+    sinks.events_new result
     → IsStatusOf [] (failed_sinks (is_err result) false false) status
-    → TellsLines means.written means.failures (run_lines [] (failed_sinks (is_err result) false false) status)
+    → TellsLines means.written means.failures
+    (run_lines [] (failed_sinks (is_err result) false false) status)
     sinks.errors_old sinks.errors_new
     → RunsCheck means given holds sinks all (record {
       status = status;
@@ -629,4 +703,5 @@ runs_check {S} {K} means given holds queries sinks result status all history end
     no_history no_end no_source no_session kept has compiled told status_is lines =
     subst (λ (outcome : Outcome S K). RunsCheck means given holds sinks all outcome)
     (nothing_taken status history ends sources sessions no_history no_end no_source no_session)
-    (check_runs means given holds queries sinks result status all kept has compiled told status_is lines)
+    (check_runs means given holds queries sinks result status all kept has compiled told
+    status_is lines)

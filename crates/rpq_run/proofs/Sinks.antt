@@ -1,7 +1,7 @@
 -- Which writes failed, and what was written by that.
-use Rattle.std.proofs.Common.{◌≡◌, ℕ, zero, suc, ◌<◌, ◌≢◌, inl, inr, Bool, true, false, List, [], ◌∷◌, ◌++◌}
-use Rattle.std.proofs.Common.{length, get_or, Option, Some, None, Result, Ok, Err, refl, ap, sym}
-use Rattle.std.proofs.Common.{subst, ◌∙◌, arith, append-nil}
+use Rattle.std.proofs.Common.{◌≡◌, ℕ, zero, suc, ◌<◌, ◌≢◌, inl, inr, Bool, true, false, List, []}
+use Rattle.std.proofs.Common.{◌∷◌, ◌++◌, length, get_or, Option, Some, None, Result, Ok, Err, refl}
+use Rattle.std.proofs.Common.{ap, sym, subst, ◌∙◌, arith, append-nil}
 use Rattle.std.specs.Prelude.{IfSome, Contains, if◌then◌else◌}
 use Rattle.std.specs.Io.KnownBytes.{append_known}
 use Rattle.rpq_io.specs.Counts.{CountsFault}
@@ -14,6 +14,7 @@ use Rattle.rpq_base.proofs.Members.{cons_members}
 use Rattle.rpq_model.specs.Query.{Query}
 use Rattle.rpq_text.specs.declared.ends.SinkName.{SinkName}
 use Rattle.rpq_text.specs.declared.ends.SinkName.TheVariants.{Events, Replies, Save}
+use Rattle.rpq_text.specs.declared.options.Options.{Options}
 use Rattle.rpq_text.specs.Statuses.{AreSomeSinks}
 use Rattle.rpq_text.specs.Text.{IsText}
 use Rattle.rpq_threads.specs.Runs.{WritesText}
@@ -81,14 +82,17 @@ in_last sink false other has = absurd (none_contained sink has)
 
 no_events : (replies save : Bool) → Contains (other_sinks replies save) Events → ⊥
 no_events true save has =
-    in_last Events save (λ same. cc same) (not_first Replies Events (last_sink save) (λ same. cc same) has)
+    in_last Events save (λ same. cc same)
+    (not_first Replies Events (last_sink save) (λ same. cc same) has)
 no_events false save has = in_last Events save (λ same. cc same) has
 
-pub events_in : (events replies save : Bool) → events ≡ true → Contains (failed_sinks events replies save) Events
+pub events_in : (events replies save : Bool) → events ≡ true
+    → Contains (failed_sinks events replies save) Events
 events_in true replies save is = contains_first Events (other_sinks replies save)
 events_in false replies save is = absurd (cc is)
 
-pub in_events : (events replies save : Bool) → Contains (failed_sinks events replies save) Events → events ≡ true
+pub in_events : (events replies save : Bool) → Contains (failed_sinks events replies save) Events
+    → events ≡ true
 in_events true replies save has = refl
 in_events false replies save has = absurd (no_events replies save has)
 
@@ -105,23 +109,29 @@ in_replies true false save has = absurd (in_last Replies save (λ same. cc same)
     (not_first Events Replies (last_sink save) (λ same. cc same) has))
 in_replies false false save has = absurd (in_last Replies save (λ same. cc same) has)
 
-pub save_in : (events replies save : Bool) → save ≡ true → Contains (failed_sinks events replies save) Save
+pub save_in : (events replies save : Bool) → save ≡ true
+    → Contains (failed_sinks events replies save) Save
 save_in true true true is = (2, omega arith, refl)
 save_in true false true is = (1, omega arith, refl)
 save_in false true true is = (1, omega arith, refl)
 save_in false false true is = contains_first Save []
 save_in events replies false is = absurd (cc is)
 
-pub in_save : (events replies save : Bool) → Contains (failed_sinks events replies save) Save → save ≡ true
+pub in_save : (events replies save : Bool) → Contains (failed_sinks events replies save) Save
+    → save ≡ true
 in_save events replies true has = refl
-in_save true true false has = absurd (none_contained Save (not_first Replies Save [] (λ same. cc same)
+in_save true true false has =
+    absurd (none_contained Save (not_first Replies Save [] (λ same. cc same)
     (not_first Events Save (Replies ∷ []) (λ same. cc same) has)))
-in_save true false false has = absurd (none_contained Save (not_first Events Save [] (λ same. cc same) has))
-in_save false true false has = absurd (none_contained Save (not_first Replies Save [] (λ same. cc same) has))
+in_save true false false has =
+    absurd (none_contained Save (not_first Events Save [] (λ same. cc same) has))
+in_save false true false has =
+    absurd (none_contained Save (not_first Replies Save [] (λ same. cc same) has))
 in_save false false false has = absurd (none_contained Save has)
 
 -- where none of them is told, none is
-pub no_sinks : (failed : List SinkName) → (Contains failed Events → ⊥) → (Contains failed Replies → ⊥)
+pub no_sinks : (failed : List SinkName) → (Contains failed Events → ⊥)
+    → (Contains failed Replies → ⊥)
     → (Contains failed Save → ⊥) → failed ≡ []
 no_sinks [] events replies save = refl
 no_sinks (Events ∷ rest) events replies save = absurd (events (contains_first Events rest))
@@ -162,46 +172,54 @@ some_is_write (Some Memory) is = absurd (cc is)
 
 -- what the threads wrote, by the failed sinks and the status
 pub events_written : {K : Type 0} (written : K → Option (List ℕ)) (failures : K → ℕ)
-    (two_way : Bool) (queries : List Query) (history : List Entry) (before after : K) (why : Option Why)
-    (replies save : Bool) (status : ℕ) → (why ≡ Some Memory → status ≡ 8)
-    → WritesText written failures two_way queries history before after why
+    (options : Options) (queries : List Query) (history : List Entry) (before after : K)
+    (why : Option Why) (replies save : Bool) (status : ℕ) → (why ≡ Some Memory → status ≡ 8)
+    → WritesText written failures options queries history before after why
     → WritesWhere (Contains (failed_sinks (is_write why) replies save) Events) status
-    (IsText two_way queries history) (written before) (written after)
-events_written written failures two_way queries history before after None replies save status memory writes = record {
-  whole = λ none other. writes.whole refl;
-  part = λ has.
-      let no : false ≡ true = in_events false replies save has in
-      absurd (cc no);
-  memory = λ is. whole_is_prefix (IsText two_way queries history) (written before) (written after) (writes.whole refl);
-}
-events_written written failures two_way queries history before after (Some Write) replies save status memory writes = record {
-  whole = λ none other. absurd (none (events_in true replies save refl));
-  part = λ has. writes.write refl;
-  memory = λ is. proper_is_prefix (IsText two_way queries history) (written before) (written after) (writes.write refl);
-}
-events_written written failures two_way queries history before after (Some Memory) replies save status memory writes = record {
-  whole = λ none other. absurd (other (memory refl));
-  part = λ has.
-      let no : false ≡ true = in_events false replies save has in
-      absurd (cc no);
-  memory = λ is. writes.memory refl;
-}
+    (IsText options queries history) (written before) (written after)
+events_written written failures options queries history before after None replies save status
+    memory writes = record {
+      whole = λ none other. writes.whole refl;
+      part = λ has.
+          let no : false ≡ true = in_events false replies save has in
+          absurd (cc no);
+      memory = λ is. whole_is_prefix (IsText options queries history) (written before)
+          (written after) (writes.whole refl);
+    }
+events_written written failures options queries history before after (Some Write) replies save
+    status memory writes = record {
+      whole = λ none other. absurd (none (events_in true replies save refl));
+      part = λ has. writes.write refl;
+      memory = λ is. proper_is_prefix (IsText options queries history) (written before)
+          (written after) (writes.write refl);
+    }
+events_written written failures options queries history before after (Some Memory) replies save
+    status memory writes = record {
+      whole = λ none other. absurd (other (memory refl));
+      part = λ has.
+          let no : false ≡ true = in_events false replies save has in
+          absurd (cc no);
+      memory = λ is. writes.memory refl;
+    }
 
 -- and counted
 pub events_counted : (why : Option Why) (replies save : Bool) (before after : ℕ)
     → CountsFault (why ≡ Some Write) before after
     → CountsFault (Contains (failed_sinks (is_write why) replies save) Events) before after
 events_counted why replies save before after counts =
-    counts_as (why ≡ Some Write) (Contains (failed_sinks (is_write why) replies save) Events) before after
+    counts_as (why ≡ Some Write) (Contains (failed_sinks (is_write why) replies save) Events)
+    before after
     (λ is. events_in (is_write why) replies save (is_write_some why is))
     (λ has. some_is_write why (in_events (is_write why) replies save has)) counts
 
 -- ---- the replies
 
-pub is_failed_err : (replied : Result (Unit {0}) TextFault) → replied ≡ Err WriteOfText → is_failed replied ≡ true
+pub is_failed_err : (replied : Result (Unit {0}) TextFault) → replied ≡ Err WriteOfText
+    → is_failed replied ≡ true
 is_failed_err replied is = ap is_failed is
 
-pub err_is_failed : (replied : Result (Unit {0}) TextFault) → is_failed replied ≡ true → replied ≡ Err WriteOfText
+pub err_is_failed : (replied : Result (Unit {0}) TextFault) → is_failed replied ≡ true
+    → replied ≡ Err WriteOfText
 err_is_failed (Ok done) is = absurd (cc is)
 err_is_failed (Err WriteOfText) is = refl
 err_is_failed (Err MemoryForText) is = absurd (cc is)
@@ -210,7 +228,8 @@ err_is_failed (Err MemoryForText) is = absurd (cc is)
 nothing_before : (old new : Option (List ℕ)) (front : List ℕ) → IfSome old (λ bytes. bytes ≡ [])
     → new ≡ append_known old front → old ≡ nothing_told new
 nothing_before None new front empty is = sym (ap nothing_told is)
-nothing_before (Some bytes) new front empty is = ap (λ (b : List ℕ). Some b) empty ∙ sym (ap nothing_told is)
+nothing_before (Some bytes) new front empty is = ap (λ (b : List ℕ). Some b) empty
+    ∙ sym (ap nothing_told is)
 
 -- it grew from nothing
 from_nothing : (old new : Option (List ℕ)) (front : List ℕ) → IfSome old (λ bytes. bytes ≡ [])
@@ -238,9 +257,11 @@ text_written written failures text old new failed (Ok done) status there back me
           absurd (cc no);
       memory = λ is. whole_is_prefix (λ t. t ≡ text) (nothing_told (written new)) (written new) all;
     }
-text_written written failures text old new failed (Err WriteOfText) status there back memory fresh part =
+text_written written failures text old new failed (Err WriteOfText) status there back
+    memory fresh part =
     let proper = part.write refl in
-    let front : GrewByProperPrefix (λ t. t ≡ text) (nothing_told (written new)) (written new) = record {
+    let front : GrewByProperPrefix (λ t. t ≡ text) (nothing_told (written new)) (written new) =
+    record {
       front = proper.front;
       rest = proper.rest;
       of_kind = sym proper.cut;
@@ -250,9 +271,11 @@ text_written written failures text old new failed (Err WriteOfText) status there
     record {
       whole = λ none other. absurd (none (there refl));
       part = λ has. front;
-      memory = λ is. proper_is_prefix (λ t. t ≡ text) (nothing_told (written new)) (written new) front;
+      memory = λ is. proper_is_prefix (λ t. t ≡ text) (nothing_told (written new))
+          (written new) front;
     }
-text_written written failures text old new failed (Err MemoryForText) status there back memory fresh part =
+text_written written failures text old new failed (Err MemoryForText) status there back
+    memory fresh part =
     let front = part.memory refl in
     record {
       whole = λ none other. absurd (other (memory refl));

@@ -13,13 +13,16 @@ use Rattle.rpq_words.specs.Modes.{AreSettings, BeginsWith, IsWithin, ReadsStream
 use Rattle.rpq_words.specs.Settings.{Settings}
 use Rattle.saved_window.specs.Then.{TwoSources, count_of, left_of_both, faults_of_both}
 use Rattle.rpq_text.specs.Definitions.{definitions_of}
+use Rattle.rpq_text.specs.declared.options.Options.{Options}
 use Rattle.run_start.specs.Files.{ForSessions, HasSessions, stream_contents}
-use Rattle.run_start.specs.Readers.{AreNewReaders, lefts_of}
+use Rattle.run_start.specs.Readers.{AreNew, AreNewReaders, contents_of, is_behind, lefts_of}
 use Rattle.run_start.specs.Ready.{IsReady}
 use Rattle.run_start.specs.declared.ready.Reads.{Reads}
+use Rattle.run_start.specs.declared.streams.Readers.{Readers}
+use Rattle.run_start.proofs.Modes.{reads_streams}
 use Rattle.rpq_threads.specs.Runs.{IsTask}
 use Rattle.rpq_threads.specs.declared.task.Task.{Task}
-use Rattle.rpq_run.specs.Asked.{IsAsked}
+use Rattle.rpq_run.specs.Asked.{IsAsked, IsTaskOf}
 use Rattle.rpq_run.proofs.Done.{as_many_streams}
 
 -- of two facts the one that holds where a test passes, and where it fails
@@ -42,12 +45,14 @@ pub match_some : (number : Option ℕ) (n : ℕ) (P : Type 0) (Q : ℕ → Type 
 match_some number n P Q is q = subst (λ (m : Option ℕ). MatchOption m P Q) (sym is) q
 
 -- a run begins by the settings of its words
-pub begun_by : (words : Option Settings) (given : Settings) (P : Settings → Type 0) → words ≡ Some given
+pub begun_by : (words : Option Settings) (given : Settings) (P : Settings → Type 0)
+    → words ≡ Some given
     → P given → IsSomeAnd words P
 begun_by words given P are holds = subst (λ (w : Option Settings). IsSomeAnd w P) (sym are) holds
 
 -- what holds of the settings of words
-pub for_given : (words : Option Settings) (given : Settings) (P : Settings → Type 0) → words ≡ Some given
+pub for_given : (words : Option Settings) (given : Settings) (P : Settings → Type 0)
+    → words ≡ Some given
     → P given → IfSome words P
 for_given words given P are holds = subst (λ (w : Option Settings). IfSome w P) (sym are) holds
 
@@ -63,21 +68,24 @@ one_named None is = absurd (cc is)
 one_named (Some x) is = refl
 
 -- and then there is one stream
-pub one_stream : (given : Settings) → true ≡ is_some given.from → IfSome given.from (BeginsWith given)
+one_stream : (given : Settings) → true ≡ is_some given.from → IfSome given.from (BeginsWith given)
     → length given.streams ≡ 1
 one_stream given = by given.from
   where
-    by : (from : Option (List ℕ)) → true ≡ is_some from → IfSome from (BeginsWith given) → length given.streams ≡ 1
+    by : (from : Option (List ℕ)) → true ≡ is_some from → IfSome from (BeginsWith given)
+        → length given.streams ≡ 1
     by None is begins = absurd (cc is)
     by (Some name) is begins = begins.one_stream
 
 -- there are as many readers as streams
-pub as_many_readers : {S : Type 0} (left : S → Option (List ℕ)) (given : Settings)
+as_many_readers : {S : Type 0} (left : S → Option (List ℕ)) (given : Settings)
     (holds : List ℕ → Option (List ℕ)) (readers : List (ReaderState (TwoSources S)))
     → stream_contents given holds ≡ lefts_of left readers → length readers ≡ length given.streams
 as_many_readers {S} left given holds readers contents =
-    sym (length-map readers (λ (reader : ReaderState (TwoSources S)). left_of_both left reader.source))
-    ∙ (ap (λ (files : List (Option (List ℕ))). length files) (sym {A = List (Option (List ℕ))} contents)
+    sym (length-map readers (λ (reader : ReaderState (TwoSources S)).
+    left_of_both left reader.source))
+    ∙ (ap (λ (files : List (Option (List ℕ))). length files)
+    (sym {A = List (Option (List ℕ))} contents)
     ∙ as_many_streams given holds)
 
 -- nobody asks where no asks file is named
@@ -92,66 +100,109 @@ none_asked given holds queries sessions = by given.asks
     by None is none = is
     by (Some name) is none = absurd (cc none)
 
--- the task of these settings, with these queries and readers
-pub record IsTaskOf {S K : Type 0} (given : Settings) (queries : List CompiledValue)
-    (readers : List (ReaderState (TwoSources S))) (reads : Reads S K) (task : Task (TwoSources S))
-    : Type 0 where
-  pub queries_are : task.queries.items ≡ queries
-  pub readers_are : task.readers.items ≡ readers
-  pub sessions_are : task.sessions.items ≡ reads.sessions.items
-  pub ways_are : task.two_way ≡ given.two_way
-  pub workers_are : task.workers ≡ given.workers
-  pub limit_is : task.limit ≡ given.history
+-- a run over streams, by what it begins with: its queries, and what is read and answered
+module _ {S K : Type 0} (left : S → Option (List ℕ)) (faults : S → ℕ)
+    (written : K → Option (List ℕ)) (failures : K → ℕ) (given : Settings)
+    (holds : List ℕ → Option (List ℕ)) (queries : List CompiledValue)
+    (reading : Option (Reads S K)) (reads : Reads S K) (there : reading ≡ Some reads)
+    (opened : Readers S) (are : reads.readers ≡ opened)
+    (readers : List (ReaderState (TwoSources S))) (task : Task (TwoSources S))
+    (of : IsTaskOf given queries readers reads.sessions.items task) (settings : AreSettings given)
+    (ready : IsReady left faults written failures given holds queries reading)
+    (lefts : contents_of left opened ≡ lefts_of left readers) where
+  -- what is ready
+  ready_reads : IsReady left faults written failures given holds queries (Some reads)
+  ready_reads = subst (λ (each : Option (Reads S K)).
+      IsReady left faults written failures given holds queries each) there ready
 
-module _ {S K : Type 0} (left : S → Option (List ℕ)) (faults : S → ℕ) (written : K → Option (List ℕ))
-    (failures : K → ℕ) (given : Settings) (holds : List ℕ → Option (List ℕ))
-    (queries : List CompiledValue) (reads : Reads S K) (readers : List (ReaderState (TwoSources S)))
-    (task : Task (TwoSources S)) (of : IsTaskOf given queries readers reads task)
-    (ready : IsReady left faults written failures given holds queries (Some reads))
-    (contents : stream_contents given holds ≡ lefts_of left readers) where
-  -- what is ready, of the queries of the task
+  -- and of the queries of the task
   ready_queries : IsReady left faults written failures given holds task.queries.items (Some reads)
   ready_queries = subst (λ (qs : List CompiledValue).
-      IsReady left faults written failures given holds qs (Some reads)) (sym {A = List CompiledValue} of.queries_are)
-      ready
+      IsReady left faults written failures given holds qs (Some reads))
+      (sym {A = List CompiledValue} of.queries_are) ready_reads
+
+  mode : ReadsStreams given
+  mode = reads_streams given settings ready_reads.reads.reads_some
 
   -- what the streams hold, of the readers of the task
   contents_left : stream_contents given holds ≡ lefts_of left task.readers.items
-  contents_left = contents
-      ∙ ap (lefts_of left) (sym {A = List (ReaderState (TwoSources S))} of.readers_are)
+  contents_left = ready_reads.reads.contents ∙ (ap (contents_of left) are
+      ∙ (lefts ∙ ap (lefts_of left) (sym {A = List (ReaderState (TwoSources S))} of.readers_are)))
 
-  asked_in : ForSessions given holds (definitions_of task.queries.items) (λ asked. task.sessions.items ≡ asked)
-  asked_in = subst (λ (ss : List (List Ask)). ForSessions given holds (definitions_of task.queries.items)
-      (λ asked. ss ≡ asked)) (sym {A = List (List Ask)} of.sessions_are) ready_queries.reads.asked
+  behind_is : is_behind opened ≡ is_some given.from
+  behind_is = sym (ap is_behind are) ∙ ready_reads.reads.behind
+
+  many : length task.readers.items ≡ length given.streams
+  many = as_many_readers left given holds task.readers.items contents_left
+
+  asked_in : ForSessions given holds (definitions_of task.queries.items)
+      (λ asked. task.sessions.items ≡ asked)
+  asked_in = subst (λ (ss : List (List Ask)).
+      ForSessions given holds (definitions_of task.queries.items) (λ asked. ss ≡ asked))
+      (sym {A = List (List Ask)} of.sessions_are) ready_queries.reads.asked
+
+  -- edges are taken, and paths are told, as the settings say
+  two_way_is : task.options.two_way ≡ given.two_way
+  two_way_is = ap (λ (options : Options). options.two_way) of.options_are
+
+  paths_is : task.options.paths ≡ given.paths
+  paths_is = ap (λ (options : Options). options.paths) of.options_are
 
   -- what a run begins with is a task for its threads
-  pub task_is : AreSettings given → ReadsStreams given → AreNewReaders left faults readers
+  pub task_is : (AreNew left faults opened → AreNewReaders left faults readers)
       → IsTask (left_of_both left) (faults_of_both faults) task
-  task_is settings mode fresh =
+  task_is fresh =
       let all = ready_queries.understood in
-      let many = as_many_readers left given holds task.readers.items contents_left in
       record {
-        understood = record { some = all.some; few = all.few; accepted = all.accepted; compiled = all.compiled };
+        understood = record {
+          some = all.some;
+          few = all.few;
+          accepted = all.accepted;
+          compiled = all.compiled;
+        };
         workers = subst (λ n. IsWithin 64 n) (sym of.workers_are) settings.workers;
         streams = (omega (arith, many, mode.some), omega (arith, many, mode.few));
-        fresh = subst (AreNewReaders left faults) (sym {A = List (ReaderState (TwoSources S))} of.readers_are) fresh;
-        few = omega (arith, ready_queries.reads.few, ap (λ (ss : List (List Ask)). length ss) of.sessions_are);
+        fresh = subst (AreNewReaders left faults)
+            (sym {A = List (ReaderState (TwoSources S))} of.readers_are)
+            (fresh (subst (AreNew left faults) are ready_reads.reads.fresh));
+        few = omega (
+          arith,
+          ready_queries.reads.few,
+          ap (λ (ss : List (List Ask)). length ss) of.sessions_are,
+        );
         sessions = subst (λ (ss : List (List Ask)). All (IsSession (length task.queries.items)) ss)
             (sym {A = List (List Ask)} of.sessions_are) ready_queries.reads.ranges;
-        unasked = λ both. none_asked given holds (definitions_of task.queries.items) task.sessions.items asked_in
-            (mode.both_ways (sym {A = Bool} of.ways_are ∙ both)).no_asks;
+        unasked = λ both. none_asked given holds (definitions_of task.queries.items)
+            task.sessions.items asked_in
+            (mode.both_ways (sym {A = Bool} two_way_is ∙ both)).no_asks;
+        forwards = λ told. two_way_is ∙ mode.forwards (sym {A = Bool} paths_is ∙ told);
         limit = subst (λ n. IsWithin 2000000 n) (sym of.limit_is) settings.history;
       }
 
-  -- and it is what the settings ask for
-  pub task_asked : (firsts : ℕ) → firsts ≡ count_of given.from
+  -- where a saved window is read first, there is one reader
+  pub one_reader : is_behind opened ≡ true → length task.readers.items ≡ 1
+  one_reader behind =
+      let one = one_stream given (sym {A = Bool} behind ∙ behind_is) mode.begun in
+      omega (arith, many, one)
+
+  -- the task is what the settings ask for
+  task_asked : (firsts : ℕ) → (is_behind opened ≡ is_some given.from → firsts ≡ count_of given.from)
       → IsAsked left written failures given holds firsts task reads.sinks
-  task_asked firsts behind = record {
+  task_asked firsts named = record {
     has = ready_queries.has;
     contents = contents_left;
-    behind = behind;
+    behind = named behind_is;
     asked = asked_in;
-    two_way = of.ways_are;
+    options = of.options_are;
     limit = of.limit_is;
     sinks = ready_queries.reads.sinks;
   }
+
+  -- and of what the settings may ask for it is the run over streams
+  pub streams_asked : (P Q : Type 0) (R : ℕ → Type 0) (firsts : ℕ)
+      → (is_behind opened ≡ is_some given.from → firsts ≡ count_of given.from)
+      → (IsAsked left written failures given holds firsts task reads.sinks → Q)
+      → MatchBool given.check P (MatchOption given.generate Q R)
+  streams_asked P Q R firsts named runs =
+      match_false given.check P (MatchOption given.generate Q R) mode.unchecked
+      (match_none given.generate Q R mode.none_made (runs (task_asked firsts named)))

@@ -1,14 +1,13 @@
 -- What a run over streams that is done comes to, in one piece.
-use Rattle.std.specs.Prelude.{◌≡◌, ℕ, ◌+◌, ◌↔◌, ⊤, Bool, List, [], ◌∷◌, ◌++◌, length, map, take}
+use Rattle.std.specs.Prelude.{◌≡◌, ℕ, ◌+◌, ◌↔◌, ⊤, List, [], ◌∷◌, ◌++◌, length, map, take}
 use Rattle.std.specs.Prelude.{All, Option, Some, option_map, unwrap_or, slice_get, IfSome}
 use Rattle.std.specs.Prelude.{MatchOption}
 use Rattle.std.specs.List.{flat_map}
-use Rattle.rpq_base.specs.declared.data.Event.{Event}
 use Rattle.rpq_base.specs.declared.data.Pair.{Pair}
 use Rattle.rpq_model.specs.Answers.{IsAnswer}
 use Rattle.rpq_model.specs.Events.{IsHeld}
 use Rattle.rpq_model.specs.Query.{Query, path_query}
-use Rattle.two_way.specs.TwoWay.{walked, AreAllWalkedEvents}
+use Rattle.two_way.specs.TwoWay.{walked}
 use Rattle.rpq_words.specs.Settings.{Settings}
 use Rattle.ask_text.specs.declared.ask.Ask.{Ask}
 use Rattle.ask_text.specs.Replies.{replies}
@@ -17,16 +16,19 @@ use Rattle.saved_window.specs.SavedText.{saved_text}
 use Rattle.standing.specs.Stood.{HaveStood}
 use Rattle.stream_tuples.specs.History.{IsNumberOf, own_tuples}
 use Rattle.stream_tuples.specs.StreamText.{stream_tuples}
+use Rattle.rpq_text.specs.declared.options.Options.{Options}
+use Rattle.rpq_text.specs.Steps.{StepValue, AreSteps, events_of}
 use Rattle.rpq_text.specs.Text.{blocks_from}
 use Rattle.run_start.specs.Files.{HasQueries, HasSessions}
 use Rattle.rpq_threads.specs.Runs.{AreSessionsOf, asks_answered}
+use Rattle.rpq_run.specs.Options.{options_of}
 use Rattle.rpq_run.specs.Outcome.{Meanings, Sinks, Objects, Outcome}
 
--- whether edges may be taken backwards; the bytes of the queries file; of the asks file and of the
--- saved window with which the run begins, if there are such; of the streams' files; and those that
--- stood on the events before
+-- how the queries are evaluated, and what is told of them; the bytes of the queries file; of the
+-- asks file and of the saved window with which the run begins, if there are such; of the streams'
+-- files; and those that stood on the events before
 pub record Told : Type 0 where
-  pub two_way : Bool
+  pub options : Options
   pub queries : List ℕ
   pub asks : Option (List ℕ)
   pub from : Option (List ℕ)
@@ -45,7 +47,7 @@ stream_texts told = behind_text (unwrap_or told.from []) told.streams
 -- the settings say so, their files hold these bytes, and the sink of the events had these
 pub record IsTold {S K : Type 0} (means : Meanings S K) (given : Settings)
     (holds : List ℕ → Option (List ℕ)) (sinks : Sinks K) (told : Told) : Type 0 where
-  pub two_way : given.two_way ≡ told.two_way
+  pub options : options_of given ≡ told.options
   pub queries : holds given.queries ≡ Some told.queries
   pub asks : option_map holds given.asks ≡ option_map (λ bytes. Some bytes) told.asks
   pub from : option_map holds given.from ≡ option_map (λ bytes. Some bytes) told.from
@@ -59,29 +61,31 @@ AreAsked queries file sessions =
 
 -- there are queries and sessions, those of their files; one history, in which each stream's tuples
 -- stand once, in order, and nothing else; and the events that it brings, which were written behind
--- what stood on the sink, with each entry its own. After each entry the pairs of a query emitted
--- and not retracted are exactly its answers over the entries so far, and over their inverses where
--- edges may be taken backwards. Each session has exactly its
--- asks answered, each by the answers at a position of the history that never falls within the
--- session; and these replies were written. Each object that stayed heard all events that it wants,
--- and one that left a front of them. Where a window is saved, it is that of the history
+-- what stood on the sink, with each entry its own, and where paths are told, behind each that gains
+-- a pair a path that shows it. After each entry the pairs of a query emitted and not retracted are
+-- exactly its answers over the entries so far, and over their inverses where edges may be taken
+-- backwards. Each session has exactly its asks answered, each by the answers at a position of the
+-- history that never falls within the session; and these replies were written. Each object that
+-- stayed heard all events that it wants, and one that left a front of them. Where a window is
+-- saved, it is that of the history
 pub record Headline {S K : Type 0} (means : Meanings S K) (told : Told) (sinks : Sinks K)
     (objects : Objects) (outcome : Outcome S K) : Type 0 where
   pub queries : List Query
-  pub accepted : HasQueries told.two_way told.queries queries
+  pub accepted : HasQueries told.options.two_way told.queries queries
   pub sessions : List (List Ask)
   pub asked : AreAsked queries told.asks sessions
   pub in_order : (place : ℕ) (text : List ℕ) → slice_get (stream_texts told) place ≡ Some text
       → own_tuples (place + 1) outcome.history ≡ (stream_tuples text).tuples
   pub no_other : All (λ entry. IsNumberOf (length told.streams) entry.stream) outcome.history
-  pub events : List (List Event)
-  pub are_events : AreAllWalkedEvents told.two_way queries outcome.history events
+  pub steps : List StepValue
+  pub are_steps : AreSteps told.options queries outcome.history steps
   pub written : means.written sinks.events_new
-      ≡ Some (told.events ++ blocks_from queries 1 outcome.history events)
+      ≡ Some (told.events ++ blocks_from queries 1 outcome.history steps)
   pub held : (place : ℕ) (query : Query) → slice_get queries place ≡ Some query
-      → (count : ℕ) (pair : Pair) → IsHeld place (flat_map (λ list. list) (take count events)) pair
-      ↔ IsAnswer (path_query query) (walked told.two_way (take count outcome.history)) pair
-  pub heard : HaveStood objects.before (flat_map (λ list. list) events) ⊤
+      → (count : ℕ) (pair : Pair)
+      → IsHeld place (flat_map (λ list. list) (take count (events_of steps))) pair
+      ↔ IsAnswer (path_query query) (walked told.options.two_way (take count outcome.history)) pair
+  pub heard : HaveStood objects.before (flat_map (λ list. list) (events_of steps)) ⊤
       objects.after.members objects.after.left
   pub readers : AreSessionsOf queries outcome.history (length outcome.history)
       sessions outcome.sessions

@@ -1,3 +1,4 @@
+pub mod Options
 pub mod Outcome
 pub mod Sources
 pub mod Written

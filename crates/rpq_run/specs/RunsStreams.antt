@@ -25,6 +25,7 @@ use Rattle.run_start.specs.Files.{ForQueries, ForAsked, AreUnderstoodFiles, stre
 use Rattle.rpq_threads.specs.Runs.{AreSessionsOf}
 use Rattle.rpq_threads.specs.Told.{TellsObjects}
 use Rattle.rpq_run.specs.Causes.{HasCauses}
+use Rattle.rpq_run.specs.Options.{options_of}
 use Rattle.rpq_run.specs.Outcome.{Meanings, Sinks, Objects, Outcome}
 use Rattle.rpq_run.specs.Sources.{stream_sources}
 use Rattle.rpq_run.specs.Written.{WritesWhere}
@@ -56,7 +57,7 @@ pub record WritesEvents {S K : Type 0} (means : Meanings S K) (given : Settings)
     (outcome : Outcome S K) : Type 0 where
   pub text : ForQueries given.two_way (holds given.queries) (λ queries.
       WritesWhere (Contains failed Events) outcome.status
-      (IsText given.two_way queries outcome.history)
+      (IsText (options_of given) queries outcome.history)
       (means.written sinks.events_old) (means.written sinks.events_new))
   pub sets : ForQueries given.two_way (holds given.queries) (λ queries.
       FrontsHold given.two_way queries outcome.history)
@@ -116,7 +117,7 @@ pub record TellsHistory {S K : Type 0} (means : Meanings S K) (given : Settings)
   pub write : why ≡ Some Write → Contains failed Events
   pub memory : why ≡ Some Memory → outcome.status ≡ memory_status
   pub told : ForQueries given.two_way (holds given.queries) (λ queries.
-      TellsObjects given.two_way queries outcome.history
+      TellsObjects (options_of given) queries outcome.history
       (means.written sinks.events_old) (means.written sinks.events_new) objects.before why
       objects.after)
 

@@ -8,6 +8,7 @@ ghost use Rattle.rpq_text.specs.ErrorLines.{start_line};
 ghost use Rattle.rpq_text.specs.Statuses.{done_status, memory_status, status_of_start};
 ghost use Rattle.run_start.specs.Ready.{IsReady};
 ghost use Rattle.run_start.specs.Start.{IsDecided, UsesFiles};
+ghost use Rattle.rpq_run.specs.Asked.{IsTaskOf};
 ghost use Rattle.rpq_run.specs.Done.{CanBeDone, NothingRose, NothingFails};
 ghost use Rattle.rpq_run.specs.Outcome.{meanings, objects, openings, outcome, sinks};
 ghost use Rattle.rpq_run.specs.Run.{Refuses, Runs};
@@ -24,7 +25,7 @@ use generated_run::Generation;
 use query_file::Compiled;
 use rpq_base::Memory;
 use rpq_io::{Context, Files, Gate, LineReader, Source};
-use rpq_text::StartFault;
+use rpq_text::{Options, StartFault};
 use rpq_threads::Task;
 use rpq_words::Chosen;
 use run_start::{Readers, Reads, Ready, Refusal, begin, settings_of};
@@ -40,7 +41,8 @@ use std::thread::Threads;
 /// each.
 ///
 /// Where the words say so, the queries may take edges backwards. Then the events of an entry are
-/// the difference that the entry and its inverse bring together.
+/// the difference that the entry and its inverse bring together. Or a path is written behind each
+/// gained pair that shows it: the positions of its entries, and until when the pair lasts.
 ///
 /// The words are those of the command line, the program's name first. The queries file is read
 /// whole and understood, then the asks file, then the saved window of an earlier run and the
@@ -186,16 +188,15 @@ fn task_of<S: Source>(
     readers: Vec<LineReader<S>>,
     sessions: Vec<Session>,
 ) -> Task<S>
-    ensures queries { result.queries ≡ queries }
-    ensures two_way { result.two_way ≡ chosen.now.two_way }
-    ensures workers { result.workers ≡ chosen.now.workers }
-    ensures limit { result.limit ≡ chosen.now.history }
-    ensures readers { result.readers ≡ readers }
-    ensures sessions { result.sessions ≡ sessions }
+    ensures { IsTaskOf chosen.now queries.items readers.items sessions.items result }
 {
+    let options = Options {
+        two_way: chosen.two_way,
+        paths: chosen.paths,
+    };
     Task {
         queries,
-        two_way: chosen.two_way,
+        options,
         workers: chosen.workers,
         limit: chosen.history,
         readers,

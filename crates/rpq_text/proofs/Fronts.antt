@@ -1,7 +1,7 @@
 -- The events of the first entries of a history are those of a shorter one, and what is held after
 -- them.
 use Rattle.std.proofs.Common.{◌≡◌, ℕ, Bool, true, false, List, [], ◌∷◌, ◌++◌, Some, take}
-use Rattle.std.proofs.Common.{sym, subst, append_assoc, refl}
+use Rattle.std.proofs.Common.{sym, subst, append_assoc}
 use Rattle.std.specs.Prelude.{◌↔◌, IsTrue, slice_get}
 use Rattle.std.specs.List.{flat_map}
 use Rattle.std.proofs.lemmas.Bool.{false≢true}

@@ -1,4 +1,7 @@
 mod Pieces
+mod EventLines
+pub mod StepLists
+mod Showing
 pub mod Texts
 mod Fronts
 pub mod WordPieces

@@ -44,7 +44,7 @@ pub record LineExamples : Type 0 where
       ≡ codes "p arbitrary states 3 no () a b/\"c|d\"\n"
   pub words : start_line Words ≡ codes "rpq: words\nusage: rpq [--workers N] [--history N] "
       ++ codes "[--asks FILE --replies FILE] [--check] [--generate N] "
-      ++ codes "[--two-way] [--save FILE] [--from FILE] QUERIES [STREAM...]\n"
+      ++ codes "[--two-way] [--paths] [--save FILE] [--from FILE] QUERIES [STREAM...]\n"
   pub shape : start_line (asks_fault 1 Shape) ≡ codes "rpq: asks line 1: shape\n"
   pub unknown : start_line (asks_fault 2 UnknownQuery)
       ≡ codes "rpq: asks line 2: unknown query\n"

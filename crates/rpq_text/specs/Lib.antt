@@ -1,4 +1,5 @@
 pub mod Limits
+pub mod Steps
 pub mod Text
 pub mod Verdicts
 pub mod Definitions

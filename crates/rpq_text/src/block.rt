@@ -1,11 +1,14 @@
-//! The text of an entry and its events.
+//! The text of an entry and what it brings.
 
-ghost use Rattle.std.specs.Prelude.{◌≡◌, ◌<◌, ◌++◌, [], length, OnOk, IfOk, All};
+ghost use Rattle.std.specs.Prelude.{◌≡◌, ◌<◌, ◌++◌, [], length, take, drop, flat_map, codes};
+ghost use Rattle.std.specs.Prelude.{decimal, OnOk, IfOk, All};
 ghost use Rattle.rpq_base.specs.Plain.{IsPlain};
 ghost use Rattle.ask_text.specs.Reply.{name_at};
 ghost use Rattle.rpq_text.specs.Definitions.{definitions_of};
-ghost use Rattle.rpq_text.specs.Text.{event_line, entry_line, block};
+ghost use Rattle.rpq_text.specs.Text.{event_line, event_lines, entry_line, block, shown_line};
 
+use crate::step::Step;
+use path_witness::ShownPath;
 use query_file::Compiled;
 use rpq_base::{Entry, Event, Memory};
 use rpq_model::QueryDef;
@@ -17,22 +20,23 @@ use tuple_text::push_tuple;
 const KEPT_ROOM: usize = 1 << 20;
 
 /// The block of the entry at position `n`, counted from 1: the line of the entry, then one line for
-/// each of its events, each with a line feed at its end. Each event has the number of one of the
-/// queries, counted from 0, and the entry's label points forwards. The only error is [`Memory`].
+/// each of its events, and behind that of an addition one for the path that shows it, if there is
+/// one, each with a line feed at its end. Each event has the number of one of the queries, counted
+/// from 0, and the entry's label points forwards. The only error is [`Memory`].
 pub fn block_text(
     alloc: Global,
     n: u64,
     entry: &Entry,
-    events: &[Event],
+    step: &Step,
     queries: &[Compiled],
 ) -> Result<Vec<u8>, Memory>
     requires plain { IsPlain entry.now }
-    requires numbers { All (λ event. event.query < length queries.now) events.now }
+    requires numbers { All (λ event. event.query < length queries.now) step.now.events }
     ensures { IfOk result (λ text.
-        text.items ≡ block (definitions_of queries.now) n entry.now events.now) }
+        text.items ≡ block (definitions_of queries.now) n entry.now step.now) }
 {
     let mut text = Vec::new(alloc);
-    make_block(&mut text, n, entry, events, queries)?;
+    make_block(&mut text, n, entry, step, queries)?;
     Ok(text)
 }
 
@@ -44,21 +48,18 @@ pub fn make_block(
     text: &mut Vec<u8>,
     n: u64,
     entry: &Entry,
-    events: &[Event],
+    step: &Step,
     queries: &[Compiled],
 ) -> Result<(), Memory>
     requires plain { IsPlain entry.now }
-    requires numbers { All (λ event. event.query < length queries.now) events.now }
+    requires numbers { All (λ event. event.query < length queries.now) step.now.events }
     ensures { OnOk result
-        (text.new.items ≡ block (definitions_of queries.now) n entry.now events.now) }
+        (text.new.items ≡ block (definitions_of queries.now) n entry.now step.now) }
 {
     empty(text);
-    text.reserve(room_for(events.len()))?;
+    text.reserve(room_for(step.events.len().saturating_add(step.shown.len())))?;
     push_entry(text, n, entry)?;
-    for event in events {
-        push_event(text, queries, event)?;
-    }
-    Ok(())
+    push_events(text, queries, &step.events, &step.shown)
 }
 
 /// Empties the text, and gives back what room it has above that which is kept.
@@ -71,9 +72,9 @@ fn empty(text: &mut Vec<u8>)
     }
 }
 
-/// Room for a block with so many events whose names are short. A longer block takes more later.
-fn room_for(events: usize) -> usize {
-    events.saturating_mul(32).saturating_add(128)
+/// Room for a block with so many more lines whose names are short. A longer block takes more later.
+fn room_for(lines: usize) -> usize {
+    lines.saturating_mul(32).saturating_add(128)
 }
 
 /// Writes the line of the entry at position `n` at the end of the text.
@@ -88,6 +89,65 @@ fn push_entry(text: &mut Vec<u8>, n: u64, entry: &Entry) -> Result<(), Memory>
     text.extend_from_slice(b" ")?;
     push_tuple(text, &entry.tuple)?;
     text.extend_from_slice(b"\n")?;
+    Ok(())
+}
+
+/// Writes the lines of events, and behind that of each addition the line of the next path, if there
+/// is one, at the end of the text.
+fn push_events(
+    text: &mut Vec<u8>,
+    queries: &[Compiled],
+    events: &[Event],
+    shown: &[ShownPath],
+) -> Result<(), Memory>
+    requires { All (λ event. event.query < length queries.now) events.now }
+    ensures { OnOk result (text.new.items
+        ≡ text.old.items ++ event_lines (definitions_of queries.now) events.now shown.now) }
+{
+    let mut rest = shown;
+    for event in events {
+        push_event(text, queries, event)?;
+        if event.added {
+            rest = push_next(text, rest)?;
+        }
+    }
+    Ok(())
+}
+
+/// Writes the line of the first path, if there is one, at the end of the text, and answers the
+/// others.
+fn push_next<'a>(text: &mut Vec<u8>, shown: &'a [ShownPath]) -> Result<&'a [ShownPath], Memory>
+    ensures line { OnOk result
+        (text.new.items ≡ text.old.items ++ flat_map shown_line (take 1 shown.now)) }
+    ensures rest { IfOk result (λ rest. rest.now ≡ drop 1 shown.now) }
+{
+    let [first, rest @ ..] = shown else {
+        return Ok(shown);
+    };
+    push_shown(text, first)?;
+    Ok(rest)
+}
+
+/// Writes the line of a path that shows an answer at the end of the text.
+fn push_shown(text: &mut Vec<u8>, shown: &ShownPath) -> Result<(), Memory>
+    ensures { OnOk result (text.new.items ≡ text.old.items ++ shown_line shown.now) }
+{
+    text.extend_from_slice(b"= ")?;
+    push_decimal(text, shown.until)?;
+    push_positions(text, &shown.positions)?;
+    text.extend_from_slice(b"\n")?;
+    Ok(())
+}
+
+/// Writes the positions at the end of the text, each behind a space.
+fn push_positions(text: &mut Vec<u8>, positions: &[u64]) -> Result<(), Memory>
+    ensures { OnOk result (text.new.items ≡ text.old.items
+        ++ flat_map (λ position. codes " " ++ decimal position) positions.now) }
+{
+    for position in positions {
+        text.extend_from_slice(b" ")?;
+        push_decimal(text, *position)?;
+    }
     Ok(())
 }
 

@@ -1,18 +1,33 @@
 //! Laws of the definitions. The functions do nothing: their contracts are the laws.
 
 ghost use Rattle.rpq_text.specs.Examples.{LineExamples};
-ghost use Rattle.rpq_text.specs.Laws.{EveryHistoryHasOneText, FrontsHoldAnswers, OneVerdictText};
+ghost use Rattle.rpq_text.specs.Laws.{EveryEntryHasAStep, EveryHistoryHasAText};
+ghost use Rattle.rpq_text.specs.Laws.{FrontsHoldAnswers, OneVerdictText, StepsHaveTheEvents};
+ghost use Rattle.rpq_text.specs.Laws.{WithoutPathsOneText};
 
 use containment_laws::accepted_queries_have_events;
 use minimal_dfa::least_has_fewest;
+use path_witness::answers_are_shown;
 use rpq_base::same_is_equal;
 
-/// Each history has exactly one text, where all queries are accepted.
-pub fn every_history_has_one_text()
-    ensures { EveryHistoryHasOneText }
+/// Each entry brings a step, and so each history has a text, where the queries can be evaluated.
+pub fn every_history_has_a_text()
+    ensures step { EveryEntryHasAStep }
+    ensures text { EveryHistoryHasAText }
 {
     accepted_queries_have_events();
+    answers_are_shown();
 }
+
+/// Where no paths are told, a history has at most one text.
+pub fn without_paths_one_text()
+    ensures { WithoutPathsOneText }
+{}
+
+/// The steps of a history have the events that its entries bring, whether paths are told or not.
+pub fn steps_have_the_events()
+    ensures { StepsHaveTheEvents }
+{}
 
 /// Going through the events of the first blocks of a text leaves exactly each query's answers over
 /// as many entries, and over their inverses where edges may be taken backwards.

@@ -10,7 +10,9 @@ mod end_status;
 mod ends;
 mod error_lines;
 mod laws;
+mod options;
 pub mod status;
+mod step;
 mod verdict_lines;
 
 pub use block::{block_text, make_block, name_of};
@@ -20,5 +22,10 @@ pub use error_lines::{
     Line, ask_fault_line, ask_line, end_line, expr_line, file_line, line_of, memory_line,
     not_contained_front, opening_line, query_line, read_line, write_line,
 };
-pub use laws::{every_history_has_one_text, fronts_hold_answers, line_examples, one_verdict_text};
+pub use laws::{
+    every_history_has_a_text, fronts_hold_answers, line_examples, one_verdict_text,
+    steps_have_the_events, without_paths_one_text,
+};
+pub use options::Options;
+pub use step::Step;
 pub use verdict_lines::verdict_front;

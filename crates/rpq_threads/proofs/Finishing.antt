@@ -35,6 +35,7 @@ use Rattle.ask_text.specs.declared.ask.Ask.{Ask}
 use Rattle.ask_text.specs.Answered.{AnsweredValue}
 use Rattle.ask_text.specs.Ranges.{ended_at}
 use Rattle.ask_text.specs.Reply.{IsReply}
+use Rattle.rpq_text.specs.declared.options.Options.{Options}
 use Rattle.rpq_text.specs.Text.{IsText}
 use Rattle.rpq_workers.specs.declared.session_worker.Replied.{Replied}
 use Rattle.rpq_workers.specs.declared.stream_worker.Streamed.{Streamed}
@@ -200,10 +201,10 @@ module _ (law : LegalIsSound) (fronts : FrontsAreLegal) (terms : Terms) (lines :
   front_is : (seen : List Line) → StartsWith lines seen → IsFront terms.streams terms.cap seen lines
   front_is seen starts = is_front lines seen starts fronts terms.streams terms.cap legal
 
-  module _ {K : Type 0} (written : K → Option (List ℕ)) (failures : K → ℕ) (two_way : Bool)
+  module _ {K : Type 0} (written : K → Option (List ℕ)) (failures : K → ℕ) (options : Options)
       (history : HistoryValue) (same : history.terms ≡ terms) (before after : K)
       (first last : CircleValue) (engine : Each) (why : Option Why)
-      (fed : HasFed written failures two_way history before after first last engine why)
+      (fed : HasFed written failures options history before after first last engine why)
       (knows : Knows author terms lines engine) where
     closes : (reason : Why) → IsShutFor lines reason → why ≡ Some reason
     closes reason shut =
@@ -221,20 +222,20 @@ module _ (law : LegalIsSound) (fronts : FrontsAreLegal) (terms : Terms) (lines :
         let front = front_is engine.seen knows.seen_begins in
         let both = front.shut (reason, fed.seen_shut reason is) in both.0
 
-    pub writes : WritesText written failures two_way terms.queries (entries lines) before after why
+    pub writes : WritesText written failures options terms.queries (entries lines) before after why
     writes = record {
-      whole = λ none. subst (λ (t : Terms). Grew (IsText two_way t.queries (entries lines))
+      whole = λ none. subst (λ (t : Terms). Grew (IsText options t.queries (entries lines))
           (written before) (written after)) same
-          (subst (λ (all : List Entry). Grew (IsText two_way history.terms.queries all)
+          (subst (λ (all : List Entry). Grew (IsText options history.terms.queries all)
           (written before) (written after)) (sym (no_more none)) (fed.text.whole none));
       write = λ is. subst (λ (t : Terms). GrewByProperPrefix
-          (IsText two_way t.queries (entries lines)) (written before) (written after)) same
+          (IsText options t.queries (entries lines)) (written before) (written after)) same
           (subst (λ (all : List Entry). GrewByProperPrefix
-          (IsText two_way history.terms.queries all) (written before) (written after))
+          (IsText options history.terms.queries all) (written before) (written after))
           (sym (none_after_shut Write is)) (fed.text.write is));
-      memory = λ is. subst (λ (t : Terms). GrewByPrefix (IsText two_way t.queries (entries lines))
+      memory = λ is. subst (λ (t : Terms). GrewByPrefix (IsText options t.queries (entries lines))
           (written before) (written after)) same
-          (subst (λ (all : List Entry). GrewByPrefix (IsText two_way history.terms.queries all)
+          (subst (λ (all : List Entry). GrewByPrefix (IsText options history.terms.queries all)
           (written before) (written after)) (sym (none_after_shut Memory is)) (fed.text.memory is));
       counted = fed.text.counted;
     }
@@ -243,11 +244,11 @@ module _ (law : LegalIsSound) (fronts : FrontsAreLegal) (terms : Terms) (lines :
     all_seen None is = no_more is
     all_seen (Some reason) is = none_after_shut reason is
 
-    pub tells : TellsObjects two_way terms.queries (entries lines) (written before) (written after)
+    pub tells : TellsObjects options terms.queries (entries lines) (written before) (written after)
         first.members why last
-    tells = subst (λ (t : Terms). TellsObjects two_way t.queries (entries lines) (written before)
+    tells = subst (λ (t : Terms). TellsObjects options t.queries (entries lines) (written before)
         (written after) first.members why last) same
-        (subst (λ (all : List Entry). TellsObjects two_way history.terms.queries all
+        (subst (λ (all : List Entry). TellsObjects options history.terms.queries all
         (written before) (written after) first.members why last) (sym (all_seen why refl))
         fed.objects)
 
@@ -478,7 +479,7 @@ module _ (law : LegalIsSound) (fronts : FrontsAreLegal) (terms : Terms) (lines :
       as_many_sources = ap length did.sources_are ∙ (length-sources did.streamed ∙ many);
       as_many_ends = ap length did.ends_are ∙ (length-ends did.streamed ∙ many);
       each = λ place file source end f s e.
-          streams_at written failures given.two_way history same given.events gave.events
+          streams_at written failures given.options history same given.events gave.events
           given.circle gave.circle did.engine gave.why did.fed engine_knew left faults 1
           given.readers did.streamed (map (λ (r : Replied). r.pass) did.replied) did.did
           others_knew place file source end f
@@ -489,7 +490,7 @@ module _ (law : LegalIsSound) (fronts : FrontsAreLegal) (terms : Terms) (lines :
     pub all_closed : (reason : Why) → Contains gave.ends (Closed reason) → gave.why ≡ Some reason
     all_closed reason there =
         let ends = map (λ (d : Streamed S). d.end) did.streamed in
-        let all = closed_all written failures given.two_way history same given.events gave.events
+        let all = closed_all written failures given.options history same given.events gave.events
         given.circle gave.circle did.engine gave.why did.fed engine_knew left faults 1
         given.readers did.streamed (map (λ (r : Replied). r.pass) did.replied) did.did
         others_knew in
@@ -503,14 +504,14 @@ module _ (law : LegalIsSound) (fronts : FrontsAreLegal) (terms : Terms) (lines :
         let sound = law terms.streams terms.cap lines legal in
         let is = sound.appended k entry below in record { first = is.0; last = is.1 }
 
-    pub all_text : WritesText written failures given.two_way terms.queries (entries lines)
+    pub all_text : WritesText written failures given.options terms.queries (entries lines)
         given.events gave.events gave.why
-    all_text = writes written failures given.two_way history same given.events gave.events
+    all_text = writes written failures given.options history same given.events gave.events
         given.circle gave.circle did.engine gave.why did.fed engine_knew
 
-    pub all_told : TellsObjects given.two_way terms.queries (entries lines) (written given.events)
+    pub all_told : TellsObjects given.options terms.queries (entries lines) (written given.events)
         (written gave.events) given.circle.members gave.why gave.circle
-    all_told = tells written failures given.two_way history same given.events gave.events
+    all_told = tells written failures given.options history same given.events gave.events
         given.circle gave.circle did.engine gave.why did.fed engine_knew
 
     all_sessions : AreSessionsOf terms.queries (entries lines) (published lines) given.sessions
@@ -518,7 +519,7 @@ module _ (law : LegalIsSound) (fronts : FrontsAreLegal) (terms : Terms) (lines :
     all_sessions =
         subst (AreSessionsOf terms.queries (entries lines) (published lines) given.sessions)
         (sym did.answers_are)
-        (sessions_are written failures given.two_way history same given.events gave.events
+        (sessions_are written failures given.options history same given.events gave.events
         given.circle gave.circle did.engine gave.why did.fed engine_knew (1 + history.terms.streams)
         given.sessions did.replied did.answered_all
         (All-behind (Knows author terms lines) (map (λ (d : Streamed S). d.pass) did.streamed)
@@ -549,7 +550,7 @@ module _ (law : LegalIsSound) (fronts : FrontsAreLegal) (terms : Terms) (lines :
         record {
           last = published lines;
           within = sound.behind;
-          at_end = λ none. all_published written failures given.two_way history same given.events
+          at_end = λ none. all_published written failures given.options history same given.events
               gave.events given.circle gave.circle did.engine gave.why did.fed engine_knew none
               (omega (arith, many));
           sessions = all_sessions;
@@ -579,9 +580,9 @@ module _ (law : LegalIsSound) (fronts : FrontsAreLegal) {S K O : Type 0}
     circle = as_seen seen outcome.circle;
   }
 
-  abbrev given_of : Bool → List (ReaderState S) → List (List Ask) → Given S K
-  given_of two_way readers sessions = record {
-    two_way = two_way;
+  abbrev given_of : Options → List (ReaderState S) → List (List Ask) → Given S K
+  given_of options readers sessions = record {
+    options = options;
     readers = readers;
     sessions = sessions;
     events = before;
@@ -589,11 +590,11 @@ module _ (law : LegalIsSound) (fronts : FrontsAreLegal) {S K O : Type 0}
   }
 
   pub outcome_holds : outcome.history.items ≡ entries lines →
-      (two_way : Bool) (readers : List (ReaderState S)) (sessions : List (List Ask)) →
-      two_way ≡ task.two_way → readers ≡ task.readers.items → sessions ≡ task.sessions.items →
+      (options : Options) (readers : List (ReaderState S)) (sessions : List (List Ask)) →
+      options ≡ task.options → readers ≡ task.readers.items → sessions ≡ task.sessions.items →
       IsServed left faults written failures history
       (record {
-        two_way = two_way;
+        options = options;
         readers = readers;
         sessions = sessions;
         events = before;
@@ -611,18 +612,18 @@ module _ (law : LegalIsSound) (fronts : FrontsAreLegal) {S K O : Type 0}
       All (Knows author (terms_of task) lines) passes → length sessions ≡ history.readers →
       All IsPlain (entries lines) →
       Holds left faults written failures seen task before after circle outcome
-  outcome_holds are two_way readers sessions two_way_is readers_are sessions_are was knows asked
+  outcome_holds are options readers sessions options_is readers_are sessions_are was knows asked
       plain =
       let queries = definitions_of task.queries.items in
       let answers = gave.answers in
       let files = map (λ (reader : ReaderState S). left reader.source) task.readers.items in
       let from_entries = sym {A = List Entry} are in
       let did = subst (λ (given : List (ReaderState S)). IsServed left faults written failures
-      history (given_of task.two_way given task.sessions.items) gave passes) readers_are
+      history (given_of task.options given task.sessions.items) gave passes) readers_are
       (subst (λ (given : List (List Ask)). IsServed left faults written failures history
-      (given_of task.two_way readers given) gave passes) sessions_are
-      (subst (λ (given : Bool). IsServed left faults written failures history
-      (given_of given readers sessions) gave passes) two_way_is was)) in
+      (given_of task.options readers given) gave passes) sessions_are
+      (subst (λ (given : Options). IsServed left faults written failures history
+      (given_of given readers sessions) gave passes) options_is was)) in
       let asked_all = sym (ap length sessions_are) ∙ asked in
       record {
         streams = subst (λ (all : List Entry). AreStreamsOf left faults task.limit files
@@ -637,7 +638,7 @@ module _ (law : LegalIsSound) (fronts : FrontsAreLegal) {S K O : Type 0}
             same _ _ passes did knows);
         few = omega (arith, legal.capped, ap length are);
         plain = subst (λ (all : List Entry). All IsPlain all) from_entries plain;
-        text = subst (λ (all : List Entry). WritesText written failures task.two_way queries all
+        text = subst (λ (all : List Entry). WritesText written failures task.options queries all
             before after outcome.why) from_entries
             (all_text law fronts (terms_of task) lines legal left faults written failures history
             same _ _ passes did knows);
@@ -645,7 +646,7 @@ module _ (law : LegalIsSound) (fronts : FrontsAreLegal) {S K O : Type 0}
             outcome.why outcome.short_of_memory) from_entries
             (all_replies law fronts (terms_of task) lines legal left faults written failures history
             same _ _ passes did knows asked_all);
-        objects = subst (λ (all : List Entry). TellsObjects task.two_way queries all
+        objects = subst (λ (all : List Entry). TellsObjects task.options queries all
             (written before) (written after) (as_seen seen circle).members outcome.why
             (as_seen seen outcome.circle)) from_entries
             (all_told law fronts (terms_of task) lines legal left faults written failures history

@@ -1,10 +1,8 @@
 -- A front of entries that was fed, and what was written of its blocks.
-use Rattle.std.proofs.Common.{◌≡◌, ℕ, ◌+◌, ◌<◌, Bool, List, [], ◌∷◌, ◌++◌, length, Option}
-use Rattle.std.proofs.Common.{Result, Ok, Err}
-use Rattle.std.proofs.Common.{refl, sym, subst, ◌∙◌, arith}
+use Rattle.std.proofs.Common.{◌≡◌, ℕ, ◌+◌, ◌<◌, List, [], ◌∷◌, ◌++◌, length, Option}
+use Rattle.std.proofs.Common.{Result, Ok, Err, refl, sym, subst, ◌∙◌, arith}
 use Rattle.std.specs.Prelude.{OnOk, IfErr, ⊤}
 use Rattle.std.specs.Result.{IsErrAnd}
-use Rattle.std.specs.Global.{Vec}
 use Rattle.std.specs.List.{All}
 use Rattle.std.specs.Io.KnownBytes.{append_known}
 use Rattle.std.proofs.lemmas.List.Elements.{All-nil, All-cons, All-head, All-tail}
@@ -12,19 +10,20 @@ use Rattle.rpq_base.specs.declared.data.Entry.{Entry}
 use Rattle.rpq_base.specs.declared.data.Event.{Event}
 use Rattle.rpq_io.specs.Writes.{WritesProperPrefix}
 use Rattle.query_file.specs.Compiled.{CompiledValue}
-use Rattle.two_way.specs.TwoWay.{AreWalkedEvents, AreAllWalkedEventsFrom}
-use Rattle.rpq_model.proofs.EachEntry.{each_as_many}
 use Rattle.path_engine.specs.Engine.{definitions}
 use Rattle.history_model.specs.declared.line.Why.{Why}
 use Rattle.history_model.specs.declared.line.Why.TheVariants.{Write, Memory}
 use Rattle.rpq_text.specs.Definitions.{definitions_of}
+use Rattle.rpq_text.specs.declared.options.Options.{Options}
+use Rattle.rpq_text.specs.Steps.{StepValue, AreStepsFrom, events_of}
 use Rattle.rpq_text.specs.Text.{blocks_from, IsText}
+use Rattle.rpq_text.proofs.StepLists.{steps_as_many}
 use Rattle.standing.specs.Circles.{CircleValue}
 use Rattle.rpq_threads.specs.Told.{all_events}
 use Rattle.rpq_threads.specs.declared.evaluator.Evaluator.{Evaluator}
 use Rattle.rpq_threads.specs.Fed.{WritesFront, TellsOn, WritesAndTells, KeepsSetup, StandsOver}
-use Rattle.rpq_threads.specs.Fed.{Finds, Emits, Stops}
-use Rattle.rpq_threads.proofs.Blocks.{lists_of, length-lists, text_append}
+use Rattle.rpq_threads.specs.Fed.{FindsSteps, Emits, Stops}
+use Rattle.rpq_threads.proofs.Blocks.{text_append}
 use Rattle.rpq_threads.proofs.Grows.{grew_on, grew_on_by_front, grew_on_by_proper}
 use Rattle.rpq_threads.proofs.Tellings.{hears_all, tells_part}
 
@@ -46,105 +45,102 @@ pub handed_err : {T E : Type 0} (result : Result T E) (fault : E) (P : E → Typ
 handed_err (Ok x) fault P hands p = tt
 handed_err (Err other) fault P hands p = subst P (sym hands) p
 
--- what holds of each list holds of the items of each vector
-each_vector : (P : List Event → Type 0) (found : List (Vec Event)) → All P (lists_of found) →
-    All (λ (own : Vec Event). P own.items) found
-each_vector P [] all = All-nil (λ (own : Vec Event). P own.items)
-each_vector P (own ∷ found) all =
-    All-cons (λ (each : Vec Event). P each.items) own found
-    (All-head P own.items (lists_of found) all)
-    (each_vector P found (All-tail P own.items (lists_of found) all))
+-- what holds of the events of each step
+each_step : (P : List Event → Type 0) (steps : List StepValue) → All P (events_of steps) →
+    All (λ (step : StepValue). P step.events) steps
+each_step P [] all = All-nil (λ (step : StepValue). P step.events)
+each_step P (step ∷ steps) all =
+    All-cons (λ (each : StepValue). P each.events) step steps
+    (All-head P step.events (events_of steps) all)
+    (each_step P steps (All-tail P step.events (events_of steps) all))
 
 -- behind a history the engine answered the entries, and it has these queries
 module _ (before : List Entry) (old new : Evaluator) (entries : List Entry)
-    (found : List (Vec Event)) (finds : Finds before new entries (lists_of found))
+    (steps : List StepValue) (finds : FindsSteps before new entries steps)
     (kept : KeepsSetup old new) (queries : List CompiledValue)
     (same : queries ≡ new.engine.queries) where
-  -- the events, by the queries that the engine had before
-  events_found : AreAllWalkedEventsFrom old.two_way (definitions old.engine) before entries
-      (lists_of found)
-  events_found =
-      subst (λ (two_way : Bool). AreAllWalkedEventsFrom two_way (definitions old.engine) before
-      entries (lists_of found)) kept.two_way
-      (subst (λ (qs : List CompiledValue). AreAllWalkedEventsFrom new.two_way (definitions_of qs)
-      before entries (lists_of found)) kept.queries finds.events)
+  -- the steps, by the queries that the engine had before
+  steps_found : AreStepsFrom old.options (definitions old.engine) before entries steps
+  steps_found =
+      subst (λ (options : Options). AreStepsFrom options (definitions old.engine) before entries
+      steps) kept.options
+      (subst (λ (qs : List CompiledValue). AreStepsFrom new.options (definitions_of qs) before
+      entries steps) kept.queries finds.are_steps)
 
-  pub numbers_found : All (λ (own : Vec Event). All (λ (event : Event).
-      event.query < length queries) own.items) found
-  numbers_found = each_vector (λ (own : List Event). All (λ (event : Event).
-      event.query < length queries) own) found
+  pub numbers_found : All (λ (step : StepValue). All (λ (event : Event).
+      event.query < length queries) step.events) steps
+  numbers_found = each_step (λ (own : List Event). All (λ (event : Event).
+      event.query < length queries) own) steps
       (subst (λ (qs : List CompiledValue). All (λ (own : List Event). All (λ (event : Event).
-      event.query < length qs) own) (lists_of found)) (sym same) finds.numbers)
+      event.query < length qs) own) (events_of steps)) (sym same) finds.numbers)
 
-  pub many_found : length found ≡ length entries
-  many_found =
-      sym (length-lists found)
-      ∙ each_as_many entries before (AreWalkedEvents new.two_way (definitions new.engine))
-      (lists_of found) finds.events
+  pub many_found : length steps ≡ length entries
+  many_found = steps_as_many entries before old.options (definitions old.engine) steps steps_found
 
   module _ (is : StandsOver old before) (position : ℕ) (place : position ≡ old.position + 1)
       (written_before written_after : Option (List ℕ)) where
     abbrev TextOf : List Entry → List ℕ → Type 0
-    TextOf history text = IsText old.two_way (definitions old.engine) history text
+    TextOf history text = IsText old.options (definitions old.engine) history text
 
     next_text : (text : List ℕ) → TextOf before text →
         TextOf (before ++ entries)
-        (text ++ blocks_from (definitions_of queries) position entries (lists_of found))
+        (text ++ blocks_from (definitions_of queries) position entries steps)
     next_text text is_text =
         let number : length before + 1 ≡ position = omega (arith, place, is.counted) in
         subst (λ (qs : List CompiledValue). TextOf (before ++ entries)
-        (text ++ blocks_from (definitions_of qs) position entries (lists_of found)))
+        (text ++ blocks_from (definitions_of qs) position entries steps))
         (sym (same ∙ kept.queries))
         (subst (λ (n : ℕ). TextOf (before ++ entries)
-        (text ++ blocks_from (definitions old.engine) n entries (lists_of found))) number
-        (text_append old.two_way (definitions old.engine) before text entries (lists_of found)
-        is_text events_found))
+        (text ++ blocks_from (definitions old.engine) n entries steps)) number
+        (text_append old.options (definitions old.engine) before text entries steps is_text
+        steps_found))
 
     pub emits_all : (circle_before circle_after : CircleValue) →
         written_after ≡ append_known written_before
-        (blocks_from (definitions_of queries) position entries (lists_of found)) →
-        TellsOn (all_events (lists_of found)) ⊤ circle_before circle_after →
+        (blocks_from (definitions_of queries) position entries steps) →
+        TellsOn (all_events (events_of steps)) ⊤ circle_before circle_after →
         Emits before old new entries written_before written_after circle_before circle_after
     emits_all circle_before circle_after written tells = record {
       setup = kept;
       stands = finds.stands;
+      marks = finds.marks;
       text = λ start so_far.
           grew_on (TextOf before) (TextOf (before ++ entries))
-          (blocks_from (definitions_of queries) position entries (lists_of found)) start
+          (blocks_from (definitions_of queries) position entries steps) start
           written_before written_after next_text so_far written;
-      heard = hears_all old.two_way (definitions old.engine) before entries (lists_of found)
-          events_found circle_before circle_after tells;
+      heard = hears_all old.options (definitions old.engine) before entries steps steps_found
+          circle_before circle_after tells;
     }
 
     -- not all blocks were written, or memory ran out while the objects were told of the events
     pub emits_stops : (circle_before circle_after : CircleValue) (why : Why) →
         (why ≡ Write → WritesProperPrefix
-        (blocks_from (definitions_of queries) position entries (lists_of found))
+        (blocks_from (definitions_of queries) position entries steps)
         written_before written_after) →
         (why ≡ Memory → WritesFront
-        (blocks_from (definitions_of queries) position entries (lists_of found))
+        (blocks_from (definitions_of queries) position entries steps)
         written_before written_after) →
-        WritesAndTells (definitions_of queries) position entries (lists_of found) why
+        WritesAndTells (definitions_of queries) position entries steps why
         written_before written_after circle_before circle_after →
-        Stops old.two_way (definitions old.engine) before (before ++ entries) why written_before
+        Stops old.options (definitions old.engine) before (before ++ entries) why written_before
         written_after circle_before circle_after
     emits_stops circle_before circle_after why proper part tells = record {
       write = λ why_is start so_far.
           grew_on_by_proper (TextOf before) (TextOf (before ++ entries))
-          (blocks_from (definitions_of queries) position entries (lists_of found)) start
+          (blocks_from (definitions_of queries) position entries steps) start
           written_before written_after next_text so_far (proper why_is);
       memory = λ why_is start so_far.
           grew_on_by_front (TextOf before) (TextOf (before ++ entries))
-          (blocks_from (definitions_of queries) position entries (lists_of found)) start
+          (blocks_from (definitions_of queries) position entries steps) start
           written_before written_after next_text so_far (part why_is);
       told = λ objects heard start so_far.
           let here : position ≡ length before + 1 = omega (arith, place, is.counted) in
-          tells_part old.two_way (definitions old.engine) before entries (lists_of found)
-          events_found circle_before circle_after why written_before written_after
-          (subst (λ (n : ℕ). WritesAndTells (definitions old.engine) n entries (lists_of found) why
+          tells_part old.options (definitions old.engine) before entries steps steps_found
+          circle_before circle_after why written_before written_after
+          (subst (λ (n : ℕ). WritesAndTells (definitions old.engine) n entries steps why
           written_before written_after circle_before circle_after) here
           (subst (λ (qs : List CompiledValue). WritesAndTells (definitions_of qs) position entries
-          (lists_of found) why written_before written_after circle_before circle_after)
+          steps why written_before written_after circle_before circle_after)
           (same ∙ kept.queries) tells))
           objects heard start so_far;
     }
@@ -159,10 +155,11 @@ emits_with_block before old new last later written_before written_after circle_b
     circle_after did = record {
       setup = record {
         queries = did.setup.queries;
-        two_way = did.setup.two_way;
+        options = did.setup.options;
         workers = did.setup.workers;
       };
       stands = record { stands = did.stands.stands; counted = did.stands.counted };
+      marks = did.marks;
       text = did.text;
       heard = did.heard;
     }

@@ -1,24 +1,25 @@
 -- What a sink grew by: texts and prefixes of texts.
-use Rattle.std.proofs.Common.{◌≡◌, ◌≢◌, ℕ, Bool, List, [], ◌∷◌, ◌++◌, Option, refl, ap, sym, subst}
+use Rattle.std.proofs.Common.{◌≡◌, ◌≢◌, ℕ, List, [], ◌∷◌, ◌++◌, Option, refl, ap, sym, subst}
 use Rattle.std.proofs.Common.{◌∙◌, append_assoc}
 use Rattle.std.specs.Io.KnownBytes.{append_known}
-use Rattle.std.specs.List.{All}
 use Rattle.std.proofs.lemmas.List.{append-nil}
 use Rattle.rpq_base.specs.declared.data.Entry.{Entry}
 use Rattle.rpq_io.specs.Writes.{WritesProperPrefix}
 use Rattle.rpq_io.proofs.Bytes.{append_known-nil, append_known-append}
-use Rattle.containment_laws.specs.Accepted.{IsAccepted, AcceptedHaveEvents}
 use Rattle.rpq_model.specs.Query.{Query}
+use Rattle.rpq_text.specs.declared.options.Options.{Options}
+use Rattle.rpq_text.specs.Laws.{EveryEntryHasAStep}
+use Rattle.rpq_text.specs.Steps.{AreEvaluable}
 use Rattle.rpq_text.specs.Text.{IsText}
 use Rattle.rpq_threads.specs.Fed.{WritesFront}
 use Rattle.rpq_threads.specs.Written.{Grew, GrewByPrefix, GrewByProperPrefix}
 use Rattle.rpq_text.proofs.Texts.{no_text, text_goes_on}
 
 -- the empty history has the empty text
-pub begins : (two_way : Bool) (queries : List Query) (before : Option (List ℕ)) →
-    Grew (IsText two_way queries []) before before
-begins two_way queries before =
-    record { text = []; of_kind = no_text two_way queries; written = sym (append_known-nil before) }
+pub begins : (options : Options) (queries : List Query) (before : Option (List ℕ)) →
+    Grew (IsText options queries []) before before
+begins options queries before =
+    record { text = []; of_kind = no_text options queries; written = sym (append_known-nil before) }
 
 module _ (IsText : List ℕ → Type 0) (before after : Option (List ℕ)) where
   -- what is whole is a prefix
@@ -75,40 +76,40 @@ module _ (IsText IsNext : List ℕ → Type 0) (next : List ℕ) (before between
         so_far.written ∙ append_known-append before so_far.text part.front);
   }
 
-module _ (have : AcceptedHaveEvents) (two_way : Bool) (queries : List Query)
-    (all : All IsAccepted queries)
+module _ (have : EveryEntryHasAStep) (options : Options) (queries : List Query)
+    (all : AreEvaluable queries)
     (history more : List Entry) (before after : Option (List ℕ)) where
   -- the text of a history is a prefix of that of a longer one, where the queries are accepted
-  pub prefix_of_longer : Grew (IsText two_way queries history) before after →
-      GrewByPrefix (IsText two_way queries (history ++ more)) before after
+  pub prefix_of_longer : Grew (IsText options queries history) before after →
+      GrewByPrefix (IsText options queries (history ++ more)) before after
   prefix_of_longer whole =
-      let later = text_goes_on have more two_way queries all history whole.text whole.of_kind in
+      let later = text_goes_on have more options queries all history whole.text whole.of_kind in
       record { front = whole.text; rest = later.0; of_kind = later.1; written = whole.written }
 
   -- and so is a prefix of it
-  pub prefix_of_more : GrewByPrefix (IsText two_way queries history) before after →
-      GrewByPrefix (IsText two_way queries (history ++ more)) before after
+  pub prefix_of_more : GrewByPrefix (IsText options queries history) before after →
+      GrewByPrefix (IsText options queries (history ++ more)) before after
   prefix_of_more part =
-      let later = text_goes_on have more two_way queries all history (part.front ++ part.rest)
+      let later = text_goes_on have more options queries all history (part.front ++ part.rest)
       part.of_kind in
       record {
         front = part.front;
         rest = part.rest ++ later.0;
-        of_kind = subst (IsText two_way queries (history ++ more))
+        of_kind = subst (IsText options queries (history ++ more))
             (append_assoc part.front part.rest later.0) later.1;
         written = part.written;
       }
 
   -- a proper prefix of it is one of that of the longer one
-  pub proper_of_longer : GrewByProperPrefix (IsText two_way queries history) before after →
-      GrewByProperPrefix (IsText two_way queries (history ++ more)) before after
+  pub proper_of_longer : GrewByProperPrefix (IsText options queries history) before after →
+      GrewByProperPrefix (IsText options queries (history ++ more)) before after
   proper_of_longer part =
-      let later = text_goes_on have more two_way queries all history (part.front ++ part.rest)
+      let later = text_goes_on have more options queries all history (part.front ++ part.rest)
       part.of_kind in
       record {
         front = part.front;
         rest = part.rest ++ later.0;
-        of_kind = subst (IsText two_way queries (history ++ more))
+        of_kind = subst (IsText options queries (history ++ more))
             (append_assoc part.front part.rest later.0) later.1;
         proper = not_empty part.rest later.0 part.proper;
         written = part.written;

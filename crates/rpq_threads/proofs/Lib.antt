@@ -5,5 +5,6 @@ mod Stopping
 mod Fronts
 mod Turns
 mod Rebuilt
+mod Showing
 mod Starting
 mod Finishing

@@ -2,15 +2,10 @@
 use Rattle.std.proofs.Common.{◌≡◌, ℕ, zero, suc, ◌+◌, ◌-◌, ◌<◌, ◌≤◌, Bool, true, false}
 use Rattle.std.proofs.Common.{List, [], ◌∷◌, ◌++◌, length, take, drop, length-append}
 use Rattle.std.proofs.Common.{refl, sym, ap, subst, ◌∙◌, arith}
-use Rattle.std.specs.List.{All}
-use Rattle.std.proofs.lemmas.List.{length-take, length-take-le, length-drop}
+use Rattle.std.proofs.lemmas.List.{length-take, length-drop}
 use Rattle.rpq_base.specs.declared.data.Entry.{Entry}
 use Rattle.rpq_base.specs.declared.data.Event.{Event}
-use Rattle.query_file.specs.Compiled.{CompiledValue}
-use Rattle.two_way.specs.TwoWay.{walked, AreAllWalkedEventsFrom}
-use Rattle.path_engine.specs.Engine.{StandsFor}
-use Rattle.rpq_text.specs.Definitions.{definitions_of}
-use Rattle.engine_feed.specs.Feeding.{FeedsEntries}
+use Rattle.two_way.specs.TwoWay.{walked}
 use Rattle.history_model.specs.Lines.{entries, published}
 use Rattle.stream_history.specs.History.{HistoryValue, IsFeedingPass, HasSeen}
 use Rattle.stream_history.proofs.Steps.{still_feeds}
@@ -40,45 +35,6 @@ own_front (suc k) (suc m) (x ∷ xs) = ap (λ l. x ∷ l) (own_front k m xs)
 pub walked_none : (two_way : Bool) → ◌≡◌ {A = List Entry} (walked two_way []) []
 walked_none false = refl
 walked_none true = refl
-
--- an engine that stands for no entry
-pub stands_over_none : (evaluator : Evaluator) → StandsFor evaluator.engine [] →
-    evaluator.position ≡ 0 → StandsOver evaluator []
-stands_over_none evaluator stands none = record {
-  stands = subst (StandsFor evaluator.engine) (sym (walked_none evaluator.two_way)) stands;
-  counted = none;
-}
-
--- an engine that stands for the first entries answered so many
-pub as_many_answered : (evaluator : Evaluator) (n : ℕ) (all : List Entry) → n ≤ length all →
-    StandsOver evaluator (take n all) → evaluator.position ≡ n
-as_many_answered evaluator n all within stands = stands.counted ∙ length-take-le n all within
-
--- the engine was fed the entries, and their number was added to the position
-module _ (old new : Evaluator) (entries : List Entry) (lists : List (List Event))
-    (feeds : FeedsEntries old.two_way old.engine entries new.engine lists)
-    (queries : new.engine.queries ≡ old.engine.queries) (two_way : new.two_way ≡ old.two_way)
-    (further : new.position ≡ old.position + length entries) (history : List Entry)
-    (was : StandsOver old history) where
-  stands_behind : StandsOver new (history ++ entries)
-  stands_behind = record {
-    stands = subst (λ (taken : Bool). StandsFor new.engine (walked taken (history ++ entries)))
-        (sym two_way) (feeds.stands history was.stands);
-    counted = omega (arith, further, was.counted, length-append history entries);
-  }
-
-  -- these are the events behind each history over which the engine stood
-  pub finds_behind : Finds history new entries lists
-  finds_behind = record {
-    stands = stands_behind;
-    events = subst (λ (taken : Bool). AreAllWalkedEventsFrom taken
-        (definitions_of new.engine.queries) history entries lists) (sym two_way)
-        (subst (λ (qs : List CompiledValue). AreAllWalkedEventsFrom old.two_way
-        (definitions_of qs) history entries lists) (sym queries)
-        (feeds.events history was.stands));
-    numbers = subst (λ (qs : List CompiledValue). All (λ (own : List Event).
-        All (λ (event : Event). event.query < length qs) own) lists) (sym queries) feeds.numbers;
-  }
 
 -- the engine stood for what was answered, and was fed the next entries, at most as many as were
 -- missing

@@ -1,6 +1,6 @@
 -- What a run begins with.
-use Rattle.std.proofs.Common.{◌≡◌, ℕ, suc, List, [], ◌∷◌, length, refl, sym, ap, subst, ◌∙◌, arith}
-use Rattle.std.proofs.Common.{Option, get_or}
+use Rattle.std.proofs.Common.{◌≡◌, ℕ, suc, ◌<◌, List, [], ◌∷◌, length, refl, sym, ap, subst, ◌∙◌}
+use Rattle.std.proofs.Common.{Option, get_or, arith}
 use Rattle.std.specs.List.{All}
 use Rattle.std.proofs.lemmas.List.Elements.{All-map, All-same}
 use Rattle.containment_laws.specs.Accepted.{IsAccepted}
@@ -11,6 +11,8 @@ use Rattle.two_way.specs.TwoWay.{walked}
 use Rattle.answer_view.specs.View.{ViewValue, IsViewOf}
 use Rattle.path_engine.specs.Engine.{definitions}
 use Rattle.rpq_text.specs.Definitions.{definitions_of}
+use Rattle.rpq_text.specs.declared.options.Options.{Options}
+use Rattle.rpq_text.specs.Steps.{AreEvaluable}
 use Rattle.history_model.specs.World.{Terms}
 use Rattle.stream_history.specs.History.{HistoryValue}
 use Rattle.stream_history.specs.Journal.{empty_view}
@@ -20,7 +22,7 @@ use Rattle.ask_text.specs.Ranges.{IsInRange, IsSession}
 use Rattle.rpq_workers.specs.Started.{new_pass}
 use Rattle.rpq_threads.specs.declared.evaluator.Evaluator.{Evaluator}
 use Rattle.rpq_threads.specs.declared.task.Task.{Task}
-use Rattle.rpq_threads.specs.Fed.{StandsOver, IsFed}
+use Rattle.rpq_threads.specs.Fed.{StandsOver, MarksOver, IsFed}
 use Rattle.rpq_threads.specs.Runs.{IsTask}
 use Rattle.rpq_threads.specs.Served.{AreAbout}
 use Rattle.rpq_threads.proofs.Rebuilt.{walked_none}
@@ -34,13 +36,17 @@ length-definitions (each ∷ queries) = ap suc (length-definitions queries)
 -- the view over no entries is the one with which a history begins
 pub first_shown : FirstView → (evaluator : Evaluator) (queries : List Query) (view : ViewValue) →
     definitions evaluator.engine ≡ queries →
-    IsViewOf (definitions evaluator.engine) (walked evaluator.two_way []) view →
+    IsViewOf (definitions evaluator.engine) (walked evaluator.options.two_way []) view →
     view ≡ empty_view (length queries)
 first_shown law evaluator queries view same shows =
     (law queries view).0
     (subst (λ (qs : List Query). IsViewOf qs [] view) same
     (subst (λ (history : List Entry). IsViewOf (definitions evaluator.engine) history view)
-    (walked_none evaluator.two_way) shows))
+    (walked_none evaluator.options.two_way) shows))
+
+-- the query's window moves
+abbrev pub Moves : Query → Type 0
+Moves query = 0 < query.window.slide
 
 -- what a history is made with for a task
 abbrev pub terms_of : {S : Type 0} → Task S → Terms
@@ -56,21 +62,34 @@ module _ {S : Type 0} (left : S → Option (List ℕ)) (faults : S → ℕ) (tas
   same_queries : history.terms.queries ≡ definitions_of task.queries.items
   same_queries = ap (λ (t : Terms). t.queries) terms
 
+  -- the history's queries can be evaluated
+  begun_evaluable : All Moves (definitions_of task.queries.items) →
+      AreEvaluable history.terms.queries
+  begun_evaluable move =
+      let queries = definitions_of task.queries.items in
+      record {
+        accepted = All-same IsAccepted history.terms.queries queries same_queries
+            (All-map IsAccepted (λ (each : CompiledValue). each.def) task.queries.items
+            given.understood.accepted);
+        move = All-same Moves history.terms.queries queries same_queries move;
+      }
+
   -- the engine begins at the first position
   pub begun_fed : (evaluator : Evaluator) → evaluator.engine.queries ≡ task.queries.items →
-      evaluator.workers ≡ task.workers → evaluator.two_way ≡ task.two_way →
-      history.readers ≡ length task.sessions.items → StandsOver evaluator [] →
-      IsFed history evaluator (new_pass history 0)
-  begun_fed evaluator queries workers two_way readers stands =
+      evaluator.workers ≡ task.workers → evaluator.options ≡ task.options →
+      history.readers ≡ length task.sessions.items →
+      All Moves (definitions_of task.queries.items) → StandsOver evaluator [] →
+      MarksOver evaluator [] → IsFed history evaluator (new_pass history 0)
+  begun_fed evaluator queries workers options readers move stands marks =
+      let two_way = ap (λ (o : Options). o.two_way) options in
+      let paths = ap (λ (o : Options). o.paths) options in
       first_fed history evaluator (omega (arith, workers, given.workers.0))
       (omega (arith, workers, given.workers.1))
-      (ap definitions_of queries ∙ sym same_queries)
-      (All-same IsAccepted history.terms.queries (definitions_of task.queries.items) same_queries
-      (All-map IsAccepted (λ (each : CompiledValue). each.def) task.queries.items
-      given.understood.accepted))
+      (ap definitions_of queries ∙ sym same_queries) (begun_evaluable move)
       (λ is. readers ∙ ap (λ (sessions : List (List Ask)). length sessions)
       (given.unasked (sym two_way ∙ is)))
-      (omega (arith, ap (λ (t : Terms). t.cap) terms, given.limit.1)) stands
+      (λ told. two_way ∙ given.forwards (sym paths ∙ told))
+      (omega (arith, ap (λ (t : Terms). t.cap) terms, given.limit.1)) stands marks
 
   -- what is asked is about the queries of the history
   pub begun_asks : AreAbout history task.sessions.items

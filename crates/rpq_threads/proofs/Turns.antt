@@ -1,12 +1,10 @@
 -- What a turn of the engine's loop makes of its pass and of what was written.
 use Rattle.std.proofs.Common.{◌≡◌, ℕ, ◌+◌, ◌<◌, ◌≤◌, Bool, true, false, List, [], ◌∷◌, ◌++◌}
-use Rattle.std.proofs.Common.{length, map, take, drop, length-append}
+use Rattle.std.proofs.Common.{length, map, take, drop, length-append, append_assoc}
 use Rattle.std.proofs.Common.{Option, Some, None, refl, sym, ap, subst, ◌∙◌, ⊎_elim, arith}
 use Rattle.std.specs.Prelude.{Contains}
-use Rattle.std.specs.List.{All}
-use Rattle.std.proofs.lemmas.List.{take-append-drop, length-take-le, take_all}
+use Rattle.std.proofs.lemmas.List.{take-append-drop, length-take-le, take_all, take_at}
 use Rattle.std.proofs.lemmas.List.Elements.{Contains-push_cases, All-same, All-take, All-drop}
-use Rattle.containment_laws.specs.Accepted.{IsAccepted, AcceptedHaveEvents}
 use Rattle.rpq_base.specs.Plain.{IsPlain}
 use Rattle.rpq_base.specs.declared.data.Entry.{Entry}
 use Rattle.rpq_base.proofs.Members.{none_in}
@@ -29,6 +27,9 @@ use Rattle.stream_history.specs.History.{HistoryValue, IsFeedingPass, HasSeen, H
 use Rattle.stream_history.proofs.Pushes.{calls_push, called, published_push}
 use Rattle.stream_history.proofs.Steps.{still_feeds, going_after}
 use Rattle.stream_history.proofs.Turns.{first_entries}
+use Rattle.rpq_text.specs.declared.options.Options.{Options}
+use Rattle.rpq_text.specs.Laws.{EveryEntryHasAStep}
+use Rattle.rpq_text.specs.Steps.{AreEvaluable}
 use Rattle.rpq_text.specs.Text.{IsText}
 use Rattle.standing.specs.Circles.{CircleValue}
 use Rattle.rpq_workers.specs.Started.{new_pass}
@@ -36,10 +37,12 @@ use Rattle.rpq_workers.proofs.Numbering.{Each, new_is}
 use Rattle.rpq_workers.proofs.Seen.{entries_grow, same_front, take_part, part_fits}
 use Rattle.rpq_workers.proofs.Seen.{none_after, starts_then, added_starts}
 use Rattle.rpq_threads.specs.declared.evaluator.Evaluator.{Evaluator}
-use Rattle.rpq_threads.specs.Told.{TellsObjects}
+use Rattle.rpq_threads.specs.Showing.{HaveMarks}
 use Rattle.rpq_threads.specs.Fed.{HaveHeardAll, HearsOn, Onward, Emits, Stops, StandsOver, answered}
-use Rattle.rpq_threads.specs.Fed.{KeepsUp, IsFed, LooksOn, IsAtStart, IsWhole, HasFed}
-use Rattle.rpq_threads.specs.Written.{Grew, GrewByPrefix, GrewByProperPrefix}
+use Rattle.rpq_threads.specs.Fed.{MarksOver, KeepsUp, IsFed, ComeNext, GetsOn, LooksOn, IsAtStart}
+use Rattle.rpq_threads.specs.Fed.{IsWhole, HasFed}
+use Rattle.rpq_threads.specs.Written.{Grew}
+use Rattle.rpq_threads.proofs.Grows.{begins}
 use Rattle.rpq_threads.proofs.Tellings.{heard_nothing, tells_front, tells_of_longer}
 use Rattle.rpq_threads.proofs.Stopping.{prefix_of_them, proper_of_them, stops_before, stops_after}
 use Rattle.rpq_threads.proofs.Stopping.{stops_of_longer}
@@ -64,9 +67,11 @@ module _ (history : HistoryValue) (evaluator : Evaluator) (before after : Each)
     queries = was.queries;
     accepted = was.accepted;
     unread = was.unread;
+    forwards = was.forwards;
     few = was.few;
     there = omega (arith, was.there, entries_grow after.seen before.seen starts);
     stands = subst (StandsOver evaluator) (sym answered_stays) was.stands;
+    marks = subst (MarksOver evaluator) (sym answered_stays) was.marks;
   }
 
   -- what was answered begins all entries
@@ -94,19 +99,25 @@ pub keeps_up_viewed : (history : HistoryValue) (old : Evaluator) (engine : Engin
     (pass : Each) → engine.queries ≡ old.engine.queries →
     ((seen : List Entry) → StandsFor old.engine seen → StandsFor engine seen) →
     KeepsUp history old pass → KeepsUp history (record old { engine = engine }) pass
-keeps_up_viewed history old engine pass queries stands was = record {
-  feeds = was.feeds;
-  workers = was.workers;
-  queries = ap (map (λ (each : CompiledValue). each.def)) queries ∙ was.queries;
-  accepted = was.accepted;
-  unread = was.unread;
-  few = was.few;
-  there = was.there;
-  stands = record {
-    stands = stands (walked old.two_way (answered old pass)) was.stands.stands;
-    counted = was.stands.counted;
-  };
-}
+keeps_up_viewed history old engine pass queries stands was =
+    let same : definitions engine ≡ definitions old.engine =
+    ap (map (λ (each : CompiledValue). each.def)) queries in
+    record {
+      feeds = was.feeds;
+      workers = was.workers;
+      queries = same ∙ was.queries;
+      accepted = was.accepted;
+      unread = was.unread;
+      forwards = was.forwards;
+      few = was.few;
+      there = was.there;
+      stands = record {
+        stands = stands (walked old.options.two_way (answered old pass)) was.stands.stands;
+        counted = was.stands.counted;
+      };
+      marks = subst (λ (qs : List Query). HaveMarks old.options.paths qs (answered old pass)
+          old.marks) (sym same) was.marks;
+    }
 
 -- after the answers over all that was answered are published
 module _ (history : HistoryValue) (evaluator : Evaluator) (before after : Each)
@@ -138,11 +149,11 @@ not_where_some true readers none some = absurd (omega (arith, none refl, some))
 module _ (history : HistoryValue) (evaluator : Evaluator) (pass : Each)
     (was : KeepsUp history evaluator pass) (some : 0 < history.readers) (view : ViewValue)
     (sees : IsViewOf (definitions evaluator.engine)
-    (walked evaluator.two_way (answered evaluator pass)) view) where
+    (walked evaluator.options.two_way (answered evaluator pass)) view) where
   shows : IsViewOf (definitions evaluator.engine) (answered evaluator pass) view
   shows = subst (λ (two_way : Bool). IsViewOf (definitions evaluator.engine)
       (walked two_way (answered evaluator pass)) view)
-      (not_where_some evaluator.two_way history.readers was.unread some) sees
+      (not_where_some evaluator.options.two_way history.readers was.unread some) sees
 
   pub view_place : view.position ≡ evaluator.position
   view_place =
@@ -162,10 +173,12 @@ module _ (history : HistoryValue) (evaluator : Evaluator) (pass : Each)
 pub first_fed : (history : HistoryValue) (evaluator : Evaluator) →
     1 ≤ evaluator.workers → evaluator.workers ≤ 64 →
     definitions evaluator.engine ≡ history.terms.queries →
-    All IsAccepted history.terms.queries → (evaluator.two_way ≡ true → history.readers ≡ 0) →
-    history.terms.cap ≤ 536870912 →
-    StandsOver evaluator [] → IsFed history evaluator (new_pass history 0)
-first_fed history evaluator some many queries accepted unread few stands =
+    AreEvaluable history.terms.queries →
+    (evaluator.options.two_way ≡ true → history.readers ≡ 0) →
+    (evaluator.options.paths ≡ true → evaluator.options.two_way ≡ false) →
+    history.terms.cap ≤ 536870912 → StandsOver evaluator [] → MarksOver evaluator [] →
+    IsFed history evaluator (new_pass history 0)
+first_fed history evaluator some few queries accepted unread forwards small stands marks =
     let none : evaluator.position ≡ 0 = stands.counted in
     record {
       keeps_up = record {
@@ -173,234 +186,309 @@ first_fed history evaluator some many queries accepted unread few stands =
           is = record { is = new_is history 0; number = refl };
           goes_on = λ shut. none_in (record { by = 0; act = Shut shut.0 }) shut.1;
         };
-        workers = (some, many);
+        workers = (some, few);
         queries = queries;
         accepted = accepted;
         unread = unread;
-        few = few;
+        forwards = forwards;
+        few = small;
         there = omega (arith, none);
         stands = subst (λ (n : ℕ). StandsOver evaluator (take n [])) (sym none) stands;
+        marks = subst (λ (n : ℕ). MarksOver evaluator (take n [])) (sym none) marks;
       };
       told = λ readers. sym none;
     }
 
--- ---- a front is answered
+-- ---- a part of what comes next is answered
 
-module _ (history : HistoryValue) (old : Evaluator) (pass : Each) (was : KeepsUp history old pass)
-    (part : List Entry) (is : part ≡ take 256 (drop old.position (entries pass.seen)))
+module _ (history : HistoryValue) (old : Evaluator) (pass : Each) (was : IsFed history old pass)
+    (part : List Entry) (next : ComeNext old pass part)
+    (written_before written_after : Option (List ℕ)) (circle_before circle_after : CircleValue)
   where
-    pub part_within : old.position + length part ≤ length (entries pass.seen)
-    part_within = part_fits old.position 256 (entries pass.seen) part is was.there
+    -- the engine stopped in the part
+    pub part_stops : EveryEntryHasAStep → (after : Each) → StartsWith after.seen pass.seen →
+        (why : Why) →
+        Stops old.options (definitions old.engine) (answered old pass) (answered old pass ++ part)
+        why written_before written_after circle_before circle_after →
+        Stops old.options history.terms.queries (answered old pass) (entries after.seen) why
+        written_before written_after circle_before circle_after
+    part_stops have after starts why did =
+        let here = answered old pass in
+        stops_of_longer have old.options history.terms.queries was.keeps_up.accepted here
+        (here ++ part) (entries after.seen)
+        (starts_then (entries after.seen) (entries pass.seen) (here ++ part)
+        (first_entries after.seen pass.seen starts) next.seen)
+        written_before written_after circle_before circle_after why
+        (subst (λ (qs : List Query). Stops old.options qs here (here ++ part) why written_before
+        written_after circle_before circle_after) was.keeps_up.queries did)
 
-    pub part_is_plain : All IsPlain (entries pass.seen) → All IsPlain part
-    part_is_plain plain =
-        All-same IsPlain part (take 256 (drop old.position (entries pass.seen))) is
-        (All-take IsPlain 256 (drop old.position (entries pass.seen))
-        (All-drop IsPlain old.position (entries pass.seen) plain))
-
-    -- what is answered then begins the entries
-    pub part_starts : StartsWith (entries pass.seen) (answered old pass ++ part)
-    part_starts = subst (StartsWith (entries pass.seen))
-        (take_part old.position 256 (entries pass.seen) part is)
-        (taken_starts (old.position + length part) (entries pass.seen))
-
-    -- the engine went on by the front
-    module _ (new : Evaluator) (written_before written_after : Option (List ℕ))
-        (circle_before circle_after : CircleValue)
+    -- or it went on by the part
+    module _ (new : Evaluator)
         (did : Emits (answered old pass) old new part written_before written_after circle_before
         circle_after) where
       further : new.position ≡ old.position + length part
       further = omega (
         arith,
         did.stands.counted,
-        was.stands.counted,
+        was.keeps_up.stands.counted,
         length-append (answered old pass) part,
       )
 
       answered_more : answered old pass ++ part ≡ answered new pass
       answered_more =
-          sym (take_part old.position 256 (entries pass.seen) part is)
-          ∙ ap (λ (n : ℕ). take n (entries pass.seen)) (sym further)
+          sym (ap (take new.position) next.seen.1
+          ∙ take_at (answered old pass ++ part) next.seen.0 new.position (sym did.stands.counted))
 
-      pub keeps_up_emitted : KeepsUp history new pass
-      keeps_up_emitted = record {
-        feeds = was.feeds;
-        workers = (
-          omega (arith, did.setup.workers, was.workers.0),
-          omega (arith, did.setup.workers, was.workers.1),
+      part_is_kept : KeepsUp history new pass
+      part_is_kept =
+          let kept = was.keeps_up in
+          let two_way : new.options.two_way ≡ old.options.two_way =
+          ap (λ (options : Options). options.two_way) did.setup.options in
+          let paths : new.options.paths ≡ old.options.paths =
+          ap (λ (options : Options). options.paths) did.setup.options in
+          record {
+            feeds = kept.feeds;
+            workers = (
+              omega (arith, did.setup.workers, kept.workers.0),
+              omega (arith, did.setup.workers, kept.workers.1),
+            );
+            queries = ap (map (λ (each : CompiledValue). each.def)) did.setup.queries ∙ kept.queries;
+            accepted = kept.accepted;
+            unread = λ is. kept.unread (sym two_way ∙ is);
+            forwards = λ is. two_way ∙ kept.forwards (sym paths ∙ is);
+            few = kept.few;
+            there = omega (
+              arith,
+              did.stands.counted,
+              ap length next.seen.1,
+              length-append (answered old pass ++ part) next.seen.0,
+            );
+            stands = subst (StandsOver new) answered_more did.stands;
+            marks = subst (MarksOver new) answered_more did.marks;
+          }
+
+      pub part_keeps_up : (after : Each) → LooksOn history pass after → KeepsUp history new after
+      part_keeps_up after looks =
+          keeps_up_then history new pass after part_is_kept looks.seen looks.feeds
+
+      -- what was published last is behind it
+      pub part_is_ahead : 1 ≤ length part → (after : Each) → LooksOn history pass after →
+          0 < history.readers → published after.mine < new.position
+      part_is_ahead some after looks readers =
+          omega (arith, ap published looks.mine, was.told readers, further, some)
+
+      part_text : Onward old.options history.terms.queries (answered old pass) written_before
+          (λ start. Grew (IsText old.options history.terms.queries (answered new pass)) start
+          written_after)
+      part_text start so_far =
+          subst (λ (h : List Entry). Grew (IsText old.options history.terms.queries h) start
+          written_after) answered_more
+          (subst (λ (qs : List Query). Grew (IsText old.options qs (answered old pass ++ part))
+          start written_after) was.keeps_up.queries
+          (did.text start
+          (subst (λ (qs : List Query). Grew (IsText old.options qs (answered old pass)) start
+          written_before) (sym was.keeps_up.queries) so_far)))
+
+      part_hears : HearsOn old.options history.terms.queries (answered old pass)
+          (answered new pass) circle_before circle_after
+      part_hears =
+          subst (λ (h : List Entry). HearsOn old.options history.terms.queries (answered old pass) h
+          circle_before circle_after) answered_more
+          (subst (λ (qs : List Query). HearsOn old.options qs (answered old pass)
+          (answered old pass ++ part) circle_before circle_after) was.keeps_up.queries did.heard)
+
+      -- memory ran out after the part was answered
+      pub stops_then : EveryEntryHasAStep → (after : Each) → StartsWith after.seen pass.seen →
+          Stops old.options history.terms.queries (answered old pass) (entries after.seen) Memory
+          written_before written_after circle_before circle_after
+      stops_then have after starts =
+          stops_after have old.options history.terms.queries was.keeps_up.accepted
+          (answered old pass) (answered new pass) (entries after.seen)
+          (answered_starts history new pass after part_is_kept starts) written_before
+          written_after circle_before circle_after part_text part_hears
+
+      -- its answers were published
+      module _ (after : Each) (starts : StartsWith after.seen pass.seen) (last : Evaluator)
+          (place : last.position ≡ new.position) where
+        pub further_then : last.position ≡ old.position + length part
+        further_then = place ∙ further
+
+        same_answered : answered new pass ≡ answered last after
+        same_answered =
+            sym (answered_stays history new pass after part_is_kept starts)
+            ∙ ap (λ (n : ℕ). take n (entries after.seen)) (sym place)
+
+        pub gets_on_then : last.options ≡ new.options → IsFed history last after →
+            GetsOn history old last pass after written_before written_after circle_before
+            circle_after
+        gets_on_then same fed = record {
+          fed = fed;
+          options = same ∙ did.setup.options;
+          text = λ start so_far.
+              subst (λ (h : List Entry). Grew (IsText old.options history.terms.queries h) start
+              written_after) same_answered (part_text start so_far);
+          heard = λ objects heard.
+              subst (λ (h : List Entry). HaveHeardAll old.options history.terms.queries h objects
+              circle_after) same_answered (part_hears objects heard);
+        }
+
+-- ---- what comes next, cut in two
+
+module _ (old : Evaluator) (before : Each) (whole part rest : List Entry) (n : ℕ)
+    (next : ComeNext old before whole) (part_is : part ≡ take n whole)
+    (rest_is : rest ≡ drop n whole) where
+  whole_is : whole ≡ part ++ rest
+  whole_is =
+      sym (take-append-drop n whole)
+      ∙ (ap (λ (first : List Entry). first ++ drop n whole) (sym part_is)
+      ∙ ap (λ (more : List Entry). part ++ more) (sym rest_is))
+
+  parted : answered old before ++ whole ≡ (answered old before ++ part) ++ rest
+  parted =
+      ap (λ (more : List Entry). answered old before ++ more) whole_is
+      ∙ sym (append_assoc (answered old before) part rest)
+
+  -- a part at the front comes next
+  pub part_comes_next : ComeNext old before part
+  part_comes_next = record {
+    seen = starts_then (entries before.seen) (answered old before ++ whole)
+        (answered old before ++ part) next.seen (rest, parted);
+    plain = All-same IsPlain part (take n whole) part_is (All-take IsPlain n whole next.plain);
+    short = omega (arith, next.short, ap length whole_is, length-append part rest);
+  }
+
+  -- and the others do once it was answered
+  pub rest_comes_next : StandsOver old (answered old before) → (new : Evaluator) (after : Each) →
+      StartsWith after.seen before.seen → new.position ≡ old.position + length part →
+      ComeNext new after rest
+  rest_comes_next stands new after starts further =
+      let first = answered old before ++ part in
+      let grown = first_entries after.seen before.seen starts in
+      let begun = starts_then (entries after.seen) (entries before.seen) first grown
+      part_comes_next.seen in
+      let many : length first ≡ new.position =
+      omega (arith, further, stands.counted, length-append (answered old before) part) in
+      let same : first ≡ answered new after =
+      sym (ap (take new.position) begun.1 ∙ take_at first begun.0 new.position many) in
+      record {
+        seen = subst (StartsWith (entries after.seen))
+            (parted ∙ ap (λ (h : List Entry). h ++ rest) same)
+            (starts_then (entries after.seen) (entries before.seen) (answered old before ++ whole)
+            grown next.seen);
+        plain = All-same IsPlain rest (drop n whole) rest_is (All-drop IsPlain n whole next.plain);
+        short = omega (
+          arith,
+          next.short,
+          further,
+          ap length whole_is,
+          length-append part rest,
         );
-        queries = ap (map (λ (each : CompiledValue). each.def)) did.setup.queries ∙ was.queries;
-        accepted = was.accepted;
-        unread = λ two_way. was.unread (sym did.setup.two_way ∙ two_way);
-        few = was.few;
-        there = omega (arith, further, part_within);
-        stands = subst (StandsOver new) answered_more did.stands;
       }
 
-      pub text_emitted : Onward old.two_way history.terms.queries (answered old pass) written_before
-          (λ start. Grew (IsText old.two_way history.terms.queries (answered new pass)) start
-          written_after)
-      text_emitted start so_far =
-          subst (λ (h : List Entry). Grew (IsText old.two_way history.terms.queries h) start
-          written_after)
-          answered_more
-          (subst (λ (qs : List Query). Grew (IsText old.two_way qs (answered old pass ++ part))
-          start written_after) was.queries
-          (did.text start
-          (subst (λ (qs : List Query). Grew (IsText old.two_way qs (answered old pass)) start
-          written_before) (sym was.queries) so_far)))
+-- ---- one thing after another
 
-      pub hears_emitted : HearsOn old.two_way history.terms.queries (answered old pass)
-          (answered new pass) circle_before circle_after
-      hears_emitted =
-          subst (λ (h : List Entry). HearsOn old.two_way history.terms.queries (answered old pass) h
-          circle_before circle_after) answered_more
-          (subst (λ (qs : List Query). HearsOn old.two_way qs (answered old pass)
-          (answered old pass ++ part) circle_before circle_after) was.queries did.heard)
+-- the engine answered nothing more
+pub gets_nowhere : (history : HistoryValue) (evaluator : Evaluator) (before after : Each)
+    (written : Option (List ℕ)) (circle : CircleValue) → IsFed history evaluator after →
+    answered evaluator after ≡ answered evaluator before →
+    GetsOn history evaluator evaluator before after written written circle circle
+gets_nowhere history evaluator before after written circle fed same = record {
+  fed = fed;
+  options = refl;
+  text = λ start so_far. subst (λ (h : List Entry).
+      Grew (IsText evaluator.options history.terms.queries h) start written) (sym same) so_far;
+  heard = λ objects heard. subst (λ (h : List Entry).
+      HaveHeardAll evaluator.options history.terms.queries h objects circle) (sym same) heard;
+}
+
+-- the engine got on
+module _ (history : HistoryValue) (old mid : Evaluator) (first between : Each)
+    (written_first written_between written_last : Option (List ℕ))
+    (circle_first circle_between circle_last : CircleValue)
+    (did : GetsOn history old mid first between written_first written_between circle_first
+    circle_between) where
+  -- and then further
+  pub gets_further : (new : Evaluator) (last : Each) →
+      GetsOn history mid new between last written_between written_last circle_between circle_last →
+      GetsOn history old new first last written_first written_last circle_first circle_last
+  gets_further new last then = record {
+    fed = then.fed;
+    options = then.options ∙ did.options;
+    text = λ start so_far.
+        subst (λ (options : Options). Onward options history.terms.queries (answered mid between)
+        written_between (λ begun. Grew (IsText options history.terms.queries (answered new last))
+        begun written_last)) did.options then.text start (did.text start so_far);
+    heard = λ objects heard.
+        subst (λ (options : Options). HearsOn options history.terms.queries (answered mid between)
+        (answered new last) circle_between circle_last) did.options then.heard objects
+        (did.heard objects heard);
+  }
+
+  -- and then stopped
+  pub stops_behind : (all : List Entry) (why : Why) →
+      Stops mid.options history.terms.queries (answered mid between) all why written_between
+      written_last circle_between circle_last →
+      Stops old.options history.terms.queries (answered old first) all why written_first
+      written_last circle_first circle_last
+  stops_behind all why stops =
+      let then = subst (λ (options : Options). Stops options history.terms.queries
+      (answered mid between) all why written_between written_last circle_between circle_last)
+      did.options stops in
+      record {
+        write = λ is start so_far. then.write is start (did.text start so_far);
+        memory = λ is start so_far. then.memory is start (did.text start so_far);
+        told = λ objects heard start so_far.
+            then.told objects (did.heard objects heard) start (did.text start so_far);
+      }
 
 -- ---- a turn, by its steps
 
 module _ (history : HistoryValue) (old : Evaluator) (before mid : Each)
     (was : IsFed history old before) (seen : HasSeen history before mid) where
-  still : KeepsUp history old mid
-  still = keeps_up_seen history old before mid was.keeps_up seen
-
-  stays : answered old mid ≡ answered old before
-  stays = answered_stays history old before mid was.keeps_up seen.seen
-
-  -- what was written stays the text of what was answered
-  pub text_stays : (written : Option (List ℕ)) →
-      Onward old.two_way history.terms.queries (answered old before) written
-      (λ start. Grew (IsText old.two_way history.terms.queries (answered old mid)) start written)
-  text_stays written start so_far =
-      subst (λ (h : List Entry). Grew (IsText old.two_way history.terms.queries h) start written)
-      (sym stays) so_far
-
-  -- and what was heard are its events
-  pub heard_stays : (circle : CircleValue) →
-      HearsOn old.two_way history.terms.queries (answered old before) (answered old mid) circle
-      circle
-  heard_stays circle objects heard =
-      subst (λ (h : List Entry). HaveHeardAll old.two_way history.terms.queries h objects circle)
-      (sym stays) heard
+  -- the engine saw more, and answered nothing
+  pub sees_more : (written : Option (List ℕ)) (circle : CircleValue) →
+      GetsOn history old old before mid written written circle circle
+  sees_more written circle =
+      gets_nowhere history old before mid written circle
+      (fed_seen history old before mid was seen)
+      (answered_stays history old before mid was.keeps_up seen.seen)
 
   -- memory ran out before anything more was done
-  pub stops_seen : AcceptedHaveEvents → (written : Option (List ℕ)) (circle : CircleValue) →
-      Stops old.two_way history.terms.queries (answered old before) (entries mid.seen) Memory
+  pub stops_seen : EveryEntryHasAStep → (written : Option (List ℕ)) (circle : CircleValue) →
+      Stops old.options history.terms.queries (answered old before) (entries mid.seen) Memory
       written written circle circle
   stops_seen have written circle =
-      stops_before have old.two_way history.terms.queries was.keeps_up.accepted
+      stops_before have old.options history.terms.queries was.keeps_up.accepted
       (answered old before) (entries mid.seen)
       (answered_starts history old before mid was.keeps_up seen.seen) written circle
 
-  module _ (part : List Entry)
-      (is : part ≡ take 256 (drop old.position (entries mid.seen))) where
+  module _ (front : List Entry)
+      (is : front ≡ take 256 (drop old.position (entries mid.seen))) where
+    there : old.position ≤ length (entries mid.seen)
+    there = omega (arith, was.keeps_up.there, entries_grow mid.seen before.seen seen.seen)
+
     -- no entry is left
-    pub none_is_left : length part ≡ 0 → old.position ≡ length (entries mid.seen)
+    pub none_is_left : length front ≡ 0 → old.position ≡ length (entries mid.seen)
     none_is_left none =
-        none_after old.position 256 (entries mid.seen) part is (omega arith) none still.there
+        none_after old.position 256 (entries mid.seen) front is (omega arith) none there
 
-    pub front_is_short : old.position + length part ≤ 536870912
-    front_is_short = omega (
-      arith,
-      part_within history old mid still part is,
-      seen.legal.capped,
-      was.keeps_up.few,
-    )
-
-    pub front_is_plain : All IsPlain part
-    front_is_plain = part_is_plain history old mid still part is seen.plain
-
-    module _ (written_before written_after : Option (List ℕ))
-        (circle_before circle_after : CircleValue) where
-      -- the engine stopped in the front
-      pub front_stops : AcceptedHaveEvents → (after : Each) → StartsWith after.seen mid.seen →
-          (why : Why) →
-          Stops old.two_way (definitions old.engine) (answered old mid)
-          (answered old mid ++ part) why written_before written_after circle_before
-          circle_after →
-          Stops old.two_way history.terms.queries (answered old before) (entries after.seen) why
-          written_before written_after circle_before circle_after
-      front_stops have after starts why did =
-          let here = answered old mid in
-          subst (λ (h : List Entry). Stops old.two_way history.terms.queries h (entries after.seen)
-          why written_before written_after circle_before circle_after) stays
-          (stops_of_longer have old.two_way history.terms.queries was.keeps_up.accepted here
-          (here ++ part) (entries after.seen)
-          (starts_then (entries after.seen) (entries mid.seen) (here ++ part)
-          (first_entries after.seen mid.seen starts) (part_starts history old mid still part is))
-          written_before written_after circle_before circle_after why
-          (subst (λ (qs : List Query). Stops old.two_way qs here (here ++ part) why written_before
-          written_after circle_before circle_after) was.keeps_up.queries did))
-
-      module _ (new : Evaluator)
-          (did : Emits (answered old mid) old new part written_before written_after circle_before
-          circle_after) where
-        front_is_kept : KeepsUp history new mid
-        front_is_kept =
-            keeps_up_emitted history old mid still part is new written_before written_after
-            circle_before circle_after did
-
-        pub front_keeps_up : (after : Each) → LooksOn history mid after → KeepsUp history new after
-        front_keeps_up after looks =
-            keeps_up_then history new mid after front_is_kept looks.seen looks.feeds
-
-        front_text : Onward old.two_way history.terms.queries (answered old before) written_before
-            (λ start. Grew (IsText old.two_way history.terms.queries (answered new mid)) start
-            written_after)
-        front_text start so_far =
-            text_emitted history old mid still part is new written_before written_after
-            circle_before circle_after did start (text_stays written_before start so_far)
-
-        front_hears : HearsOn old.two_way history.terms.queries (answered old before)
-            (answered new mid) circle_before circle_after
-        front_hears objects heard =
-            hears_emitted history old mid still part is new written_before written_after
-            circle_before circle_after did objects
-            (heard_stays circle_before objects heard)
-
-        -- memory ran out after the front was answered
-        pub stops_then : AcceptedHaveEvents → (after : Each) → StartsWith after.seen mid.seen →
-            Stops old.two_way history.terms.queries (answered old before) (entries after.seen)
-            Memory written_before written_after circle_before circle_after
-        stops_then have after starts =
-            stops_after have old.two_way history.terms.queries was.keeps_up.accepted
-            (answered old before) (answered new mid) (entries after.seen)
-            (answered_starts history new mid after front_is_kept starts) written_before
-            written_after circle_before circle_after front_text front_hears
-
-        -- its answers were published
-        module _ (after : Each) (starts : StartsWith after.seen mid.seen) (last : Evaluator)
-            (place : last.position ≡ new.position) where
-          same_answered : answered new mid ≡ answered last after
-          same_answered =
-              sym (answered_stays history new mid after front_is_kept starts)
-              ∙ ap (λ (n : ℕ). take n (entries after.seen)) (sym place)
-
-          pub text_then : Onward old.two_way history.terms.queries (answered old before)
-              written_before (λ start. Grew (IsText old.two_way history.terms.queries
-              (answered last after)) start written_after)
-          text_then start so_far =
-              subst (λ (h : List Entry). Grew (IsText old.two_way history.terms.queries h) start
-              written_after) same_answered (front_text start so_far)
-
-          pub hears_then : HearsOn old.two_way history.terms.queries (answered old before)
-              (answered last after) circle_before circle_after
-          hears_then objects heard =
-              subst (λ (h : List Entry). HaveHeardAll old.two_way history.terms.queries h objects
-              circle_after) same_answered (front_hears objects heard)
+    pub front_comes_next : ComeNext old mid front
+    front_comes_next = record {
+      seen = subst (StartsWith (entries mid.seen))
+          (take_part old.position 256 (entries mid.seen) front is)
+          (taken_starts (old.position + length front) (entries mid.seen));
+      plain = All-same IsPlain front (take 256 (drop old.position (entries mid.seen))) is
+          (All-take IsPlain 256 (drop old.position (entries mid.seen))
+          (All-drop IsPlain old.position (entries mid.seen) seen.plain));
+      short = omega (
+        arith,
+        part_fits old.position 256 (entries mid.seen) front is there,
+        seen.legal.capped,
+        was.keeps_up.few,
+      );
+    }
 
 -- ---- the loop
-
--- at the start the objects have heard all events of what was answered, since that is nothing
-pub first_heard : (history : HistoryValue) (evaluator : Evaluator) (pass : Each)
-    (circle : CircleValue) → IsAtStart history evaluator pass circle →
-    HaveHeardAll evaluator.two_way history.terms.queries (answered evaluator pass)
-    circle.members circle
-first_heard history evaluator pass circle is =
-    subst (λ (h : List Entry). HaveHeardAll evaluator.two_way history.terms.queries h
-    circle.members circle) (sym is.none)
-    (heard_nothing evaluator.two_way history.terms.queries circle is.fresh)
 
 -- a shut that is there is the new one
 shut_said : (lines : List Line) (why other : Why) → (IsShut lines → ⊥) →
@@ -422,18 +510,33 @@ unmet Fault before after never same = record {
   quiet = λ _. same;
 }
 
-module _ {K : Type 0} (written : K → Option (List ℕ)) (faults : K → ℕ) (two_way : Bool)
-    (history : HistoryValue) (start now : K) (first last : CircleValue) where
-  pub fed_whole : (evaluator : Evaluator) (pass : Each) → IsFed history evaluator pass →
-      IsWhole history evaluator pass →
-      Grew (IsText two_way history.terms.queries (answered evaluator pass)) (written start)
-      (written now) →
-      HaveHeardAll two_way history.terms.queries (answered evaluator pass) first.members last →
-      faults now ≡ faults start →
-      HasFed written faults two_way history start now first last pass None
-  fed_whole evaluator pass fed whole text heard quiet =
-      let all : answered evaluator pass ≡ entries pass.seen =
-      take_all evaluator.position (entries pass.seen) (omega (arith, whole.all)) in
+module _ {K : Type 0} (written : K → Option (List ℕ)) (faults : K → ℕ) (history : HistoryValue)
+    (evaluator : Evaluator) (pass : Each) (start now : K) (first last : CircleValue)
+    (at_start : IsAtStart history evaluator pass first) where
+  -- at the start nothing was written, which is the text of what was answered
+  first_text : Grew (IsText evaluator.options history.terms.queries (answered evaluator pass))
+      (written start) (written start)
+  first_text = subst (λ (h : List Entry). Grew (IsText evaluator.options history.terms.queries h)
+      (written start) (written start)) (sym at_start.none)
+      (begins evaluator.options history.terms.queries (written start))
+
+  -- and the objects have heard all of its events, since there are none
+  first_heard : HaveHeardAll evaluator.options history.terms.queries (answered evaluator pass)
+      first.members first
+  first_heard = subst (λ (h : List Entry).
+      HaveHeardAll evaluator.options history.terms.queries h first.members first)
+      (sym at_start.none)
+      (heard_nothing evaluator.options history.terms.queries first at_start.fresh)
+
+  pub fed_whole : (new : Evaluator) (after : Each) →
+      GetsOn history evaluator new pass after (written start) (written now) first last →
+      IsWhole history new after → faults now ≡ faults start →
+      HasFed written faults evaluator.options history start now first last after None
+  fed_whole new after did whole quiet =
+      let fed = did.fed in
+      let text = did.text (written start) first_text in
+      let all : answered new after ≡ entries after.seen =
+      take_all new.position (entries after.seen) (omega (arith, whole.all)) in
       record {
         is = fed.keeps_up.feeds.is.is;
         number = fed.keeps_up.feeds.is.number;
@@ -442,29 +545,28 @@ module _ {K : Type 0} (written : K → Option (List ℕ)) (faults : K → ℕ) (
         shut = λ other shut. absurd (fed.keeps_up.feeds.goes_on (other, shut));
         seen_shut = λ other is. absurd cc;
         text = record {
-          whole = λ _. subst (λ (h : List Entry). Grew (IsText two_way history.terms.queries h)
-              (written start) (written now)) all text;
+          whole = λ _. subst (λ (h : List Entry).
+              Grew (IsText evaluator.options history.terms.queries h) (written start)
+              (written now)) all text;
           write = λ is. absurd cc;
           memory = λ is. absurd cc;
           counted = unmet (None ≡ Some Write) (faults start) (faults now) (λ is. cc) quiet;
         };
-        objects = tells_front two_way history.terms.queries (answered evaluator pass)
-            (written start) (written now) first.members last heard text None (entries pass.seen)
-            (taken_starts evaluator.position (entries pass.seen))
+        objects = tells_front evaluator.options history.terms.queries (answered new after)
+            (written start) (written now) first.members last
+            (did.heard first.members first_heard) text None (entries after.seen)
+            (taken_starts new.position (entries after.seen))
             (λ none. ap (λ (h : List Entry). length h) all);
       }
 
-  pub fed_shut : AcceptedHaveEvents → All IsAccepted history.terms.queries → (before after : Each)
-      (why : Why) → IsFeedingPass history before → HasAdded history before (shut_line why) after →
-      (why ≡ Write → GrewByProperPrefix (IsText two_way history.terms.queries (entries before.seen))
-      (written start) (written now)) →
-      (why ≡ Memory → GrewByPrefix (IsText two_way history.terms.queries (entries before.seen))
-      (written start) (written now)) →
-      TellsObjects two_way history.terms.queries (entries before.seen) (written start) (written now)
-      first.members (Some why) last →
+  pub fed_shut : EveryEntryHasAStep → (before after : Each) (why : Why) →
+      IsFeedingPass history before → HasAdded history before (shut_line why) after →
+      Stops evaluator.options history.terms.queries (answered evaluator pass)
+      (entries before.seen) why (written start) (written now) first last →
       CountsFault (Some why ≡ Some Write) (faults start) (faults now) →
-      HasFed written faults two_way history start now first last after (Some why)
-  fed_shut have accepted before after why feeds added proper part told counted =
+      HasFed written faults evaluator.options history start now first last after (Some why)
+  fed_shut have before after why feeds added stops counted =
+      let accepted = at_start.fed.keeps_up.accepted in
       let starts = first_entries after.seen before.seen
       (added_starts history before after (shut_line why) added) in
       record {
@@ -483,14 +585,17 @@ module _ {K : Type 0} (written : K → Option (List ℕ)) (faults : K → ℕ) (
           whole = λ is. absurd cc;
           write = λ is.
               let same : why ≡ Write = cc in
-              proper_of_them have two_way history.terms.queries accepted (entries before.seen)
-              (entries after.seen) starts (written start) (written now) (proper same);
+              proper_of_them have evaluator.options history.terms.queries accepted
+              (entries before.seen) (entries after.seen) starts (written start) (written now)
+              (stops.write same (written start) first_text);
           memory = λ is.
               let same : why ≡ Memory = cc in
-              prefix_of_them have two_way history.terms.queries accepted (entries before.seen)
-              (entries after.seen) starts (written start) (written now) (part same);
+              prefix_of_them have evaluator.options history.terms.queries accepted
+              (entries before.seen) (entries after.seen) starts (written start) (written now)
+              (stops.memory same (written start) first_text);
           counted = counted;
         };
-        objects = tells_of_longer two_way history.terms.queries (entries before.seen)
-            (entries after.seen) starts (written start) (written now) first.members why last told;
+        objects = tells_of_longer evaluator.options history.terms.queries (entries before.seen)
+            (entries after.seen) starts (written start) (written now) first.members why last
+            (stops.told first.members first_heard (written start) first_text);
       }

@@ -1,16 +1,18 @@
 -- What the engine of a run does with the entries of the history. Only private contracts cite this
 -- file.
-use Rattle.std.specs.Prelude.{◌≡◌, ◌≢◌, ℕ, ◌+◌, ◌<◌, ◌≤◌, ◌^◌, ◌⊎◌, Bool, true, List, [], ◌++◌}
+use Rattle.std.specs.Prelude.{◌≡◌, ◌≢◌, ℕ, ◌+◌, ◌<◌, ◌≤◌, ◌^◌, ◌⊎◌, true, false, List, [], ◌++◌}
 use Rattle.std.specs.Prelude.{length, take}
 use Rattle.std.specs.Prelude.{Option, Some, None, All, ⊤, slice_get}
 use Rattle.std.specs.Io.KnownBytes.{append_known}
-use Rattle.containment_laws.specs.Accepted.{IsAccepted}
 use Rattle.rpq_base.specs.declared.data.Entry.{Entry}
 use Rattle.rpq_base.specs.declared.data.Event.{Event}
+use Rattle.rpq_base.specs.Plain.{IsPlain}
 use Rattle.rpq_model.specs.Query.{Query}
 use Rattle.two_way.specs.TwoWay.{walked, AreAllWalkedEvents, AreAllWalkedEventsFrom}
 use Rattle.path_engine.specs.Engine.{StandsFor, definitions}
 use Rattle.rpq_words.specs.Modes.{IsWithin}
+use Rattle.rpq_text.specs.declared.options.Options.{Options}
+use Rattle.rpq_text.specs.Steps.{StepValue, AreStepsFrom, AreEvaluable, events_of}
 use Rattle.rpq_text.specs.Text.{block, blocks_from, IsText}
 use Rattle.standing.specs.Objects.{ObjectValue}
 use Rattle.standing.specs.Circles.{CircleValue}
@@ -24,6 +26,7 @@ use Rattle.history_model.specs.Lines.{entries, published, AllEnded, IsShutFor}
 use Rattle.history_model.specs.World.{Terms}
 use Rattle.stream_history.specs.History.{HistoryValue, IsPassOf, IsFeedingPass}
 use Rattle.rpq_threads.specs.declared.evaluator.Evaluator.{Evaluator}
+use Rattle.rpq_threads.specs.Showing.{HaveMarks}
 use Rattle.rpq_threads.specs.Written.{Grew, GrewByPrefix, GrewByProperPrefix}
 use Rattle.rpq_threads.specs.Told.{all_events, TellsObjects}
 use Rattle.rpq_threads.specs.Runs.{WritesText}
@@ -46,70 +49,92 @@ TellsOn events whole old new =
 -- the bytes begin the block of the entry behind the first of these entries, so many, and aren't all
 -- of it; the first of them stands at this position
 pub record BeginsNext (queries : List Query) (position : ℕ) (entries : List Entry)
-    (lists : List (List Event)) (count : ℕ) (bytes : List ℕ) : Type 0 where
+    (steps : List StepValue) (count : ℕ) (bytes : List ℕ) : Type 0 where
   pub entry : Entry
-  pub events : List Event
+  pub step : StepValue
   pub more : List ℕ
   pub there : slice_get entries count ≡ Some entry
-  pub are_events : slice_get lists count ≡ Some events
-  pub cut : block queries (position + count) entry events ≡ bytes ++ more
+  pub is_step : slice_get steps count ≡ Some step
+  pub cut : block queries (position + count) entry step ≡ bytes ++ more
   pub proper : more ≢ []
 
 -- of the blocks of these entries so many were written whole, and of the next one a part or nothing;
 -- of the events of these blocks, and of no other, the objects were told: of all of them, unless
 -- memory ran out
 pub record WritesAndTells (queries : List Query) (position : ℕ) (entries : List Entry)
-    (lists : List (List Event)) (why : Why) (written_before written_after : Option (List ℕ))
+    (steps : List StepValue) (why : Why) (written_before written_after : Option (List ℕ))
     (old new : CircleValue) : Type 0 where
   pub count : ℕ
   pub within : count ≤ length entries
   pub rest : List ℕ
-  pub part : (rest ≡ []) ⊎ BeginsNext queries position entries lists count rest
+  pub part : (rest ≡ []) ⊎ BeginsNext queries position entries steps count rest
   pub written : written_after ≡ append_known written_before
-      (blocks_from queries position (take count entries) (take count lists) ++ rest)
-  pub told : TellsOn (all_events (take count lists)) (why ≢ Memory) old new
+      (blocks_from queries position (take count entries) (take count steps) ++ rest)
+  pub told : TellsOn (all_events (events_of (take count steps))) (why ≢ Memory) old new
 
--- objects that were handed in have heard the events of all these entries, of queries that may take
--- edges backwards or not
-pub record HaveHeardAll (two_way : Bool) (queries : List Query) (history : List Entry)
+-- objects that were handed in have heard the events of all these entries
+pub record HaveHeardAll (options : Options) (queries : List Query) (history : List Entry)
     (objects : List ObjectValue) (circle : CircleValue) : Type 0 where
   pub events : List (List Event)
-  pub are_events : AreAllWalkedEvents two_way queries history events
+  pub are_events : AreAllWalkedEvents options.two_way queries history events
   pub heard : HaveStood objects (all_events events) ⊤ circle.members circle.left
 
 -- objects that had heard the events of the first of these histories have heard those of the second
-abbrev pub HearsOn : Bool → List Query → List Entry → List Entry → CircleValue → CircleValue
+abbrev pub HearsOn : Options → List Query → List Entry → List Entry → CircleValue → CircleValue
     → Type 0
-HearsOn two_way queries first second old new =
-    (objects : List ObjectValue) → HaveHeardAll two_way queries first objects old
-    → HaveHeardAll two_way queries second objects new
+HearsOn options queries first second old new =
+    (objects : List ObjectValue) → HaveHeardAll options queries first objects old
+    → HaveHeardAll options queries second objects new
 
 -- where what was written since some start is the text of these entries, this is so of the start
-abbrev pub Onward : Bool → List Query → List Entry → Option (List ℕ)
+abbrev pub Onward : Options → List Query → List Entry → Option (List ℕ)
     → (Option (List ℕ) → Type 0) → Type 0
-Onward two_way queries front written P =
-    (start : Option (List ℕ)) → Grew (IsText two_way queries front) start written → P start
+Onward options queries front written P =
+    (start : Option (List ℕ)) → Grew (IsText options queries front) start written → P start
 
--- the queries, how they take edges, and the workers stay
+-- the queries, how they are evaluated and told, and the workers stay
 pub record KeepsSetup (old new : Evaluator) : Type 0 where
   pub queries : new.engine.queries ≡ old.engine.queries
-  pub two_way : new.two_way ≡ old.two_way
+  pub options : new.options ≡ old.options
   pub workers : new.workers ≡ old.workers
+
+-- only the engine changes, and how far it got
+pub record OnlyFeeds (old new : Evaluator) : Type 0 where
+  pub setup : KeepsSetup old new
+  pub marks : new.marks ≡ old.marks
 
 -- the engine stands for what its queries are evaluated over, of so many entries, which are these
 pub record StandsOver (evaluator : Evaluator) (history : List Entry) : Type 0 where
-  pub stands : StandsFor evaluator.engine (walked evaluator.two_way history)
+  pub stands : StandsFor evaluator.engine (walked evaluator.options.two_way history)
   pub counted : evaluator.position ≡ length history
+
+-- each of the events has the number of a query
+abbrev pub AreNumbered : Evaluator → List (List Event) → Type 0
+AreNumbered evaluator lists = All (λ (own : List Event).
+    All (λ (event : Event). event.query < length evaluator.engine.queries) own) lists
 
 -- behind this history the engine answered these entries, each by the events in its place, and now
 -- it stands for all of them; each event has the number of a query
 pub record Finds (before : List Entry) (evaluator : Evaluator) (later : List Entry)
     (lists : List (List Event)) : Type 0 where
   pub stands : StandsOver evaluator (before ++ later)
-  pub events : AreAllWalkedEventsFrom evaluator.two_way (definitions evaluator.engine)
+  pub events : AreAllWalkedEventsFrom evaluator.options.two_way (definitions evaluator.engine)
       before later lists
-  pub numbers : All (λ (own : List Event).
-      All (λ (event : Event). event.query < length evaluator.engine.queries) own) lists
+  pub numbers : AreNumbered evaluator lists
+
+-- the marks of the evaluator are those that are wanted for this history
+abbrev pub MarksOver : Evaluator → List Entry → Type 0
+MarksOver evaluator history =
+    HaveMarks evaluator.options.paths (definitions evaluator.engine) history evaluator.marks
+
+-- behind this history the engine answered these entries, each of which brings the step in its
+-- place, and now it and the marks stand for all of them; each event has the number of a query
+pub record FindsSteps (before : List Entry) (evaluator : Evaluator) (later : List Entry)
+    (steps : List StepValue) : Type 0 where
+  pub stands : StandsOver evaluator (before ++ later)
+  pub marks : MarksOver evaluator (before ++ later)
+  pub are_steps : AreStepsFrom evaluator.options (definitions evaluator.engine) before later steps
+  pub numbers : AreNumbered evaluator (events_of steps)
 
 -- behind this history the engine answered these entries; what was written since a start, where it
 -- was the text of the history, is now that of the history with them; and the objects have heard
@@ -119,49 +144,74 @@ pub record Emits (before : List Entry) (old new : Evaluator) (later : List Entry
     : Type 0 where
   pub setup : KeepsSetup old new
   pub stands : StandsOver new (before ++ later)
-  pub text : Onward old.two_way (definitions old.engine) before written_before (λ start.
-      Grew (IsText old.two_way (definitions old.engine) (before ++ later)) start written_after)
-  pub heard : HearsOn old.two_way (definitions old.engine) before (before ++ later)
+  pub marks : MarksOver new (before ++ later)
+  pub text : Onward old.options (definitions old.engine) before written_before (λ start.
+      Grew (IsText old.options (definitions old.engine) (before ++ later)) start written_after)
+  pub heard : HearsOn old.options (definitions old.engine) before (before ++ later)
       circle_before circle_after
 
 -- for this reason not all entries were answered: what was written since a start, where it was the
 -- text of the first of them, is now a prefix of the text of all, a proper one where a write failed;
 -- and the objects were told of the events of the blocks that were written whole, and of no other
-pub record Stops (two_way : Bool) (queries : List Query) (first all : List Entry) (why : Why)
+pub record Stops (options : Options) (queries : List Query) (first all : List Entry) (why : Why)
     (written_before written_after : Option (List ℕ)) (circle_before circle_after : CircleValue)
     : Type 0 where
-  pub write : why ≡ Write → Onward two_way queries first written_before (λ start.
-      GrewByProperPrefix (IsText two_way queries all) start written_after)
-  pub memory : why ≡ Memory → Onward two_way queries first written_before (λ start.
-      GrewByPrefix (IsText two_way queries all) start written_after)
+  pub write : why ≡ Write → Onward options queries first written_before (λ start.
+      GrewByProperPrefix (IsText options queries all) start written_after)
+  pub memory : why ≡ Memory → Onward options queries first written_before (λ start.
+      GrewByPrefix (IsText options queries all) start written_after)
   pub told : (objects : List ObjectValue)
-      → HaveHeardAll two_way queries first objects circle_before
-      → Onward two_way queries first written_before (λ start.
-      TellsObjects two_way queries all start written_after objects (Some why) circle_after)
+      → HaveHeardAll options queries first objects circle_before
+      → Onward options queries first written_before (λ start.
+      TellsObjects options queries all start written_after objects (Some why) circle_after)
 
 -- the entries that the engine answered, of those that the pass has seen
 abbrev pub answered : Evaluator → PassValue Line Terms → List Entry
 answered evaluator pass = take evaluator.position (entries pass.seen)
 
 -- the pass is the engine's, and the engine, which has from 1 to 64 workers and the queries of the
--- history, all accepted, stands for the first entries that the pass has seen; nobody reads along
--- where edges may be taken backwards
+-- history, which can be evaluated, stands for the first entries that the pass has seen, and so do
+-- the marks; where edges may be taken backwards, nobody reads along, and no paths are told
 pub record KeepsUp (history : HistoryValue) (evaluator : Evaluator) (pass : PassValue Line Terms)
     : Type 0 where
   pub feeds : IsFeedingPass history pass
   pub workers : IsWithin 64 evaluator.workers
   pub queries : definitions evaluator.engine ≡ history.terms.queries
-  pub accepted : All IsAccepted history.terms.queries
-  pub unread : evaluator.two_way ≡ true → history.readers ≡ 0
+  pub accepted : AreEvaluable history.terms.queries
+  pub unread : evaluator.options.two_way ≡ true → history.readers ≡ 0
+  pub forwards : evaluator.options.paths ≡ true → evaluator.options.two_way ≡ false
   pub few : history.terms.cap ≤ 2 ^ 29
   pub there : evaluator.position ≤ length (entries pass.seen)
   pub stands : StandsOver evaluator (answered evaluator pass)
+  pub marks : MarksOver evaluator (answered evaluator pass)
 
 -- and its answers are published, where the history has readers
 pub record IsFed (history : HistoryValue) (evaluator : Evaluator) (pass : PassValue Line Terms)
     : Type 0 where
   pub keeps_up : KeepsUp history evaluator pass
   pub told : 0 < history.readers → published pass.mine ≡ evaluator.position
+
+-- the pass has seen these entries next behind those that the engine answered, and none of them is
+-- too far
+pub record ComeNext (evaluator : Evaluator) (pass : PassValue Line Terms) (next : List Entry)
+    : Type 0 where
+  pub seen : StartsWith (entries pass.seen) (answered evaluator pass ++ next)
+  pub plain : All IsPlain next
+  pub short : evaluator.position + length next ≤ 2 ^ 29
+
+-- the engine answered more entries, and published the answers over them, where the history has
+-- readers; what was written since a start, where it was the text of those before, is now that of
+-- all; and the objects have heard their events
+pub record GetsOn (history : HistoryValue) (old new : Evaluator)
+    (pass_before pass_after : PassValue Line Terms) (written_before written_after : Option (List ℕ))
+    (circle_before circle_after : CircleValue) : Type 0 where
+  pub fed : IsFed history new pass_after
+  pub options : new.options ≡ old.options
+  pub text : Onward old.options history.terms.queries (answered old pass_before) written_before
+      (λ start. Grew (IsText old.options history.terms.queries (answered new pass_after)) start
+      written_after)
+  pub heard : HearsOn old.options history.terms.queries (answered old pass_before)
+      (answered new pass_after) circle_before circle_after
 
 -- the pass is the engine's, and may ask for the entries up to this position, which isn't too far:
 -- it has seen so many, and published as many where the history has readers
@@ -196,7 +246,7 @@ pub record IsWhole (history : HistoryValue) (evaluator : Evaluator) (pass : Pass
 -- was written, or a prefix of it; a write failed exactly where that is the reason; and the objects
 -- were told of the events of the blocks that were written whole
 pub record HasFed {K : Type 0} (written : K → Option (List ℕ)) (faults : K → ℕ)
-    (two_way : Bool) (history : HistoryValue) (before after : K)
+    (options : Options) (history : HistoryValue) (before after : K)
     (circle_before circle_after : CircleValue) (pass : PassValue Line Terms) (why : Option Why)
     : Type 0 where
   pub is : IsPassOf history pass
@@ -205,7 +255,7 @@ pub record HasFed {K : Type 0} (written : K → Option (List ℕ)) (faults : K �
   pub told : why ≡ None → 0 < history.readers → published pass.mine ≡ length (entries pass.seen)
   pub shut : (other : Why) → IsShutFor pass.mine other → why ≡ Some other
   pub seen_shut : (other : Why) → why ≡ Some other → IsShutFor pass.seen other
-  pub text : WritesText written faults two_way history.terms.queries (entries pass.seen)
+  pub text : WritesText written faults options history.terms.queries (entries pass.seen)
       before after why
-  pub objects : TellsObjects two_way history.terms.queries (entries pass.seen) (written before)
+  pub objects : TellsObjects options history.terms.queries (entries pass.seen) (written before)
       (written after) circle_before.members why circle_after

@@ -10,6 +10,7 @@ use Rattle.rpq_io.specs.Reader.{ReaderState}
 use Rattle.rpq_model.specs.Query.{Query}
 use Rattle.rpq_words.specs.Modes.{IsWithin}
 use Rattle.rpq_text.specs.Definitions.{definitions_of}
+use Rattle.rpq_text.specs.declared.options.Options.{Options}
 use Rattle.rpq_text.specs.Text.{IsText}
 use Rattle.turn_lock.specs.Lines.{StartsWith}
 use Rattle.history_model.specs.declared.line.Why.{Why}
@@ -30,8 +31,8 @@ use Rattle.rpq_threads.specs.Written.{Grew, GrewByPrefix, GrewByProperPrefix}
 use Rattle.rpq_threads.specs.Told.{TellsObjects}
 
 -- what is given to the threads of a run: queries, understood; from 1 to 64 workers; new readers of
--- from 1 to 64 streams; at most 64 sessions about the queries, and none where edges may be taken
--- backwards; and how many entries the history may have
+-- from 1 to 64 streams; at most 64 sessions about the queries; and how many entries the history may
+-- have. Where edges may be taken backwards, nobody asks, and no paths are told
 pub record IsTask {S : Type 0} (left : S → Option (List ℕ)) (faults : S → ℕ) (task : Task S)
     : Type 0 where
   pub understood : AreUnderstood task.queries.items
@@ -40,18 +41,19 @@ pub record IsTask {S : Type 0} (left : S → Option (List ℕ)) (faults : S → 
   pub fresh : All (IsNewReader left faults) task.readers.items
   pub few : length task.sessions.items ≤ 64
   pub sessions : All (IsSession (length task.queries.items)) task.sessions.items
-  pub unasked : task.two_way ≡ true → task.sessions.items ≡ []
+  pub unasked : task.options.two_way ≡ true → task.sessions.items ≡ []
+  pub forwards : task.options.paths ≡ true → task.options.two_way ≡ false
   pub limit : IsWithin 2000000 task.limit
 
 -- the text of the history was written, or a prefix of it: a proper one where a write failed
 pub record WritesText {K : Type 0} (written : K → Option (List ℕ)) (failures : K → ℕ)
-    (two_way : Bool) (queries : List Query) (history : List Entry) (before after : K)
+    (options : Options) (queries : List Query) (history : List Entry) (before after : K)
     (why : Option Why) : Type 0 where
-  pub whole : why ≡ None → Grew (IsText two_way queries history) (written before) (written after)
+  pub whole : why ≡ None → Grew (IsText options queries history) (written before) (written after)
   pub write : why ≡ Some Write →
-      GrewByProperPrefix (IsText two_way queries history) (written before) (written after)
+      GrewByProperPrefix (IsText options queries history) (written before) (written after)
   pub memory : why ≡ Some Memory →
-      GrewByPrefix (IsText two_way queries history) (written before) (written after)
+      GrewByPrefix (IsText options queries history) (written before) (written after)
   pub counted : CountsFault (why ≡ Some Write) (failures before) (failures after)
 
 -- the answered ask is the reply over the entries up to its position, which isn't above the last one
@@ -111,11 +113,11 @@ pub record Holds {S K O : Type 0} (left : S → Option (List ℕ)) (faults : S �
       outcome.history.items
   pub few : length outcome.history.items ≤ task.limit
   pub plain : All IsPlain outcome.history.items
-  pub text : WritesText written failures task.two_way (definitions_of task.queries.items)
+  pub text : WritesText written failures task.options (definitions_of task.queries.items)
       outcome.history.items events_old events_new outcome.why
   pub answers : HasAnswered (definitions_of task.queries.items) outcome.history.items
       task.sessions.items (map (λ (own : Vec AnsweredValue). own.items) outcome.sessions.items)
       outcome.why outcome.short_of_memory
-  pub objects : TellsObjects task.two_way (definitions_of task.queries.items)
+  pub objects : TellsObjects task.options (definitions_of task.queries.items)
       outcome.history.items (written events_old) (written events_new)
       (as_seen seen circle).members outcome.why (as_seen seen outcome.circle)

@@ -7,6 +7,7 @@ use Rattle.std.specs.Vec.{vec_len, vec_capacity}
 use Rattle.rpq_io.specs.Reader.{ReaderState}
 use Rattle.rpq_model.specs.Query.{Query}
 use Rattle.rpq_text.specs.Definitions.{definitions_of}
+use Rattle.rpq_text.specs.declared.options.Options.{Options}
 use Rattle.turn_lock.specs.Passes.{PassValue, newcomers}
 use Rattle.history_model.specs.declared.line.Why.{Why}
 use Rattle.history_model.specs.declared.line.Line.{Line}
@@ -100,14 +101,14 @@ pub record IsBegun {S : Type 0} (left : S → Option (List ℕ)) (faults : S →
     cap = task.limit;
   }
   pub job : IsJob left faults begun.history begun.definitions.value.items begun.job
-  pub two_way : begun.job.evaluator.two_way ≡ task.two_way
+  pub options : begun.job.evaluator.options ≡ task.options
   pub readers : begun.job.readers.items ≡ task.readers.items
   pub sessions : begun.job.sessions.items ≡ task.sessions.items
 
--- what a run's threads were given, among this whether edges may be taken backwards, the sink of the
--- events before it, and the objects
+-- what a run's threads were given, among this how the queries are evaluated and told, the sink of
+-- the events before it, and the objects
 pub record Given (S K : Type 0) : Type 0 where
-  pub two_way : Bool
+  pub options : Options
   pub readers : List (ReaderState S)
   pub sessions : List (List Ask)
   pub events : K
@@ -126,7 +127,7 @@ pub record Gave (S K : Type 0) : Type 0 where
 -- what a job gives to the threads
 abbrev pub given_by : {S K : Type 0} → Job S → K → CircleValue → Given S K
 given_by job events circle = record {
-  two_way = job.evaluator.two_way;
+  options = job.evaluator.options;
   readers = job.readers.items;
   sessions = job.sessions.items;
   events = events;
@@ -154,7 +155,7 @@ pub record IsServed {S K : Type 0} (left : S → Option (List ℕ)) (faults : S 
   pub engine : PassValue Line Terms
   pub did : HaveStreamed left faults history 1 given.readers streamed
   pub answered_all : HaveReplied history (1 + history.terms.streams) given.sessions replied
-  pub fed : HasFed written failures given.two_way history given.events gave.events given.circle
+  pub fed : HasFed written failures given.options history given.events gave.events given.circle
       gave.circle engine gave.why
   pub passes_are : passes
       ≡ engine ∷ (map (λ d. d.pass) streamed ++ map (λ r. r.pass) replied)

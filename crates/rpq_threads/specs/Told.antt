@@ -1,13 +1,14 @@
 -- What the caller's objects were told of.
-use Rattle.std.specs.Prelude.{◌≡◌, ◌≢◌, ℕ, ◌+◌, ◌≤◌, ◌⊎◌, Bool, List, [], ◌∷◌, ◌++◌, length, take}
+use Rattle.std.specs.Prelude.{◌≡◌, ◌≢◌, ℕ, ◌+◌, ◌≤◌, ◌⊎◌, List, [], ◌∷◌, ◌++◌, length, take}
 use Rattle.std.specs.Prelude.{flat_map, Option, Some, None, slice_get}
 use Rattle.std.specs.Io.KnownBytes.{append_known}
 use Rattle.rpq_base.specs.declared.data.Entry.{Entry}
 use Rattle.rpq_base.specs.declared.data.Event.{Event}
 use Rattle.rpq_model.specs.Query.{Query}
-use Rattle.two_way.specs.TwoWay.{AreWalkedEvents, AreAllWalkedEvents}
 use Rattle.history_model.specs.declared.line.Why.{Why}
 use Rattle.history_model.specs.declared.line.Why.TheVariants.{Memory}
+use Rattle.rpq_text.specs.declared.options.Options.{Options}
+use Rattle.rpq_text.specs.Steps.{StepValue, IsStep, AreSteps, events_of}
 use Rattle.rpq_text.specs.Text.{block, blocks_from}
 use Rattle.standing.specs.Objects.{ObjectValue}
 use Rattle.standing.specs.Circles.{CircleValue}
@@ -18,31 +19,31 @@ abbrev pub all_events : List (List Event) → List Event
 all_events lists = flat_map (λ own. own) lists
 
 -- the bytes begin the block of the entry behind the first ones, so many, and aren't all of it
-pub record BeginsBlock (two_way : Bool) (queries : List Query) (history : List Entry) (count : ℕ)
-    (bytes : List ℕ) : Type 0 where
+pub record BeginsBlock (options : Options) (queries : List Query) (history : List Entry)
+    (count : ℕ) (bytes : List ℕ) : Type 0 where
   pub entry : Entry
-  pub events : List Event
+  pub step : StepValue
   pub more : List ℕ
   pub there : slice_get history count ≡ Some entry
-  pub are_events : AreWalkedEvents two_way queries (take count history)
-      (take count history ++ entry ∷ []) events
-  pub cut : block queries (count + 1) entry events ≡ bytes ++ more
+  pub is_step : IsStep options queries (take count history)
+      (take count history ++ entry ∷ []) step
+  pub cut : block queries (count + 1) entry step ≡ bytes ++ more
   pub proper : more ≢ []
 
--- so many blocks of the history's text were written whole, and of the next one a part or nothing:
--- the text of queries that may take edges backwards or not.
--- Of the events of these blocks, and of no other, the objects were told: each that stayed of all,
--- unless memory ran out. Where nothing ended the run early these are all blocks
-pub record TellsObjects (two_way : Bool) (queries : List Query) (history : List Entry)
+-- so many blocks of a text of the history were written whole, and of the next one a part or
+-- nothing. Of the events of these blocks, and of no other, the objects were told: each that stayed
+-- of all, unless memory ran out. Where nothing ended the run early these are all blocks
+pub record TellsObjects (options : Options) (queries : List Query) (history : List Entry)
     (before now : Option (List ℕ)) (objects : List ObjectValue) (why : Option Why)
     (circle : CircleValue) : Type 0 where
   pub count : ℕ
   pub within : count ≤ length history
-  pub events : List (List Event)
-  pub are_events : AreAllWalkedEvents two_way queries (take count history) events
+  pub steps : List StepValue
+  pub are_steps : AreSteps options queries (take count history) steps
   pub rest : List ℕ
-  pub part : (rest ≡ []) ⊎ BeginsBlock two_way queries history count rest
+  pub part : (rest ≡ []) ⊎ BeginsBlock options queries history count rest
   pub written : now
-      ≡ append_known before (blocks_from queries 1 (take count history) events ++ rest)
-  pub told : HaveStood objects (all_events events) (why ≢ Some Memory) circle.members circle.left
+      ≡ append_known before (blocks_from queries 1 (take count history) steps ++ rest)
+  pub told : HaveStood objects (all_events (events_of steps)) (why ≢ Some Memory)
+      circle.members circle.left
   pub all : why ≡ None → count ≡ length history

@@ -59,7 +59,7 @@ pub fn feed_beside<'s, 'e, 'a, K: Sink, O: Standing, G: Gate, R: Threads + Wait 
         (as_seen O.seen feeding.circle) }
     requires waiting { AreWaiting shared.now.history.now waiting }
     requires queries { shared.now.queries.now ≡ shared.now.history.now.terms.queries }
-    ensures fed { HasFed K.written K.faults feeding.entry.evaluator.two_way
+    ensures fed { HasFed K.written K.faults feeding.entry.evaluator.options
         shared.now.history.now feeding.entry.events.now
         result.events.now (as_seen O.seen feeding.entry.circle) (as_seen O.seen result.circle)
         result.engine result.why }
@@ -81,7 +81,7 @@ pub fn feed_beside<'s, 'e, 'a, K: Sink, O: Standing, G: Gate, R: Threads + Wait 
         requires queries { shared.now.queries.now ≡ shared.now.history.now.terms.queries }
         requires gate { IsSync G.row }
         requires sync { IsSync R.row }
-        ensures fed { HasFed K.written K.faults feeding.entry.evaluator.two_way
+        ensures fed { HasFed K.written K.faults feeding.entry.evaluator.options
             shared.entry.now.history.now
             feeding.entry.events.now result.events.now (as_seen O.seen feeding.entry.circle)
             (as_seen O.seen result.circle) result.engine result.why }
@@ -104,7 +104,7 @@ fn feed_alone<'a, K: Sink, O: Standing, G: Gate, R: Threads + Wait + Sync>(
 ) -> Beside<'a, K, O>
     requires { IsAtStart shared.now.history.now feeding.evaluator feeding.pass
         (as_seen O.seen feeding.circle) }
-    ensures fed { HasFed K.written K.faults feeding.entry.evaluator.two_way
+    ensures fed { HasFed K.written K.faults feeding.entry.evaluator.options
         shared.now.history.now feeding.entry.events.now
         result.events.now (as_seen O.seen feeding.entry.circle) (as_seen O.seen result.circle)
         result.engine result.why }

@@ -1,6 +1,6 @@
 //! The definitions of the queries of a run.
 
-ghost use Rattle.std.specs.Prelude.{◌≡◌, IfOk};
+ghost use Rattle.std.specs.Prelude.{◌≡◌, ◌<◌, All, IfOk};
 ghost use Rattle.rpq_text.specs.Definitions.{definitions_of};
 
 use query_file::Compiled;
@@ -17,4 +17,13 @@ pub fn copied_definitions(alloc: Global, queries: &[Compiled]) -> Result<Vec<Que
         copies.push(query.def.copy(alloc)?)?;
     }
     Ok(copies)
+}
+
+/// Does nothing. What it says is that each query's window moves, which opening it shows.
+pub fn windows_move(queries: &[QueryDef])
+    ensures { All (λ query. 0 < query.window.slide) queries.now }
+{
+    for query in queries {
+        let _slide = query.window.slide;
+    }
 }

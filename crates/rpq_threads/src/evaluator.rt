@@ -1,23 +1,34 @@
 //! The engine of a run.
 
-ghost use Rattle.std.specs.Prelude.{◌≡◌, [], IfOk};
-ghost use Rattle.rpq_threads.specs.Fed.{StandsOver};
+ghost use Rattle.std.specs.Prelude.{◌≡◌, ◌≤◌, true, [], IfOk};
+ghost use Rattle.rpq_text.specs.Definitions.{definitions_of};
+ghost use Rattle.rpq_threads.specs.Fed.{MarksOver, StandsOver};
+ghost use Rattle.rpq_threads.specs.Showing.{HaveMarks};
 ghost use Rattle.rpq_threads.specs.Understood.{AreUnderstood};
 
 use path_engine::Engine;
+use path_witness::Marks;
 use query_file::Compiled;
 use rpq_base::Memory;
+use rpq_model::QueryDef;
+use rpq_text::Options;
 use std::alloc::Global;
 use std::random::RandomSource;
+use std::sync::Arc;
+
+/// The most entries that are answered at once.
+const AT_ONCE: usize = 256;
 
 /// An engine, how many entries of the history it has answered, how many workers it has, and the
 /// text of the block that it wrote last, whose memory the next one takes.
 #[derive(Drop)]
 pub struct Evaluator {
     pub engine: Engine,
-    /// Whether the queries may take edges backwards. Then the engine is fed each entry with its
-    /// inverse, and its own position counts both.
-    pub two_way: bool,
+    /// How the queries are evaluated, and what is told of them. Where they may take edges
+    /// backwards, the engine is fed each entry with its inverse, and its own position counts both.
+    pub options: Options,
+    /// The live entries of each edge that last longest, where paths are told.
+    pub marks: Option<Marks>,
     pub position: u64,
     pub workers: u32,
     pub block: Vec<u8>,
@@ -26,28 +37,58 @@ pub struct Evaluator {
 }
 
 impl Evaluator {
-    /// An engine of the queries, which may take edges backwards or not, that has answered no entry.
-    /// The only error is [`Memory`].
+    /// An engine of the queries, which have these definitions, that has answered no entry. The only
+    /// error is [`Memory`].
     pub fn new<R: RandomSource>(
         rt: &R,
         alloc: Global,
         queries: Vec<Compiled>,
-        two_way: bool,
+        definitions: &Arc<Vec<QueryDef>>,
+        options: Options,
         workers: u32,
     ) -> Result<Evaluator, Memory>
-        requires { AreUnderstood queries.items }
+        requires understood { AreUnderstood queries.items }
+        requires definitions { definitions.now.value.items ≡ definitions_of queries.items }
         ensures queries { IfOk result (λ evaluator. evaluator.engine.queries ≡ queries.items) }
         ensures stands { IfOk result (λ evaluator. StandsOver evaluator []) }
-        ensures two_way { IfOk result (λ evaluator. evaluator.two_way ≡ two_way) }
+        ensures marks { IfOk result (λ evaluator. MarksOver evaluator []) }
+        ensures options { IfOk result (λ evaluator. evaluator.options ≡ options) }
         ensures workers { IfOk result (λ evaluator. evaluator.workers ≡ workers) }
     {
+        let marks = marks_of(rt, alloc, definitions, options)?;
         Ok(Evaluator {
             engine: Engine::new(rt, alloc, queries)?,
-            two_way,
+            options,
+            marks,
             position: 0,
             workers,
             block: Vec::new(alloc),
             rebuilt: false,
         })
     }
+
+    /// How many entries are answered at once, at the most. Where paths are told it is one, since a
+    /// path is told as of its own entry.
+    pub fn at_once(&self) -> usize
+        ensures some { 1 ≤ result }
+        ensures one { self.now.options.paths ≡ true → result ≡ 1 }
+    {
+        if self.options.paths { 1 } else { AT_ONCE }
+    }
+}
+
+/// Marks for queries with these definitions, where paths are told. The only error is [`Memory`].
+fn marks_of<R: RandomSource>(
+    rt: &R,
+    alloc: Global,
+    definitions: &Arc<Vec<QueryDef>>,
+    options: Options,
+) -> Result<Option<Marks>, Memory>
+    ensures { IfOk result (HaveMarks options.paths definitions.now.value.items []) }
+{
+    if !options.paths {
+        return Ok(None);
+    }
+    let own = Arc::try_clone(definitions)?;
+    Ok(Some(Marks::new(rt, alloc, own)?))
 }

@@ -1,22 +1,20 @@
 //! The engine's loop.
 
-ghost use Rattle.std.specs.Prelude.{◌≡◌, ◌<◌, true, OnOk, IfErr, Ok, Err};
+ghost use Rattle.std.specs.Prelude.{◌≡◌, ◌<◌, ◌≤◌, ◌+◌, true, length, OnOk, IfErr, Ok, Err};
 ghost use Rattle.rpq_io.specs.Counts.{CountsFault};
 ghost use Rattle.history_model.specs.Lines.{entries, published};
 ghost use Rattle.turn_lock.specs.Lines.{StartsWith};
 ghost use Rattle.stream_history.specs.History.{IsFeedingPass};
-ghost use Rattle.rpq_text.specs.Text.{IsText};
 ghost use Rattle.standing.specs.Circles.{as_seen};
-ghost use Rattle.rpq_threads.specs.Fed.{Onward, HearsOn, Stops, KeepsUp, IsFed, IsAtStart, IsWhole};
-ghost use Rattle.rpq_threads.specs.Fed.{HasFed, answered};
-ghost use Rattle.rpq_threads.specs.Written.{Grew};
+ghost use Rattle.rpq_threads.specs.Fed.{ComeNext, GetsOn, Stops, KeepsUp, IsFed, IsAtStart};
+ghost use Rattle.rpq_threads.specs.Fed.{HasFed, IsWhole, answered};
 
 use crate::emitting::emit_front;
 use crate::evaluator::Evaluator;
-use containment_laws::accepted_queries_have_events;
 use history_model::Why;
-use rpq_base::Memory;
+use rpq_base::{Entry, Memory};
 use rpq_io::{Gate, Sink};
+use rpq_text::every_history_has_a_text;
 use rpq_workers::Shared;
 use standing::{Circle, Standing};
 use std::sync::Wait;
@@ -35,11 +33,11 @@ pub fn feed_all<R: Threads + Wait + Sync, G: Gate, K: Sink, O: Standing>(
 ) -> Option<Why>
     requires { IsAtStart shared.now.history.now evaluator.old pass.old
         (as_seen O.seen circle.old) }
-    ensures { HasFed K.written K.faults evaluator.old.two_way shared.now.history.now
+    ensures { HasFed K.written K.faults evaluator.old.options shared.now.history.now
         events.old events.new (as_seen O.seen circle.old) (as_seen O.seen circle.new)
         pass.new result }
 {
-    accepted_queries_have_events(); // called for its clause
+    every_history_has_a_text(); // called for its clause
     for _ in shared.rt.forever() {
         match turn(shared, pass, evaluator, events, circle) {
             Ok(true) => return None,
@@ -64,19 +62,11 @@ fn turn<R: Threads + Wait + Sync, G: Gate, K: Sink, O: Standing>(
 ) -> Result<bool, Why>
     requires { IsFed shared.now.history.now evaluator.old pass.old }
     ensures feeds { IsFeedingPass shared.now.history.now pass.new }
-    ensures fed { OnOk result (IsFed shared.now.history.now evaluator.new pass.new) }
-    ensures two_way { OnOk result (evaluator.new.two_way ≡ evaluator.old.two_way) }
     ensures over { result ≡ Ok true → IsWhole shared.now.history.now evaluator.new pass.new }
-    ensures text { OnOk result (Onward evaluator.old.two_way
-        shared.now.history.now.terms.queries
-        (answered evaluator.old pass.old) (K.written events.old) (λ start.
-        Grew (IsText evaluator.old.two_way shared.now.history.now.terms.queries
-        (answered evaluator.new pass.new)) start (K.written events.new))) }
-    ensures heard { OnOk result (HearsOn evaluator.old.two_way
-        shared.now.history.now.terms.queries
-        (answered evaluator.old pass.old) (answered evaluator.new pass.new)
+    ensures gets_on { OnOk result (GetsOn shared.now.history.now evaluator.old evaluator.new
+        pass.old pass.new (K.written events.old) (K.written events.new)
         (as_seen O.seen circle.old) (as_seen O.seen circle.new)) }
-    ensures stops { IfErr result (λ why. Stops evaluator.old.two_way
+    ensures stops { IfErr result (λ why. Stops evaluator.old.options
         shared.now.history.now.terms.queries
         (answered evaluator.old pass.old) (entries pass.new.seen) why
         (K.written events.old) (K.written events.new)
@@ -84,7 +74,7 @@ fn turn<R: Threads + Wait + Sync, G: Gate, K: Sink, O: Standing>(
     ensures counted { CountsFault (result ≡ Err Why.Write)
         (K.faults events.old) (K.faults events.new) }
 {
-    accepted_queries_have_events(); // called for its clause
+    every_history_has_a_text(); // called for its clause
     let history = shared.history;
     let heard = history.entries_heard();
     let position = evaluator.position;
@@ -95,11 +85,80 @@ fn turn<R: Threads + Wait + Sync, G: Gate, K: Sink, O: Standing>(
         sleep_unless(shared.rt, history, front.all_ended, heard);
         return Ok(front.all_ended);
     }
-    emit_front(shared, pass, evaluator, &front.entries, events, circle)?;
-    let Ok(()) = publish_answers(shared.rt, history, pass, evaluator) else {
+    answer_front(shared, pass, evaluator, &front.entries, events, circle)?;
+    Ok(false)
+}
+
+/// Answers these entries, which come next, as many at once as the evaluator takes: writes their
+/// blocks, tells the objects of their events and publishes the answers. It answers why not all of
+/// this was done.
+fn answer_front<R: Threads + Wait + Sync, G: Gate, K: Sink, O: Standing>(
+    shared: &Shared<'_, R, G>,
+    pass: &mut Pass,
+    evaluator: &mut Evaluator,
+    next: &[Entry],
+    events: &mut K,
+    circle: &mut Circle<O>,
+) -> Result<(), Why>
+    requires fed { IsFed shared.now.history.now evaluator.old pass.old }
+    requires next { ComeNext evaluator.old pass.old next.now }
+    ensures feeds { IsFeedingPass shared.now.history.now pass.new }
+    ensures seen { StartsWith pass.new.seen pass.old.seen }
+    ensures gets_on { OnOk result (GetsOn shared.now.history.now evaluator.old evaluator.new
+        pass.old pass.new (K.written events.old) (K.written events.new)
+        (as_seen O.seen circle.old) (as_seen O.seen circle.new)) }
+    ensures stops { IfErr result (λ why. Stops evaluator.old.options
+        shared.now.history.now.terms.queries
+        (answered evaluator.old pass.old) (entries pass.new.seen) why
+        (K.written events.old) (K.written events.new)
+        (as_seen O.seen circle.old) (as_seen O.seen circle.new)) }
+    ensures counted { CountsFault (result ≡ Err Why.Write)
+        (K.faults events.old) (K.faults events.new) }
+{
+    let at_once = evaluator.at_once();
+    let mut rest = next;
+    while !rest.is_empty() {
+        let (part, later) = rest.split_at(at_once.min(rest.len()));
+        answer_part(shared, pass, evaluator, part, events, circle)?;
+        rest = later;
+    }
+    Ok(())
+}
+
+/// Answers these entries, which come next, all at once, as [`answer_front`] does.
+fn answer_part<R: Threads + Wait + Sync, G: Gate, K: Sink, O: Standing>(
+    shared: &Shared<'_, R, G>,
+    pass: &mut Pass,
+    evaluator: &mut Evaluator,
+    next: &[Entry],
+    events: &mut K,
+    circle: &mut Circle<O>,
+) -> Result<(), Why>
+    requires fed { IsFed shared.now.history.now evaluator.old pass.old }
+    requires next { ComeNext evaluator.old pass.old next.now }
+    requires some { 1 ≤ length next.now }
+    requires one { evaluator.old.options.paths ≡ true → length next.now ≤ 1 }
+    ensures feeds { IsFeedingPass shared.now.history.now pass.new }
+    ensures seen { StartsWith pass.new.seen pass.old.seen }
+    ensures further { OnOk result
+        (evaluator.new.position ≡ evaluator.old.position + length next.now) }
+    ensures gets_on { OnOk result (GetsOn shared.now.history.now evaluator.old evaluator.new
+        pass.old pass.new (K.written events.old) (K.written events.new)
+        (as_seen O.seen circle.old) (as_seen O.seen circle.new)) }
+    ensures stops { IfErr result (λ why. Stops evaluator.old.options
+        shared.now.history.now.terms.queries
+        (answered evaluator.old pass.old) (entries pass.new.seen) why
+        (K.written events.old) (K.written events.new)
+        (as_seen O.seen circle.old) (as_seen O.seen circle.new)) }
+    ensures counted { CountsFault (result ≡ Err Why.Write)
+        (K.faults events.old) (K.faults events.new) }
+{
+    every_history_has_a_text(); // called for its clause
+    emit_front(shared, pass, evaluator, next, events, circle)?;
+    let Ok(()) = publish_answers(shared.rt, shared.history, pass, evaluator) else {
         return Err(Why::Memory);
     };
-    Ok(false)
+    Ok(())
 }
 
 /// Sleeps until the history has something new, unless it will have nothing.
@@ -124,7 +183,7 @@ fn publish_answers<R: Wait>(
     ensures seen { StartsWith pass.new.seen pass.old.seen }
     ensures fed { OnOk result (IsFed history.now evaluator.new pass.new) }
     ensures kept { (evaluator.new.position ≡ evaluator.old.position)
-        × (evaluator.new.two_way ≡ evaluator.old.two_way) }
+        × (evaluator.new.options ≡ evaluator.old.options) }
 {
     if history.readers() == 0 {
         return Ok(());

@@ -4,15 +4,17 @@
 //!
 //! The contract for the layer above is that of [`run_threads`]: whatever the threads do, there is
 //! one history in the end, and all that is told is told of it (`specs/Runs`). Each stream's tuples
-//! stand in it up to the stream's end, and nothing else does; what was written on the events is its
-//! text, or a prefix where a write failed or memory ran out; the objects were told of the events of
-//! the blocks that were written whole, and of no other (`specs/Told`); and each reply to a session
-//! is the one over the entries up to its position.
+//! stand in it up to the stream's end, and nothing else does; what was written on the events is a
+//! text of it, or a prefix where a write failed or memory ran out; the objects were told of the
+//! events of the blocks that were written whole, and of no other (`specs/Told`); and each reply to a
+//! session is the one over the entries up to its position.
 //!
 //! The engine takes up to 256 entries at once, writes their blocks one after another, tells the
 //! objects of each block's events behind it, and publishes the answers after the last of them,
 //! where there are sessions. The objects are told by the engine's thread, outside of any turn of
-//! the history. No clause says that the threads get on, or in which order.
+//! the history. Where paths are told it takes the entries of a front one by one, since a path is told
+//! as of its own entry, and publishes after each. No clause says that the threads get on, or in which
+//! order.
 //!
 //! Where memory runs out for the first time in a run while the engine answers entries, its thread
 //! rebuilds it over the entries that it had answered, which the history gives once more, and feeds
@@ -29,6 +31,7 @@ mod rebuilding;
 mod room;
 mod run;
 mod serving;
+mod steps;
 mod task;
 
 pub use definitions::copied_definitions;

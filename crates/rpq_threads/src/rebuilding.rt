@@ -4,7 +4,7 @@ ghost use Rattle.std.specs.Prelude.{◌≡◌, ◌<◌, ◌≤◌, ◌+◌, ◌^
 ghost use Rattle.std.specs.Prelude.{IfOk, OnOk, OnErr};
 ghost use Rattle.rpq_base.specs.declared.data.Entry.{Entry as EntryTaken};
 ghost use Rattle.rpq_words.specs.Modes.{IsWithin};
-ghost use Rattle.rpq_threads.specs.Fed.{IsFed, LooksOn, MayAskTo, KeepsSetup, StandsOver, Finds};
+ghost use Rattle.rpq_threads.specs.Fed.{IsFed, LooksOn, MayAskTo, OnlyFeeds, StandsOver, Finds};
 ghost use Rattle.rpq_threads.specs.Fed.{answered};
 
 use crate::evaluator::Evaluator;
@@ -31,7 +31,7 @@ pub fn find_events<R: Threads + Wait + Sync, G: Gate>(
     ensures looks_on { LooksOn shared.now.history.now pass.old pass.new }
     ensures finds { IfOk result (λ found. Finds (answered evaluator.old pass.old)
         evaluator.new entries.now (map (λ own. own.items) found.items)) }
-    ensures keeps { KeepsSetup evaluator.old evaluator.new }
+    ensures keeps { OnlyFeeds evaluator.old evaluator.new }
 {
     if let Ok(found) = feed(shared, evaluator, entries) {
         return Ok(found);
@@ -57,7 +57,7 @@ fn rebuild<R: Threads + Wait + Sync, G: Gate>(
     requires workers { IsWithin 64 evaluator.old.workers }
     ensures looks_on { LooksOn shared.now.history.now pass.old pass.new }
     ensures stands { OnOk result (StandsOver evaluator.new (answered evaluator.old pass.old)) }
-    ensures keeps { KeepsSetup evaluator.old evaluator.new }
+    ensures keeps { OnlyFeeds evaluator.old evaluator.new }
 {
     let position = evaluator.position;
     let workers = evaluator.workers;
@@ -87,7 +87,7 @@ fn feed_next<R: Threads + Wait + Sync, G: Gate>(
     ensures stands { OnOk result (StandsOver evaluator.new (answered evaluator.new pass.new)) }
     ensures forward { OnOk result ((evaluator.old.position < evaluator.new.position)
         × (evaluator.new.position ≤ position)) }
-    ensures keeps { KeepsSetup evaluator.old evaluator.new }
+    ensures keeps { OnlyFeeds evaluator.old evaluator.new }
 {
     let from = evaluator.position;
     let mut front = shared.history.after(shared.rt, shared.alloc, pass, from)?;
@@ -110,7 +110,7 @@ fn feed<R: Threads + Sync, G: Gate>(
         → StandsOver evaluator.old history → Finds history evaluator.new entries.now
         (map (λ own. own.items) found.items)) }
     ensures position { OnErr result (evaluator.new.position ≡ evaluator.old.position) }
-    ensures keeps { KeepsSetup evaluator.old evaluator.new }
+    ensures keeps { OnlyFeeds evaluator.old evaluator.new }
 {
     let context = Context {
         rt: shared.rt,
@@ -118,7 +118,7 @@ fn feed<R: Threads + Sync, G: Gate>(
         gate: shared.gate,
     };
     let workers = evaluator.workers;
-    let two_way = evaluator.two_way;
+    let two_way = evaluator.options.two_way;
     let found = feed_entries(&mut evaluator.engine, &context, two_way, entries, workers)?;
     evaluator.position += entries.len() as u64;
     Ok(found)

@@ -4,7 +4,7 @@ ghost use Rattle.std.specs.Prelude.{◌≡◌, [], IfOk, IfErr, OnErr};
 ghost use Rattle.rpq_threads.specs.Runs.{IsTask, Holds};
 ghost use Rattle.rpq_threads.specs.Served.{IsBegun};
 
-use crate::definitions::copied_definitions;
+use crate::definitions::{copied_definitions, windows_move};
 use crate::evaluator::Evaluator;
 use crate::room::{Gathered, Room};
 use crate::serving::{Job, Served, serve};
@@ -114,7 +114,7 @@ fn begin<R: RandomSource, G: Gate, S: Source + Drop>(
     first_view(); // called for its clause
     let Task {
         queries,
-        two_way,
+        options,
         workers,
         limit,
         readers,
@@ -122,7 +122,8 @@ fn begin<R: RandomSource, G: Gate, S: Source + Drop>(
     } = task;
     let alloc = context.alloc;
     let definitions = Arc::new(alloc, copied_definitions(alloc, &queries)?)?;
-    let mut evaluator = Evaluator::new(context.rt, alloc, queries, two_way, workers)?;
+    windows_move(definitions.as_slice());
+    let mut evaluator = Evaluator::new(context.rt, alloc, queries, &definitions, options, workers)?;
     let first = evaluator.engine.view()?;
     let streams = readers.len() as u32;
     let asking = sessions.len() as u32;

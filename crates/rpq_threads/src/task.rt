@@ -5,6 +5,7 @@ use history_model::Why;
 use query_file::Compiled;
 use rpq_base::Entry;
 use rpq_io::{LineReader, Source};
+use rpq_text::Options;
 use standing::Circle;
 use stream_tuples::StreamEnd;
 
@@ -13,8 +14,8 @@ use stream_tuples::StreamEnd;
 pub struct Task<S: Source> {
     /// The queries, in the order of their file.
     pub queries: Vec<Compiled>,
-    /// Whether the queries may take edges backwards.
-    pub two_way: bool,
+    /// How the queries are evaluated, and what is told of them.
+    pub options: Options,
     /// How many workers the engine has.
     pub workers: u32,
     /// How many entries the history may have.

@@ -3,7 +3,7 @@ use Rattle.std.specs.Prelude.{refl}
 use Rattle.clap.proofs.OnLiterals.{clap_on_literals}
 use Rattle.text_parts.specs.Numbers.{number_within}
 use Rattle.rpq_words.specs.Command.{found_in, is_taken, rpq_command}
-use Rattle.rpq_words.specs.Examples.{SavedExamples, SettingsExamples, TwoWayExamples}
+use Rattle.rpq_words.specs.Examples.{PathsExamples, SavedExamples, SettingsExamples, TwoWayExamples}
 use Rattle.rpq_words.specs.Settings.{clash, number_from_one, optional_number, settings, settings_of}
 use Rattle.rpq_words.specs.Settings.{settled}
 
@@ -35,6 +35,16 @@ two_way_examples = record {
   twice = refl;
 }
 
+paths_examples : PathsExamples
+unfolding clap_on_literals number_within found_in is_taken rpq_command clash number_from_one
+    optional_number settings settings_of settled
+paths_examples = record {
+  over_stream = refl;
+  checked = refl;
+  made = refl;
+  backwards = refl;
+}
+
 pub examples : SettingsExamples
 unfolding clap_on_literals number_within found_in is_taken rpq_command clash number_from_one
     optional_number settings settings_of settled
@@ -61,4 +71,5 @@ examples = record {
   help = refl;
   windows = saved_examples;
   both_ways = two_way_examples;
+  paths = paths_examples;
 }

@@ -21,18 +21,20 @@ use Rattle.rpq_words.specs.Modes.{NamesNoFile, ReadsNothing, ReadsStreams, Words
 
 -- ---- no clash is a mode
 
-none_holds : (a b c d e f g h : Bool) → (a || (b || (c || (d || (e || (f || (g || h))))))) ≡ false
+none_holds : (a b c d e f g h i : Bool) →
+    (a || (b || (c || (d || (e || (f || (g || (h || i)))))))) ≡ false
     → (a ≡ false) × (b ≡ false) × (c ≡ false) × (d ≡ false) × (e ≡ false) × (f ≡ false)
-    × (g ≡ false) × (h ≡ false)
-none_holds true b c d e f g h is = absurd cc
-none_holds false true c d e f g h is = absurd cc
-none_holds false false true d e f g h is = absurd cc
-none_holds false false false true e f g h is = absurd cc
-none_holds false false false false true f g h is = absurd cc
-none_holds false false false false false true g h is = absurd cc
-none_holds false false false false false false true h is = absurd cc
-none_holds false false false false false false false h is =
-    (refl, refl, refl, refl, refl, refl, refl, is)
+    × (g ≡ false) × (h ≡ false) × (i ≡ false)
+none_holds true b c d e f g h i is = absurd cc
+none_holds false true c d e f g h i is = absurd cc
+none_holds false false true d e f g h i is = absurd cc
+none_holds false false false true e f g h i is = absurd cc
+none_holds false false false false true f g h i is = absurd cc
+none_holds false false false false false true g h i is = absurd cc
+none_holds false false false false false false true h i is = absurd cc
+none_holds false false false false false false false true i is = absurd cc
+none_holds false false false false false false false false i is =
+    (refl, refl, refl, refl, refl, refl, refl, refl, is)
 
 neither : (a b : Bool) → a ≡ false → b ≡ false → (a || b) ≡ false
 neither false b first second = second
@@ -58,30 +60,37 @@ true_from false is = absurd cc
 
 reads_nothing : (given : Settings) (asks replies save from : Option Text) → given.asks ≡ asks →
     given.replies ≡ replies → given.save ≡ save → given.from ≡ from →
-    is_one_alone asks replies ≡ false →
+    given.paths ≡ false → is_one_alone asks replies ≡ false →
     ((is_some asks || (is_some save || is_some from)) || not (is_empty given.streams)) ≡ false →
     ReadsNothing given
-reads_nothing given None None None None no_asks no_replies no_save no_from alone is = record {
-  no_stream = is_nil given.streams (true_from (is_empty given.streams) is);
-  no_asks = no_asks;
-  no_replies = no_replies;
-  no_save = no_save;
-  no_from = no_from;
-}
-reads_nothing given (Some ask) replies save from no_asks no_replies no_save no_from alone is =
-    absurd cc
-reads_nothing given None (Some reply) save from no_asks no_replies no_save no_from alone is =
-    absurd cc
-reads_nothing given None None (Some file) from no_asks no_replies no_save no_from alone is =
-    absurd cc
-reads_nothing given None None None (Some file) no_asks no_replies no_save no_from alone is =
-    absurd cc
+reads_nothing given None None None None no_asks no_replies no_save no_from no_paths alone is =
+    record {
+      no_stream = is_nil given.streams (true_from (is_empty given.streams) is);
+      no_asks = no_asks;
+      no_replies = no_replies;
+      no_save = no_save;
+      no_from = no_from;
+      no_paths = no_paths;
+    }
+reads_nothing given (Some ask) replies save from no_asks no_replies no_save no_from no_paths alone
+    is = absurd cc
+reads_nothing given None (Some reply) save from no_asks no_replies no_save no_from no_paths alone
+    is = absurd cc
+reads_nothing given None None (Some file) from no_asks no_replies no_save no_from no_paths alone
+    is = absurd cc
+reads_nothing given None None None (Some file) no_asks no_replies no_save no_from no_paths alone
+    is = absurd cc
+
+no_paths_from : (paths : Bool) → (paths && true) ≡ false → paths ≡ false
+no_paths_from true is = absurd cc
+no_paths_from false is = refl
 
 -- nothing that a check has, or a run that generates its tuples
 nothing_from : (given : Settings) → is_one_alone given.asks given.replies ≡ false →
-    (names_file given || not (is_empty given.streams)) ≡ false → ReadsNothing given
-nothing_from given alone reads = reads_nothing given given.asks given.replies given.save given.from
-    refl refl refl refl alone reads
+    (names_file given || not (is_empty given.streams)) ≡ false → (given.paths && true) ≡ false →
+    ReadsNothing given
+nothing_from given alone reads paths = reads_nothing given given.asks given.replies given.save
+    given.from refl refl refl refl (no_paths_from given.paths paths) alone reads
 
 names_none : (given : Settings) (asks save from : Option Text) → given.asks ≡ asks →
     given.save ≡ save → given.from ≡ from →
@@ -101,6 +110,12 @@ both_ways_from : (given : Settings) (two_way : Bool) → (two_way && names_file 
 both_ways_from given true is backwards =
     names_none given given.asks given.save given.from refl refl refl is
 both_ways_from given false is backwards = absurd cc
+
+-- where paths are written
+forwards_from : (paths two_way : Bool) → (paths && two_way) ≡ false → paths ≡ true →
+    two_way ≡ false
+forwards_from true two_way is written = is
+forwards_from false two_way is written = absurd cc
 
 some_same : (x y : Text) → Some x ≡ Some y → x ≡ y
 some_same x y same = cc
@@ -133,20 +148,23 @@ mode_by : (given : Settings) (check : Bool) (generate : Option ℕ) → given.ch
     ((check || is_some generate) && (names_file given || not (is_empty given.streams))) ≡ false →
     (not (check || is_some generate) && is_empty given.streams) ≡ false →
     nat_lt 64 (length given.streams) ≡ false → IfSome given.from (BeginsWith given) →
-    (given.two_way ≡ true → NamesNoFile given) → HasMode given
-mode_by given true (Some number) checked made alone one reads some few begun both_ways = absurd cc
-mode_by given true None checked made alone one reads some few begun both_ways = inr (inl (record {
-  checked = checked;
-  none_made = made;
-  alone = nothing_from given alone reads;
-}))
-mode_by given false (Some number) checked made alone one reads some few begun both_ways =
+    (given.two_way ≡ true → NamesNoFile given) →
+    (given.paths && ((check || is_some generate) || given.two_way)) ≡ false → HasMode given
+mode_by given true (Some number) checked made alone one reads some few begun both_ways paths =
+    absurd cc
+mode_by given true None checked made alone one reads some few begun both_ways paths =
+    inr (inl (record {
+      checked = checked;
+      none_made = made;
+      alone = nothing_from given alone reads paths;
+    }))
+mode_by given false (Some number) checked made alone one reads some few begun both_ways paths =
     inr (inr (record {
       unchecked = checked;
       made = ap is_some made;
-      alone = nothing_from given alone reads;
+      alone = nothing_from given alone reads paths;
     }))
-mode_by given false None checked made alone one reads some few begun both_ways = inl (record {
+mode_by given false None checked made alone one reads some few begun both_ways paths = inl (record {
   unchecked = checked;
   none_made = made;
   some = some_stream given.streams some;
@@ -154,6 +172,7 @@ mode_by given false None checked made alone one reads some few begun both_ways =
   paired = paired_from given.asks given.replies alone;
   begun = begun;
   both_ways = both_ways;
+  forwards = forwards_from given.paths given.two_way paths;
 })
 
 mode_from : (given : Settings) → clash given ≡ false → HasMode given
@@ -162,20 +181,22 @@ mode_from given is =
     let parts = none_holds (is_one_alone given.asks given.replies)
     (given.check && is_some given.generate)
     (reads_none given && (names_file given || not (is_empty given.streams)))
-    (given.two_way && names_file given)
+    (given.two_way && names_file given) (given.paths && (reads_none given || given.two_way))
     (not (reads_none given) && is_empty given.streams) (nat_lt 64 (length given.streams))
     (is_some given.from && not (length given.streams == 1)) (is_same_file given.save given.from)
     is in
-    mode_by given given.check given.generate refl refl parts.0 parts.1 parts.2 parts.4 parts.5
-    (begins_with given given.from parts.6 parts.7) (both_ways_from given given.two_way parts.3)
+    mode_by given given.check given.generate refl refl parts.0 parts.1 parts.2 parts.5 parts.6
+    (begins_with given given.from parts.7 parts.8) (both_ways_from given given.two_way parts.3)
+    parts.4
 
 -- ---- a mode is no clash
 
-none_of : (a b c d e f g h : Bool) → a ≡ false → b ≡ false → c ≡ false → d ≡ false → e ≡ false →
-    f ≡ false → g ≡ false → h ≡ false → (a || (b || (c || (d || (e || (f || (g || h))))))) ≡ false
-none_of a b c d e f g h p q r s t u v w =
+none_of : (a b c d e f g h i : Bool) → a ≡ false → b ≡ false → c ≡ false → d ≡ false → e ≡ false →
+    f ≡ false → g ≡ false → h ≡ false → i ≡ false →
+    (a || (b || (c || (d || (e || (f || (g || (h || i)))))))) ≡ false
+none_of a b c d e f g h i p q r s t u v w x =
     neither a _ p (neither b _ q (neither c _ r (neither d _ s (neither e _ t (neither f _ u
-    (neither g h v w))))))
+    (neither g _ v (neither h i w x)))))))
 
 one_stream : (given : Settings) (from : Option Text) → IfSome from (BeginsWith given) →
     (is_some from && not (length given.streams == 1)) ≡ false
@@ -209,14 +230,21 @@ both_ways_agree : (given : Settings) (two_way : Bool) → (two_way ≡ true → 
 both_ways_agree given true both_ways = no_file given (both_ways refl)
 both_ways_agree given false both_ways = refl
 
+forwards_agree : (paths two_way : Bool) → (paths ≡ true → two_way ≡ false) →
+    (paths && two_way) ≡ false
+forwards_agree true two_way forwards = forwards refl
+forwards_agree false two_way forwards = refl
+
 streams_agree : (given : Settings) → ReadsStreams given → clash given ≡ false
 unfolding clash
-streams_agree given reads = none_of _ _ _ _ _ _ _ _
+streams_agree given reads = none_of _ _ _ _ _ _ _ _ _
     (none_alone given.asks given.replies reads.paired)
     (ap (λ check. check && is_some given.generate) reads.unchecked)
     (ap₂ (λ check generate. (check || is_some generate)
     && (names_file given || not (is_empty given.streams))) reads.unchecked reads.none_made)
     (both_ways_agree given given.two_way reads.both_ways)
+    (ap₂ (λ check generate. given.paths && ((check || is_some generate) || given.two_way))
+    reads.unchecked reads.none_made ∙ forwards_agree given.paths given.two_way reads.forwards)
     (ap₂ (λ check generate. not (check || is_some generate) && is_empty given.streams)
     reads.unchecked reads.none_made ∙ not_empty given.streams reads.some)
     (le-ltb 64 (length given.streams) reads.few)
@@ -234,13 +262,14 @@ alone_names_none given alone = record {
 alone_agrees : (given : Settings) → ReadsNothing given →
     (given.check && is_some given.generate) ≡ false → reads_none given ≡ true → clash given ≡ false
 unfolding clash
-alone_agrees given alone one none = none_of _ _ _ _ _ _ _ _
+alone_agrees given alone one none = none_of _ _ _ _ _ _ _ _ _
     (ap₂ is_one_alone alone.no_asks alone.no_replies)
     one
     (ap₂ (λ reads others. reads && others) none
     (ap₂ (λ named streams. named || not (is_empty streams))
     (no_file given (alone_names_none given alone)) alone.no_stream))
     (both_ways_agree given given.two_way (λ backwards. alone_names_none given alone))
+    (ap (λ paths. paths && (reads_none given || given.two_way)) alone.no_paths)
     (ap (λ reads. not reads && is_empty given.streams) none)
     (ap (λ streams. nat_lt 64 (length streams)) alone.no_stream)
     (ap (λ from. is_some from && not (length given.streams == 1)) alone.no_from)
@@ -337,6 +366,7 @@ are_settings rows given is mode =
       check = has_flag (codes "check") rows;
       generate = generate;
       two_way = has_flag (codes "two-way") rows;
+      paths = has_flag (codes "paths") rows;
       asks = first_of (codes "asks") rows;
       replies = first_of (codes "replies") rows;
       save = first_of (codes "save") rows;

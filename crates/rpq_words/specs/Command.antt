@@ -26,7 +26,7 @@ one_word name = record (new_rule name) { action = Some Set; required = true }
 abbrev pub any_words : Text → Rule
 any_words name = record (new_rule name) { action = Some Append }
 
--- seven options, two flags, the word for the queries file, and the words for the streams
+-- seven options, three flags, the word for the queries file, and the words for the streams
 abbrev pub rules : List Rule
 rules =
     option_or (codes "workers") (codes "4")
@@ -36,6 +36,7 @@ rules =
     ∷ flag (codes "check")
     ∷ option_with_value (codes "generate")
     ∷ flag (codes "two-way")
+    ∷ flag (codes "paths")
     ∷ option_with_value (codes "save")
     ∷ option_with_value (codes "from")
     ∷ one_word (codes "queries")

@@ -11,6 +11,7 @@ plain streams = record {
   check = false;
   generate = None;
   two_way = false;
+  paths = false;
   asks = None;
   replies = None;
   save = None;
@@ -65,12 +66,23 @@ pub record TwoWayExamples : Type 0 where
   pub twice : settings (codes "rpq" ∷ codes "--two-way" ∷ codes "--two-way" ∷ codes "q"
       ∷ codes "t" ∷ []) ≡ None
 
+-- Paths in a run over a stream. Refused: in a check; over generated tuples; and with edges taken
+-- backwards.
+pub record PathsExamples : Type 0 where
+  pub over_stream : settings (codes "rpq" ∷ codes "--paths" ∷ codes "q" ∷ codes "t" ∷ [])
+      ≡ Some (record (plain (codes "t" ∷ [])) { paths = true })
+  pub checked : settings (codes "rpq" ∷ codes "--check" ∷ codes "--paths" ∷ codes "q" ∷ []) ≡ None
+  pub made : settings (codes "rpq" ∷ codes "--generate=5" ∷ codes "--paths" ∷ codes "q" ∷ [])
+      ≡ None
+  pub backwards : settings (codes "rpq" ∷ codes "--two-way" ∷ codes "--paths" ∷ codes "q"
+      ∷ codes "t" ∷ []) ≡ None
+
 -- The defaults. An option between streams, and zeros in front of its number. Values that begin with
 -- `-` or are empty behind `=`, and words behind `--`. A check; generated tuples. The greatest
 -- numbers. Refused: too many tuples to generate; no stream; no queries; a number above its range,
 -- below it, or with a sign; a flag given twice; asks without replies; a check with generated
 -- tuples, or with a stream; a value that begins with `-`; a name cut short; and `--help`.
--- And the examples of files to save to and to begin with, and of edges taken backwards.
+-- And the examples of files to save to and to begin with, of edges taken backwards, and of paths.
 pub record SettingsExamples : Type 0 where
   pub defaults : settings (codes "rpq" ∷ codes "q" ∷ codes "s" ∷ [])
       ≡ Some (plain (codes "s" ∷ []))
@@ -107,3 +119,4 @@ pub record SettingsExamples : Type 0 where
   pub help : settings (codes "rpq" ∷ codes "--help" ∷ codes "q" ∷ codes "s" ∷ []) ≡ None
   pub windows : SavedExamples
   pub both_ways : TwoWayExamples
+  pub paths : PathsExamples

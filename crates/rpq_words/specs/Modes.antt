@@ -16,7 +16,7 @@ pub record NamesNoFile (given : Settings) : Type 0 where
   pub no_from : given.from ≡ None
 
 -- some streams are read, 64 at most; asks and replies stand together; where edges may be taken
--- backwards, no such file is named
+-- backwards, no such file is named; where paths are written, edges are taken forwards alone
 pub record ReadsStreams (given : Settings) : Type 0 where
   pub unchecked : given.check ≡ false
   pub none_made : given.generate ≡ None
@@ -25,14 +25,17 @@ pub record ReadsStreams (given : Settings) : Type 0 where
   pub paired : is_some given.asks ≡ is_some given.replies
   pub begun : IfSome given.from (BeginsWith given)
   pub both_ways : given.two_way ≡ true → NamesNoFile given
+  pub forwards : given.paths ≡ true → given.two_way ≡ false
 
--- no stream is read, nothing is asked, and nothing is saved or taken from an earlier run
+-- no stream is read, nothing is asked, nothing is saved or taken from an earlier run, and no path
+-- is written
 pub record ReadsNothing (given : Settings) : Type 0 where
   pub no_stream : given.streams ≡ []
   pub no_asks : given.asks ≡ None
   pub no_replies : given.replies ≡ None
   pub no_save : given.save ≡ None
   pub no_from : given.from ≡ None
+  pub no_paths : given.paths ≡ false
 
 -- the queries are checked, and nothing else is done
 pub record Checks (given : Settings) : Type 0 where

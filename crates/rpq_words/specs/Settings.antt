@@ -14,15 +14,16 @@ abbrev pub texts : List (String Global) → List Text
 texts words = map (λ word. string_bytes word) words
 
 -- the numbers of workers and of entries in the history; whether the queries are to be checked
--- alone; how many tuples are to be generated; whether expressions may take edges backwards; and the
--- names of the files, of which the run saves to `save` what a later run needs, and begins with what
--- an earlier one saved in `from`
+-- alone; how many tuples are to be generated; whether expressions may take edges backwards; whether
+-- a path that shows it is written behind each gained pair; and the names of the files, of which the
+-- run saves to `save` what a later run needs, and begins with what an earlier one saved in `from`
 pub record Settings : Type 0 where
   pub workers : ℕ
   pub history : ℕ
   pub check : Bool
   pub generate : Option ℕ
   pub two_way : Bool
+  pub paths : Bool
   pub asks : Option Text
   pub replies : Option Text
   pub save : Option Text
@@ -65,6 +66,7 @@ settings_of rows =
       check = has_flag (codes "check") rows;
       generate = generate;
       two_way = has_flag (codes "two-way") rows;
+      paths = has_flag (codes "paths") rows;
       asks = first_of (codes "asks") rows;
       replies = first_of (codes "replies") rows;
       save = first_of (codes "save") rows;
@@ -87,6 +89,10 @@ is_one_alone _ _ = false
 abbrev pub names_file : Settings → Bool
 names_file settings = is_some settings.asks || (is_some settings.save || is_some settings.from)
 
+-- paths are written, but no stream is read, or edges may be taken backwards
+abbrev pub paths_clash : Settings → Bool
+paths_clash settings = settings.paths && (reads_none settings || settings.two_way)
+
 -- both are there, and are the same text
 abbrev pub is_same_file : Option Text → Option Text → Bool
 is_same_file (Some x) (Some y) = bytes_eq x y
@@ -98,19 +104,26 @@ from_clashes settings =
     (is_some settings.from && not (length settings.streams == 1))
     || is_same_file settings.save settings.from
 
+-- no stream is there where some are to be read, or more than are taken, or a file to begin with
+-- clashes
+abbrev pub streams_clash : Settings → Bool
+streams_clash settings =
+    (not (reads_none settings) && is_empty settings.streams)
+    || (nat_lt 64 (length settings.streams) || from_clashes settings)
+
 -- what can't stand together does: one of the asks and the replies without the other; a check and
 -- generated tuples; one of these and asks, a file to save to or to begin with, or a stream; edges
--- taken backwards and asks, or a file to save to or to begin with; neither a check nor generated
--- tuples, and no stream; more streams than are taken; or a file to begin with and not exactly one
--- stream, or the same file to save to
+-- taken backwards and asks, or a file to save to or to begin with; paths and a check, generated
+-- tuples, or edges taken backwards; neither a check nor generated tuples, and no stream; more
+-- streams than are taken; or a file to begin with and not exactly one stream, or the same file to
+-- save to
 unfoldable pub clash : Settings → Bool
 clash settings =
     is_one_alone settings.asks settings.replies
     || ((settings.check && is_some settings.generate)
     || ((reads_none settings && (names_file settings || not (is_empty settings.streams)))
     || ((settings.two_way && names_file settings)
-    || ((not (reads_none settings) && is_empty settings.streams)
-    || (nat_lt 64 (length settings.streams) || from_clashes settings)))))
+    || (paths_clash settings || streams_clash settings))))
 
 -- what was found, where each number is in its range and all can stand together
 unfoldable pub settled : List Row → Option Settings

@@ -2,6 +2,7 @@
 
 ghost use Rattle.std.specs.Prelude.{◌≡◌};
 ghost use Rattle.rpq_words.specs.Settings.{clash, from_clashes, is_same_file, names_file};
+ghost use Rattle.rpq_words.specs.Settings.{paths_clash, reads_none, streams_clash};
 
 use crate::file_word::FileWord;
 use std::marker::Model;
@@ -22,6 +23,8 @@ pub struct Chosen {
     pub generate: Option<u64>,
     /// Whether expressions may take edges backwards.
     pub two_way: bool,
+    /// Whether a path is written behind each gained pair that shows it.
+    pub paths: bool,
     /// The file of the asks, which stands there exactly where `replies` does.
     pub asks: Option<FileWord>,
     /// The file that the replies are written to.
@@ -47,6 +50,7 @@ impl Model for Chosen {
       check = chosen.check;
       generate = chosen.generate;
       two_way = chosen.two_way;
+      paths = chosen.paths;
       asks = chosen.asks;
       replies = chosen.replies;
       save = chosen.save;
@@ -62,14 +66,19 @@ impl Chosen {
     pub(crate) fn clashes(&self) -> bool
         ensures { result ≡ clash self.now }
     {
-        let reads_none = self.check || self.generate.is_some();
         self.asks.is_some() != self.replies.is_some()
             || self.check && self.generate.is_some()
-            || reads_none && (self.names_file() || !self.streams.is_empty())
+            || self.reads_none() && (self.names_file() || !self.streams.is_empty())
             || self.two_way && self.names_file()
-            || !reads_none && self.streams.is_empty()
-            || self.streams.len() > MAX_STREAMS
-            || self.from_clashes()
+            || self.paths_clash()
+            || self.streams_clash()
+    }
+
+    /// Whether no stream is to be read.
+    fn reads_none(&self) -> bool
+        ensures { result ≡ reads_none self.now }
+    {
+        self.check || self.generate.is_some()
     }
 
     /// Whether a file is named that only a run over streams has. It can't stand with edges taken
@@ -78,6 +87,23 @@ impl Chosen {
         ensures { result ≡ names_file self.now }
     {
         self.asks.is_some() || self.save.is_some() || self.from.is_some()
+    }
+
+    /// Whether paths are written where no stream is read, or edges may be taken backwards.
+    fn paths_clash(&self) -> bool
+        ensures { result ≡ paths_clash self.now }
+    {
+        self.paths && (self.reads_none() || self.two_way)
+    }
+
+    /// Whether no stream stands there where some are to be read, or more than are taken, or a file
+    /// to begin with clashes.
+    fn streams_clash(&self) -> bool
+        ensures { result ≡ streams_clash self.now }
+    {
+        !self.reads_none() && self.streams.is_empty()
+            || self.streams.len() > MAX_STREAMS
+            || self.from_clashes()
     }
 
     /// Whether a file to begin with stands there without exactly one stream, or is the one to save

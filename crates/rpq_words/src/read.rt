@@ -105,6 +105,7 @@ fn read_choices(alloc: Global, matches: &ArgMatches<'_>) -> Result<Chosen, Words
         check: has_flag(matches, "check"),
         generate,
         two_way: has_flag(matches, "two-way"),
+        paths: has_flag(matches, "paths"),
         asks: optional_file_word(alloc, first_of(matches, "asks"))?,
         replies: optional_file_word(alloc, first_of(matches, "replies"))?,
         save: optional_file_word(alloc, first_of(matches, "save"))?,

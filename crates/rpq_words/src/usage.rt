@@ -8,5 +8,5 @@ pub fn usage_line() -> &'static str
     ensures { result.now ≡ usage }
 {
     "usage: rpq [--workers N] [--history N] [--asks FILE --replies FILE] [--check] \
-     [--generate N] [--two-way] [--save FILE] [--from FILE] QUERIES [STREAM...]"
+     [--generate N] [--two-way] [--paths] [--save FILE] [--from FILE] QUERIES [STREAM...]"
 }

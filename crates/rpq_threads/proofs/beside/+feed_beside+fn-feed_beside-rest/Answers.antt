@@ -1,4 +1,7 @@
-use Rattle.std.proofs.Common.{◌+◌, rules}
+use Rattle.std.proofs.Common.{◌+◌, Some, length, arith, rules}
+use Rattle.std.specs.List.{All}
+use Rattle.std.proofs.lemmas.List.Elements.{All-pop}
+use Rattle.ask_text.specs.Ranges.{IsInRange}
 use Rattle.rpq_workers.specs.Readers.{HaveReplied}
 use Rattle.rpq_workers.proofs.Replying.{replied_more}
 use Rattle.rpq_threads.proofs.beside.+feed_beside+fn-feed_beside-rest.Goals as goal
@@ -15,3 +18,41 @@ returns-clause-replied g t c =
     c.in-Some.session both.0.replied.items c.with_reply.result.replied.items both.1 c.in-Some.pass
     taken.sessions were c.with_reply.ensures.replied taken.pass
     c.beside_session-beside.ensures.replied
+
+-- the closure may be called: the sessions that are left wait
+pub beside_session-beside-requires-clause-rest : goal.beside_session-beside-requires-clause-rest
+beside_session-beside-requires-clause-rest g t c κs within =
+    let taken = c.in-Some.ensures in
+    let were = c.requires.waiting in
+    let asked = All-pop (All (IsInRange (length c.args.shared.now.history.now.terms.queries)))
+    c.args.waiting.sessions.items c.next_session-next.new.sessions.items
+    (Some c.in-Some.session) taken.sessions were.asks in (
+      search rules,
+      (
+        (λ a m. m),
+        (
+          (λ a m. m),
+          (
+            (λ a m. m),
+            (
+              (λ a m. m),
+              (
+                c.requires.start,
+                (
+                  record {
+                    passes = taken.passes;
+                    asks = asked.0;
+                    none = were.none;
+                    room = omega (arith, were.room, taken.fewer);
+                  },
+                  (
+                    c.requires.queries,
+                    (search rules, (search rules, (search rules, search rules))),
+                  ),
+                ),
+              ),
+            ),
+          ),
+        ),
+      ),
+    )

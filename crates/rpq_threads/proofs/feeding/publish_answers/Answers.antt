@@ -14,8 +14,8 @@ unreachable-requires g c =
     let pass = c.args.pass.now in
     let was = c.requires.keeps_up in
     let view = c.in_ok-view.view.value in
-    let sees = c.in_ok-view.ensures.view (walked evaluator.two_way (answered evaluator pass))
-    was.stands.stands in
+    let sees = c.in_ok-view.ensures.view
+    (walked evaluator.options.two_way (answered evaluator pass)) was.stands.stands in
     let last = c.in-Err-Behind.field-0-0 in
     let said : c.publish.result ≡ Err (Behind last) =
     c.in-Err-Behind.is ∙ ap (λ (fault : PublishFault). Err fault) c.in-Err-Behind.field-0-is in
@@ -37,7 +37,7 @@ returns-in-Ok-clause-fed g c =
     let was = c.requires.keeps_up in
     let view = c.in_ok-view.view.value in
     let kept = c.view.ensures in
-    let sees = c.in_ok-view.ensures.view (walked old.two_way (answered old pass))
+    let sees = c.in_ok-view.ensures.view (walked old.options.two_way (answered old pass))
     was.stands.stands in
     let some : 0 < history.readers = omega (arith, c.readers.ensures) in
     fed_published history (record old { engine = c.view.new.self }) pass c.publish.new.pass
@@ -52,7 +52,7 @@ publish-requires-clause-there g c =
     let was = c.requires.keeps_up in
     let some : 0 < history.readers = omega (arith, c.readers.ensures) in
     view_there history old pass was some c.in_ok-view.view.value
-    (c.in_ok-view.ensures.view (walked old.two_way (answered old pass)) was.stands.stands)
+    (c.in_ok-view.ensures.view (walked old.options.two_way (answered old pass)) was.stands.stands)
 
 pub publish-requires-clause-shows : goal.publish-requires-clause-shows
 publish-requires-clause-shows g c =
@@ -62,4 +62,4 @@ publish-requires-clause-shows g c =
     let was = c.requires.keeps_up in
     let some : 0 < history.readers = omega (arith, c.readers.ensures) in
     view_shows history old pass was some c.in_ok-view.view.value
-    (c.in_ok-view.ensures.view (walked old.two_way (answered old pass)) was.stands.stands)
+    (c.in_ok-view.ensures.view (walked old.options.two_way (answered old pass)) was.stands.stands)

@@ -1,5 +1,5 @@
 use Rattle.std.proofs.Common.{◌≤◌, ◌-◌}
-use Rattle.rpq_threads.specs.Fed.{KeepsSetup, LooksOn, StandsOver, answered}
+use Rattle.rpq_threads.specs.Fed.{LooksOn, OnlyFeeds, StandsOver, answered}
 use Rattle.rpq_threads.proofs.rebuilding.rebuild.Given as goal
 
 -- the engine stands for the entries that it got so far, which aren't more than it had answered
@@ -8,7 +8,7 @@ invariant-loop-evaluator g l = record {
   looks_on : LooksOn l.shared.history.now l.fn.pass l.pass;
   stands : StandsOver l.evaluator (answered l.evaluator l.pass);
   within : l.evaluator.position ≤ l.position;
-  setup : KeepsSetup l.fn.evaluator l.evaluator;
+  keeps : OnlyFeeds l.fn.evaluator l.evaluator;
 }
 
 abbrev pub decreases-loop-evaluator : goal.decreases-loop-evaluator

@@ -1,10 +1,13 @@
-use Rattle.std.proofs.Common.{◌≡◌, [], length, refl, sym, ap, ◌∙◌, arith, rules}
+use Rattle.std.proofs.Common.{◌≡◌, List, [], All, length, refl, sym, ap, subst, ◌∙◌, arith, rules}
 use Rattle.history_model.specs.World.{Terms}
+use Rattle.rpq_model.specs.Query.{Query}
 use Rattle.rpq_text.specs.Definitions.{definitions_of}
 use Rattle.two_way.specs.TwoWay.{walked}
 use Rattle.rpq_workers.proofs.Numbering.{new_length}
 use Rattle.rpq_threads.specs.declared.evaluator.Evaluator.{Evaluator}
-use Rattle.rpq_threads.proofs.Starting.{first_shown, terms_of, begun_fed, begun_asks}
+use Rattle.rpq_threads.specs.Fed.{MarksOver}
+use Rattle.rpq_threads.specs.Showing.{HaveMarks}
+use Rattle.rpq_threads.proofs.Starting.{first_shown, Moves, terms_of, begun_fed, begun_asks}
 use Rattle.rpq_threads.proofs.run.begin.Goals as goal
 
 pub new-requires-3-clause-first : goal.new-requires-3-clause-first
@@ -15,7 +18,7 @@ new-requires-3-clause-first g c =
     first_shown c.first_view.ensures evaluator c.in_ok-given.given.value.items
     c.in_ok-first.first.value
     (ap definitions_of c.in_ok-evaluator.ensures.queries ∙ sym given)
-    (c.in_ok-first.ensures.view (walked evaluator.two_way [])
+    (c.in_ok-first.ensures.view (walked evaluator.options.two_way [])
     c.in_ok-evaluator.ensures.stands.stands)
 
 pub new-requires-4-clause-passes : goal.new-requires-4-clause-passes
@@ -51,6 +54,12 @@ returns g c =
     record c.in_ok-evaluator.evaluator { engine = c.view.new.self } in
     let queries : c.in_ok-given.given.value.items ≡ definitions_of task.queries.items =
     search rules in
+    let slice : c.as_slice.result.now ≡ definitions_of task.queries.items = search rules in
+    let move : All Moves (definitions_of task.queries.items) =
+    subst (All Moves) slice c.windows_move.ensures in
+    let marks : MarksOver evaluator [] =
+    subst (λ (qs : List Query). HaveMarks evaluator.options.paths qs [] evaluator.marks)
+    (sym (ap definitions_of kept.queries)) c.in_ok-evaluator.ensures.marks in
     let terms : history.terms ≡ terms_of task =
     made.terms ∙ (λ i. record { queries = queries i; streams = streams i; cap = task.limit }) in
     record {
@@ -61,20 +70,20 @@ returns g c =
         count = made.count;
         fed = begun_fed g.S.Source.left g.S.Source.faults task c.requires history terms
             evaluator (kept.queries ∙ c.in_ok-evaluator.ensures.queries)
-            c.in_ok-evaluator.ensures.workers c.in_ok-evaluator.ensures.two_way
-            (made.readers ∙ asking)
+            c.in_ok-evaluator.ensures.workers c.in_ok-evaluator.ensures.options
+            (made.readers ∙ asking) move
             (record {
-              stands = kept.stands (walked c.in_ok-evaluator.evaluator.two_way [])
+              stands = kept.stands (walked c.in_ok-evaluator.evaluator.options.two_way [])
                   c.in_ok-evaluator.ensures.stands.stands;
               counted = c.in_ok-evaluator.ensures.stands.counted;
-            });
+            }) marks;
         streams = sym (ap (λ (t : Terms). t.streams) terms);
         fresh = c.requires.fresh;
         readers = sym (made.readers ∙ asking);
         asks = begun_asks g.S.Source.left g.S.Source.faults task c.requires history terms;
         room = c.in_ok-room.ensures;
       };
-      two_way = c.in_ok-evaluator.ensures.two_way;
+      options = c.in_ok-evaluator.ensures.options;
       readers = refl;
       sessions = refl;
     }

@@ -58,6 +58,6 @@ returns-clause-ok g c =
     (outcome_holds c.legal_is_sound.ensures c.fronts_are_legal.ensures left faults written failures
     seen task begun.history is.terms journal.lines legal c.args.events.now served.events.now
     c.args.circle outcome passes c.into_entries.ensures
-    begun.job.evaluator.two_way begun.job.readers.items begun.job.sessions.items is.two_way
+    begun.job.evaluator.options begun.job.readers.items begun.job.sessions.items is.options
     is.readers is.sessions c.serve-gathered.ensures.served knows
     is.job.readers finished.sound.plain)

@@ -117,7 +117,7 @@ returns-clause-served g c =
     let seen = g.O.Standing.seen in
     let written = g.K.Sink.written in
     let failures = g.K.Sink.faults in
-    let two_way = c.args.job.evaluator.two_way in
+    let options = c.args.job.evaluator.options in
     let before = c.args.events.now in
     let first = as_seen seen c.args.circle in
     let streamed = c.join_streams-streamed.result.items in
@@ -137,12 +137,12 @@ returns-clause-served g c =
           c.start_streams-started.ensures.started c.join_streams-streamed.ensures.gives;
       answered_all = c.feed_beside-beside.ensures.replied;
       fed =
-          subst (λ (events : _). HasFed written failures two_way history before events first
+          subst (λ (events : _). HasFed written failures options history before events first
           (as_seen seen served.circle) beside.engine served.why) (sym gathered.events.0)
-          (subst (λ (circle : Parts _). HasFed written failures two_way history before
+          (subst (λ (circle : Parts _). HasFed written failures options history before
           beside.events.now first (as_seen seen circle) beside.engine served.why)
           (sym gathered.circle)
-          (subst (λ (why : Option Why). HasFed written failures two_way history before
+          (subst (λ (why : Option Why). HasFed written failures options history before
           beside.events.now first (as_seen seen beside.circle) beside.engine why) (sym gathered.why)
           c.feed_beside-beside.ensures.fed));
       passes_are = gathered.passes;

@@ -1,5 +1,0 @@
-use Rattle.rpq_text.proofs.Texts.{one_text}
-use Rattle.rpq_text.proofs.laws.every_history_has_one_text.Goals as goal
-
-pub returns : goal.returns
-returns c = one_text c.accepted_queries_have_events.ensures.steps

@@ -1,0 +1,5 @@
+use Rattle.rpq_text.proofs.Texts.{one_text}
+use Rattle.rpq_text.proofs.laws.without_paths_one_text.Goals as goal
+
+pub returns : goal.returns
+returns c = one_text

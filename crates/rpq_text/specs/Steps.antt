@@ -1,0 +1,62 @@
+-- What each entry of a history brings: its events, and what shows those that gain a pair.
+use Rattle.std.specs.Prelude.{◌≡◌, true, false, List, [], ◌∷◌, ◌++◌, filter, map, All, Some}
+use Rattle.std.specs.Prelude.{◌<◌, slice_get}
+use Rattle.std.specs.List.{AllZip}
+use Rattle.containment_laws.specs.Accepted.{IsAccepted}
+use Rattle.rpq_base.specs.declared.data.Entry.{Entry}
+use Rattle.rpq_base.specs.declared.data.Event.{Event}
+use Rattle.rpq_model.specs.Query.{Query}
+use Rattle.two_way.specs.TwoWay.{walked, AreWalkedEvents}
+use Rattle.path_witness.specs.Shows.{Shown, Shows}
+use Rattle.rpq_text.specs.declared.options.Options.{Options}
+
+-- the events of an entry, and the paths that are told of them
+pub record StepValue : Type 0 where
+  pub events : List Event
+  pub shown : List Shown
+
+-- the events that gain a pair
+abbrev pub additions : List Event → List Event
+additions events = filter (λ event. event.added) events
+
+-- what is shown is a path for the event's pair over the history
+pub record IsShown (queries : List Query) (history : List Entry) (event : Event) (shown : Shown)
+    : Type 0 where
+  pub query : Query
+  pub there : slice_get queries event.query ≡ Some query
+  pub shows : Shows query history event.pair shown
+
+-- each of these events has a path that shows it, in order
+abbrev pub AreShown : List Query → List Entry → List Event → List Shown → Type 0
+AreShown queries history events shown = AllZip (IsShown queries history) events shown
+
+-- what the step from one history to another brings: the events; and where paths are told, for each
+-- addition a path that shows it over the second history, else none
+pub record IsStep (options : Options) (queries : List Query) (before after : List Entry)
+    (step : StepValue) : Type 0 where
+  pub events : AreWalkedEvents options.two_way queries before after step.events
+  pub shown : options.paths ≡ true →
+      AreShown queries (walked options.two_way after) (additions step.events) step.shown
+  pub none_shown : options.paths ≡ false → step.shown ≡ []
+
+-- each of the entries that follow a history has its step, in order
+abbrev pub AreStepsFrom : Options → List Query → List Entry → List Entry → List StepValue → Type 0
+AreStepsFrom options queries before [] [] = Unit {0}
+AreStepsFrom options queries before [] (step ∷ rest) = ⊥
+AreStepsFrom options queries before (entry ∷ later) [] = ⊥
+AreStepsFrom options queries before (entry ∷ later) (step ∷ rest) =
+    IsStep options queries before (before ++ entry ∷ []) step
+    × AreStepsFrom options queries (before ++ entry ∷ []) later rest
+
+-- the steps of a history, one for each entry
+abbrev pub AreSteps : Options → List Query → List Entry → List StepValue → Type 0
+AreSteps options queries history steps = AreStepsFrom options queries [] history steps
+
+-- the events of each step
+abbrev pub events_of : List StepValue → List (List Event)
+events_of steps = map (λ step. step.events) steps
+
+-- queries that can be evaluated: accepted ones, whose windows move
+pub record AreEvaluable (queries : List Query) : Type 0 where
+  pub accepted : All IsAccepted queries
+  pub move : All (λ query. 0 < query.window.slide) queries

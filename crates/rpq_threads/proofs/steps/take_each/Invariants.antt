@@ -1,0 +1,11 @@
+use Rattle.std.proofs.Common.{◌≡◌, ◌++◌, List, take}
+use Rattle.rpq_base.specs.declared.data.Entry.{Entry}
+use Rattle.path_witness.specs.Marks.{StandsFor}
+use Rattle.rpq_threads.proofs.steps.take_each.Given as goal
+
+-- the marks took the entries so far
+abbrev pub invariant-loop-entry : goal.invariant-loop-entry
+invariant-loop-entry l =
+    (l.marks.queries ≡ l.fn.marks.queries)
+    × ((history : List Entry) → StandsFor l.fn.marks history
+    → StandsFor l.marks (history ++ take l.entry-index l.entries))
