@@ -25,7 +25,7 @@ below_of : (queries : ℕ) (atoms : List JoinAtom) (atom : JoinAtom) → All (λ
 below_of queries atoms atom below member = subst (λ (each : JoinAtom). each.query < queries) member.2 (below member.0 atom member.1)
 
 -- over the answers of queries, bindings are bindings over the answers
-bindings_over : (queries : List Query) (history : List Entry) (join : JoinValue) (pairs : Family) (names : List (List ℕ)) → IsSound (length queries) join →
+pub bindings_over : (queries : List Query) (history : List Entry) (join : JoinValue) (pairs : Family) (names : List (List ℕ)) → IsSound (length queries) join →
     AreAnswersOf queries history pairs → IsBinding join pairs names ↔ IsBindingOver queries history join names
 bindings_over queries history join pairs names sound are = (
   (λ binding. record {

@@ -20,3 +20,7 @@ mod Histories
 mod Examples
 mod BindingExamples
 mod Leading
+mod Candidates
+mod Deciding
+mod HaveJoinEvents
+mod SomeVariable

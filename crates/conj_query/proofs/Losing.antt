@@ -18,7 +18,7 @@ there_or_not pairs pair = by_test (has pairs pair) refl
     by_test false is = inr (λ member. false≢true (sym is ∙ (has_iff pairs pair).1 member))
 
 -- an atom has one pair
-one_pair : (names : List (List ℕ)) (atom : JoinAtom) (pair other : Pair) → IsPairOf names atom pair → IsPairOf names atom other → pair ≡ other
+pub one_pair : (names : List (List ℕ)) (atom : JoinAtom) (pair other : Pair) → IsPairOf names atom pair → IsPairOf names atom other → pair ≡ other
 one_pair names atom pair other first second =
     let from : pair.from ≡ other.from = cc (first.from, second.from) in
     let to : pair.to ≡ other.to = cc (first.to, second.to) in

@@ -10,6 +10,7 @@ pub mod FileLaws
 pub mod Parts
 pub mod ByParts
 pub mod Histories
+pub mod HaveJoinEvents
 pub mod Examples
 pub mod BindingExamples
 pub mod JoinText

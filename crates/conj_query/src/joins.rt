@@ -120,6 +120,13 @@ impl Joins {
         })
     }
 
+    /// The conjunctions, each at the place that the events of its bindings tell.
+    pub fn defs(&self) -> &[JoinDef]
+        ensures { result.now ≡ self.now.joins }
+    {
+        &self.defs
+    }
+
     /// Changes the pairs by the events, and tells what the conjunctions lose and gain: by
     /// conjunction, what is lost before what is gained, then by binding. The faults come in the
     /// order of [`JoinFault`].

@@ -4,12 +4,14 @@ ghost use Rattle.conj_query.specs.BindingExamples.{BindingExamples};
 ghost use Rattle.conj_query.specs.ByParts.{JoinsByParts};
 ghost use Rattle.conj_query.specs.Examples.{JoinExamples, TextExamples};
 ghost use Rattle.conj_query.specs.FileLaws.{JoinsAreSound};
+ghost use Rattle.conj_query.specs.HaveJoinEvents.{HaveJoinEvents};
 ghost use Rattle.conj_query.specs.Histories.{JoinsHoldBindings};
 ghost use Rattle.conj_query.specs.Leading.{EventsLeadOn};
 ghost use Rattle.conj_query.specs.Laws.{ChangesAreTouched, BindingsHold};
 ghost use Rattle.conj_query.specs.Parts.{LineByParts};
 ghost use Rattle.conj_query.specs.Touched.{ThroughIsTouched};
 
+use containment_laws::accepted_queries_have_answers;
 use two_way::events_are_differences;
 
 /// The bindings that are lost, or gained, are those that meet an atom by a pair that is.
@@ -33,6 +35,14 @@ pub fn through_is_touched()
 pub fn joins_hold_bindings()
     ensures { JoinsHoldBindings }
 {}
+
+/// Conjunctions over accepted queries have their events from each history to each other, and they
+/// are one list.
+pub fn accepted_queries_have_join_events()
+    ensures { HaveJoinEvents }
+{
+    accepted_queries_have_answers();
+}
 
 /// The events of queries from one history to another lead from their answers over the one to those
 /// over the other: so an engine's events may be applied one entry after another.

@@ -6,7 +6,9 @@
 //! query; [`Joins::apply`] takes the events of an entry and answers which bindings are lost and
 //! which are gained, in order and each once. [`join_text`] and [`push_join_lines`] write them. The
 //! contract for the layer above: from one state to the next the events are exactly the difference
-//! of the bindings ([`joins_hold_bindings`] for a whole history). No run uses this yet.
+//! of the bindings ([`joins_hold_bindings`] for a whole history). Where the queries are accepted,
+//! these events exist from each history to each other, and they are one list
+//! ([`accepted_queries_have_join_events`]). No run uses this yet.
 //!
 //! A binding names every variable, so it fixes the pair of each atom, and is lost or gained exactly
 //! where one of these pairs is ([`changes_are_touched`]). So nothing is counted: for each event and
@@ -48,9 +50,9 @@ pub use event::JoinEvent;
 pub use fault::{JoinsFault, JoinsKind};
 pub use joins::{JoinFault, Joins};
 pub use laws::{
-    binding_examples, bindings_hold, changes_are_touched, events_lead_on, join_examples,
-    join_line_by_parts, joins_are_sound, joins_by_parts, joins_hold_bindings, text_examples,
-    through_is_touched,
+    accepted_queries_have_join_events, binding_examples, bindings_hold, changes_are_touched,
+    events_lead_on, join_examples, join_line_by_parts, joins_are_sound, joins_by_parts,
+    joins_hold_bindings, text_examples, through_is_touched,
 };
 pub use read::read_joins;
 pub use text::{join_text, push_join_lines};

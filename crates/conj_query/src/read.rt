@@ -39,6 +39,7 @@ pub fn read_joins(
         joins queries.now bytes.now ≡ Err fault) }
     ensures few { IfOk result (λ found. length found.items ≤ 32) }
     ensures sound { IfOk result (λ found. All (IsSound (length queries.now)) found.items) }
+    ensures variables { IfOk result (λ found. All (λ join. 0 < join.variables) found.items) }
 {
     let mut found = Vec::new(alloc);
     let mut rest = bytes;

@@ -1,6 +1,7 @@
 use Rattle.std.proofs.Common.{ap, sym, ◌∙◌, arith}
 use Rattle.conj_query.specs.JoinsFile.{after_line}
 use Rattle.conj_query.proofs.ReadSound.{joins_are_sound}
+use Rattle.conj_query.proofs.SomeVariable.{all_some}
 use Rattle.conj_query.proofs.Reading.{turn, stop, end, whole}
 use Rattle.conj_query.proofs.read.read_joins.Goals as goal
 
@@ -35,3 +36,6 @@ returns-clause-few c = (joins_are_sound c.args.queries.now c.args.bytes.now _ (r
 
 pub returns-clause-sound : goal.returns-clause-sound
 returns-clause-sound c = (joins_are_sound c.args.queries.now c.args.bytes.now _ (returns-clause-joins c)).1
+
+pub returns-clause-variables : goal.returns-clause-variables
+returns-clause-variables c = all_some c.args.queries.now c.args.bytes.now _ (returns-clause-joins c)

@@ -1,0 +1,61 @@
+-- Each conjunction of a joins file has a variable.
+use Rattle.std.proofs.Common.{◌≡◌, ℕ, ◌<◌, List, [], ◌∷◌, Ok, length, take, get_or}
+use Rattle.std.proofs.Common.{sym, subst, ⊎_elim, arith}
+use Rattle.std.specs.Prelude.{All, Contains}
+use Rattle.std.specs.List.{AllZip}
+use Rattle.std.proofs.lemmas.Option.{slice_get_within, slice_get-get_or}
+use Rattle.rpq_base.proofs.Members.{cons_members, none_in}
+use Rattle.rpq_model.specs.Query.{Query}
+use Rattle.text_parts.specs.Lines.{lines}
+use Rattle.text_parts.specs.Fields.{fields}
+use Rattle.conj_query.specs.declared.data.Term.{Term}
+use Rattle.conj_query.specs.declared.data.Term.TheVariants.{Variable, Vertex}
+use Rattle.conj_query.specs.Joins.{JoinValue}
+use Rattle.conj_query.specs.JoinsFile.{joins}
+use Rattle.conj_query.specs.Parts.{IsVariable, IsTermOf, IsAtomOf, IsLineOf}
+use Rattle.conj_query.specs.ByParts.{join_lines_of}
+use Rattle.conj_query.proofs.LineParts.{line_by_parts}
+use Rattle.conj_query.proofs.ByParts.{joins_by_parts}
+
+-- what stands in the other list at an element's place
+beside : {A B : Type 0} (R : A → B → Type 0) (firsts : List A) (seconds : List B) (first : A) →
+    AllZip R firsts seconds → Contains firsts first → (second : B) × R first second
+beside R [] seconds first all member = absurd (none_in first member)
+beside R (head ∷ firsts) [] first all member = absurd all
+beside R (head ∷ firsts) (second ∷ seconds) first all member = ⊎_elim
+    (λ here. (second, subst (λ each. R each second) here all.0))
+    (λ later. beside R firsts seconds first all.1 later)
+    ((cons_members head firsts first).0 member)
+
+-- a variable has a place among those seen
+seen_some : (seen : List (List ℕ)) (field : List ℕ) (term : Term) → IsVariable field →
+    IsTermOf seen field term → 0 < length seen
+seen_some seen field (Variable number) variable is =
+    let below = slice_get_within seen number is.0 is.2 in omega (arith, below)
+seen_some seen field (Vertex name) variable is = absurd (is.0 variable)
+
+line_some : (queries : List Query) (before : List JoinValue) (list : List (List ℕ))
+    (join : JoinValue) → IsLineOf queries before list join → 0 < join.variables
+line_some queries before list join line =
+    let variable = line.parts.variable in
+    let text = variable.0 in
+    let atom = beside (IsAtomOf queries line.seen) line.text.atoms join.atoms text line.atoms
+    variable.1 in
+    subst (λ (count : ℕ). 0 < count) (sym line.variables) (⊎_elim
+    (λ from. seen_some line.seen text.from atom.0.from from atom.1.from)
+    (λ to. seen_some line.seen text.to atom.0.to to atom.1.to)
+    variable.2)
+
+pub all_some : (queries : List Query) (bytes : List ℕ) (found : List JoinValue) →
+    joins queries bytes ≡ Ok found → All (λ (join : JoinValue). 0 < join.variables) found
+all_some queries bytes found e place default below =
+    let are = joins_by_parts.ok queries bytes found e in
+    let many = are.as_many in
+    let given = join_lines_of (lines bytes) in
+    let within : place < length given = omega (arith, below, many) in
+    let line = get_or given place [] in
+    let join = get_or found place default in
+    line_some queries (take place found) (fields line) join
+    ((line_by_parts queries (take place found) (fields line)).good join
+    (are.each place line join (slice_get-get_or given place [] within)
+    (slice_get-get_or found place default below)))

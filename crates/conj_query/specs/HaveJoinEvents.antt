@@ -1,0 +1,19 @@
+-- The events of conjunctions from one history to another: they exist, and are one list.
+use Rattle.std.specs.Prelude.{◌≡◌, List, length, All}
+use Rattle.rpq_base.specs.declared.data.Entry.{Entry}
+use Rattle.rpq_model.specs.Query.{Query}
+use Rattle.containment_laws.specs.Accepted.{IsAccepted}
+use Rattle.conj_query.specs.declared.event.JoinEvent.{JoinEvent}
+use Rattle.conj_query.specs.Joins.{JoinValue}
+use Rattle.conj_query.specs.Histories.{AreJoinEventsFrom}
+use Rattle.conj_query.specs.Sound.{IsSound}
+
+-- each step of a history of accepted queries has join events, and one list of them
+pub record HaveJoinEvents : Type 0 where
+  pub some : (queries : List Query) (joins : List JoinValue) → All IsAccepted queries →
+      All (IsSound (length queries)) joins → (before after : List Entry) →
+      (events : List JoinEvent) × AreJoinEventsFrom queries joins before after events
+  pub one : (queries : List Query) (joins : List JoinValue) →
+      All (IsSound (length queries)) joins → (before after : List Entry)
+      (events others : List JoinEvent) → AreJoinEventsFrom queries joins before after events →
+      AreJoinEventsFrom queries joins before after others → events ≡ others
