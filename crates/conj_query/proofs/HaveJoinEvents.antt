@@ -8,7 +8,7 @@ use Rattle.std.proofs.lemmas.Option.{none-some, same_Some, slice_get_within}
 use Rattle.std.proofs.lemmas.Option.{get_or_from_slice_get}
 use Rattle.rpq_base.specs.declared.data.Entry.{Entry}
 use Rattle.rpq_base.specs.declared.data.Pair.{Pair}
-use Rattle.rpq_base.proofs.Members.{with_all, distinct_members}
+use Rattle.rpq_base.proofs.Members.{with_all, distinct_members, none_in}
 use Rattle.rpq_base.proofs.Sorted.{sorted_nil, fold_sorted, same_from_members}
 use Rattle.rpq_model.specs.Answers.{AreAnswers}
 use Rattle.rpq_model.specs.Query.{Query, path_query}
@@ -110,6 +110,16 @@ some_events queries joins before after sound =
       },
     )
 
+-- no conjunctions lose or gain anything
+no_changes : (before after : Family) → AreJoinEvents [] before after []
+no_changes before after = record {
+  sorted = sorted_nil join_event_cmp;
+  exact = λ each. (
+    (λ member. absurd (none_in each member)),
+    (λ told. absurd (none-some told.0 told.1)),
+  );
+}
+
 -- the pairs of the first query, and those of the queries behind it
 abbrev with_first : List Pair → Family → ℕ → List Pair
 with_first own rest zero = own
@@ -209,4 +219,9 @@ have_join_events have = record {
         told_again queries joins before after events others each sound first second,
         told_again queries joins before after others events each sound second first,
       ));
+  none = λ queries accepted before after.
+      let old = some_answers have queries before accepted in
+      let new = some_answers have queries after accepted in
+      let changes = no_changes old.0 new.0 in
+      record { old = old.0; new = new.0; were = old.1; are = new.1; changes = changes };
 }

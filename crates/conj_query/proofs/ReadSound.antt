@@ -20,7 +20,6 @@ use Rattle.conj_query.specs.Sound.{IsWithin, IsAtomWithin, Mentions, IsSound}
 use Rattle.conj_query.specs.JoinLine.{◌>>=◌, Read, AtomText, AtomsRead, found_or, query_named, named, number_at, numbered, variable_of, variable_name, term_by, term_of}
 use Rattle.conj_query.specs.JoinLine.{atom_of, with_atom, with_atoms, none_read, is_known_query, atoms_of, join_with, placed, text_of_fields, join_of_fields}
 use Rattle.conj_query.specs.JoinsFile.{after_line, onward, gives, joins}
-use Rattle.conj_query.specs.FileLaws.{JoinsAreSound}
 use Rattle.conj_query.proofs.Reading.{bind_ok, same_ok, ok_no_err}
 
 -- the place of the first that passes is within
@@ -249,7 +248,8 @@ lines_sound (line ∷ rest) queries before found count so_far e = by (after_line
     by (Err kind) f later =
         absurd (ok_no_err found _ (sym (sym (ap (onward (count + 1) (λ next. gives queries next (count + 1) rest)) f) ∙ e)))
 
-pub joins_are_sound : JoinsAreSound
+pub few_and_sound : (queries : List Query) (bytes : List ℕ) (found : List JoinValue) →
+    joins queries bytes ≡ Ok found → (length found ≤ 32) × All (IsSound (length queries)) found
 unfolding joins
-joins_are_sound queries bytes found e =
+few_and_sound queries bytes found e =
     lines_sound (lines bytes) queries [] found 0 (omega arith, All-nil (IsSound (length queries))) e

@@ -1,4 +1,4 @@
--- Each conjunction of a joins file has a variable.
+-- Each conjunction of a joins file is sound, and has a variable.
 use Rattle.std.proofs.Common.{◌≡◌, ℕ, ◌<◌, List, [], ◌∷◌, Ok, length, take, get_or}
 use Rattle.std.proofs.Common.{sym, subst, ⊎_elim, arith}
 use Rattle.std.specs.Prelude.{All, Contains}
@@ -15,7 +15,9 @@ use Rattle.conj_query.specs.JoinsFile.{joins}
 use Rattle.conj_query.specs.Parts.{IsVariable, IsTermOf, IsAtomOf, IsLineOf}
 use Rattle.conj_query.specs.ByParts.{join_lines_of}
 use Rattle.conj_query.proofs.LineParts.{line_by_parts}
+use Rattle.conj_query.specs.FileLaws.{JoinsAreSound}
 use Rattle.conj_query.proofs.ByParts.{joins_by_parts}
+use Rattle.conj_query.proofs.ReadSound.{few_and_sound}
 
 -- what stands in the other list at an element's place
 beside : {A B : Type 0} (R : A → B → Type 0) (firsts : List A) (seconds : List B) (first : A) →
@@ -46,7 +48,7 @@ line_some queries before list join line =
     (λ to. seen_some line.seen text.to atom.0.to to atom.1.to)
     variable.2)
 
-pub all_some : (queries : List Query) (bytes : List ℕ) (found : List JoinValue) →
+all_some : (queries : List Query) (bytes : List ℕ) (found : List JoinValue) →
     joins queries bytes ≡ Ok found → All (λ (join : JoinValue). 0 < join.variables) found
 all_some queries bytes found e place default below =
     let are = joins_by_parts.ok queries bytes found e in
@@ -59,3 +61,8 @@ all_some queries bytes found e place default below =
     ((line_by_parts queries (take place found) (fields line)).good join
     (are.each place line join (slice_get-get_or given place [] within)
     (slice_get-get_or found place default below)))
+
+pub joins_are_sound : JoinsAreSound
+joins_are_sound queries bytes found e =
+    let held = few_and_sound queries bytes found e in
+    (held.0, held.1, all_some queries bytes found e)

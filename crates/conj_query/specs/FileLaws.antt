@@ -1,11 +1,12 @@
 -- What a joins file gives, as laws.
-use Rattle.std.specs.Prelude.{◌≡◌, ℕ, ◌≤◌, List, length, All, Ok}
+use Rattle.std.specs.Prelude.{◌≡◌, ℕ, ◌<◌, ◌≤◌, List, length, All, Ok}
 use Rattle.rpq_model.specs.Query.{Query}
 use Rattle.conj_query.specs.Joins.{JoinValue}
 use Rattle.conj_query.specs.Sound.{IsSound}
 use Rattle.conj_query.specs.JoinsFile.{joins}
 
--- a file gives at most 32 conjunctions, and each is over the queries
+-- a file gives at most 32 conjunctions, and each is over the queries and has a variable
 abbrev pub JoinsAreSound : Type 0
 JoinsAreSound = (queries : List Query) (bytes : List ℕ) (found : List JoinValue) →
     joins queries bytes ≡ Ok found → (length found ≤ 32) × All (IsSound (length queries)) found
+    × All (λ join. 0 < join.variables) found

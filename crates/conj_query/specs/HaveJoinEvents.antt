@@ -1,5 +1,5 @@
 -- The events of conjunctions from one history to another: they exist, and are one list.
-use Rattle.std.specs.Prelude.{◌≡◌, List, length, All}
+use Rattle.std.specs.Prelude.{◌≡◌, List, [], length, All}
 use Rattle.rpq_base.specs.declared.data.Entry.{Entry}
 use Rattle.rpq_model.specs.Query.{Query}
 use Rattle.containment_laws.specs.Accepted.{IsAccepted}
@@ -8,7 +8,8 @@ use Rattle.conj_query.specs.Joins.{JoinValue}
 use Rattle.conj_query.specs.Histories.{AreJoinEventsFrom}
 use Rattle.conj_query.specs.Sound.{IsSound}
 
--- each step of a history of accepted queries has join events, and one list of them
+-- each step of a history of accepted queries has join events, and one list of them, which is empty
+-- where there are no conjunctions
 pub record HaveJoinEvents : Type 0 where
   pub some : (queries : List Query) (joins : List JoinValue) → All IsAccepted queries →
       All (IsSound (length queries)) joins → (before after : List Entry) →
@@ -17,3 +18,5 @@ pub record HaveJoinEvents : Type 0 where
       All (IsSound (length queries)) joins → (before after : List Entry)
       (events others : List JoinEvent) → AreJoinEventsFrom queries joins before after events →
       AreJoinEventsFrom queries joins before after others → events ≡ others
+  pub none : (queries : List Query) → All IsAccepted queries → (before after : List Entry) →
+      AreJoinEventsFrom queries [] before after []

@@ -17,6 +17,7 @@ use rpq_base::{Event, Memory};
 use std::alloc::Global;
 use std::marker::Model;
 use std::random::RandomSource;
+use std::sync::Arc;
 
 /// Why events aren't taken.
 #[derive(Clone, Copy, Debug, PartialEq, Eq)]
@@ -39,7 +40,7 @@ impl From<Memory> for JoinFault {
 #[derive(Drop)]
 pub struct Joins {
     alloc: Global,
-    defs: Vec<JoinDef>,
+    defs: Arc<Vec<JoinDef>>,
     sets: Vec<PairSet>,
     spent: bool,
 }
@@ -52,13 +53,13 @@ impl Model for Joins {
     ghost Value = { JoinsValue };
 
     ghost view = { λ joins. record {
-      joins = joins.defs.items;
+      joins = joins.defs.value.items;
       pairs = joins.sets.items;
       spent = joins.spent;
     } };
 
-    ghost invariant = { λ joins. (length joins.defs.items ≤ 32)
-        × All (IsSound (length joins.sets.items)) joins.defs.items };
+    ghost invariant = { λ joins. (length joins.defs.value.items ≤ 32)
+        × All (IsSound (length joins.sets.items)) joins.defs.value.items };
 }
 
 /// So many sets without pairs.
@@ -101,12 +102,12 @@ impl Joins {
     pub fn new<R: RandomSource>(
         rt: &R,
         alloc: Global,
-        defs: Vec<JoinDef>,
+        defs: Arc<Vec<JoinDef>>,
         queries: u32,
     ) -> Result<Joins, Memory>
-        requires few { length defs.items ≤ 32 }
-        requires sound { All (IsSound queries) defs.items }
-        ensures joins { IfOk result (λ joins. joins.joins ≡ defs.items) }
+        requires few { length defs.value.items ≤ 32 }
+        requires sound { All (IsSound queries) defs.value.items }
+        ensures joins { IfOk result (λ joins. joins.joins ≡ defs.value.items) }
         ensures many { IfOk result (λ joins. length joins.pairs ≡ queries) }
         ensures blank { IfOk result (λ joins. All (λ pairs. pairs ≡ []) joins.pairs) }
         ensures fresh { IfOk result (λ joins. joins.spent ≡ false) }
@@ -124,7 +125,7 @@ impl Joins {
     pub fn defs(&self) -> &[JoinDef]
         ensures { result.now ≡ self.now.joins }
     {
-        &self.defs
+        self.defs.as_slice()
     }
 
     /// Changes the pairs by the events, and tells what the conjunctions lose and gain: by
@@ -145,7 +146,7 @@ impl Joins {
             return Err(JoinFault::Spent);
         }
         self.spent = true;
-        let found = moved(self.alloc, &self.defs, &mut self.sets, events)?;
+        let found = moved(self.alloc, self.defs.as_slice(), &mut self.sets, events)?;
         self.spent = false;
         Ok(found)
     }

@@ -37,7 +37,7 @@ pub fn joins_hold_bindings()
 {}
 
 /// Conjunctions over accepted queries have their events from each history to each other, and they
-/// are one list.
+/// are one list. Without conjunctions this list is empty.
 pub fn accepted_queries_have_join_events()
     ensures { HaveJoinEvents }
 {
@@ -62,7 +62,7 @@ pub fn joins_by_parts()
     ensures { JoinsByParts }
 {}
 
-/// A joins file gives at most 32 conjunctions, each of which is over the queries.
+/// A joins file gives at most 32 conjunctions. Each is over the queries and has a variable.
 pub fn joins_are_sound()
     ensures { JoinsAreSound }
 {}

@@ -8,7 +8,7 @@
 //! contract for the layer above: from one state to the next the events are exactly the difference
 //! of the bindings ([`joins_hold_bindings`] for a whole history). Where the queries are accepted,
 //! these events exist from each history to each other, and they are one list
-//! ([`accepted_queries_have_join_events`]). No run uses this yet.
+//! ([`accepted_queries_have_join_events`]). A run takes the changes of its conjunctions from here.
 //!
 //! A binding names every variable, so it fixes the pair of each atom, and is lost or gained exactly
 //! where one of these pairs is ([`changes_are_touched`]). So nothing is counted: for each event and

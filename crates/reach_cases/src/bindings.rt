@@ -12,6 +12,7 @@ use rpq_base::{Entry, Event};
 use rpq_model::{QueryDef, changes, plain_answers};
 use std::alloc::Global;
 use std::random::RandomSource;
+use std::sync::Arc;
 
 /// What each tuple changes of the bindings of some joins over one query.
 pub fn answer_bindings<R: RandomSource>(
@@ -25,8 +26,8 @@ pub fn answer_bindings<R: RandomSource>(
         return Err(anyhow!("not one query"));
     }
     let text = decoded(alloc, fields.next())?;
-    let defs = read_joins(alloc, &text, &queries)?;
-    let joins = Joins::new(rt, alloc, read_joins(alloc, &text, &queries)?, 1)?;
+    let defs = Arc::new(alloc, read_joins(alloc, &text, &queries)?)?;
+    let joins = Joins::new(rt, alloc, Arc::try_clone(&defs)?, 1)?;
     let entries = entries_of(alloc, fields.rest())?;
     apply_each(alloc, out, &queries[0], joins, &defs, &entries)
 }

@@ -1,7 +1,7 @@
 //! A program that asks the libraries for edges that are taken backwards, for paths that show an
-//! answer, and for joins, which no run uses yet, so that what they answer can be compared with what
-//! it should be. `stdin` has the requests, and `stdout` the answers, which an evaluator from outside
-//! gave. `case_lines` says what a line and its fields are.
+//! answer, and for joins, so that what they answer can be compared with what it should be. `stdin`
+//! has the requests, and `stdout` the answers, which an evaluator from outside gave. `case_lines`
+//! says what a line and its fields are.
 //!
 //! - `read EXPR`: an expression whose labels may be taken backwards, as it is written, how many
 //!   labels stand in it, and `+` where it has the empty word, else `-`; or the fault of the text.

@@ -27,6 +27,7 @@ fn put_settings(out: &mut Output, chosen: &Chosen) -> anyhow::Result<()> {
     out.put_sign(chosen.two_way)?;
     out.put(" ")?;
     out.put_sign(chosen.paths)?;
+    put_file(out, &chosen.joins)?;
     put_file(out, &chosen.asks)?;
     put_file(out, &chosen.replies)?;
     put_file(out, &chosen.save)?;

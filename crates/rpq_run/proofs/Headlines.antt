@@ -10,6 +10,8 @@ use Rattle.std.proofs.lemmas.List.{length-map, take_all}
 use Rattle.std.proofs.lemmas.Option.{slice_get-map, slice_get_within}
 use Rattle.rpq_base.specs.declared.data.Entry.{Entry}
 use Rattle.rpq_model.specs.Query.{Query}
+use Rattle.conj_query.specs.declared.fault.JoinsFault.{JoinsFault}
+use Rattle.conj_query.specs.Joins.{JoinValue}
 use Rattle.history_model.specs.declared.line.Why.{Why}
 use Rattle.history_model.specs.declared.line.Why.TheVariants.{Write, Memory}
 use Rattle.query_file.specs.declared.fault.QueryFault.{QueryFault}
@@ -24,32 +26,32 @@ use Rattle.stream_tuples.specs.History.{IsNumberOf, AreTuplesOfEnd, own_tuples}
 use Rattle.stream_tuples.specs.Limits.{byte_limit}
 use Rattle.stream_tuples.specs.StreamText.{StreamTuples, stream_tuples}
 use Rattle.rpq_text.specs.declared.ends.SinkName.TheVariants.{Events, Replies, Save}
-use Rattle.rpq_text.specs.declared.options.Options.{Options}
-use Rattle.rpq_text.specs.Laws.{StepsHaveTheEvents}
-use Rattle.rpq_text.specs.Steps.{StepValue, AreSteps, events_of}
+use Rattle.rpq_text.specs.Laws.{StepsHaveJoinEvents, StepsHaveTheEvents}
+use Rattle.rpq_text.specs.Steps.{OptionsValue, StepValue, AreSteps, events_of}
 use Rattle.rpq_text.specs.Text.{blocks_from}
 use Rattle.saved_window.specs.Saved.{saved}
 use Rattle.saved_window.specs.SavedText.{saved_text}
 use Rattle.saved_window.specs.Then.{left_of_both, faults_of_both}
-use Rattle.run_start.specs.Files.{HasQueries, HasSessions, ForQueries, ForSessions, ForAsked}
-use Rattle.run_start.specs.Files.{stream_contents, with_first}
+use Rattle.run_start.specs.Files.{HasJoins, HasQueries, HasSessions, ForQueries, ForJoins}
+use Rattle.run_start.specs.Files.{ForJoined, ForSessions, ForAsked, stream_contents, with_first}
 use Rattle.rpq_threads.specs.Runs.{AreSessionsOf, asks_answered}
 use Rattle.rpq_threads.specs.Told.{BeginsBlock, TellsObjects}
 use Rattle.standing.specs.Circles.{CircleValue}
 use Rattle.standing.specs.Objects.{ObjectValue}
 use Rattle.standing.specs.Stood.{HaveStood}
 use Rattle.standing.proofs.HavingStood.{stood_weaker}
-use Rattle.rpq_run.specs.Headline.{Told, IsTold, AreAsked, Headline, behind_text, stream_texts}
+use Rattle.rpq_run.specs.Headline.{Told, IsTold, AreAsked, AreBound, AreJoined, Headline}
+use Rattle.rpq_run.specs.Headline.{behind_text, stream_texts}
 use Rattle.rpq_run.specs.Options.{options_of}
 use Rattle.rpq_run.specs.Outcome.{Meanings, Sinks, Objects, Outcome}
 use Rattle.rpq_run.specs.Replies.{texts_of}
-use Rattle.rpq_run.specs.RunsStreams.{GotText, RunsStreams, FrontsHold, nothing_told}
+use Rattle.rpq_run.specs.RunsStreams.{GotText, RunsStreams, FrontsBind, FrontsHold, nothing_told}
 use Rattle.rpq_run.specs.Sources.{stream_sources}
 use Rattle.rpq_run.specs.Written.{WritesWhere}
 use Rattle.rpq_run.proofs.Done.{stream_at}
 use Rattle.rpq_run.proofs.Statuses.{first_of_done, sink_quietly, whole_end}
 
--- ---- the one list of queries, and of sessions
+-- ---- the one list of queries, of conjunctions, and of sessions
 
 -- bytes give one thing, whether the queries may take edges backwards or not
 either_way : OneOutcome → OneTwoWayOutcome → (two_way : Bool) → OneOutcomeOf two_way
@@ -72,6 +74,41 @@ from_queries : (two_way : Bool) → OneOutcomeOf two_way → (file : Option (Lis
 from_queries two_way one file bytes queries P is has holds =
     let held = subst (λ (f : Option (List ℕ)). ForQueries two_way f P) is holds in
     subst P (one_query_list two_way one bytes held.0 queries held.1 has) held.2
+
+from_joins : (given : Settings) (holds : List ℕ → Option (List ℕ)) (queries : List Query)
+    (told : Option (List ℕ)) (joins : List JoinValue) (P : List JoinValue → Type 0)
+    → option_map holds given.joins ≡ option_map (λ bytes. Some bytes) told
+    → AreJoined queries told joins
+    → ForJoins given holds queries P → P joins
+from_joins given holds queries told joins P is joined = by given.joins told is joined
+  where
+    by : (named known : Option (List ℕ))
+        → option_map holds named ≡ option_map (λ bytes. Some bytes) known
+        → AreJoined queries known joins
+        → MatchOption named (P []) (λ name. IfSome (holds name)
+        (λ bytes. (found : List JoinValue) × HasJoins queries bytes found × P found)) → P joins
+    by None None is joined p = subst P (sym {A = List JoinValue} joined) p
+    by None (Some bytes) is joined p = absurd (cc is)
+    by (Some name) None is joined p = absurd (cc is)
+    by (Some name) (Some bytes) is joined p =
+        let content : holds name ≡ Some bytes = cc is in
+        let held = subst (λ (f : Option (List ℕ)). IfSome f
+        (λ text. (found : List JoinValue) × HasJoins queries text found × P found)) content p in
+        let same : ◌≡◌ {A = Result (List JoinValue) JoinsFault} (Ok held.0) (Ok joins) =
+        sym held.1.1 ∙ joined.1 in
+        let same_joins : held.0 ≡ joins = cc same in
+        subst P same_joins held.2
+
+from_joined : {S K : Type 0} (means : Meanings S K) (given : Settings)
+    (holds : List ℕ → Option (List ℕ)) (sinks : Sinks K) (told : Told) (queries : List Query)
+    (joins : List JoinValue) (P : List Query → List JoinValue → Type 0)
+    → OneOutcomeOf given.two_way
+    → IsTold means given holds sinks told → HasQueries given.two_way told.queries queries
+    → AreJoined queries told.joins joins → ForJoined given holds P → P queries joins
+from_joined means given holds sinks told queries joins P one is has joined p =
+    from_joins given holds queries told.joins joins (P queries) is.joins joined
+    (from_queries given.two_way one (holds given.queries) told.queries queries
+    (λ all. ForJoins given holds all (P all)) is.queries has p)
 
 from_sessions : (given : Settings) (holds : List ℕ → Option (List ℕ)) (queries : List Query)
     (told : Option (List ℕ)) (sessions : List (List Ask)) (P : List (List Ask) → Type 0)
@@ -107,6 +144,33 @@ from_asked means given holds sinks told queries sessions P one is has asked p =
     from_sessions given holds queries told.asks sessions (P queries) is.asks asked
     (from_queries given.two_way one (holds given.queries) told.queries queries
     (λ all. ForSessions given holds all (P all)) is.queries has p)
+
+-- there are conjunctions
+joins_there : {S K : Type 0} (means : Meanings S K) (given : Settings)
+    (holds : List ℕ → Option (List ℕ)) (sinks : Sinks K) (told : Told) (queries : List Query)
+    → OneOutcomeOf given.two_way → IsTold means given holds sinks told
+    → HasQueries given.two_way told.queries queries
+    → ForJoined given holds (λ queries joins. Unit {0})
+    → (joins : List JoinValue) × AreJoined queries told.joins joins
+joins_there means given holds sinks told queries one is has there =
+    by given.joins told.joins is.joins
+    (from_queries given.two_way one (holds given.queries) told.queries queries
+    (λ all. ForJoins given holds all (λ joins. Unit {0})) is.queries has there)
+  where
+    by : (named known : Option (List ℕ))
+        → option_map holds named ≡ option_map (λ bytes. Some bytes) known
+        → MatchOption named (Unit {0}) (λ name. IfSome (holds name)
+        (λ bytes. (found : List JoinValue) × HasJoins queries bytes found × Unit {0}))
+        → (joins : List JoinValue) × AreJoined queries known joins
+    by None None is there = ([], refl)
+    by None (Some bytes) is there = absurd (cc is)
+    by (Some name) None is there = absurd (cc is)
+    by (Some name) (Some bytes) is there =
+        let content : holds name ≡ Some bytes = cc is in
+        let file = subst (λ (f : Option (List ℕ)). IfSome f
+        (λ text. (found : List JoinValue) × HasJoins queries text found × Unit {0}))
+        content there in
+        (file.0, file.1)
 
 -- there are queries and sessions
 record AreThere (two_way : Bool) (told : Told) : Type 0 where
@@ -198,7 +262,7 @@ contents_are given holds told from streams =
 
 -- the steps of a history, one for each entry, which were written, and whose events were told to the
 -- objects
-record AreAllTold (options : Options) (queries : List Query) (history : List Entry)
+record AreAllTold (options : OptionsValue) (queries : List Query) (history : List Entry)
     (before now : Option (List ℕ)) (objects : List ObjectValue) (circle : CircleValue)
     : Type 0 where
   steps : List StepValue
@@ -207,7 +271,7 @@ record AreAllTold (options : Options) (queries : List Query) (history : List Ent
   heard : HaveStood objects (flat_map (λ own. own) (events_of steps)) ⊤ circle.members circle.left
 
 -- no block begins behind the last one
-none_begun : (options : Options) (queries : List Query) (history : List Entry) (count : ℕ)
+none_begun : (options : OptionsValue) (queries : List Query) (history : List Entry) (count : ℕ)
     (rest : List ℕ) → count ≡ length history
     → (rest ≡ []) ⊎ BeginsBlock options queries history count rest → rest ≡ []
 none_begun options queries history count rest all (inl none) = none
@@ -216,7 +280,7 @@ none_begun options queries history count rest all (inr begun) =
     absurd (omega (arith, inside, all))
 
 -- where nothing ended the run early all of them were
-all_told : (options : Options) (queries : List Query) (history : List Entry)
+all_told : (options : OptionsValue) (queries : List Query) (history : List Entry)
     (before now : Option (List ℕ)) (objects : List ObjectValue) (why : Option Why)
     (circle : CircleValue) → why ≡ None
     → TellsObjects options queries history before now objects why circle
@@ -240,35 +304,58 @@ all_told options queries history before now objects why circle none tells =
           absurd (cc no)) tells.told;
     }
 
+-- ---- the bindings
+
+-- where edges are taken forwards alone, the steps have the lines of the changes of the bindings
+bound_by : (options : OptionsValue) (queries : List Query) (history : List Entry)
+    (steps : List StepValue) → StepsHaveJoinEvents → options.two_way ≡ false
+    → AreSteps options queries history steps → FrontsBind queries options.joins history
+    → AreBound queries options.joins history steps
+bound_by options queries history steps law forwards are bindings =
+    let changes = law options queries history steps forwards are in
+    record {
+      changes = changes.0;
+      are_changes = changes.1;
+      lines = changes.2;
+      held = λ number join at count names.
+          bindings number join changes.0 at changes.1 count names;
+    }
+
 -- ---- all of it
 
--- what is told, with these options
-abbrev telling : Options → Told → Told
-telling options told = record told { options = options }
+-- what is told, where edges are taken and paths are told as the settings say
+abbrev telling : Bool → Bool → Told → Told
+telling two_way paths told = record told { two_way = two_way; paths = paths }
 
 -- it holds as the settings say
 headline_of : {S K : Type 0} (means : Meanings S K) (given : Settings)
     (holds : List ℕ → Option (List ℕ)) (sinks : Sinks K) (objects : Objects) (outcome : Outcome S K)
-    (told : Told) → OneOutcomeOf given.two_way → StepsHaveTheEvents
+    (told : Told) → OneOutcomeOf given.two_way → StepsHaveTheEvents → StepsHaveJoinEvents
     → RunsStreams means given holds sinks objects outcome → outcome.status ≡ 0
     → IsTold means given holds sinks told
-    → Headline means (telling (options_of given) told) sinks objects outcome
-headline_of means given holds sinks objects outcome told one law runs done is =
-    let there = are_there means given holds sinks told is runs.understood in
+    → Headline means (telling given.two_way given.paths told) sinks objects outcome
+headline_of means given holds sinks objects outcome told one law lines runs done is =
+    let there = are_there means given holds sinks told is runs.understood.asks in
+    let found = joins_there means given holds sinks told there.queries one is there.has
+    runs.understood.joins in
+    let options = options_of given found.0 in
     let quiet : (Contains runs.failed Events → ⊥) =
     sink_quietly outcome.ends runs.failed outcome.status Events runs.causes.status_is done in
     let not_short : outcome.status ≢ 8 = λ eight. absurd (omega (arith, eight, done)) in
-    let tells = from_queries given.two_way one (holds given.queries) told.queries there.queries
-    (λ queries. TellsObjects (options_of given) queries outcome.history
+    let tells = from_joined means given holds sinks told there.queries found.0
+    (λ queries joins. TellsObjects (options_of given joins) queries outcome.history
     (means.written sinks.events_old) (means.written sinks.events_new) objects.before
-    runs.told.why objects.after) is.queries there.has runs.told.told in
-    let all = all_told (options_of given) there.queries outcome.history
+    runs.told.why objects.after) one is there.has found.1 runs.told.told in
+    let all = all_told options there.queries outcome.history
     (means.written sinks.events_old) (means.written sinks.events_new) objects.before
     runs.told.why objects.after (unended runs.told.why refl quiet not_short) tells in
-    let events = law.are (options_of given) there.queries outcome.history all.steps all.are_steps in
+    let events = law.are options there.queries outcome.history all.steps all.are_steps in
     let sets = from_queries given.two_way one (holds given.queries) told.queries there.queries
     (λ queries. FrontsHold given.two_way queries outcome.history) is.queries there.has
     runs.events.sets in
+    let bindings = from_joined means given holds sinks told there.queries found.0
+    (λ queries joins. FrontsBind queries joins outcome.history) one is there.has found.1
+    runs.events.bindings in
     let last : runs.replies.last ≡ length outcome.history = elim runs.replies.at_end [
       | inl all ↦ all
       | inr other ↦ elim other [
@@ -279,6 +366,8 @@ headline_of means given holds sinks objects outcome told one law runs done is =
     record {
       queries = there.queries;
       accepted = there.has;
+      joins = found.0;
+      joined = found.1;
       sessions = there.sessions;
       asked = there.asked;
       in_order = in_order;
@@ -290,6 +379,9 @@ headline_of means given holds sinks objects outcome told one law runs done is =
           (blocks_from there.queries 1 outcome.history all.steps)) is.events;
       held = λ place query at count pair.
           sets place query (events_of all.steps) at events count pair;
+      bound = λ forwards.
+          bound_by options there.queries outcome.history all.steps lines forwards all.are_steps
+          bindings;
       heard = all.heard;
       readers = subst (λ n.
           AreSessionsOf there.queries outcome.history n there.sessions outcome.sessions) last
@@ -355,11 +447,11 @@ headline_of means given holds sinks objects outcome told one law runs done is =
 -- and as it is told
 pub headline_holds : {S K : Type 0} (means : Meanings S K) (given : Settings)
     (holds : List ℕ → Option (List ℕ)) (sinks : Sinks K) (objects : Objects) (outcome : Outcome S K)
-    (told : Told) → OneOutcome → OneTwoWayOutcome → StepsHaveTheEvents
+    (told : Told) → OneOutcome → OneTwoWayOutcome → StepsHaveTheEvents → StepsHaveJoinEvents
     → RunsStreams means given holds sinks objects outcome → outcome.status ≡ 0
     → IsTold means given holds sinks told → Headline means told sinks objects outcome
-headline_holds means given holds sinks objects outcome told one other law runs done is =
+headline_holds means given holds sinks objects outcome told one other law lines runs done is =
     subst (λ (all : Told). Headline means all sinks objects outcome)
-    (λ i. telling (is.options i) told)
+    (λ i. telling (is.two_way i) (is.paths i) told)
     (headline_of means given holds sinks objects outcome told
-    (either_way one other given.two_way) law runs done is)
+    (either_way one other given.two_way) law lines runs done is)

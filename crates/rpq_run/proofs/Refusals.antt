@@ -1,7 +1,7 @@
 -- A run that doesn't begin.
-use Rattle.std.proofs.Common.{◌≡◌, ℕ, zero, suc, ◌<◌, Bool, List, [], ◌∷◌, ◌++◌}
-use Rattle.std.proofs.Common.{length, get_or, Option, Some, None, refl, sym, subst, ◌∙◌, arith}
-use Rattle.std.proofs.Common.{inr, ◌⊎◌, Err}
+use Rattle.std.proofs.Common.{◌≡◌, ℕ, zero, suc, ◌<◌, Bool, List, [], ◌∷◌, ◌++◌, length, get_or}
+use Rattle.std.proofs.Common.{Option, Some, None, refl, sym, subst, ◌∙◌, arith, inr, ◌⊎◌, Err}
+use Rattle.std.proofs.Common.{append_assoc}
 use Rattle.std.specs.Prelude.{IfSome, IsSomeAnd, option_to_list}
 use Rattle.std.specs.List.{All}
 use Rattle.std.proofs.lemmas.List.{append-nil}
@@ -10,22 +10,26 @@ use Rattle.std.proofs.lemmas.Option.{slice_get-get_or}
 use Rattle.rpq_io.specs.Counts.{Rose}
 use Rattle.rpq_io.proofs.Counting.{counts_none}
 use Rattle.query_file.specs.declared.fault.QueryFault.{QueryFault}
+use Rattle.conj_query.specs.declared.fault.JoinsFault.{JoinsFault}
+use Rattle.conj_query.specs.JoinsFile.{joins}
 use Rattle.ask_text.specs.declared.fault.AskFault.{AskFault}
 use Rattle.ask_text.specs.Asks.{asks}
 use Rattle.rpq_words.specs.Settings.{Settings}
 use Rattle.stream_tuples.specs.History.{IsPrefix}
-use Rattle.rpq_text.specs.declared.ends.Which.TheVariants.{Queries, Asks, From, Stream}
+use Rattle.rpq_text.specs.declared.ends.Which.TheVariants.{Queries, Joins, Asks, From, Stream}
 use Rattle.rpq_text.specs.declared.ends.Which.TheVariants.{Replies, Save}
 use Rattle.rpq_text.specs.declared.ends.StartFault.{StartFault}
 use Rattle.rpq_text.specs.declared.ends.StartFault.TheVariants.{Words, Queries as QueriesFault}
+use Rattle.rpq_text.specs.declared.ends.StartFault.TheVariants.{Joins as JoinsFaulty}
 use Rattle.rpq_text.specs.declared.ends.StartFault.TheVariants.{Asks as AsksFault, Open}
 use Rattle.rpq_text.specs.declared.ends.StartFault.TheVariants.{Read as ReadAtStart, Long}
 use Rattle.rpq_text.specs.declared.ends.StartFault.TheVariants.{Memory}
 use Rattle.rpq_text.specs.Statuses.{status_of_start}
 use Rattle.run_start.specs.Files.{ForQueries, IsTooLong, IsFaultyFile, IsFaultless}
-use Rattle.run_start.specs.Files.{AreFaultyAsks, AreFaultlessAsks, AreUnderstoodFiles, HasAskFault}
-use Rattle.run_start.specs.Files.{IsQueriesFile}
-use Rattle.run_start.specs.Given.{file_names, sink_names}
+use Rattle.run_start.specs.Files.{AreFaultyJoins, AreFaultlessJoins, HasJoinsFault}
+use Rattle.run_start.specs.Files.{AreFaultyAsks, AreFaultlessAsks, HasAskFault}
+use Rattle.run_start.specs.Files.{AreUnderstoodFiles, AreUnderstoodJoins, IsQueriesFile}
+use Rattle.run_start.specs.Given.{file_names, later_names, sink_names}
 use Rattle.run_start.specs.Ready.{IsWordsCause}
 use Rattle.run_start.proofs.Using.{names_in_order}
 use Rattle.run_start.specs.Start.{IsRefusedFor, IsOpeningOf, IsMakingOf, AreSourcesOf}
@@ -35,14 +39,33 @@ use Rattle.rpq_run.specs.Outcome.{Meanings, Openings, Sinks, Outcome}
 
 -- ---- its status
 
-not_long : (two_way : Bool) (file : Option (List ℕ)) → IsTooLong file → IsSomeAnd file (IsFaultless two_way) → ⊥
+not_long : (two_way : Bool) (file : Option (List ℕ)) → IsTooLong file
+    → IsSomeAnd file (IsFaultless two_way) → ⊥
 not_long two_way None long some = some
 not_long two_way (Some bytes) long some = omega (arith, long, some.short)
 
-not_faulty : (two_way : Bool) (file : Option (List ℕ)) (fault : QueryFault) → IsFaultyFile two_way file fault
-    → IsSomeAnd file (IsFaultless two_way) → ⊥
+not_faulty : (two_way : Bool) (file : Option (List ℕ)) (fault : QueryFault)
+    → IsFaultyFile two_way file fault → IsSomeAnd file (IsFaultless two_way) → ⊥
 not_faulty two_way None fault faulty some = some
 not_faulty two_way (Some bytes) fault faulty some = some.no_fault fault faulty.1.1
+
+joins_not_long : (two_way : Bool) (queries file : Option (List ℕ)) → IsTooLong file
+    → IsSomeAnd file (AreFaultlessJoins two_way queries) → ⊥
+joins_not_long two_way queries None long some = some
+joins_not_long two_way queries (Some bytes) long some = omega (arith, long, some.short)
+
+joins_not_faulty : (two_way : Bool) (queries file : Option (List ℕ)) (fault : JoinsFault)
+    → AreFaultyJoins two_way queries file fault
+    → IsSomeAnd file (AreFaultlessJoins two_way queries) → ⊥
+joins_not_faulty two_way queries None fault faulty some = some
+joins_not_faulty two_way queries (Some bytes) fault faulty some =
+    some.no_fault fault (by queries faulty.1)
+  where
+    by : (file : Option (List ℕ))
+        → ForQueries two_way file (λ all. HasJoinsFault all bytes fault)
+        → ForQueries two_way file (λ all. joins all bytes ≡ Err fault)
+    by None has = tt
+    by (Some held) (all, are, has) = (all, are, has.1)
 
 asks_not_long : (two_way : Bool) (queries file : Option (List ℕ)) → IsTooLong file
     → IsSomeAnd file (AreFaultlessAsks two_way queries) → ⊥
@@ -50,9 +73,11 @@ asks_not_long two_way queries None long some = some
 asks_not_long two_way queries (Some bytes) long some = omega (arith, long, some.short)
 
 asks_not_faulty : (two_way : Bool) (queries file : Option (List ℕ)) (fault : AskFault)
-    → AreFaultyAsks two_way queries file fault → IsSomeAnd file (AreFaultlessAsks two_way queries) → ⊥
+    → AreFaultyAsks two_way queries file fault
+    → IsSomeAnd file (AreFaultlessAsks two_way queries) → ⊥
 asks_not_faulty two_way queries None fault faulty some = some
-asks_not_faulty two_way queries (Some bytes) fault faulty some = some.no_fault fault (by queries faulty.1)
+asks_not_faulty two_way queries (Some bytes) fault faulty some =
+    some.no_fault fault (by queries faulty.1)
   where
     by : (file : Option (List ℕ)) → ForQueries two_way file (λ all. HasAskFault all bytes fault)
         → ForQueries two_way file (λ all. asks all bytes ≡ Err fault)
@@ -60,13 +85,14 @@ asks_not_faulty two_way queries (Some bytes) fault faulty some = some.no_fault f
     by (Some held) (all, are, has) = (all, are, has.1)
 
 -- what holds of all of a list behind another
-all_behind : {X : Type 0} (P : X → Type 0) (front back : List X) → All P (front ++ back) → All P back
+all_behind : {X : Type 0} (P : X → Type 0) (front back : List X) → All P (front ++ back)
+    → All P back
 all_behind P [] back all = all
 all_behind P (x ∷ front) back all = all_behind P front back (All-tail P x (front ++ back) all)
 
 -- what holds of the one name that there may be
-option_member : (P : List ℕ → Type 0) (option : Option (List ℕ)) (name : List ℕ) (rest : List (List ℕ))
-    → All P (option_to_list option ++ rest) → option ≡ Some name → P name
+option_member : (P : List ℕ → Type 0) (option : Option (List ℕ)) (name : List ℕ)
+    (rest : List (List ℕ)) → All P (option_to_list option ++ rest) → option ≡ Some name → P name
 option_member P None name rest all is = absurd (cc is)
 option_member P (Some other) name rest all is =
     let same : other ≡ name = cc is in
@@ -78,87 +104,149 @@ Quiet before after name = ¬ Rose (before name) (after name)
 
 -- a run that doesn't begin with files that have no fault, and in which no count rose, wants memory
 pub wants_memory : {S K : Type 0} (means : Meanings S K) (given : Settings)
-    (holds : List ℕ → Option (List ℕ)) (openings : Openings) (sinks : Sinks K) (outcome : Outcome S K)
-    (fault : StartFault) → IsRefusedFor given holds fault
+    (holds : List ℕ → Option (List ℕ)) (openings : Openings) (sinks : Sinks K)
+    (outcome : Outcome S K) (fault : StartFault) → IsRefusedFor given holds fault
     → AreSourcesOf means.left means.faults (file_held (Some given) holds) fault outcome.sources
-    → ((name : List ℕ) → IsOpeningOf given name fault → Rose (openings.unread_old name) (openings.unread_new name))
-    → ((name : List ℕ) → IsMakingOf given name fault → Rose (openings.unmade_old name) (openings.unmade_new name))
+    → ((name : List ℕ) → IsOpeningOf given name fault
+    → Rose (openings.unread_old name) (openings.unread_new name))
+    → ((name : List ℕ) → IsMakingOf given name fault
+    → Rose (openings.unmade_old name) (openings.unmade_new name))
     → CanBeDone given holds → NothingRose means given openings sinks outcome
     → (status_of_start fault ≡ 0) ⊎ (status_of_start fault ≡ 8)
-wants_memory {S} {K} means given holds openings sinks outcome start cause of opened made can none = by start cause of opened made
+wants_memory {S} {K} means given holds openings sinks outcome start cause of opened made can none =
+    by start cause of opened made
   where
-    later_names : All (Quiet openings.unread_old openings.unread_new)
-        (option_to_list given.asks ++ (option_to_list given.from ++ given.streams))
-    later_names = All-tail (Quiet openings.unread_old openings.unread_new) given.queries
-        (option_to_list given.asks ++ (option_to_list given.from ++ given.streams))
-        (subst (λ (names : List (List ℕ)). All (Quiet openings.unread_old openings.unread_new) names)
-        (sym (names_in_order given)) none.unread)
+    -- the names behind that of the queries
+    later_ones : All (Quiet openings.unread_old openings.unread_new)
+        (option_to_list given.joins ++ (option_to_list given.asks
+        ++ (option_to_list given.from ++ given.streams)))
+    later_ones = subst (λ (names : List (List ℕ)).
+        All (Quiet openings.unread_old openings.unread_new) names)
+        (append_assoc (option_to_list given.joins) (option_to_list given.asks)
+        (option_to_list given.from ++ given.streams))
+        (All-tail (Quiet openings.unread_old openings.unread_new) given.queries
+        (later_names given)
+        (subst (λ (names : List (List ℕ)).
+        All (Quiet openings.unread_old openings.unread_new) names)
+        (sym (names_in_order given)) none.unread))
 
-    last_names : All (Quiet openings.unread_old openings.unread_new) (option_to_list given.from ++ given.streams)
-    last_names = all_behind (Quiet openings.unread_old openings.unread_new) (option_to_list given.asks)
-        (option_to_list given.from ++ given.streams) later_names
+    -- those behind that of the joins
+    asks_on : All (Quiet openings.unread_old openings.unread_new)
+        (option_to_list given.asks ++ (option_to_list given.from ++ given.streams))
+    asks_on = all_behind (Quiet openings.unread_old openings.unread_new)
+        (option_to_list given.joins)
+        (option_to_list given.asks ++ (option_to_list given.from ++ given.streams)) later_ones
+
+    -- those behind that of the asks
+    last_names : All (Quiet openings.unread_old openings.unread_new)
+        (option_to_list given.from ++ given.streams)
+    last_names = all_behind (Quiet openings.unread_old openings.unread_new)
+        (option_to_list given.asks) (option_to_list given.from ++ given.streams) asks_on
+
+    joins_fault : (option : Option (List ℕ)) (fault : JoinsFault)
+        → IsSomeAnd option (λ name.
+        AreFaultyJoins given.two_way (holds given.queries) (holds name) fault)
+        → IfSome option (λ name.
+        IsSomeAnd (holds name) (AreFaultlessJoins given.two_way (holds given.queries))) → ⊥
+    joins_fault None fault cause can = cause
+    joins_fault (Some name) fault cause can =
+        joins_not_faulty given.two_way (holds given.queries) (holds name) fault cause can
+
+    joins_long : (option : Option (List ℕ))
+        → IsSomeAnd option (λ name.
+        IsQueriesFile given.two_way (holds given.queries) × IsTooLong (holds name))
+        → IfSome option (λ name.
+        IsSomeAnd (holds name) (AreFaultlessJoins given.two_way (holds given.queries))) → ⊥
+    joins_long None cause can = cause
+    joins_long (Some name) cause can =
+        joins_not_long given.two_way (holds given.queries) (holds name) cause.1 can
+
+    joins_opened : (option : Option (List ℕ)) → given.joins ≡ option
+        → IsSomeAnd option (λ name. IsQueriesFile given.two_way (holds given.queries))
+        → ((name : List ℕ) → given.joins ≡ Some name
+        → Rose (openings.unread_old name) (openings.unread_new name)) → ⊥
+    joins_opened None is cause rose = cause
+    joins_opened (Some name) is cause rose =
+        option_member (Quiet openings.unread_old openings.unread_new) given.joins name
+        (option_to_list given.asks ++ (option_to_list given.from ++ given.streams)) later_ones is
+        (rose name is)
 
     asks_fault : (option : Option (List ℕ)) (fault : AskFault)
-        → IsSomeAnd option (λ name. AreFaultyAsks given.two_way (holds given.queries) (holds name) fault)
-        → IfSome option (λ name. IsSomeAnd (holds name) (AreFaultlessAsks given.two_way (holds given.queries))) → ⊥
+        → IsSomeAnd option (λ name.
+        AreFaultyAsks given.two_way (holds given.queries) (holds name) fault
+        × AreUnderstoodJoins given holds)
+        → IfSome option (λ name.
+        IsSomeAnd (holds name) (AreFaultlessAsks given.two_way (holds given.queries))) → ⊥
     asks_fault None fault cause can = cause
     asks_fault (Some name) fault cause can =
-        asks_not_faulty given.two_way (holds given.queries) (holds name) fault cause can
+        asks_not_faulty given.two_way (holds given.queries) (holds name) fault cause.0 can
 
     asks_long : (option : Option (List ℕ))
-        → IsSomeAnd option (λ name. IsQueriesFile given.two_way (holds given.queries) × IsTooLong (holds name))
-        → IfSome option (λ name. IsSomeAnd (holds name) (AreFaultlessAsks given.two_way (holds given.queries))) → ⊥
+        → IsSomeAnd option (λ name. AreUnderstoodJoins given holds × IsTooLong (holds name))
+        → IfSome option (λ name.
+        IsSomeAnd (holds name) (AreFaultlessAsks given.two_way (holds given.queries))) → ⊥
     asks_long None cause can = cause
-    asks_long (Some name) cause can = asks_not_long given.two_way (holds given.queries) (holds name) cause.1 can
+    asks_long (Some name) cause can =
+        asks_not_long given.two_way (holds given.queries) (holds name) cause.1 can
 
     asks_opened : (option : Option (List ℕ)) → given.asks ≡ option
-        → IsSomeAnd option (λ name. IsQueriesFile given.two_way (holds given.queries))
-        → ((name : List ℕ) → given.asks ≡ Some name → Rose (openings.unread_old name) (openings.unread_new name)) → ⊥
+        → IsSomeAnd option (λ name. AreUnderstoodJoins given holds)
+        → ((name : List ℕ) → given.asks ≡ Some name
+        → Rose (openings.unread_old name) (openings.unread_new name)) → ⊥
     asks_opened None is cause rose = cause
     asks_opened (Some name) is cause rose =
         option_member (Quiet openings.unread_old openings.unread_new) given.asks name
-        (option_to_list given.from ++ given.streams) later_names is (rose name is)
+        (option_to_list given.from ++ given.streams) asks_on is (rose name is)
 
     from_opened : (option : Option (List ℕ)) → given.from ≡ option
         → IsSomeAnd option (λ name. AreUnderstoodFiles given holds)
-        → ((name : List ℕ) → given.from ≡ Some name → Rose (openings.unread_old name) (openings.unread_new name)) → ⊥
+        → ((name : List ℕ) → given.from ≡ Some name
+        → Rose (openings.unread_old name) (openings.unread_new name)) → ⊥
     from_opened None is cause rose = cause
     from_opened (Some name) is cause rose =
-        option_member (Quiet openings.unread_old openings.unread_new) given.from name given.streams last_names is
-        (rose name is)
+        option_member (Quiet openings.unread_old openings.unread_new) given.from name
+        given.streams last_names is (rose name is)
 
     replies_made : (option : Option (List ℕ)) → given.replies ≡ option
         → IsSomeAnd option (λ name. AreUnderstoodFiles given holds)
-        → ((name : List ℕ) → given.replies ≡ Some name → Rose (openings.unmade_old name) (openings.unmade_new name)) → ⊥
+        → ((name : List ℕ) → given.replies ≡ Some name
+        → Rose (openings.unmade_old name) (openings.unmade_new name)) → ⊥
     replies_made None is cause rose = cause
     replies_made (Some name) is cause rose =
-        option_member (Quiet openings.unmade_old openings.unmade_new) given.replies name (option_to_list given.save)
-        none.unmade is (rose name is)
+        option_member (Quiet openings.unmade_old openings.unmade_new) given.replies name
+        (option_to_list given.save) none.unmade is (rose name is)
 
     save_made : (option : Option (List ℕ)) → given.save ≡ option
         → IsSomeAnd option (λ name. AreUnderstoodFiles given holds)
-        → ((name : List ℕ) → given.save ≡ Some name → Rose (openings.unmade_old name) (openings.unmade_new name)) → ⊥
+        → ((name : List ℕ) → given.save ≡ Some name
+        → Rose (openings.unmade_old name) (openings.unmade_new name)) → ⊥
     save_made None is cause rose = cause
     save_made (Some name) is cause rose =
-        let quiet = all_behind (Quiet openings.unmade_old openings.unmade_new) (option_to_list given.replies)
-        (option_to_list given.save) none.unmade in
+        let quiet = all_behind (Quiet openings.unmade_old openings.unmade_new)
+        (option_to_list given.replies) (option_to_list given.save) none.unmade in
         option_member (Quiet openings.unmade_old openings.unmade_new) given.save name []
-        (subst (λ (names : List (List ℕ)). All (Quiet openings.unmade_old openings.unmade_new) names)
+        (subst (λ (names : List (List ℕ)).
+        All (Quiet openings.unmade_old openings.unmade_new) names)
         (sym (append-nil (option_to_list given.save))) quiet) is (rose name is)
 
     by : (fault : StartFault) → IsRefusedFor given holds fault
         → AreSourcesOf means.left means.faults (file_held (Some given) holds) fault outcome.sources
-        → ((name : List ℕ) → IsOpeningOf given name fault → Rose (openings.unread_old name) (openings.unread_new name))
-        → ((name : List ℕ) → IsMakingOf given name fault → Rose (openings.unmade_old name) (openings.unmade_new name))
+        → ((name : List ℕ) → IsOpeningOf given name fault
+        → Rose (openings.unread_old name) (openings.unread_new name))
+        → ((name : List ℕ) → IsMakingOf given name fault
+        → Rose (openings.unmade_old name) (openings.unmade_new name))
         → (status_of_start fault ≡ 0) ⊎ (status_of_start fault ≡ 8)
     by Words cause of opened made = absurd cause
     by (QueriesFault fault) cause of opened made =
         absurd (not_faulty given.two_way (holds given.queries) fault cause can.understood)
+    by (JoinsFaulty fault) cause of opened made =
+        absurd (joins_fault given.joins fault cause can.joins)
     by (AsksFault fault) cause of opened made = absurd (asks_fault given.asks fault cause can.asks)
     by (Open Queries) cause of opened made =
         absurd (All-head (Quiet openings.unread_old openings.unread_new) given.queries
-        ((option_to_list given.asks ++ option_to_list given.from) ++ given.streams) none.unread
-        (opened given.queries refl))
+        (((option_to_list given.joins ++ option_to_list given.asks) ++ option_to_list given.from)
+        ++ given.streams) none.unread (opened given.queries refl))
+    by (Open Joins) cause of opened made = absurd (joins_opened given.joins refl cause opened)
     by (Open Asks) cause of opened made = absurd (asks_opened given.asks refl cause opened)
     by (Open From) cause of opened made = absurd (from_opened given.from refl cause opened)
     by (Open Replies) cause of opened made = absurd (replies_made given.replies refl cause made)
@@ -166,15 +254,18 @@ wants_memory {S} {K} means given holds openings sinks outcome start cause of ope
     by (Open (Stream zero)) cause of opened made = absurd (omega (arith, cause.0.first))
     by (Open (Stream (suc place))) cause of opened made =
         let inside : place < length given.streams = omega (arith, cause.0.last) in
-        let names = all_behind (Quiet openings.unread_old openings.unread_new) (option_to_list given.from) given.streams
-        last_names in
+        let names = all_behind (Quiet openings.unread_old openings.unread_new)
+        (option_to_list given.from) given.streams last_names in
         absurd (names place [] inside
-        (opened (get_or given.streams place []) (slice_get-get_or given.streams place [] inside)))
+        (opened (get_or given.streams place [])
+        (slice_get-get_or given.streams place [] inside)))
     by (ReadAtStart which) cause of opened made =
         absurd (All-head (λ source. ¬ Rose 0 (means.faults source)) of.0 []
-        (subst (λ (ss : List S). All (λ source. ¬ Rose 0 (means.faults source)) ss) of.1 none.reads) of.2)
+        (subst (λ (ss : List S). All (λ source. ¬ Rose 0 (means.faults source)) ss) of.1
+        none.reads) of.2)
     by (Long Queries) cause of opened made =
         absurd (not_long given.two_way (holds given.queries) cause can.understood)
+    by (Long Joins) cause of opened made = absurd (joins_long given.joins cause can.joins)
     by (Long Asks) cause of opened made = absurd (asks_long given.asks cause can.asks)
     by (Long From) cause of opened made = absurd cause
     by (Long Replies) cause of opened made = absurd cause
@@ -182,18 +273,17 @@ wants_memory {S} {K} means given holds openings sinks outcome start cause of ope
     by (Long (Stream number)) cause of opened made = absurd cause
     by Memory cause of opened made = inr refl
 
--- ---- its cause
-
 -- ---- what it did to the files
 
 -- what was done to the files, for the words
-pub uses_files : {F : Type 0} (holds : F → List ℕ → Option (List ℕ)) (opened made : F → List (List ℕ))
-    (unread unmade : F → List ℕ → ℕ) (words : Option Settings) (given : Settings)
-    (start : Option StartFault) (old new : F) → words ≡ Some given
+pub uses_files : {F : Type 0} (holds : F → List ℕ → Option (List ℕ))
+    (opened made : F → List (List ℕ)) (unread unmade : F → List ℕ → ℕ) (words : Option Settings)
+    (given : Settings) (start : Option StartFault) (old new : F) → words ≡ Some given
     → UsesFiles holds opened made unread unmade (Some given) start old new
     → UsesFiles holds opened made unread unmade words start old new
 uses_files holds opened made unread unmade words given start old new are uses =
-    subst (λ (w : Option Settings). UsesFiles holds opened made unread unmade w start old new) (sym are) uses
+    subst (λ (w : Option Settings).
+    UsesFiles holds opened made unread unmade w start old new) (sym are) uses
 
 -- words that begin no run leave the files as they are
 pub files_untouched : {F : Type 0} (holds : F → List ℕ → Option (List ℕ))
@@ -201,8 +291,16 @@ pub files_untouched : {F : Type 0} (holds : F → List ℕ → Option (List ℕ)
     (fault : StartFault) (files : F) → IsWordsCause words fault
     → UsesFiles holds opened made unread unmade words (Some fault) files files
 files_untouched holds opened made unread unmade words fault files is = record {
-  opens = record { names = []; of_kind = none_opened words fault is; more = sym (append-nil (opened files)) };
-  makes = record { names = []; of_kind = none_made words fault is; more = sym (append-nil (made files)) };
+  opens = record {
+    names = [];
+    of_kind = none_opened words fault is;
+    more = sym (append-nil (opened files));
+  };
+  makes = record {
+    names = [];
+    of_kind = none_made words fault is;
+    more = sym (append-nil (made files));
+  };
   kept = λ name same. refl;
   openings = λ name. counts_none (IsSomeAnd words (λ given. IsOpeningOf given name fault))
       (unread files name) (unread files name) (no_opening words fault is name) refl;
@@ -210,10 +308,12 @@ files_untouched holds opened made unread unmade words fault files is = record {
       (unmade files name) (unmade files name) (no_making words fault is name) refl;
 }
   where
-    none_opened : (w : Option Settings) (f : StartFault) → IsWordsCause w f → AreOpenedBy w (Some f) []
+    none_opened : (w : Option Settings) (f : StartFault) → IsWordsCause w f
+        → AreOpenedBy w (Some f) []
     none_opened None f is = refl
     none_opened (Some given) Words is = refl
     none_opened (Some given) (QueriesFault fault) is = absurd is
+    none_opened (Some given) (JoinsFaulty fault) is = absurd is
     none_opened (Some given) (AsksFault fault) is = absurd is
     none_opened (Some given) (Open which) is = absurd is
     none_opened (Some given) (ReadAtStart which) is = absurd is
@@ -224,6 +324,7 @@ files_untouched holds opened made unread unmade words fault files is = record {
     none_made None f is = refl
     none_made (Some given) Words is = refl
     none_made (Some given) (QueriesFault fault) is = absurd is
+    none_made (Some given) (JoinsFaulty fault) is = absurd is
     none_made (Some given) (AsksFault fault) is = absurd is
     none_made (Some given) (Open which) is = absurd is
     none_made (Some given) (ReadAtStart which) is = absurd is
@@ -235,6 +336,7 @@ files_untouched holds opened made unread unmade words fault files is = record {
     no_opening None f is name opening = opening
     no_opening (Some given) Words is name opening = opening
     no_opening (Some given) (QueriesFault fault) is name opening = opening
+    no_opening (Some given) (JoinsFaulty fault) is name opening = opening
     no_opening (Some given) (AsksFault fault) is name opening = opening
     no_opening (Some given) (Open which) is name opening = is
     no_opening (Some given) (ReadAtStart which) is name opening = opening
@@ -246,6 +348,7 @@ files_untouched holds opened made unread unmade words fault files is = record {
     no_making None f is name making = making
     no_making (Some given) Words is name making = making
     no_making (Some given) (QueriesFault fault) is name making = making
+    no_making (Some given) (JoinsFaulty fault) is name making = making
     no_making (Some given) (AsksFault fault) is name making = making
     no_making (Some given) (Open which) is name making = is
     no_making (Some given) (ReadAtStart which) is name making = making
@@ -254,7 +357,8 @@ files_untouched holds opened made unread unmade words fault files is = record {
 
 -- a run that began to use the files and then wanted memory
 pub stopped_for_memory : {F : Type 0} (holds : F → List ℕ → Option (List ℕ))
-    (opened made : F → List (List ℕ)) (unread unmade : F → List ℕ → ℕ) (given : Settings) (old new : F)
+    (opened made : F → List (List ℕ)) (unread unmade : F → List ℕ → ℕ) (given : Settings)
+    (old new : F)
     → UsesFiles holds opened made unread unmade (Some given) None old new
     → UsesFiles holds opened made unread unmade (Some given) (Some Memory) old new
 stopped_for_memory holds opened made unread unmade given old new uses = record {

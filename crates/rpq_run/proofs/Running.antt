@@ -1,7 +1,7 @@
 -- What a run does that begins: the run over streams, and the check.
 use Rattle.std.proofs.Common.{◌≡◌, ◌≢◌, ℕ, Bool, true, false, List, [], length, Option, Some, None}
 use Rattle.std.proofs.Common.{Result, Ok, Err, refl, ap, sym, subst, ◌∙◌, arith, inl, inr, ◌⊎◌}
-use Rattle.std.specs.Prelude.{IfSome, MatchOption, Contains, is_err, is_some, map}
+use Rattle.std.specs.Prelude.{◌<◌, IfSome, MatchOption, Contains, is_err, is_some, map, slice_get}
 use Rattle.std.specs.Global.{Vec}
 use Rattle.std.specs.List.{All, flat_map}
 use Rattle.std.proofs.lemmas.List.{length-map}
@@ -11,6 +11,9 @@ use Rattle.rpq_io.specs.Files.{IsNewSink}
 use Rattle.rpq_io.specs.Reader.{ReaderState}
 use Rattle.rpq_io.proofs.Counting.{counts_as, counts_none}
 use Rattle.rpq_model.specs.Query.{Query}
+use Rattle.conj_query.specs.FileLaws.{JoinsAreSound}
+use Rattle.conj_query.specs.Joins.{JoinValue}
+use Rattle.conj_query.specs.Sound.{IsSound}
 use Rattle.rpq_words.specs.Settings.{Settings}
 use Rattle.history_model.specs.declared.line.Why.{Why}
 use Rattle.history_model.specs.declared.line.Why.TheVariants.{Write, Memory}
@@ -24,24 +27,25 @@ use Rattle.ask_text.specs.Replies.{replies}
 use Rattle.rpq_text.specs.Definitions.{compiled_line, definitions_of}
 use Rattle.rpq_text.specs.declared.ends.SinkName.{SinkName}
 use Rattle.rpq_text.specs.declared.ends.SinkName.TheVariants.{Events, Replies, Save}
-use Rattle.rpq_text.specs.declared.options.Options.{Options}
 use Rattle.rpq_text.specs.ErrorLines.{run_lines}
-use Rattle.rpq_text.specs.Laws.{FrontsHoldAnswers}
+use Rattle.rpq_text.specs.Laws.{FrontsHoldAnswers, FrontsHoldBindings}
 use Rattle.rpq_text.specs.Statuses.{IsStatusOf}
+use Rattle.rpq_text.specs.Steps.{OptionsValue}
 use Rattle.rpq_text.specs.Text.{IsText}
 use Rattle.rpq_text.specs.Verdicts.{AreVerdicts}
 use Rattle.rpq_text.proofs.VerdictLines.{are_verdicts}
 use Rattle.saved_window.specs.Saved.{saved}
 use Rattle.saved_window.specs.SavedText.{saved_text}
 use Rattle.saved_window.specs.Then.{TwoSources, count_of, left_of_both, faults_of_both}
-use Rattle.run_start.specs.Files.{HasQueries, HasSessions, IsQueriesFile, ForQueries, ForSessions}
-use Rattle.run_start.specs.Files.{ForAsked, from_content, stream_contents}
+use Rattle.run_start.specs.Files.{HasJoins, HasQueries, HasSessions, IsQueriesFile, ForQueries}
+use Rattle.run_start.specs.Files.{ForJoins, ForJoined, ForSessions, ForAsked, from_content}
+use Rattle.run_start.specs.Files.{stream_contents}
 use Rattle.run_start.specs.declared.sinks.OwnSinks.{OwnSinks}
 use Rattle.standing.specs.Circles.{Parts, as_seen}
 use Rattle.standing.specs.Objects.{ObjectValue}
 use Rattle.rpq_threads.specs.declared.task.Outcome.{Outcome as ThreadsOutcome}
 use Rattle.rpq_threads.specs.declared.task.Task.{Task}
-use Rattle.rpq_threads.specs.Runs.{AreSessionsOf, Holds, WritesText, asks_answered}
+use Rattle.rpq_threads.specs.Runs.{AreSessionsOf, Holds, asks_answered}
 use Rattle.rpq_threads.specs.Told.{TellsObjects}
 use Rattle.rpq_threads.specs.Written.{Grew, GrewByProperPrefix}
 use Rattle.rpq_run.specs.declared.fault.TextFault.{TextFault}
@@ -58,8 +62,10 @@ use Rattle.rpq_run.specs.Parts.{WritesIfThere}
 use Rattle.rpq_run.specs.Replies.{texts_of}
 use Rattle.rpq_run.specs.RunsCheck.{LeavesObjects, RunsCheck}
 use Rattle.rpq_run.specs.RunsStreams.{HoldsStreams, WritesEvents, AnswersSessions, TellsHistory}
-use Rattle.rpq_run.specs.RunsStreams.{GotText, RunsStreams, SavesWindow, FrontsHold, nothing_told}
+use Rattle.rpq_run.specs.RunsStreams.{GotText, RunsStreams, SavesWindow, FrontsBind, FrontsHold}
+use Rattle.rpq_run.specs.RunsStreams.{nothing_told}
 use Rattle.rpq_run.specs.Written.{Tells, TellsLines, WritesWhere}
+use Rattle.rpq_run.proofs.Done.{all_at}
 use Rattle.rpq_run.proofs.Sinks.{some_sinks, in_replies, in_save, events_in, is_write_some}
 use Rattle.rpq_run.proofs.Sinks.{events_written, events_counted, in_events, none_contained}
 use Rattle.rpq_run.proofs.Sinks.{proper_is_prefix, replies_in, save_in, some_is_write, text_counted}
@@ -81,6 +87,55 @@ pub is_queries_file : (two_way : Bool) (file : Option (List ℕ)) (queries : Lis
     → IfSome file (λ bytes. HasQueries two_way bytes queries) → IsQueriesFile two_way file
 is_queries_file two_way None queries is = tt
 is_queries_file two_way (Some bytes) queries is = (queries, is)
+
+-- the conjunctions are none, or those of a joins file over these queries
+abbrev pub AreFrom : List Query → List JoinValue → Type 0
+AreFrom queries joins = (joins ≡ []) ⊎ ((bytes : List ℕ) × HasJoins queries bytes joins)
+
+-- what holds of the conjunctions that a file gives, by what is known of them
+pub for_joins : (given : Settings) (holds : List ℕ → Option (List ℕ)) (queries : List Query)
+    (P Q : List JoinValue → Type 0)
+    → ((found : List JoinValue) → AreFrom queries found → P found → Q found)
+    → ForJoins given holds queries P → ForJoins given holds queries Q
+for_joins given holds queries P Q step told = by given.joins told
+  where
+    by_file : (file : Option (List ℕ))
+        → IfSome file (λ bytes. (found : List JoinValue) × HasJoins queries bytes found × P found)
+        → IfSome file (λ bytes. (found : List JoinValue) × HasJoins queries bytes found × Q found)
+    by_file None told = tt
+    by_file (Some bytes) (found, has, p) = (found, has, step found (inr (bytes, has)) p)
+
+    by : (named : Option (List ℕ))
+        → MatchOption named (P []) (λ name. IfSome (holds name)
+        (λ bytes. (found : List JoinValue) × HasJoins queries bytes found × P found))
+        → MatchOption named (Q []) (λ name. IfSome (holds name)
+        (λ bytes. (found : List JoinValue) × HasJoins queries bytes found × Q found))
+    by None p = step [] (inl refl) p
+    by (Some name) told = by_file (holds name) told
+
+-- what holds of the queries and the conjunctions
+pub for_joined : (given : Settings) (holds : List ℕ → Option (List ℕ)) (queries : List Query)
+    (P : List JoinValue → Type 0) (Q : List Query → List JoinValue → Type 0)
+    → IfSome (holds given.queries) (λ bytes. HasQueries given.two_way bytes queries)
+    → ((found : List JoinValue) → AreFrom queries found → P found → Q queries found)
+    → ForJoins given holds queries P → ForJoined given holds Q
+for_joined given holds queries P Q has step told =
+    for_queries given.two_way (holds given.queries) queries
+    (λ all. ForJoins given holds all (Q all)) has
+    (for_joins given holds queries P (Q queries) step told)
+
+-- going through the changes of their bindings leaves the bindings
+fronts_bind : JoinsAreSound → FrontsHoldBindings → (queries : List Query) (joins : List JoinValue)
+    (history : List Entry) → AreFrom queries joins → FrontsBind queries joins history
+fronts_bind sound law queries joins history (inl none) = λ number join changes here.
+    let no : slice_get [] number ≡ Some join =
+    sym (ap (λ (all : List JoinValue). slice_get all number) none) ∙ here in
+    absurd (cc no)
+fronts_bind sound law queries joins history (inr file) = λ number join changes here are.
+    let each = sound queries file.0 joins file.1.1 in
+    law queries joins number join history changes here
+    (all_at (IsSound (length queries)) joins number join each.1 here)
+    (all_at (λ (one : JoinValue). 0 < one.variables) joins number join each.2 here) are
 
 -- what holds of the sessions that a file gives
 pub for_sessions : (given : Settings) (holds : List ℕ → Option (List ℕ)) (queries : List Query)
@@ -105,7 +160,7 @@ for_sessions given holds queries sessions P are p = by given.asks are
     by None same = subst P same p
     by (Some name) told = by_file (holds name) told
 
--- what holds of both
+-- what holds of the queries and the sessions
 pub for_asked : (given : Settings) (holds : List ℕ → Option (List ℕ)) (queries : List Query)
     (sessions : List (List Ask)) (P : List Query → List (List Ask) → Type 0)
     → IfSome (holds given.queries) (λ bytes. HasQueries given.two_way bytes queries)
@@ -206,6 +261,14 @@ module _ {S K O : Type 0} (means : Meanings S K) (given : Settings)
       → ForAsked given holds P
   for_both P p = for_asked given holds queries_in task.sessions.items P asked.has asked.asked p
 
+  -- what holds of the task's options holds of those with the conjunctions of the file
+  for_options : (P : List Query → OptionsValue → Type 0) → P queries_in task.options
+      → ForJoined given holds (λ queries joins. P queries (options_of given joins))
+  for_options P p = for_joined given holds queries_in
+      (λ joins. task.options ≡ options_of given joins)
+      (λ queries joins. P queries (options_of given joins)) asked.has
+      (λ joins from_file is. subst (P queries_in) is p) asked.options
+
   for_engine : threads.why ≡ Some Memory → status ≡ 8
   for_engine is = short (inr (inl is))
 
@@ -268,23 +331,24 @@ module _ {S K O : Type 0} (means : Meanings S K) (given : Settings)
       }
 
   -- the events
-  writes_events : FrontsHoldAnswers → WritesEvents means given holds failed_in sinks answer
-  writes_events fronts = record {
-    text = for_queries given.two_way (holds given.queries) queries_in (λ all.
-        WritesWhere (Contains failed_in Events) status
-        (IsText (options_of given) all threads.history.items)
-        (means.written sinks.events_old) (means.written sinks.events_new)) asked.has
-        (events_written means.written means.failures (options_of given) queries_in
+  writes_events : FrontsHoldAnswers → JoinsAreSound → FrontsHoldBindings
+      → WritesEvents means given holds failed_in sinks answer
+  writes_events fronts sound binds = record {
+    text = for_options (λ all options. WritesWhere (Contains failed_in Events) status
+        (IsText options all threads.history.items)
+        (means.written sinks.events_old) (means.written sinks.events_new))
+        (events_written means.written means.failures task.options queries_in
         threads.history.items sinks.events_old sinks.events_new threads.why
-        (is_failed written.replied) (is_failed written.saved) status for_engine
-        (subst (λ (options : Options). WritesText means.written means.failures options queries_in
-        threads.history.items sinks.events_old sinks.events_new threads.why) asked.options
-        held.text));
+        (is_failed written.replied) (is_failed written.saved) status for_engine held.text);
     sets = for_queries given.two_way (holds given.queries) queries_in (λ all.
         FrontsHold given.two_way all threads.history.items) asked.has
         (λ place query events here all count pair.
         fronts given.two_way queries_in place query threads.history.items events here all count
         pair);
+    bindings = for_joined given holds queries_in (λ joins. task.options ≡ options_of given joins)
+        (λ all joins. FrontsBind all joins threads.history.items) asked.has
+        (λ joins from_file is.
+        fronts_bind sound binds queries_in joins threads.history.items from_file) asked.options;
   }
 
   replies_text : IfSome new.replies (λ sink. WritesWhere (Contains failed_in Replies) status
@@ -456,26 +520,24 @@ module _ {S K O : Type 0} (means : Meanings S K) (given : Settings)
     why = threads.why;
     write = write_told;
     memory = for_engine;
-    told = for_queries given.two_way (holds given.queries) queries_in (λ all.
-        TellsObjects (options_of given) all threads.history.items
+    told = for_options (λ all options. TellsObjects options all threads.history.items
         (means.written sinks.events_old) (means.written sinks.events_new)
-        (map seen circle.members) threads.why (as_seen seen threads.circle)) asked.has
-        (subst (λ (options : Options). TellsObjects options queries_in threads.history.items
-        (means.written sinks.events_old) (means.written sinks.events_new)
-        (map seen circle.members) threads.why (as_seen seen threads.circle)) asked.options
-        held.objects);
+        (map seen circle.members) threads.why (as_seen seen threads.circle)) held.objects;
   }
 
   -- the run over streams
-  streams_run : FrontsHoldAnswers
+  streams_run : FrontsHoldAnswers → JoinsAreSound → FrontsHoldBindings
       → TellsLines means.written means.failures (run_lines threads.ends.items failed_in status)
       sinks.errors_old sinks.errors_new
       → RunsStreams means given holds sinks (objects_of seen circle threads) answer
-  streams_run fronts told = record {
-    understood = for_both (λ queries asks. Unit {0}) tt;
+  streams_run fronts sound binds told = record {
+    understood = record {
+      joins = for_options (λ queries options. Unit {0}) tt;
+      asks = for_both (λ queries asks. Unit {0}) tt;
+    };
     failed = failed_in;
     history = holds_streams;
-    events = writes_events fronts;
+    events = writes_events fronts sound binds;
     replies = answers_sessions;
     saves = saves_window;
     told = tells_history;
@@ -500,14 +562,15 @@ module _ {S K O : Type 0} (means : Meanings S K) (given : Settings)
   -- the same with the objects in their lists
   pub runs_streams : (before stayed left : List O) → circle.members ≡ before
       → threads.circle.members ≡ stayed → threads.circle.left ≡ left → FrontsHoldAnswers
+      → JoinsAreSound → FrontsHoldBindings
       → TellsLines means.written means.failures (run_lines threads.ends.items failed_in status)
       sinks.errors_old sinks.errors_new
       → RunsStreams means given holds sinks (objects seen before stayed left) answer
-  runs_streams before stayed left befores stays leaves fronts told =
+  runs_streams before stayed left befores stays leaves fronts sound binds told =
       subst (λ (all : Objects). RunsStreams means given holds sinks all answer)
       (objects_are seen circle.members before threads.circle.members stayed threads.circle.left left
       befores stays leaves)
-      (streams_run fronts told)
+      (streams_run fronts sound binds told)
 
 -- the same of a report
 pub run_reported : {S K O F V : Type 0} {W : V → Type 0} (means : Meanings S K) (given : Settings)
@@ -529,19 +592,20 @@ pub run_reported : {S K O F V : Type 0} {W : V → Type 0} (means : Meanings S K
     → IsStatusOf threads.ends.items (failed_of threads.why written) report.status
     → KeepsParts threads new report
     → (before stayed left : List O) → circle.members ≡ before → threads.circle.members ≡ stayed
-    → threads.circle.left ≡ left → FrontsHoldAnswers
+    → threads.circle.left ≡ left → FrontsHoldAnswers → JoinsAreSound → FrontsHoldBindings
     → TellsLines means.written means.failures
     (run_lines threads.ends.items (failed_of threads.why written) report.status) sinks.errors_old
     sinks.errors_new
     → RunsStreams means given holds sinks (objects seen before stayed left) (outcome report)
 run_reported means given holds firsts task old new sinks seen circle threads report written asked
     held replied saved_is
-    parts from_is short status_is keeps before stayed left befores stays leaves fronts told =
+    parts from_is short status_is keeps before stayed left befores stays leaves fronts sound binds
+    told =
     subst (λ (answer : Outcome _ _). RunsStreams means given holds sinks
     (objects seen before stayed left) answer) (answers_are threads new report keeps)
     (runs_streams means given holds firsts task old new sinks seen circle threads report.from
     report.sources.items written report.status asked held replied saved_is parts from_is short
-    status_is before stayed left befores stays leaves fronts told)
+    status_is before stayed left befores stays leaves fronts sound binds told)
 
 -- ---- the check
 

@@ -14,8 +14,8 @@ use Rattle.rpq_base.proofs.Members.{cons_members}
 use Rattle.rpq_model.specs.Query.{Query}
 use Rattle.rpq_text.specs.declared.ends.SinkName.{SinkName}
 use Rattle.rpq_text.specs.declared.ends.SinkName.TheVariants.{Events, Replies, Save}
-use Rattle.rpq_text.specs.declared.options.Options.{Options}
 use Rattle.rpq_text.specs.Statuses.{AreSomeSinks}
+use Rattle.rpq_text.specs.Steps.{OptionsValue}
 use Rattle.rpq_text.specs.Text.{IsText}
 use Rattle.rpq_threads.specs.Runs.{WritesText}
 use Rattle.rpq_threads.specs.Written.{Grew, GrewByPrefix, GrewByProperPrefix}
@@ -172,7 +172,7 @@ some_is_write (Some Memory) is = absurd (cc is)
 
 -- what the threads wrote, by the failed sinks and the status
 pub events_written : {K : Type 0} (written : K → Option (List ℕ)) (failures : K → ℕ)
-    (options : Options) (queries : List Query) (history : List Entry) (before after : K)
+    (options : OptionsValue) (queries : List Query) (history : List Entry) (before after : K)
     (why : Option Why) (replies save : Bool) (status : ℕ) → (why ≡ Some Memory → status ≡ 8)
     → WritesText written failures options queries history before after why
     → WritesWhere (Contains (failed_sinks (is_write why) replies save) Events) status

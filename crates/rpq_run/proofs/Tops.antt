@@ -6,6 +6,8 @@ use Rattle.std.specs.List.{All}
 use Rattle.std.proofs.lemmas.List.{length-map}
 use Rattle.rpq_io.specs.Reader.{ReaderState}
 use Rattle.rpq_model.specs.Query.{Query}
+use Rattle.conj_query.specs.Joins.{JoinValue}
+use Rattle.conj_query.specs.Sound.{IsSound}
 use Rattle.query_file.specs.Compiled.{CompiledValue}
 use Rattle.ask_text.specs.declared.ask.Ask.{Ask}
 use Rattle.ask_text.specs.Ranges.{IsSession}
@@ -13,8 +15,8 @@ use Rattle.rpq_words.specs.Modes.{AreSettings, BeginsWith, IsWithin, ReadsStream
 use Rattle.rpq_words.specs.Settings.{Settings}
 use Rattle.saved_window.specs.Then.{TwoSources, count_of, left_of_both, faults_of_both}
 use Rattle.rpq_text.specs.Definitions.{definitions_of}
-use Rattle.rpq_text.specs.declared.options.Options.{Options}
-use Rattle.run_start.specs.Files.{ForSessions, HasSessions, stream_contents}
+use Rattle.rpq_text.specs.Steps.{OptionsValue}
+use Rattle.run_start.specs.Files.{ForJoins, ForSessions, HasSessions, stream_contents}
 use Rattle.run_start.specs.Readers.{AreNew, AreNewReaders, contents_of, is_behind, lefts_of}
 use Rattle.run_start.specs.Ready.{IsReady}
 use Rattle.run_start.specs.declared.ready.Reads.{Reads}
@@ -23,7 +25,9 @@ use Rattle.run_start.proofs.Modes.{reads_streams}
 use Rattle.rpq_threads.specs.Runs.{IsTask}
 use Rattle.rpq_threads.specs.declared.task.Task.{Task}
 use Rattle.rpq_run.specs.Asked.{IsAsked, IsTaskOf}
+use Rattle.rpq_run.specs.Options.{options_of}
 use Rattle.rpq_run.proofs.Done.{as_many_streams}
+use Rattle.rpq_run.proofs.Running.{for_joins}
 
 -- of two facts the one that holds where a test passes, and where it fails
 pub match_true : (test : Bool) (P Q : Type 0) → test ≡ true → P → MatchBool test P Q
@@ -107,7 +111,8 @@ module _ {S K : Type 0} (left : S → Option (List ℕ)) (faults : S → ℕ)
     (reading : Option (Reads S K)) (reads : Reads S K) (there : reading ≡ Some reads)
     (opened : Readers S) (are : reads.readers ≡ opened)
     (readers : List (ReaderState (TwoSources S))) (task : Task (TwoSources S))
-    (of : IsTaskOf given queries readers reads.sessions.items task) (settings : AreSettings given)
+    (of : IsTaskOf given queries reads.joins.value.items readers reads.sessions.items task)
+    (settings : AreSettings given)
     (ready : IsReady left faults written failures given holds queries reading)
     (lefts : contents_of left opened ≡ lefts_of left readers) where
   -- what is ready
@@ -141,12 +146,23 @@ module _ {S K : Type 0} (left : S → Option (List ℕ)) (faults : S → ℕ)
       ForSessions given holds (definitions_of task.queries.items) (λ asked. ss ≡ asked))
       (sym {A = List (List Ask)} of.sessions_are) ready_queries.reads.asked
 
-  -- edges are taken, and paths are told, as the settings say
+  -- edges are taken, and paths are told, as the settings say; and the conjunctions are those of
+  -- their file
   two_way_is : task.options.two_way ≡ given.two_way
-  two_way_is = ap (λ (options : Options). options.two_way) of.options_are
+  two_way_is = ap (λ (options : OptionsValue). options.two_way) of.options_are
 
   paths_is : task.options.paths ≡ given.paths
-  paths_is = ap (λ (options : Options). options.paths) of.options_are
+  paths_is = ap (λ (options : OptionsValue). options.paths) of.options_are
+
+  joins_are : task.options.joins ≡ reads.joins.value.items
+  joins_are = ap (λ (options : OptionsValue). options.joins) of.options_are
+
+  options_in : ForJoins given holds (definitions_of task.queries.items)
+      (λ joins. task.options ≡ options_of given joins)
+  options_in = for_joins given holds (definitions_of task.queries.items)
+      (λ joins. reads.joins.value.items ≡ joins) (λ joins. task.options ≡ options_of given joins)
+      (λ joins from_file same. of.options_are ∙ ap (options_of given) same)
+      ready_queries.reads.joined
 
   -- what a run begins with is a task for its threads
   pub task_is : (AreNew left faults opened → AreNewReaders left faults readers)
@@ -176,6 +192,13 @@ module _ {S K : Type 0} (left : S → Option (List ℕ)) (faults : S → ℕ)
             task.sessions.items asked_in
             (mode.both_ways (sym {A = Bool} two_way_is ∙ both)).no_asks;
         forwards = λ told. two_way_is ∙ mode.forwards (sym {A = Bool} paths_is ∙ told);
+        few_joins = omega (
+          arith,
+          ready_queries.reads.few_joins,
+          ap (λ (js : List JoinValue). length js) joins_are,
+        );
+        sound = subst (λ (js : List JoinValue). All (IsSound (length task.queries.items)) js)
+            (sym {A = List JoinValue} joins_are) ready_queries.reads.sound;
         limit = subst (λ n. IsWithin 2000000 n) (sym of.limit_is) settings.history;
       }
 
@@ -193,7 +216,7 @@ module _ {S K : Type 0} (left : S → Option (List ℕ)) (faults : S → ℕ)
     contents = contents_left;
     behind = named behind_is;
     asked = asked_in;
-    options = of.options_are;
+    options = options_in;
     limit = of.limit_is;
     sinks = ready_queries.reads.sinks;
   }

@@ -2,30 +2,33 @@
 use Rattle.std.specs.Prelude.{◌≡◌, ℕ, List, Option, IfSome}
 use Rattle.rpq_io.specs.Reader.{ReaderState}
 use Rattle.query_file.specs.Compiled.{CompiledValue}
+use Rattle.conj_query.specs.Joins.{JoinValue}
 use Rattle.ask_text.specs.declared.ask.Ask.{Ask}
 use Rattle.rpq_words.specs.Settings.{Settings}
 use Rattle.rpq_text.specs.Definitions.{definitions_of}
 use Rattle.saved_window.specs.Then.{TwoSources, count_of}
-use Rattle.run_start.specs.Files.{ForSessions, HasQueries, stream_contents}
+use Rattle.run_start.specs.Files.{ForJoins, ForSessions, HasQueries, stream_contents}
 use Rattle.run_start.specs.Readers.{lefts_of}
 use Rattle.run_start.specs.Ready.{AreNewSinks}
 use Rattle.run_start.specs.declared.sinks.OwnSinks.{OwnSinks}
 use Rattle.rpq_threads.specs.declared.task.Task.{Task}
 use Rattle.rpq_run.specs.Options.{options_of}
 
--- the task of these settings, with these queries, readers and sessions
+-- the task of these settings, with these queries, conjunctions, readers and sessions
 pub record IsTaskOf {S : Type 0} (given : Settings) (queries : List CompiledValue)
-    (readers : List (ReaderState S)) (sessions : List (List Ask)) (task : Task S) : Type 0 where
+    (joins : List JoinValue) (readers : List (ReaderState S)) (sessions : List (List Ask))
+    (task : Task S) : Type 0 where
   pub queries_are : task.queries.items ≡ queries
   pub readers_are : task.readers.items ≡ readers
   pub sessions_are : task.sessions.items ≡ sessions
-  pub options_are : task.options ≡ options_of given
+  pub options_are : task.options ≡ options_of given joins
   pub workers_are : task.workers ≡ given.workers
   pub limit_is : task.limit ≡ given.history
 
--- the task is that of the settings, where the files hold this: the queries and the sessions of
--- their files, readers of the streams, with a saved window in front where one is named, and as many
--- entries as the history may have; and the sinks are new, and those that the settings name
+-- the task is that of the settings, where the files hold this: the queries, the conjunctions and
+-- the sessions of their files, readers of the streams, with a saved window in front where one is
+-- named, and as many entries as the history may have; and the sinks are new, and those that the
+-- settings name
 pub record IsAsked {S K : Type 0} (left : S → Option (List ℕ)) (written : K → Option (List ℕ))
     (failures : K → ℕ) (given : Settings) (holds : List ℕ → Option (List ℕ)) (firsts : ℕ)
     (task : Task (TwoSources S)) (own : OwnSinks K) : Type 0 where
@@ -35,6 +38,7 @@ pub record IsAsked {S K : Type 0} (left : S → Option (List ℕ)) (written : K 
   pub behind : firsts ≡ count_of given.from
   pub asked : ForSessions given holds (definitions_of task.queries.items)
       (λ asked. task.sessions.items ≡ asked)
-  pub options : task.options ≡ options_of given
+  pub options : ForJoins given holds (definitions_of task.queries.items)
+      (λ joins. task.options ≡ options_of given joins)
   pub limit : task.limit ≡ given.history
   pub sinks : AreNewSinks written failures given own

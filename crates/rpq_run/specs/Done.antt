@@ -5,7 +5,8 @@ use Rattle.rpq_io.specs.Counts.{Rose}
 use Rattle.rpq_words.specs.Settings.{Settings}
 use Rattle.stream_tuples.specs.declared.ends.StreamEnd.TheVariants.{Whole}
 use Rattle.stream_tuples.specs.StreamText.{stream_tuples}
-use Rattle.run_start.specs.Files.{IsFaultless, AreFaultlessAsks, stream_contents}
+use Rattle.run_start.specs.Files.{IsFaultless, AreFaultlessAsks, AreFaultlessJoins}
+use Rattle.run_start.specs.Files.{stream_contents}
 use Rattle.run_start.specs.Given.{file_names, sink_names}
 use Rattle.run_start.specs.Ready.{AreReadWhole}
 use Rattle.rpq_run.specs.Outcome.{Meanings, Sinks, Openings, Outcome}
@@ -22,6 +23,8 @@ tuple_count file = unwrap_or (option_map (λ text. length (stream_tuples text).t
 -- or those that are generated
 pub record CanBeDone (given : Settings) (holds : List ℕ → Option (List ℕ)) : Type 0 where
   pub understood : IsSomeAnd (holds given.queries) (IsFaultless given.two_way)
+  pub joins : IfSome given.joins (λ name.
+      IsSomeAnd (holds name) (AreFaultlessJoins given.two_way (holds given.queries)))
   pub asks : IfSome given.asks (λ name.
       IsSomeAnd (holds name) (AreFaultlessAsks given.two_way (holds given.queries)))
   pub whole : All IsWholeStream (stream_contents given holds)

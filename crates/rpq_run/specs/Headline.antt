@@ -1,8 +1,13 @@
 -- What a run over streams that is done comes to, in one piece.
-use Rattle.std.specs.Prelude.{◌≡◌, ℕ, ◌+◌, ◌↔◌, ⊤, List, [], ◌∷◌, ◌++◌, length, map, take}
-use Rattle.std.specs.Prelude.{All, Option, Some, option_map, unwrap_or, slice_get, IfSome}
-use Rattle.std.specs.Prelude.{MatchOption}
+use Rattle.std.specs.Prelude.{◌≡◌, ℕ, ◌+◌, ◌↔◌, ⊤, Bool, false, List, [], ◌∷◌, ◌++◌, length}
+use Rattle.std.specs.Prelude.{map, take, All, Option, Some, option_map, unwrap_or, slice_get}
+use Rattle.std.specs.Prelude.{IfSome, MatchOption}
 use Rattle.std.specs.List.{flat_map}
+use Rattle.conj_query.specs.declared.event.JoinEvent.{JoinEvent}
+use Rattle.conj_query.specs.Histories.{AreJoinEventsOn, IsBindingOver, IsJoinHeld}
+use Rattle.conj_query.specs.Joins.{JoinValue}
+use Rattle.conj_query.specs.JoinText.{join_lines}
+use Rattle.rpq_base.specs.declared.data.Entry.{Entry}
 use Rattle.rpq_base.specs.declared.data.Pair.{Pair}
 use Rattle.rpq_model.specs.Answers.{IsAnswer}
 use Rattle.rpq_model.specs.Events.{IsHeld}
@@ -16,20 +21,20 @@ use Rattle.saved_window.specs.SavedText.{saved_text}
 use Rattle.standing.specs.Stood.{HaveStood}
 use Rattle.stream_tuples.specs.History.{IsNumberOf, own_tuples}
 use Rattle.stream_tuples.specs.StreamText.{stream_tuples}
-use Rattle.rpq_text.specs.declared.options.Options.{Options}
-use Rattle.rpq_text.specs.Steps.{StepValue, AreSteps, events_of}
+use Rattle.rpq_text.specs.Steps.{OptionsValue, StepValue, AreSteps, events_of, lines_of}
 use Rattle.rpq_text.specs.Text.{blocks_from}
-use Rattle.run_start.specs.Files.{HasQueries, HasSessions}
+use Rattle.run_start.specs.Files.{HasJoins, HasQueries, HasSessions}
 use Rattle.rpq_threads.specs.Runs.{AreSessionsOf, asks_answered}
-use Rattle.rpq_run.specs.Options.{options_of}
 use Rattle.rpq_run.specs.Outcome.{Meanings, Sinks, Objects, Outcome}
 
--- how the queries are evaluated, and what is told of them; the bytes of the queries file; of the
--- asks file and of the saved window with which the run begins, if there are such; of the streams'
--- files; and those that stood on the events before
+-- whether edges are taken backwards, and whether paths are told; the bytes of the queries file; of
+-- the joins file, of the asks file and of the saved window with which the run begins, if there are
+-- such; of the streams' files; and those that stood on the events before
 pub record Told : Type 0 where
-  pub options : Options
+  pub two_way : Bool
+  pub paths : Bool
   pub queries : List ℕ
+  pub joins : Option (List ℕ)
   pub asks : Option (List ℕ)
   pub from : Option (List ℕ)
   pub streams : List (List ℕ)
@@ -47,44 +52,73 @@ stream_texts told = behind_text (unwrap_or told.from []) told.streams
 -- the settings say so, their files hold these bytes, and the sink of the events had these
 pub record IsTold {S K : Type 0} (means : Meanings S K) (given : Settings)
     (holds : List ℕ → Option (List ℕ)) (sinks : Sinks K) (told : Told) : Type 0 where
-  pub options : options_of given ≡ told.options
+  pub two_way : given.two_way ≡ told.two_way
+  pub paths : given.paths ≡ told.paths
   pub queries : holds given.queries ≡ Some told.queries
+  pub joins : option_map holds given.joins ≡ option_map (λ bytes. Some bytes) told.joins
   pub asks : option_map holds given.asks ≡ option_map (λ bytes. Some bytes) told.asks
   pub from : option_map holds given.from ≡ option_map (λ bytes. Some bytes) told.from
   pub streams : map holds given.streams ≡ map (λ bytes. Some bytes) told.streams
   pub events : means.written sinks.events_old ≡ Some told.events
+
+-- the conjunctions over these queries: those of the joins file, or none
+abbrev pub AreJoined : List Query → Option (List ℕ) → List JoinValue → Type 0
+AreJoined queries file joins =
+    MatchOption file (joins ≡ []) (λ bytes. HasJoins queries bytes joins)
+
+-- the queries are evaluated, and told of, as is told, with these conjunctions
+abbrev pub options_told : Told → List JoinValue → OptionsValue
+options_told told joins =
+    record { two_way = told.two_way; paths = told.paths; joins = joins }
+
+-- the changes of bindings that each entry of a history brings, whose lines the steps have. After
+-- each entry the bindings of a conjunction emitted and not retracted are exactly its bindings over
+-- the answers over the entries so far
+pub record AreBound (queries : List Query) (joins : List JoinValue) (history : List Entry)
+    (steps : List StepValue) : Type 0 where
+  pub changes : List (List JoinEvent)
+  pub are_changes : AreJoinEventsOn queries joins [] history changes
+  pub lines : lines_of steps ≡ map (join_lines joins) changes
+  pub held : (number : ℕ) (join : JoinValue) → slice_get joins number ≡ Some join
+      → (count : ℕ) (names : List (List ℕ))
+      → IsJoinHeld number (flat_map (λ list. list) (take count changes)) names
+      ↔ IsBindingOver queries (take count history) join names
 
 -- what readers ask about these queries: the sessions of the asks file, or none
 abbrev pub AreAsked : List Query → Option (List ℕ) → List (List Ask) → Type 0
 AreAsked queries file sessions =
     MatchOption file (sessions ≡ []) (λ bytes. HasSessions queries bytes sessions)
 
--- there are queries and sessions, those of their files; one history, in which each stream's tuples
--- stand once, in order, and nothing else; and the events that it brings, which were written behind
--- what stood on the sink, with each entry its own, and where paths are told, behind each that gains
--- a pair a path that shows it. After each entry the pairs of a query emitted and not retracted are
--- exactly its answers over the entries so far, and over their inverses where edges may be taken
--- backwards. Each session has exactly its asks answered, each by the answers at a position of the
--- history that never falls within the session; and these replies were written. Each object that
--- stayed heard all events that it wants, and one that left a front of them. Where a window is
--- saved, it is that of the history
+-- There are queries, conjunctions and sessions, those of their files. There is one history, in
+-- which each stream's tuples stand once, in order, and nothing else. The events that it brings were
+-- written behind what stood on the sink, with each entry its own; and where paths are told, behind
+-- each event that gains a pair a path that shows it. After each entry the pairs of a query emitted
+-- and not retracted are exactly its answers over the entries so far, and over their inverses where
+-- edges may be taken backwards. Where edges are taken forwards alone, the bindings of a conjunction
+-- emitted and not retracted are exactly those over the answers. Each session has exactly its asks
+-- answered, each by the answers at a position of the history that never falls within the session;
+-- and these replies were written. Each object that stayed heard all events that it wants, and one
+-- that left a front of them. Where a window is saved, it is that of the history
 pub record Headline {S K : Type 0} (means : Meanings S K) (told : Told) (sinks : Sinks K)
     (objects : Objects) (outcome : Outcome S K) : Type 0 where
   pub queries : List Query
-  pub accepted : HasQueries told.options.two_way told.queries queries
+  pub accepted : HasQueries told.two_way told.queries queries
+  pub joins : List JoinValue
+  pub joined : AreJoined queries told.joins joins
   pub sessions : List (List Ask)
   pub asked : AreAsked queries told.asks sessions
   pub in_order : (place : ℕ) (text : List ℕ) → slice_get (stream_texts told) place ≡ Some text
       → own_tuples (place + 1) outcome.history ≡ (stream_tuples text).tuples
   pub no_other : All (λ entry. IsNumberOf (length told.streams) entry.stream) outcome.history
   pub steps : List StepValue
-  pub are_steps : AreSteps told.options queries outcome.history steps
+  pub are_steps : AreSteps (options_told told joins) queries outcome.history steps
   pub written : means.written sinks.events_new
       ≡ Some (told.events ++ blocks_from queries 1 outcome.history steps)
   pub held : (place : ℕ) (query : Query) → slice_get queries place ≡ Some query
       → (count : ℕ) (pair : Pair)
       → IsHeld place (flat_map (λ list. list) (take count (events_of steps))) pair
-      ↔ IsAnswer (path_query query) (walked told.options.two_way (take count outcome.history)) pair
+      ↔ IsAnswer (path_query query) (walked told.two_way (take count outcome.history)) pair
+  pub bound : told.two_way ≡ false → AreBound queries joins outcome.history steps
   pub heard : HaveStood objects.before (flat_map (λ list. list) (events_of steps)) ⊤
       objects.after.members objects.after.left
   pub readers : AreSessionsOf queries outcome.history (length outcome.history)

@@ -2,6 +2,9 @@
 use Rattle.std.specs.Prelude.{◌≡◌, ◌≢◌, ℕ, ◌≤◌, ◌⊎◌, ◌↔◌, Bool, List, [], length, map, take, All}
 use Rattle.std.specs.Prelude.{Contains, slice_get, Option, Some, is_some, option_map, IfSome}
 use Rattle.std.specs.List.{flat_map}
+use Rattle.conj_query.specs.declared.event.JoinEvent.{JoinEvent}
+use Rattle.conj_query.specs.Histories.{AreJoinEventsOn, IsBindingOver, IsJoinHeld}
+use Rattle.conj_query.specs.Joins.{JoinValue}
 use Rattle.rpq_base.specs.declared.data.Entry.{Entry}
 use Rattle.rpq_base.specs.declared.data.Event.{Event}
 use Rattle.rpq_base.specs.declared.data.Pair.{Pair}
@@ -21,7 +24,8 @@ use Rattle.rpq_text.specs.declared.ends.SinkName.{SinkName}
 use Rattle.rpq_text.specs.declared.ends.SinkName.TheVariants.{Events, Replies, Save}
 use Rattle.rpq_text.specs.Statuses.{memory_status}
 use Rattle.rpq_text.specs.Text.{IsText}
-use Rattle.run_start.specs.Files.{ForQueries, ForAsked, AreUnderstoodFiles, stream_contents}
+use Rattle.run_start.specs.Files.{ForQueries, ForJoined, ForAsked, AreUnderstoodFiles}
+use Rattle.run_start.specs.Files.{stream_contents}
 use Rattle.rpq_threads.specs.Runs.{AreSessionsOf}
 use Rattle.rpq_threads.specs.Told.{TellsObjects}
 use Rattle.rpq_run.specs.Causes.{HasCauses}
@@ -50,17 +54,29 @@ FrontsHold two_way queries history = (place : ℕ) (query : Query) (events : Lis
     → (count : ℕ) (pair : Pair) → IsHeld place (flat_map (λ list. list) (take count events)) pair
     ↔ IsAnswer (path_query query) (walked two_way (take count history)) pair
 
--- the events: the text of the history was written, or a prefix of it, and after each block the
--- pairs emitted and not retracted are the answers
+-- going through the changes of bindings of the first entries leaves exactly each conjunction's
+-- bindings over the answers over as many entries
+abbrev pub FrontsBind : List Query → List JoinValue → List Entry → Type 0
+FrontsBind queries joins history = (number : ℕ) (join : JoinValue)
+    (changes : List (List JoinEvent)) → slice_get joins number ≡ Some join
+    → AreJoinEventsOn queries joins [] history changes → (count : ℕ) (names : List (List ℕ))
+    → IsJoinHeld number (flat_map (λ list. list) (take count changes)) names
+    ↔ IsBindingOver queries (take count history) join names
+
+-- the events: the text of the history was written, or a prefix of it. After each block the pairs
+-- emitted and not retracted are the answers, and the bindings emitted and not retracted are those
+-- over the answers
 pub record WritesEvents {S K : Type 0} (means : Meanings S K) (given : Settings)
     (holds : List ℕ → Option (List ℕ)) (failed : List SinkName) (sinks : Sinks K)
     (outcome : Outcome S K) : Type 0 where
-  pub text : ForQueries given.two_way (holds given.queries) (λ queries.
+  pub text : ForJoined given holds (λ queries joins.
       WritesWhere (Contains failed Events) outcome.status
-      (IsText (options_of given) queries outcome.history)
+      (IsText (options_of given joins) queries outcome.history)
       (means.written sinks.events_old) (means.written sinks.events_new))
   pub sets : ForQueries given.two_way (holds given.queries) (λ queries.
       FrontsHold given.two_way queries outcome.history)
+  pub bindings : ForJoined given holds (λ queries joins.
+      FrontsBind queries joins outcome.history)
 
 -- nothing, where what is written on the sink is told
 abbrev pub nothing_told : Option (List ℕ) → Option (List ℕ)
@@ -116,8 +132,8 @@ pub record TellsHistory {S K : Type 0} (means : Meanings S K) (given : Settings)
   pub why : Option Why
   pub write : why ≡ Some Write → Contains failed Events
   pub memory : why ≡ Some Memory → outcome.status ≡ memory_status
-  pub told : ForQueries given.two_way (holds given.queries) (λ queries.
-      TellsObjects (options_of given) queries outcome.history
+  pub told : ForJoined given holds (λ queries joins.
+      TellsObjects (options_of given joins) queries outcome.history
       (means.written sinks.events_old) (means.written sinks.events_new) objects.before why
       objects.after)
 

@@ -16,8 +16,8 @@ use query_file::{QueryFault, QueryKind};
 use rpq_base::Word;
 use rpq_io::{Failed, Sink, put_all};
 use rpq_text::{
-    Line, SinkName, StartFault, ask_fault_line, end_line, expr_line, file_line, line_of,
-    memory_line, not_contained_front, opening_line, query_line, read_line, write_line,
+    Line, SinkName, StartFault, ask_fault_line, end_line, expr_line, file_line, joins_fault_line,
+    line_of, memory_line, not_contained_front, opening_line, query_line, read_line, write_line,
 };
 use rpq_words::usage_line;
 use stream_tuples::StreamEnd;
@@ -32,6 +32,7 @@ pub fn tell_start<S: Sink>(errors: &mut S, fault: &StartFault) -> Result<(), Fai
     match fault {
         StartFault::Words => put_line(errors, &line_of(&["rpq: words\n", usage_line(), "\n"])),
         StartFault::Queries(fault) => tell_query(errors, fault),
+        StartFault::Joins(fault) => put_line(errors, &joins_fault_line(fault)),
         StartFault::Asks(fault) => put_line(errors, &ask_fault_line(*fault)),
         StartFault::Open(which) => put_line(errors, &opening_line(*which)),
         StartFault::Read(which) => put_line(errors, &read_line(*which)),

@@ -9,8 +9,9 @@
 //! objects of the caller are told of the history's events, those of a block once it is written
 //! whole, and come back. Where the words say so, queries may take edges backwards: then an entry's
 //! events are the difference that it and its inverse bring together. Or a path is written behind
-//! each gained pair that shows it. [`headline`] says the same of a run over streams that is done,
-//! in one piece.
+//! each gained pair that shows it. Or there are conjunctions over the queries, and the changes of
+//! their bindings are written at the end of each block. [`headline`] says the same of a run over
+//! streams that is done, in one piece.
 #![tactic(auto)]
 
 mod check;
@@ -29,12 +30,14 @@ mod top;
 mod word_texts;
 
 pub use ask_text::{Answered, Ask};
+pub use conj_query::{JoinsFault, JoinsKind};
 pub use history_model::Why;
 pub use laws::headline;
 pub use report::Report;
 pub use rpq_text::{
-    SinkName, StartFault, Which, every_history_has_a_text, fronts_hold_answers, line_examples,
-    one_verdict_text, status, steps_have_the_events, without_paths_one_text,
+    SinkName, StartFault, Which, every_history_has_a_text, fronts_hold_answers,
+    fronts_hold_bindings, line_examples, one_verdict_text, status, steps_have_join_events,
+    steps_have_the_events, without_paths_one_text,
 };
 pub use stream_tuples::{StreamEnd, stream_by_parts};
 pub use top::run;

@@ -30,11 +30,12 @@ use crate::replies::write_replies;
 use crate::report::Report;
 use crate::saving::{can_save, save_window};
 use crate::sources::parted;
+use conj_query::joins_are_sound;
 use history_model::Why;
 use rpq_base::Memory;
 use rpq_io::{Context, Files, Gate, Sink, Source};
 use rpq_model::QueryDef;
-use rpq_text::{SinkName, fronts_hold_answers, run_status};
+use rpq_text::{SinkName, fronts_hold_answers, fronts_hold_bindings, run_status};
 use rpq_threads::{Outcome, Task, copied_definitions, run_threads};
 use run_start::OwnSinks;
 use saved_window::{Front, Then};
@@ -49,7 +50,8 @@ use std::thread::Threads;
 /// error is [`Memory`], before anything is written or told.
 ///
 /// Where edges may be taken backwards, an entry's events are the difference that it and its inverse
-/// bring together, and nothing is asked.
+/// bring together, and nothing is asked. Where there are conjunctions, the changes of their
+/// bindings stand at the end of each block.
 pub fn run_streams<R: Threads + Wait + RandomSource + Sync, G: Gate, F: Files, P: Front + Send>(
     context: &Context<'_, R, G>,
     task: Task<Then<F::Source, P>>,
@@ -71,7 +73,9 @@ pub fn run_streams<R: Threads + Wait + RandomSource + Sync, G: Gate, F: Files, P
     ensures errors_kept { OnErr result (errors.new ≡ errors.old) }
     ensures objects_kept { OnErr result (standing.new.items ≡ standing.old.items) }
 {
-    fronts_hold_answers(); // called for its clause
+    fronts_hold_answers(); // these are called for their clauses
+    fronts_hold_bindings();
+    joins_are_sound();
     let definitions = copied_definitions(context.alloc, &task.queries)?;
     let room = Vec::with_capacity(context.alloc, task.readers.len())?;
     let circle = circle_of(context.alloc, standing)?;

@@ -21,6 +21,7 @@ use crate::report::Report;
 use crate::room::Room;
 use crate::streams::run_streams;
 use ask_text::Session;
+use conj_query::JoinDef;
 use generated_run::Generation;
 use query_file::Compiled;
 use rpq_base::Memory;
@@ -32,7 +33,7 @@ use run_start::{Readers, Reads, Ready, Refusal, begin, settings_of};
 use standing::Standing;
 use std::alloc::Global;
 use std::random::RandomSource;
-use std::sync::Wait;
+use std::sync::{Arc, Wait};
 use std::thread::Threads;
 
 /// Reads queries and streams, and writes on `events` how each tuple changes the answers of each
@@ -44,14 +45,19 @@ use std::thread::Threads;
 /// the difference that the entry and its inverse bring together. Or a path is written behind each
 /// gained pair that shows it: the positions of its entries, and until when the pair lasts.
 ///
+/// With `--joins FILE` there are conjunctions over the queries. A binding of a conjunction gives
+/// each of its variables a vertex, such that each of its atoms is an answer. The bindings that an
+/// entry takes away and those that it adds are written at the end of the entry's block. The
+/// standing objects hear nothing of them.
+///
 /// The words are those of the command line, the program's name first. The queries file is read
-/// whole and understood, then the asks file, then the saved window of an earlier run and the
-/// streams are opened, and at last the files to be written. Each stream and each session has a
-/// thread of its own, and this thread is the engine's: it takes the entries of the one history in
-/// their order and writes the block of each. Then it tells the standing objects of the entry's
-/// events. With `--check` or `--generate` no other file is opened. What went wrong is told on
-/// `errors`. The gate is told of the streams, the engine's workers and the replies, and no clause
-/// rests on it. The clauses on contents stand where the files and the sinks tell them.
+/// whole and understood, then the joins file, and then the asks file. Then the saved window of an
+/// earlier run and the streams are opened, and at last the files to be written. Each stream and
+/// each session has a thread of its own, and this thread is the engine's: it takes the entries of
+/// the one history in their order and writes the block of each. Then it tells the standing objects
+/// of the entry's events. With `--check` or `--generate` no other file is opened. What went wrong
+/// is told on `errors`. The gate is told of the streams, the engine's workers and the replies, and
+/// no clause rests on it. The clauses on contents stand where the files and the sinks tell them.
 ///
 /// Where a saved window is named, it is read before the file of the one stream, as the first part
 /// of that stream. Where one is to be saved, what a later run needs of the history is written
@@ -153,16 +159,17 @@ fn run_begun<R: Threads + Wait + RandomSource + Sync, G: Gate, F: Files>(
     if let Some(reads) = reads {
         let Reads {
             readers,
+            joins,
             sessions,
             sinks,
         } = reads;
         return match readers {
             Readers::Alone(readers) => {
-                let task = task_of(chosen, queries, readers, sessions);
+                let task = task_of(chosen, queries, joins, readers, sessions);
                 run_streams(context, task, sinks, standing, events, errors)
             }
             Readers::Behind(readers) => {
-                let task = task_of(chosen, queries, readers, sessions);
+                let task = task_of(chosen, queries, joins, readers, sessions);
                 run_streams(context, task, sinks, standing, events, errors)
             }
         };
@@ -180,19 +187,22 @@ fn run_begun<R: Threads + Wait + RandomSource + Sync, G: Gate, F: Files>(
     run_generated(context, generation, standing, events, errors)
 }
 
-/// What the threads of a run with these settings are given: its queries, the readers of its
-/// streams, and what is asked.
+/// What the threads of a run with these settings are given: its queries, the conjunctions over
+/// them, the readers of its streams, and what is asked.
 fn task_of<S: Source>(
     chosen: &Chosen,
     queries: Vec<Compiled>,
+    joins: Arc<Vec<JoinDef>>,
     readers: Vec<LineReader<S>>,
     sessions: Vec<Session>,
 ) -> Task<S>
-    ensures { IsTaskOf chosen.now queries.items readers.items sessions.items result }
+    ensures { IsTaskOf chosen.now queries.items joins.value.items readers.items sessions.items
+        result }
 {
     let options = Options {
         two_way: chosen.two_way,
         paths: chosen.paths,
+        joins,
     };
     Task {
         queries,

@@ -1,6 +1,7 @@
 mod Pieces
 mod EventLines
 pub mod StepLists
+mod JoinedSteps
 mod Showing
 pub mod Texts
 mod Fronts

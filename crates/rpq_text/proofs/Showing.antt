@@ -11,15 +11,19 @@ use Rattle.rpq_base.specs.Same.{same_pair}
 use Rattle.rpq_base.specs.declared.data.Entry.{Entry}
 use Rattle.rpq_base.specs.declared.data.Event.{Event}
 use Rattle.containment_laws.specs.Accepted.{IsAccepted, AcceptedHaveEvents}
+use Rattle.conj_query.specs.declared.event.JoinEvent.{JoinEvent}
+use Rattle.conj_query.specs.HaveJoinEvents.{HaveJoinEvents}
+use Rattle.conj_query.specs.Histories.{AreJoinEventsFrom}
+use Rattle.conj_query.specs.JoinText.{join_lines}
 use Rattle.path_witness.specs.Shows.{Shown, AnswersAreShown}
 use Rattle.rpq_model.specs.Answers.{IsAnswer}
 use Rattle.rpq_model.specs.Events.{event, without, AreEvents}
 use Rattle.rpq_model.specs.Query.{Query, path_query}
 use Rattle.rpq_model.specs.QueryEvents.{AreEventsUnder}
 use Rattle.two_way.specs.TwoWay.{walked, AreWalkedEvents}
-use Rattle.rpq_text.specs.declared.options.Options.{Options}
 use Rattle.rpq_text.specs.Laws.{EveryEntryHasAStep}
-use Rattle.rpq_text.specs.Steps.{StepValue, additions, IsShown, AreShown, IsStep, AreEvaluable}
+use Rattle.rpq_text.specs.Steps.{OptionsValue, StepValue, additions, IsShown, AreShown, IsStep}
+use Rattle.rpq_text.specs.Steps.{AreEvaluable}
 
 -- an addition under this number gains an answer of the query
 abbrev GainsOf : Query → ℕ → List Entry → Event → Type 0
@@ -132,36 +136,43 @@ all_shown have queries can history (event ∷ events) gained =
     (All-head gains event events gained added))
     (all_shown have queries can history events (All-tail gains event events gained))
 
--- these events make a step, with the paths where they are told
-step_of : (options : Options) (queries : List Query) (before after : List Entry)
+-- these events make a step, with the paths where they are told, and these changes of bindings
+step_of : (options : OptionsValue) (queries : List Query) (before after : List Entry)
     (events : List Event) (paths : Bool) → options.paths ≡ paths →
     AreWalkedEvents options.two_way queries before after events →
     (shown : List Shown)
     × AreShown queries (walked options.two_way after) (additions events) shown →
+    (changes : List JoinEvent) × AreJoinEventsFrom queries options.joins
+    (walked options.two_way before) (walked options.two_way after) changes →
     (step : StepValue) × IsStep options queries before after step
-step_of options queries before after events true told are shown = (
-  record { events = events; shown = shown.0 },
-  record {
-    events = are;
-    shown = λ _. shown.1;
-    none_shown = λ silent. absurd (true≢false (sym told ∙ silent));
-  },
-)
-step_of options queries before after events false told are shown = (
-  record { events = events; shown = [] },
-  record {
-    events = are;
-    shown = λ tells. absurd (false≢true (sym told ∙ tells));
-    none_shown = λ _. refl;
-  },
-)
+step_of options queries before after events true told are shown changes =
+    let lines = join_lines options.joins changes.0 in (
+      record { events = events; shown = shown.0; joined = lines },
+      record {
+        events = are;
+        shown = λ _. shown.1;
+        none_shown = λ silent. absurd (true≢false (sym told ∙ silent));
+        joined = record { changes = changes.0; are = changes.1; lines_are = refl };
+      },
+    )
+step_of options queries before after events false told are shown changes =
+    let lines = join_lines options.joins changes.0 in (
+      record { events = events; shown = []; joined = lines },
+      record {
+        events = are;
+        shown = λ tells. absurd (false≢true (sym told ∙ tells));
+        none_shown = λ _. refl;
+        joined = record { changes = changes.0; are = changes.1; lines_are = refl };
+      },
+    )
 
 -- an entry brings a step
-pub every_step : AcceptedHaveEvents → AnswersAreShown → EveryEntryHasAStep
-every_step have shown options queries can history entry =
+pub every_step : AcceptedHaveEvents → AnswersAreShown → HaveJoinEvents → EveryEntryHasAStep
+every_step have shown joined options queries can history entry =
     let before = walked options.two_way history in
     let after = walked options.two_way (history ++ entry ∷ []) in
-    let found = have queries can.accepted 0 before after in
+    let found = have queries can.evaluable.accepted 0 before after in
     step_of options queries history (history ++ entry ∷ []) found.0 options.paths refl found.1
-    (all_shown shown queries can after found.0
+    (all_shown shown queries can.evaluable after found.0
     (all_gain queries 0 before after found.0 found.1))
+    (joined.some queries options.joins can.evaluable.accepted can.sound before after)

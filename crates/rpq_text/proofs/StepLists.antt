@@ -1,8 +1,12 @@
 -- The steps of the entries of a history: how many there are, those of one entry more and of the
 -- first ones, and the events of each.
 use Rattle.std.proofs.Common.{◌≡◌, ℕ, zero, suc, Bool, false, List, [], ◌∷◌, ◌++◌, length, take}
-use Rattle.std.proofs.Common.{refl, ap, ap₂, sym, subst, ◌∙◌}
+use Rattle.std.proofs.Common.{All, refl, ap, ap₂, sym, subst, ◌∙◌}
 use Rattle.std.proofs.lemmas.List.{append_assoc, append-nil}
+use Rattle.conj_query.specs.HaveJoinEvents.{HaveJoinEvents}
+use Rattle.conj_query.specs.Joins.{JoinValue}
+use Rattle.conj_query.specs.JoinText.{join_lines}
+use Rattle.conj_query.specs.Sound.{IsSound}
 use Rattle.rpq_base.specs.declared.data.Entry.{Entry}
 use Rattle.rpq_base.specs.declared.data.Event.{Event}
 use Rattle.rpq_model.specs.Query.{Query}
@@ -10,12 +14,12 @@ use Rattle.rpq_model.proofs.AllEvents.{under_one}
 use Rattle.rpq_model.proofs.EachEntry.{each_are_one}
 use Rattle.two_way.specs.TwoWay.{walked, AreWalkedEvents, AreAllWalkedEvents}
 use Rattle.two_way.specs.TwoWay.{AreAllWalkedEventsFrom}
-use Rattle.rpq_text.specs.declared.options.Options.{Options}
 use Rattle.rpq_text.specs.Laws.{StepsHaveTheEvents}
-use Rattle.rpq_text.specs.Steps.{StepValue, IsStep, AreStepsFrom, events_of}
+use Rattle.rpq_text.specs.Steps.{OptionsValue, StepValue, IsStep, AreJoinLines, AreStepsFrom}
+use Rattle.rpq_text.specs.Steps.{events_of}
 
 -- there are as many steps as entries
-pub steps_as_many : (later before : List Entry) (options : Options) (queries : List Query)
+pub steps_as_many : (later before : List Entry) (options : OptionsValue) (queries : List Query)
     (steps : List StepValue) → AreStepsFrom options queries before later steps →
     length steps ≡ length later
 steps_as_many [] before options queries [] are = refl
@@ -25,7 +29,7 @@ steps_as_many (entry ∷ later) before options queries (step ∷ rest) are =
     ap suc (steps_as_many later (before ++ entry ∷ []) options queries rest are.1)
 
 -- one entry more brings one step more
-pub steps_push : (later : List Entry) (steps : List StepValue) (options : Options)
+pub steps_push : (later : List Entry) (steps : List StepValue) (options : OptionsValue)
     (queries : List Query) (before : List Entry) (entry : Entry) (step : StepValue) →
     AreStepsFrom options queries before later steps →
     IsStep options queries (before ++ later) ((before ++ later) ++ entry ∷ []) step →
@@ -47,8 +51,8 @@ steps_push (next ∷ later) (own ∷ rest) options queries before entry step are
     )
 
 -- the first entries have the first steps
-pub steps_fronts : (later : List Entry) (steps : List StepValue) (count : ℕ) (options : Options)
-    (queries : List Query) (before : List Entry) →
+pub steps_fronts : (later : List Entry) (steps : List StepValue) (count : ℕ)
+    (options : OptionsValue) (queries : List Query) (before : List Entry) →
     AreStepsFrom options queries before later steps →
     AreStepsFrom options queries before (take count later) (take count steps)
 steps_fronts [] [] zero options queries before are = tt
@@ -60,7 +64,7 @@ steps_fronts (entry ∷ later) (step ∷ rest) (suc count) options queries befor
     (are.0, steps_fronts later rest count options queries (before ++ entry ∷ []) are.1)
 
 -- the steps have the events that the entries bring
-pub steps_have_events : (later before : List Entry) (options : Options) (queries : List Query)
+pub steps_have_events : (later before : List Entry) (options : OptionsValue) (queries : List Query)
     (steps : List StepValue) → AreStepsFrom options queries before later steps →
     AreAllWalkedEventsFrom options.two_way queries before later (events_of steps)
 steps_have_events [] before options queries [] are = tt
@@ -91,33 +95,50 @@ have_the_events = record {
       (steps_have_events history [] others queries second other));
 }
 
+-- the lines of conjunctions over the queries are one text
+lines_are_one : HaveJoinEvents → (queries : List Query) (joins : List JoinValue) →
+    All (IsSound (length queries)) joins → (before after : List Entry) (first second : List ℕ) →
+    AreJoinLines queries joins before after first →
+    AreJoinLines queries joins before after second → first ≡ second
+lines_are_one have queries joins sound before after first second one other =
+    one.lines_are
+    ∙ (ap (join_lines joins) (have.one queries joins sound before after one.changes other.changes
+    one.are other.are)
+    ∙ sym other.lines_are)
+
 -- without paths a step is one
-one_step : (options : Options) (queries : List Query) (before after : List Entry)
-    (first second : StepValue) → options.paths ≡ false →
+one_step : HaveJoinEvents → (options : OptionsValue) (queries : List Query)
+    (before after : List Entry) (first second : StepValue) → options.paths ≡ false →
+    All (IsSound (length queries)) options.joins →
     IsStep options queries before after first → IsStep options queries before after second →
     first ≡ second
-one_step options queries before after first second silent one other =
+one_step have options queries before after first second silent sound one other =
     let events : first.events ≡ second.events =
     under_one queries 0 (walked options.two_way before) (walked options.two_way after) first.events
     second.events one.events other.events in
     let shown = one.none_shown silent ∙ sym (other.none_shown silent) in
-    λ i. record { events = events i; shown = shown i }
+    let joined = lines_are_one have queries options.joins sound (walked options.two_way before)
+    (walked options.two_way after) first.joined second.joined one.joined other.joined in
+    λ i. record { events = events i; shown = shown i; joined = joined i }
 
 -- and so are those of the entries that follow a history
-pub steps_are_one : (later before : List Entry) (options : Options) (queries : List Query)
-    (steps others : List StepValue) → options.paths ≡ false →
+pub steps_are_one : HaveJoinEvents → (later before : List Entry) (options : OptionsValue)
+    (queries : List Query) (steps others : List StepValue) → options.paths ≡ false →
+    All (IsSound (length queries)) options.joins →
     AreStepsFrom options queries before later steps →
     AreStepsFrom options queries before later others → steps ≡ others
-steps_are_one [] before options queries [] [] silent are others_are = refl
-steps_are_one [] before options queries [] (other ∷ others) silent are others_are =
+steps_are_one have [] before options queries [] [] silent sound are others_are = refl
+steps_are_one have [] before options queries [] (other ∷ others) silent sound are others_are =
     absurd others_are
-steps_are_one [] before options queries (step ∷ rest) others silent are others_are = absurd are
-steps_are_one (entry ∷ later) before options queries [] others silent are others_are = absurd are
-steps_are_one (entry ∷ later) before options queries (step ∷ rest) [] silent are others_are =
-    absurd others_are
-steps_are_one (entry ∷ later) before options queries (step ∷ rest) (other ∷ others) silent are
-    others_are =
+steps_are_one have [] before options queries (step ∷ rest) others silent sound are others_are =
+    absurd are
+steps_are_one have (entry ∷ later) before options queries [] others silent sound are others_are =
+    absurd are
+steps_are_one have (entry ∷ later) before options queries (step ∷ rest) [] silent sound are
+    others_are = absurd others_are
+steps_are_one have (entry ∷ later) before options queries (step ∷ rest) (other ∷ others) silent
+    sound are others_are =
     let after = before ++ entry ∷ [] in
     ap₂ (λ (own : StepValue) (next : List StepValue). own ∷ next)
-    (one_step options queries before after step other silent are.0 others_are.0)
-    (steps_are_one later after options queries rest others silent are.1 others_are.1)
+    (one_step have options queries before after step other silent sound are.0 others_are.0)
+    (steps_are_one have later after options queries rest others silent sound are.1 others_are.1)

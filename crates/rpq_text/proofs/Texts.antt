@@ -2,11 +2,11 @@
 use Rattle.std.proofs.Common.{◌≡◌, ℕ, ◌+◌, List, [], ◌∷◌, ◌++◌, length, refl, ap, sym, subst, ◌∙◌}
 use Rattle.std.proofs.Common.{append_assoc, arith}
 use Rattle.std.proofs.lemmas.List.{append-nil}
+use Rattle.conj_query.specs.HaveJoinEvents.{HaveJoinEvents}
 use Rattle.rpq_base.specs.declared.data.Entry.{Entry}
 use Rattle.rpq_model.specs.Query.{Query}
-use Rattle.rpq_text.specs.declared.options.Options.{Options}
 use Rattle.rpq_text.specs.Laws.{EveryEntryHasAStep, EveryHistoryHasAText, WithoutPathsOneText}
-use Rattle.rpq_text.specs.Steps.{StepValue, IsStep, AreEvaluable}
+use Rattle.rpq_text.specs.Steps.{OptionsValue, StepValue, IsStep, CanRun}
 use Rattle.rpq_text.specs.Text.{block, blocks_from, IsText}
 use Rattle.rpq_text.proofs.StepLists.{steps_as_many, steps_push, steps_are_one}
 
@@ -34,8 +34,8 @@ blocks_push (next ∷ later) (own ∷ rest) queries position entry step as_many 
     ++ blocks_from queries (position + 1) later rest) ++ block queries n entry step) there)
 
 -- the text of a history, and the block of the entry that follows it
-pub text_push : (options : Options) (queries : List Query) (history : List Entry) (text : List ℕ)
-    (entry : Entry) (step : StepValue) → IsText options queries history text →
+pub text_push : (options : OptionsValue) (queries : List Query) (history : List Entry)
+    (text : List ℕ) (entry : Entry) (step : StepValue) → IsText options queries history text →
     IsStep options queries history (history ++ entry ∷ []) step →
     IsText options queries (history ++ entry ∷ [])
     (text ++ block queries (length history + 1) entry step)
@@ -52,8 +52,8 @@ text_push options queries history text entry step is_text brings =
     )
 
 -- a text of a history is at the front of one of each longer history
-pub text_goes_on : EveryEntryHasAStep → (more : List Entry) (options : Options)
-    (queries : List Query) → AreEvaluable queries → (history : List Entry) (text : List ℕ) →
+pub text_goes_on : EveryEntryHasAStep → (more : List Entry) (options : OptionsValue)
+    (queries : List Query) → CanRun options queries → (history : List Entry) (text : List ℕ) →
     IsText options queries history text →
     (rest : List ℕ) × IsText options queries (history ++ more) (text ++ rest)
 text_goes_on have [] options queries all history text is_text = (
@@ -74,7 +74,7 @@ text_goes_on have (entry ∷ more) options queries all history text is_text =
     )
 
 -- the empty history has the empty text
-pub no_text : (options : Options) (queries : List Query) → IsText options queries [] []
+pub no_text : (options : OptionsValue) (queries : List Query) → IsText options queries [] []
 no_text options queries = ([], tt, refl)
 
 -- each history has a text
@@ -83,9 +83,10 @@ every_text have options queries all history =
     text_goes_on have history options queries all [] [] (no_text options queries)
 
 -- and one alone, where no paths are told
-pub one_text : WithoutPathsOneText
-one_text options queries silent history text other is_text other_is =
+pub one_text : HaveJoinEvents → WithoutPathsOneText
+one_text have options queries silent sound history text other is_text other_is =
     other_is.2
     ∙ (ap (blocks_from queries 1 history)
-    (steps_are_one history [] options queries other_is.0 is_text.0 silent other_is.1 is_text.1)
+    (steps_are_one have history [] options queries other_is.0 is_text.0 silent sound other_is.1
+    is_text.1)
     ∙ sym is_text.2)

@@ -4,19 +4,21 @@ use Rattle.std.specs.List.{flat_map}
 use Rattle.tuple_text.specs.FaultTexts.{fault_text}
 use Rattle.query_file.specs.FaultTexts.{query_kind_text}
 use Rattle.ask_text.specs.FaultTexts.{ask_kind_text}
+use Rattle.conj_query.specs.FaultTexts.{joins_kind_text}
 use Rattle.rpq_words.specs.Usage.{usage}
 use Rattle.stream_tuples.specs.declared.ends.StreamEnd.{StreamEnd}
 use Rattle.stream_tuples.specs.declared.ends.StreamEnd.TheVariants.{Whole, Line, LongLine}
 use Rattle.stream_tuples.specs.declared.ends.StreamEnd.TheVariants.{LongStream, Read, Full, Closed}
 use Rattle.stream_tuples.specs.declared.ends.StreamEnd.TheVariants.{Memory}
 use Rattle.rpq_text.specs.declared.ends.Which.{Which}
-use Rattle.rpq_text.specs.declared.ends.Which.TheVariants.{Queries, Asks, From, Stream}
+use Rattle.rpq_text.specs.declared.ends.Which.TheVariants.{Queries, Joins, Asks, From, Stream}
 use Rattle.rpq_text.specs.declared.ends.Which.TheVariants.{Replies, Save}
 use Rattle.rpq_text.specs.declared.ends.SinkName.{SinkName}
 use Rattle.rpq_text.specs.declared.ends.SinkName.TheVariants.{Events, Replies as RepliesSink}
 use Rattle.rpq_text.specs.declared.ends.SinkName.TheVariants.{Save as SaveSink}
 use Rattle.rpq_text.specs.declared.ends.StartFault.{StartFault}
 use Rattle.rpq_text.specs.declared.ends.StartFault.TheVariants.{Words, Queries as QueriesFault}
+use Rattle.rpq_text.specs.declared.ends.StartFault.TheVariants.{Joins as JoinsFaulty}
 use Rattle.rpq_text.specs.declared.ends.StartFault.TheVariants.{Asks as AsksFault, Open}
 use Rattle.rpq_text.specs.declared.ends.StartFault.TheVariants.{Read as ReadAtStart, Long}
 use Rattle.rpq_text.specs.declared.ends.StartFault.TheVariants.{Memory as MemoryAtStart}
@@ -25,6 +27,7 @@ use Rattle.rpq_text.specs.Statuses.{memory_status}
 -- a file, as the lines name it
 abbrev pub file_text : Which → List ℕ
 file_text Queries = codes "queries"
+file_text Joins = codes "joins"
 file_text Asks = codes "asks"
 file_text From = codes "from"
 file_text (Stream number) = codes "stream " ++ decimal number
@@ -35,6 +38,11 @@ file_text Save = codes "save"
 unfoldable pub query_text : ℕ → List ℕ → List ℕ
 query_text line text =
     codes "rpq: queries line " ++ (decimal line ++ (codes ": " ++ (text ++ codes "\n")))
+
+-- what is said of the line of the joins file with this number
+unfoldable pub joins_text : ℕ → List ℕ → List ℕ
+joins_text line text =
+    codes "rpq: joins line " ++ (decimal line ++ (codes ": " ++ (text ++ codes "\n")))
 
 -- what is said of the line of the asks file with this number
 unfoldable pub asks_text : ℕ → List ℕ → List ℕ
@@ -55,6 +63,7 @@ write_line SaveSink = codes "rpq: write failed: save\n"
 -- and the others to be read
 abbrev pub opening_line : Which → List ℕ
 opening_line Queries = read_line Queries
+opening_line Joins = read_line Joins
 opening_line Asks = read_line Asks
 opening_line From = read_line From
 opening_line (Stream number) = read_line (Stream number)
@@ -66,6 +75,7 @@ opening_line Save = write_line SaveSink
 abbrev pub start_line : StartFault → List ℕ
 start_line Words = codes "rpq: words\n" ++ (usage ++ codes "\n")
 start_line (QueriesFault fault) = query_text fault.line (query_kind_text fault.kind)
+start_line (JoinsFaulty fault) = joins_text fault.line (joins_kind_text fault.kind)
 start_line (AsksFault fault) = asks_text fault.line (ask_kind_text fault.kind)
 start_line (Open which) = opening_line which
 start_line (ReadAtStart which) = read_line which

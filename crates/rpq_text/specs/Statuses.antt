@@ -7,13 +7,14 @@ use Rattle.stream_tuples.specs.declared.ends.StreamEnd.TheVariants.{Whole, Line,
 use Rattle.stream_tuples.specs.declared.ends.StreamEnd.TheVariants.{LongStream, Read, Full, Closed}
 use Rattle.stream_tuples.specs.declared.ends.StreamEnd.TheVariants.{Memory}
 use Rattle.rpq_text.specs.declared.ends.Which.{Which}
-use Rattle.rpq_text.specs.declared.ends.Which.TheVariants.{Queries, Asks, From, Stream}
+use Rattle.rpq_text.specs.declared.ends.Which.TheVariants.{Queries, Joins, Asks, From, Stream}
 use Rattle.rpq_text.specs.declared.ends.Which.TheVariants.{Replies, Save}
 use Rattle.rpq_text.specs.declared.ends.SinkName.{SinkName}
 use Rattle.rpq_text.specs.declared.ends.SinkName.TheVariants.{Events, Replies as RepliesSink}
 use Rattle.rpq_text.specs.declared.ends.SinkName.TheVariants.{Save as SaveSink}
 use Rattle.rpq_text.specs.declared.ends.StartFault.{StartFault}
 use Rattle.rpq_text.specs.declared.ends.StartFault.TheVariants.{Words, Queries as QueriesFault}
+use Rattle.rpq_text.specs.declared.ends.StartFault.TheVariants.{Joins as JoinsFaulty}
 use Rattle.rpq_text.specs.declared.ends.StartFault.TheVariants.{Asks as AsksFault, Open}
 use Rattle.rpq_text.specs.declared.ends.StartFault.TheVariants.{Read as ReadAtStart, Long}
 use Rattle.rpq_text.specs.declared.ends.StartFault.TheVariants.{Memory as MemoryAtStart}
@@ -54,10 +55,15 @@ limit_status = 7
 abbrev pub memory_status : ℕ
 memory_status = 8
 
+-- the joins file has a fault
+abbrev pub joins_status : ℕ
+joins_status = 10
+
 -- the status of a run that couldn't open this file: the replies and the saved window were to be
 -- written, and the others to be read
 abbrev pub status_of_opening : Which → ℕ
 status_of_opening Queries = read_status
+status_of_opening Joins = read_status
 status_of_opening Asks = read_status
 status_of_opening From = read_status
 status_of_opening (Stream number) = read_status
@@ -68,6 +74,7 @@ status_of_opening Save = write_status
 abbrev pub status_of_start : StartFault → ℕ
 status_of_start Words = words_status
 status_of_start (QueriesFault fault) = queries_status
+status_of_start (JoinsFaulty fault) = joins_status
 status_of_start (AsksFault fault) = asks_status
 status_of_start (Open which) = status_of_opening which
 status_of_start (ReadAtStart which) = read_status

@@ -1,19 +1,32 @@
--- What each entry of a history brings: its events, and what shows those that gain a pair.
-use Rattle.std.specs.Prelude.{◌≡◌, true, false, List, [], ◌∷◌, ◌++◌, filter, map, All, Some}
-use Rattle.std.specs.Prelude.{◌<◌, slice_get}
+-- What each entry of a history brings: its events, what shows those that gain a pair, and how the
+-- bindings of conjunctions change.
+use Rattle.std.specs.Prelude.{◌≡◌, ℕ, Bool, true, false, List, [], ◌∷◌, ◌++◌, filter, map, All}
+use Rattle.std.specs.Prelude.{◌<◌, Some, length, slice_get}
 use Rattle.std.specs.List.{AllZip}
 use Rattle.containment_laws.specs.Accepted.{IsAccepted}
+use Rattle.conj_query.specs.declared.event.JoinEvent.{JoinEvent}
+use Rattle.conj_query.specs.Histories.{AreJoinEventsFrom}
+use Rattle.conj_query.specs.Joins.{JoinValue}
+use Rattle.conj_query.specs.JoinText.{join_lines}
+use Rattle.conj_query.specs.Sound.{IsSound}
 use Rattle.rpq_base.specs.declared.data.Entry.{Entry}
 use Rattle.rpq_base.specs.declared.data.Event.{Event}
 use Rattle.rpq_model.specs.Query.{Query}
 use Rattle.two_way.specs.TwoWay.{walked, AreWalkedEvents}
 use Rattle.path_witness.specs.Shows.{Shown, Shows}
-use Rattle.rpq_text.specs.declared.options.Options.{Options}
 
--- the events of an entry, and the paths that are told of them
+-- how a run evaluates its queries, and what it tells: edges are taken backwards or not, paths are
+-- told or not, and these are the conjunctions whose bindings are told
+pub record OptionsValue : Type 0 where
+  pub two_way : Bool
+  pub paths : Bool
+  pub joins : List JoinValue
+
+-- the events of an entry, the paths that are told of them, and the lines of the conjunctions
 pub record StepValue : Type 0 where
   pub events : List Event
   pub shown : List Shown
+  pub joined : List ℕ
 
 -- the events that gain a pair
 abbrev pub additions : List Event → List Event
@@ -30,17 +43,28 @@ pub record IsShown (queries : List Query) (history : List Entry) (event : Event)
 abbrev pub AreShown : List Query → List Entry → List Event → List Shown → Type 0
 AreShown queries history events shown = AllZip (IsShown queries history) events shown
 
--- what the step from one history to another brings: the events; and where paths are told, for each
--- addition a path that shows it over the second history, else none
-pub record IsStep (options : Options) (queries : List Query) (before after : List Entry)
+-- the lines of the bindings that conjunctions lose and gain from one history to another
+pub record AreJoinLines (queries : List Query) (joins : List JoinValue)
+    (before after : List Entry) (lines : List ℕ) : Type 0 where
+  pub changes : List JoinEvent
+  pub are : AreJoinEventsFrom queries joins before after changes
+  pub lines_are : lines ≡ join_lines joins changes
+
+-- what the step from one history to another brings: the events; where paths are told, for each
+-- addition a path that shows it over the second history, else none; and the lines of the
+-- conjunctions
+pub record IsStep (options : OptionsValue) (queries : List Query) (before after : List Entry)
     (step : StepValue) : Type 0 where
   pub events : AreWalkedEvents options.two_way queries before after step.events
   pub shown : options.paths ≡ true →
       AreShown queries (walked options.two_way after) (additions step.events) step.shown
   pub none_shown : options.paths ≡ false → step.shown ≡ []
+  pub joined : AreJoinLines queries options.joins (walked options.two_way before)
+      (walked options.two_way after) step.joined
 
 -- each of the entries that follow a history has its step, in order
-abbrev pub AreStepsFrom : Options → List Query → List Entry → List Entry → List StepValue → Type 0
+abbrev pub AreStepsFrom : OptionsValue → List Query → List Entry → List Entry →
+    List StepValue → Type 0
 AreStepsFrom options queries before [] [] = Unit {0}
 AreStepsFrom options queries before [] (step ∷ rest) = ⊥
 AreStepsFrom options queries before (entry ∷ later) [] = ⊥
@@ -49,8 +73,12 @@ AreStepsFrom options queries before (entry ∷ later) (step ∷ rest) =
     × AreStepsFrom options queries (before ++ entry ∷ []) later rest
 
 -- the steps of a history, one for each entry
-abbrev pub AreSteps : Options → List Query → List Entry → List StepValue → Type 0
+abbrev pub AreSteps : OptionsValue → List Query → List Entry → List StepValue → Type 0
 AreSteps options queries history steps = AreStepsFrom options queries [] history steps
+
+-- the lines of the conjunctions of each step
+abbrev pub lines_of : List StepValue → List (List ℕ)
+lines_of steps = map (λ step. step.joined) steps
 
 -- the events of each step
 abbrev pub events_of : List StepValue → List (List Event)
@@ -60,3 +88,8 @@ events_of steps = map (λ step. step.events) steps
 pub record AreEvaluable (queries : List Query) : Type 0 where
   pub accepted : All IsAccepted queries
   pub move : All (λ query. 0 < query.window.slide) queries
+
+-- such queries, and conjunctions over them
+pub record CanRun (options : OptionsValue) (queries : List Query) : Type 0 where
+  pub evaluable : AreEvaluable queries
+  pub sound : All (IsSound (length queries)) options.joins

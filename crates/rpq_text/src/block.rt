@@ -21,8 +21,9 @@ const KEPT_ROOM: usize = 1 << 20;
 
 /// The block of the entry at position `n`, counted from 1: the line of the entry, then one line for
 /// each of its events, and behind that of an addition one for the path that shows it, if there is
-/// one, each with a line feed at its end. Each event has the number of one of the queries, counted
-/// from 0, and the entry's label points forwards. The only error is [`Memory`].
+/// one, each with a line feed at its end; and last the lines of the conjunctions. Each event has the
+/// number of one of the queries, counted from 0, and the entry's label points forwards. The only
+/// error is [`Memory`].
 pub fn block_text(
     alloc: Global,
     n: u64,
@@ -59,7 +60,9 @@ pub fn make_block(
     empty(text);
     text.reserve(room_for(step.events.len().saturating_add(step.shown.len())))?;
     push_entry(text, n, entry)?;
-    push_events(text, queries, &step.events, &step.shown)
+    push_events(text, queries, &step.events, &step.shown)?;
+    text.extend_from_slice(&step.joined)?;
+    Ok(())
 }
 
 /// Empties the text, and gives back what room it has above that which is kept.

@@ -5,6 +5,7 @@ ghost use Rattle.rpq_text.specs.Statuses.{status_of_start, status_of_sink};
 
 use crate::status;
 use ask_text::AskFault;
+use conj_query::JoinsFault;
 use query_file::QueryFault;
 
 /// One of the files that a run opens: the replies and the saved window to be written, and the others
@@ -12,6 +13,8 @@ use query_file::QueryFault;
 #[derive(Clone, Copy, Debug, PartialEq, Eq)]
 pub enum Which {
     Queries,
+    /// The conjunctions over the queries.
+    Joins,
     Asks,
     /// The saved window of an earlier run.
     From,
@@ -47,6 +50,8 @@ pub enum StartFault {
     Words,
     /// The queries file has this fault.
     Queries(QueryFault),
+    /// The joins file has this fault.
+    Joins(JoinsFault),
     /// The asks file has this fault.
     Asks(AskFault),
     /// The opening of this file failed.
@@ -67,6 +72,7 @@ impl StartFault {
         match self {
             StartFault::Words => status::WORDS,
             StartFault::Queries(_) => status::QUERIES,
+            StartFault::Joins(_) => status::JOINS,
             StartFault::Asks(_) => status::ASKS,
             StartFault::Open(Which::Replies | Which::Save) => status::WRITE,
             StartFault::Open(_) | StartFault::Read(_) => status::READ,

@@ -5,14 +5,17 @@ ghost use Rattle.std.specs.List.{flat_map};
 ghost use Rattle.path_syntax.specs.FaultTexts.{bad_expr_text};
 ghost use Rattle.tuple_text.specs.FaultTexts.{fault_text};
 ghost use Rattle.ask_text.specs.FaultTexts.{ask_kind_text};
-ghost use Rattle.rpq_text.specs.ErrorLines.{file_text, query_text, asks_text, line_text, end_line};
-ghost use Rattle.rpq_text.specs.ErrorLines.{read_line, write_line, opening_line, memory_line};
+ghost use Rattle.conj_query.specs.FaultTexts.{joins_kind_text};
+ghost use Rattle.rpq_text.specs.ErrorLines.{file_text, query_text, joins_text, asks_text};
+ghost use Rattle.rpq_text.specs.ErrorLines.{line_text, end_line, read_line, write_line};
+ghost use Rattle.rpq_text.specs.ErrorLines.{opening_line, memory_line};
 ghost use Rattle.rpq_text.specs.WordTexts.{not_contained_front};
 
 use crate::ends::{SinkName, Which};
 use crate::status;
 use arrayvec::ArrayString;
 use ask_text::{AskFault, AskKind};
+use conj_query::{JoinsFault, JoinsKind};
 use itoa::Buffer;
 use path_syntax::BadExpr;
 use stream_tuples::StreamEnd;
@@ -60,7 +63,9 @@ pub fn opening_line(which: Which) -> Line
     ensures { result.bytes ≡ opening_line which }
 {
     match which {
-        Which::Queries | Which::Asks | Which::From | Which::Stream(_) => read_line(which),
+        Which::Queries | Which::Joins | Which::Asks | Which::From | Which::Stream(_) => {
+            read_line(which)
+        }
         Which::Replies => write_line(SinkName::Replies),
         Which::Save => write_line(SinkName::Save),
     }
@@ -109,6 +114,31 @@ pub fn query_line(line: u64, text: &str, more: &str) -> Line
     let mut digits = Buffer::new();
     let line = digits.format(line);
     line_of(&["rpq: queries line ", line, ": ", text, more, "\n"])
+}
+
+/// What is wrong with a line of the joins file.
+pub fn joins_fault_line(fault: &JoinsFault) -> Line
+    ensures { result.bytes ≡ joins_text fault.now.line (joins_kind_text fault.now.kind) }
+{
+    let line = fault.line;
+    match &fault.kind {
+        JoinsKind::Shape => join_line(line, "shape"),
+        JoinsKind::Twice(_) => join_line(line, "name twice"),
+        JoinsKind::TooMany => join_line(line, "too many"),
+        JoinsKind::UnknownQuery => join_line(line, "unknown query"),
+        JoinsKind::BadName => join_line(line, "bad name"),
+        JoinsKind::Memory => join_line(line, "out of memory"),
+    }
+}
+
+/// A text, said of a line of the joins file.
+#[tactic(auto, unfolding(crate::specs::ErrorLines::joins_text))]
+fn join_line(line: u64, text: &str) -> Line
+    requires { length text.now ≤ 100 }
+    ensures { result.bytes ≡ joins_text line text.now }
+{
+    let mut digits = Buffer::new();
+    line_of(&["rpq: joins line ", digits.format(line), ": ", text, "\n"])
 }
 
 /// What is wrong with a line of the asks file.
@@ -198,6 +228,7 @@ pub fn file_line(before: &str, which: Which, after: &str) -> Line
 {
     match which {
         Which::Queries => line_of(&[before, "queries", after]),
+        Which::Joins => line_of(&[before, "joins", after]),
         Which::Asks => line_of(&[before, "asks", after]),
         Which::From => line_of(&[before, "from", after]),
         Which::Replies => line_of(&[before, "replies", after]),

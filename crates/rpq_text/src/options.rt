@@ -1,10 +1,28 @@
 //! How a run evaluates its queries, and what it tells of them.
 
+use conj_query::JoinDef;
+use std::marker::Model;
+use std::sync::Arc;
+
 /// How a run evaluates its queries, and what it tells of them.
-#[derive(Clone, Copy, Debug, PartialEq, Eq)]
+#[derive(Drop)]
 pub struct Options {
     /// Whether the queries may take edges backwards.
     pub two_way: bool,
     /// Whether a path is told behind each gained pair that shows it.
     pub paths: bool,
+    /// The conjunctions over the queries, whose bindings are told behind the pairs.
+    pub joins: Arc<Vec<JoinDef>>,
+}
+
+impl Model for Options {
+    ghost use Rattle.rpq_text.specs.Steps.{OptionsValue};
+
+    ghost Value = { OptionsValue };
+
+    ghost view = { λ options. record {
+      two_way = options.two_way;
+      paths = options.paths;
+      joins = options.joins.value.items;
+    } };
 }

@@ -27,3 +27,6 @@ pub const LIMIT: u8 = 7;
 
 /// Memory ran out.
 pub const MEMORY: u8 = 8;
+
+/// The joins file has a fault.
+pub const JOINS: u8 = 10;

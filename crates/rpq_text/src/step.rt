@@ -4,12 +4,15 @@ use path_witness::ShownPath;
 use rpq_base::Event;
 use std::marker::Model;
 
-/// What an entry brings: its events and, where paths are told, for each addition in order a path
-/// that shows it.
+/// What an entry brings.
 #[derive(Debug, Drop)]
 pub struct Step {
+    /// The pairs that the queries lose and gain.
     pub events: Vec<Event>,
+    /// Where paths are told, for each addition in order a path that shows it.
     pub shown: Vec<ShownPath>,
+    /// The lines of the bindings that the conjunctions lose and gain, as text.
+    pub joined: Vec<u8>,
 }
 
 impl Model for Step {
@@ -17,5 +20,9 @@ impl Model for Step {
 
     ghost Value = { StepValue };
 
-    ghost view = { λ step. record { events = step.events.items; shown = step.shown.items } };
+    ghost view = { λ step. record {
+      events = step.events.items;
+      shown = step.shown.items;
+      joined = step.joined.items;
+    } };
 }

@@ -11,8 +11,7 @@ use Rattle.rpq_io.specs.Writes.{WritesProperPrefix}
 use Rattle.rpq_io.proofs.Bytes.{append_known-append}
 use Rattle.rpq_model.specs.Events.{AreEachFrom}
 use Rattle.rpq_model.specs.Query.{Query}
-use Rattle.rpq_text.specs.declared.options.Options.{Options}
-use Rattle.rpq_text.specs.Steps.{StepValue, AreStepsFrom}
+use Rattle.rpq_text.specs.Steps.{OptionsValue, StepValue, AreStepsFrom}
 use Rattle.rpq_text.specs.Text.{block, blocks_from, IsText}
 use Rattle.rpq_text.proofs.StepLists.{steps_as_many}
 use Rattle.rpq_threads.specs.Fed.{WritesFront}
@@ -36,7 +35,7 @@ each_append (next ∷ first) (one ∷ rest) step before later more are then =
     )
 
 -- the steps of some entries, and then those of the entries that follow them
-pub steps_append : (first : List Entry) (steps : List StepValue) (options : Options)
+pub steps_append : (first : List Entry) (steps : List StepValue) (options : OptionsValue)
     (queries : List Query) (before later : List Entry) (more : List StepValue) →
     AreStepsFrom options queries before first steps →
     AreStepsFrom options queries (before ++ first) later more →
@@ -76,7 +75,7 @@ blocks_append (next ∷ first) (one ∷ rest) queries position later more as_man
     ++ blocks_from queries n later more) there)
 
 -- the text of a history, and the blocks of the entries that follow it
-pub text_append : (options : Options) (queries : List Query) (history : List Entry)
+pub text_append : (options : OptionsValue) (queries : List Query) (history : List Entry)
     (text : List ℕ) (later : List Entry) (more : List StepValue) →
     IsText options queries history text → AreStepsFrom options queries history later more →
     IsText options queries (history ++ later)

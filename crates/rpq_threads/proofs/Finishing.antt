@@ -35,7 +35,7 @@ use Rattle.ask_text.specs.declared.ask.Ask.{Ask}
 use Rattle.ask_text.specs.Answered.{AnsweredValue}
 use Rattle.ask_text.specs.Ranges.{ended_at}
 use Rattle.ask_text.specs.Reply.{IsReply}
-use Rattle.rpq_text.specs.declared.options.Options.{Options}
+use Rattle.rpq_text.specs.Steps.{OptionsValue}
 use Rattle.rpq_text.specs.Text.{IsText}
 use Rattle.rpq_workers.specs.declared.session_worker.Replied.{Replied}
 use Rattle.rpq_workers.specs.declared.stream_worker.Streamed.{Streamed}
@@ -201,7 +201,7 @@ module _ (law : LegalIsSound) (fronts : FrontsAreLegal) (terms : Terms) (lines :
   front_is : (seen : List Line) → StartsWith lines seen → IsFront terms.streams terms.cap seen lines
   front_is seen starts = is_front lines seen starts fronts terms.streams terms.cap legal
 
-  module _ {K : Type 0} (written : K → Option (List ℕ)) (failures : K → ℕ) (options : Options)
+  module _ {K : Type 0} (written : K → Option (List ℕ)) (failures : K → ℕ) (options : OptionsValue)
       (history : HistoryValue) (same : history.terms ≡ terms) (before after : K)
       (first last : CircleValue) (engine : Each) (why : Option Why)
       (fed : HasFed written failures options history before after first last engine why)
@@ -580,7 +580,7 @@ module _ (law : LegalIsSound) (fronts : FrontsAreLegal) {S K O : Type 0}
     circle = as_seen seen outcome.circle;
   }
 
-  abbrev given_of : Options → List (ReaderState S) → List (List Ask) → Given S K
+  abbrev given_of : OptionsValue → List (ReaderState S) → List (List Ask) → Given S K
   given_of options readers sessions = record {
     options = options;
     readers = readers;
@@ -590,7 +590,7 @@ module _ (law : LegalIsSound) (fronts : FrontsAreLegal) {S K O : Type 0}
   }
 
   pub outcome_holds : outcome.history.items ≡ entries lines →
-      (options : Options) (readers : List (ReaderState S)) (sessions : List (List Ask)) →
+      (options : OptionsValue) (readers : List (ReaderState S)) (sessions : List (List Ask)) →
       options ≡ task.options → readers ≡ task.readers.items → sessions ≡ task.sessions.items →
       IsServed left faults written failures history
       (record {
@@ -622,7 +622,7 @@ module _ (law : LegalIsSound) (fronts : FrontsAreLegal) {S K O : Type 0}
       history (given_of task.options given task.sessions.items) gave passes) readers_are
       (subst (λ (given : List (List Ask)). IsServed left faults written failures history
       (given_of task.options readers given) gave passes) sessions_are
-      (subst (λ (given : Options). IsServed left faults written failures history
+      (subst (λ (given : OptionsValue). IsServed left faults written failures history
       (given_of given readers sessions) gave passes) options_is was)) in
       let asked_all = sym (ap length sessions_are) ∙ asked in
       record {

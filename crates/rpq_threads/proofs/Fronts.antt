@@ -1,7 +1,7 @@
 -- A front of entries that was fed, and what was written of its blocks.
 use Rattle.std.proofs.Common.{◌≡◌, ℕ, ◌+◌, ◌<◌, List, [], ◌∷◌, ◌++◌, length, Option}
 use Rattle.std.proofs.Common.{Result, Ok, Err, refl, sym, subst, ◌∙◌, arith}
-use Rattle.std.specs.Prelude.{OnOk, IfErr, ⊤}
+use Rattle.std.specs.Prelude.{IfOk, OnOk, IfErr, ⊤}
 use Rattle.std.specs.Result.{IsErrAnd}
 use Rattle.std.specs.List.{All}
 use Rattle.std.specs.Io.KnownBytes.{append_known}
@@ -14,8 +14,7 @@ use Rattle.path_engine.specs.Engine.{definitions}
 use Rattle.history_model.specs.declared.line.Why.{Why}
 use Rattle.history_model.specs.declared.line.Why.TheVariants.{Write, Memory}
 use Rattle.rpq_text.specs.Definitions.{definitions_of}
-use Rattle.rpq_text.specs.declared.options.Options.{Options}
-use Rattle.rpq_text.specs.Steps.{StepValue, AreStepsFrom, events_of}
+use Rattle.rpq_text.specs.Steps.{OptionsValue, StepValue, AreStepsFrom, events_of}
 use Rattle.rpq_text.specs.Text.{blocks_from, IsText}
 use Rattle.rpq_text.proofs.StepLists.{steps_as_many}
 use Rattle.standing.specs.Circles.{CircleValue}
@@ -32,6 +31,13 @@ pub ok_then_both : {T E P Q G : Type 0} (result : Result T E) → (P → Q → G
     OnOk result Q → OnOk result G
 ok_then_both (Ok x) then p q = then p q
 ok_then_both (Err e) then p q = tt
+
+-- a fact of a value from three others
+pub ok_from_three : {T E : Type 0} (result : Result T E) (P Q R G : T → Type 0) →
+    ((x : T) → P x → Q x → R x → G x) → IfOk result P → IfOk result Q → IfOk result R →
+    IfOk result G
+ok_from_three (Ok x) P Q R G gives p q r = gives x p q r
+ok_from_three (Err e) P Q R G gives p q r = tt
 
 -- from one fact of a fault to another
 pub err_with : {T E : Type 0} (result : Result T E) (P Q : E → Type 0) →
@@ -62,8 +68,8 @@ module _ (before : List Entry) (old new : Evaluator) (entries : List Entry)
   -- the steps, by the queries that the engine had before
   steps_found : AreStepsFrom old.options (definitions old.engine) before entries steps
   steps_found =
-      subst (λ (options : Options). AreStepsFrom options (definitions old.engine) before entries
-      steps) kept.options
+      subst (λ (options : OptionsValue). AreStepsFrom options (definitions old.engine) before
+      entries steps) kept.options
       (subst (λ (qs : List CompiledValue). AreStepsFrom new.options (definitions_of qs) before
       entries steps) kept.queries finds.are_steps)
 
@@ -104,6 +110,7 @@ module _ (before : List Entry) (old new : Evaluator) (entries : List Entry)
       setup = kept;
       stands = finds.stands;
       marks = finds.marks;
+      joins = finds.joins;
       text = λ start so_far.
           grew_on (TextOf before) (TextOf (before ++ entries))
           (blocks_from (definitions_of queries) position entries steps) start
@@ -160,6 +167,7 @@ emits_with_block before old new last later written_before written_after circle_b
       };
       stands = record { stands = did.stands.stands; counted = did.stands.counted };
       marks = did.marks;
+      joins = did.joins;
       text = did.text;
       heard = did.heard;
     }

@@ -7,16 +7,15 @@ use Rattle.rpq_base.specs.declared.data.Entry.{Entry}
 use Rattle.rpq_io.specs.Writes.{WritesProperPrefix}
 use Rattle.rpq_io.proofs.Bytes.{append_known-nil, append_known-append}
 use Rattle.rpq_model.specs.Query.{Query}
-use Rattle.rpq_text.specs.declared.options.Options.{Options}
 use Rattle.rpq_text.specs.Laws.{EveryEntryHasAStep}
-use Rattle.rpq_text.specs.Steps.{AreEvaluable}
+use Rattle.rpq_text.specs.Steps.{OptionsValue, CanRun}
 use Rattle.rpq_text.specs.Text.{IsText}
 use Rattle.rpq_threads.specs.Fed.{WritesFront}
 use Rattle.rpq_threads.specs.Written.{Grew, GrewByPrefix, GrewByProperPrefix}
 use Rattle.rpq_text.proofs.Texts.{no_text, text_goes_on}
 
 -- the empty history has the empty text
-pub begins : (options : Options) (queries : List Query) (before : Option (List ℕ)) →
+pub begins : (options : OptionsValue) (queries : List Query) (before : Option (List ℕ)) →
     Grew (IsText options queries []) before before
 begins options queries before =
     record { text = []; of_kind = no_text options queries; written = sym (append_known-nil before) }
@@ -76,10 +75,10 @@ module _ (IsText IsNext : List ℕ → Type 0) (next : List ℕ) (before between
         so_far.written ∙ append_known-append before so_far.text part.front);
   }
 
-module _ (have : EveryEntryHasAStep) (options : Options) (queries : List Query)
-    (all : AreEvaluable queries)
+module _ (have : EveryEntryHasAStep) (options : OptionsValue) (queries : List Query)
+    (all : CanRun options queries)
     (history more : List Entry) (before after : Option (List ℕ)) where
-  -- the text of a history is a prefix of that of a longer one, where the queries are accepted
+  -- the text of a history is a prefix of that of a longer one, where a run can be
   pub prefix_of_longer : Grew (IsText options queries history) before after →
       GrewByPrefix (IsText options queries (history ++ more)) before after
   prefix_of_longer whole =

@@ -5,6 +5,7 @@ mod Stopping
 mod Fronts
 mod Turns
 mod Rebuilt
+mod Taking
 mod Showing
 mod Starting
 mod Finishing

@@ -1,4 +1,5 @@
--- What the entries bring that the engine answered: their events, and what is shown of them.
+-- What the entries bring that the engine answered: their events, what is shown of them, and what
+-- the conjunctions tell.
 use Rattle.std.proofs.Common.{◌≡◌, ℕ, zero, suc, ◌+◌, ◌<◌, ◌≤◌, Bool, true, false}
 use Rattle.std.proofs.Common.{List, [], ◌∷◌, ◌++◌, length, map, get_or, take, cond}
 use Rattle.std.proofs.Common.{Option, Some, None, slice_get}
@@ -23,6 +24,9 @@ use Rattle.rpq_model.specs.Query.{Query, path_query}
 use Rattle.rpq_model.specs.QueryEvents.{AreEventsUnder}
 use Rattle.rpq_model.proofs.ByMembers.{events_are_changes}
 use Rattle.two_way.specs.TwoWay.{walked, AreAllWalkedEventsFrom}
+use Rattle.conj_query.specs.HaveJoinEvents.{HaveJoinEvents}
+use Rattle.conj_query.specs.Leading.{EventsLeadOn}
+use Rattle.conj_query.specs.State.{JoinsValue}
 use Rattle.containment_laws.specs.Accepted.{IsAccepted}
 use Rattle.query_file.specs.Compiled.{CompiledValue}
 use Rattle.index_laws.specs.LawsOfPaths.{IsBestPathOf}
@@ -31,16 +35,17 @@ use Rattle.path_engine.specs.Paths.{ShowsPair}
 use Rattle.path_witness.specs.BestPaths.{IsBestFor}
 use Rattle.path_witness.specs.Marks.{MarksValue}
 use Rattle.path_witness.specs.Shows.{Shown, Shows}
-use Rattle.rpq_text.specs.declared.options.Options.{Options}
 use Rattle.rpq_text.specs.Definitions.{definitions_of}
-use Rattle.rpq_text.specs.Steps.{StepValue, IsShown, AreShown, AreStepsFrom, AreEvaluable}
-use Rattle.rpq_text.specs.Steps.{additions, events_of}
+use Rattle.rpq_text.specs.Steps.{OptionsValue, StepValue, IsShown, AreShown, AreStepsFrom}
+use Rattle.rpq_text.specs.Steps.{AreEvaluable, additions, events_of, lines_of}
 use Rattle.stream_history.specs.History.{HistoryValue}
 use Rattle.rpq_workers.proofs.Numbering.{Each}
 use Rattle.rpq_threads.specs.declared.evaluator.Evaluator.{Evaluator}
 use Rattle.rpq_threads.specs.Fed.{IsFed, OnlyFeeds, Finds, FindsSteps, AreNumbered, answered}
+use Rattle.rpq_threads.specs.Joining.{HaveJoins, MayTakeEach, TakesEach}
 use Rattle.rpq_threads.specs.Showing.{TakesAll, IsOver, IsGained, CanShow, MayShow, AreShownBy}
 use Rattle.rpq_threads.specs.Showing.{AreFound, AreStepsOf, HaveMarks}
+use Rattle.rpq_threads.proofs.Taking.{AreLinesFrom, may_take_each, told_each}
 
 -- ---- what events gain
 
@@ -129,9 +134,9 @@ each_given P give (first ∷ rest) all =
     (each_given P give rest (All-tail P (give first) (map give rest) all))
 
 -- the engine found the events of the entries, and the marks took them
-module _ (options : Options) (engine : EngineValue) (before later : List Entry)
-    (lists : List (List Event)) where
-  is_over : (old new : MarksValue) → AreFound options engine (Some old) before later lists →
+module _ (options : OptionsValue) (engine : EngineValue) (joins : Option JoinsValue)
+    (before later : List Entry) (lists : List (List Event)) where
+  is_over : (old new : MarksValue) → AreFound options engine (Some old) joins before later lists →
       TakesAll (Some old) later (Some new) → IsOver engine new (before ++ later)
   is_over old new found takes = record {
     stands = subst (λ (two_way : Bool). StandsFor engine (walked two_way (before ++ later)))
@@ -142,7 +147,8 @@ module _ (options : Options) (engine : EngineValue) (before later : List Entry)
   }
 
   -- they can show what each of them gains, over all of them
-  each_can_show : (old new : MarksValue) → AreFound options engine (Some old) before later lists →
+  each_can_show : (old new : MarksValue) →
+      AreFound options engine (Some old) joins before later lists →
       TakesAll (Some old) later (Some new) → All (CanShow engine new (before ++ later)) lists
   each_can_show old new found takes =
       All-weaker (Gain (definitions engine) (before ++ later))
@@ -154,7 +160,7 @@ module _ (options : Options) (engine : EngineValue) (before later : List Entry)
       (found.forwards found.marked.0) found.events))
 
   pub each_may_show : (old new : Option MarksValue) →
-      AreFound options engine old before later lists → TakesAll old later new →
+      AreFound options engine old joins before later lists → TakesAll old later new →
       All (MayShow engine new) lists
   each_may_show None None found takes = λ k d below. tt
   each_may_show None (Some new) found takes = absurd takes
@@ -165,39 +171,42 @@ module _ (options : Options) (engine : EngineValue) (before later : List Entry)
 
 -- ---- the steps
 
--- where no paths are told, there is nothing but the events
-steps_untold : (options : Options) (queries : List Query) → options.paths ≡ false →
+-- where no paths are told, there are the events and the lines of the conjunctions
+steps_untold : (options : OptionsValue) (queries : List Query) → options.paths ≡ false →
     (later before : List Entry) (steps : List StepValue) →
     AreAllWalkedEventsFrom options.two_way queries before later (events_of steps) →
+    AreLinesFrom options.two_way queries options.joins before later (lines_of steps) →
     All (λ (step : StepValue). step.shown ≡ []) steps →
     AreStepsFrom options queries before later steps
-steps_untold options queries none [] before [] are shown = tt
-steps_untold options queries none [] before (step ∷ rest) are shown = absurd are
-steps_untold options queries none (entry ∷ later) before [] are shown = absurd are
-steps_untold options queries none (entry ∷ later) before (step ∷ rest) are shown =
+steps_untold options queries none [] before [] are told shown = tt
+steps_untold options queries none [] before (step ∷ rest) are told shown = absurd are
+steps_untold options queries none (entry ∷ later) before [] are told shown = absurd are
+steps_untold options queries none (entry ∷ later) before (step ∷ rest) are told shown =
     let None_shown = λ (each : StepValue). each.shown ≡ [] in (
       record {
         events = are.0;
-        shown = λ told. absurd (false≢true (sym none ∙ told));
+        shown = λ paths. absurd (false≢true (sym none ∙ paths));
         none_shown = λ _. All-head None_shown step rest shown;
+        joined = told.0;
       },
-      steps_untold options queries none later (before ++ entry ∷ []) rest are.1
+      steps_untold options queries none later (before ++ entry ∷ []) rest are.1 told.1
           (All-tail None_shown step rest shown),
     )
 
 -- where paths are told, there are those that are shown over all entries, of which there is one at
 -- most
-steps_told : (options : Options) (queries : List Query) → options.paths ≡ true →
+steps_told : (options : OptionsValue) (queries : List Query) → options.paths ≡ true →
     options.two_way ≡ false → (before later : List Entry) (steps : List StepValue) →
     length later ≤ 1 →
     AreAllWalkedEventsFrom options.two_way queries before later (events_of steps) →
+    AreLinesFrom options.two_way queries options.joins before later (lines_of steps) →
     All (λ (step : StepValue).
     AreShown queries (before ++ later) (additions step.events) step.shown) steps →
     AreStepsFrom options queries before later steps
-steps_told options queries told forwards before [] [] few are shown = tt
-steps_told options queries told forwards before [] (step ∷ rest) few are shown = absurd are
-steps_told options queries told forwards before (entry ∷ later) [] few are shown = absurd are
-steps_told options queries told forwards before (entry ∷ []) (step ∷ []) few are shown = (
+steps_told options queries paths forwards before [] [] few are told shown = tt
+steps_told options queries paths forwards before [] (step ∷ rest) few are told shown = absurd are
+steps_told options queries paths forwards before (entry ∷ later) [] few are told shown = absurd are
+steps_told options queries paths forwards before (entry ∷ []) (step ∷ []) few are told shown = (
   record {
     events = are.0;
     shown = λ _. subst (λ (two_way : Bool). AreShown queries
@@ -205,49 +214,84 @@ steps_told options queries told forwards before (entry ∷ []) (step ∷ []) few
         (sym forwards)
         (All-head (λ (each : StepValue).
         AreShown queries (before ++ entry ∷ []) (additions each.events) each.shown) step [] shown);
-    none_shown = λ none. absurd (false≢true (sym none ∙ told));
+    none_shown = λ none. absurd (false≢true (sym none ∙ paths));
+    joined = told.0;
   },
   tt,
 )
-steps_told options queries told forwards before (entry ∷ []) (step ∷ more ∷ rest) few are shown =
+steps_told options queries paths forwards before (entry ∷ []) (step ∷ more ∷ rest) few are told
+    shown =
     absurd are.1
-steps_told options queries told forwards before (entry ∷ next ∷ later) (step ∷ rest) few are shown =
+steps_told options queries paths forwards before (entry ∷ next ∷ later) (step ∷ rest) few are told
+    shown =
     absurd (omega (arith, few))
 
--- the steps have the events that were found, and what the marks show of these
-pub steps_follow : (options : Options) (engine : EngineValue) (old new : Option MarksValue)
+-- the steps have the events that were found, what the marks show of these, and the lines that the
+-- conjunctions tell of them
+module _ (options : OptionsValue) (engine : EngineValue) (joins_old joins_new : Option JoinsValue)
+    (before later : List Entry) (lists : List (List Event)) (steps : List StepValue)
+    (same : events_of steps ≡ lists)
+    (told : AreLinesFrom options.two_way (definitions engine) options.joins before later
+    (lines_of steps)
+    × HaveJoins options.joins (definitions engine) (walked options.two_way (before ++ later))
+    joins_new) where
+  found_by_steps : {marks : Option MarksValue} →
+      AreFound options engine marks joins_old before later lists →
+      AreAllWalkedEventsFrom options.two_way (definitions engine) before later (events_of steps)
+  found_by_steps found = subst (λ (all : List (List Event)).
+      AreAllWalkedEventsFrom options.two_way (definitions engine) before later all) (sym same)
+      found.events
+
+  steps_are : (old new : Option MarksValue) → TakesAll old later new →
+      All (λ (step : StepValue). AreShownBy engine new step.events step.shown) steps →
+      AreFound options engine old joins_old before later lists →
+      AreStepsOf options engine new joins_new before later steps
+  steps_are None None takes shown found = record {
+    are_steps = steps_untold options (definitions engine) found.marked later before steps
+        (found_by_steps found) told.0 shown;
+    marked = found.marked;
+    joined = told.1;
+  }
+  steps_are None (Some new) takes shown found = absurd takes
+  steps_are (Some old) None takes shown found = absurd takes
+  steps_are (Some old) (Some new) takes shown found =
+      let all = before ++ later in
+      let paths = found.marked.0 in
+      let can : All (λ (step : StepValue). CanShow engine new all step.events) steps =
+      each_given (CanShow engine new all) (λ (step : StepValue). step.events) steps
+      (subst (All (CanShow engine new all)) (sym same)
+      (each_can_show options engine joins_old before later lists old new found takes)) in
+      record {
+        are_steps = steps_told options (definitions engine) paths (found.forwards paths) before
+            later steps (found.one paths) (found_by_steps found) told.0
+            (λ k d below. shown k d below all (can k d below));
+        marked = (paths, takes.0 ∙ found.marked.1, takes.1 before found.marked.2);
+        joined = told.1;
+      }
+
+-- the events that were found can be taken by the conjunctions
+pub found_may_take : EventsLeadOn → (options : OptionsValue) (engine : EngineValue)
+    (marks : Option MarksValue) (joins : Option JoinsValue) (before later : List Entry)
+    (lists : List (List Event)) → AreFound options engine marks joins before later lists →
+    MayTakeEach joins lists
+found_may_take law options engine marks joins before later lists found =
+    may_take_each law options.two_way (definitions engine) options.joins later before lists joins
+    found.events found.joined
+
+pub steps_follow : EventsLeadOn → HaveJoinEvents → (options : OptionsValue) (engine : EngineValue)
+    (old new : Option MarksValue) (joins_old joins_new : Option JoinsValue)
     (before later : List Entry) (lists : List (List Event)) (steps : List StepValue) →
     TakesAll old later new → events_of steps ≡ lists →
     All (λ (step : StepValue). AreShownBy engine new step.events step.shown) steps →
-    AreFound options engine old before later lists →
-    AreStepsOf options engine new before later steps
-steps_follow options engine None None before later lists steps takes same shown found = record {
-  are_steps = steps_untold options (definitions engine) found.marked later before steps
-      (subst (λ (all : List (List Event)).
-      AreAllWalkedEventsFrom options.two_way (definitions engine) before later all) (sym same)
-      found.events) shown;
-  marked = found.marked;
-}
-steps_follow options engine None (Some new) before later lists steps takes same shown found =
-    absurd takes
-steps_follow options engine (Some old) None before later lists steps takes same shown found =
-    absurd takes
-steps_follow options engine (Some old) (Some new) before later lists steps takes same shown found =
-    let all = before ++ later in
-    let told = found.marked.0 in
-    let can : All (λ (step : StepValue). CanShow engine new all step.events) steps =
-    each_given (CanShow engine new all) (λ (step : StepValue). step.events) steps
-    (subst (All (CanShow engine new all)) (sym same)
-    (each_can_show options engine before later lists old new found takes)) in
-    record {
-      are_steps = steps_told options (definitions engine) told (found.forwards told) before later steps
-          (found.one told)
-          (subst (λ (events : List (List Event)).
-          AreAllWalkedEventsFrom options.two_way (definitions engine) before later events)
-          (sym same) found.events)
-          (λ k d below. shown k d below all (can k d below));
-      marked = (told, takes.0 ∙ found.marked.1, takes.1 before found.marked.2);
-    }
+    TakesEach joins_old lists joins_new (lines_of steps) →
+    AreFound options engine old joins_old before later lists →
+    AreStepsOf options engine new joins_new before later steps
+steps_follow law some options engine old new joins_old joins_new before later lists steps takes
+    same shown taken found =
+    steps_are options engine joins_old joins_new before later lists steps same
+    (told_each law options.two_way (definitions engine) options.joins some found.evaluable.accepted
+    later before lists (lines_of steps) joins_old joins_new found.events found.joined taken)
+    old new takes shown found
 
 -- ---- a path
 
@@ -369,36 +413,44 @@ pub found_behind : (history : HistoryValue) (old new : Evaluator) (pass : Each)
     (later : List Entry) (lists : List (List Event)) → IsFed history old pass →
     (old.options.paths ≡ true → length later ≤ 1) → OnlyFeeds old new →
     Finds (answered old pass) new later lists →
-    AreFound new.options new.engine new.marks (answered old pass) later lists
+    AreFound new.options new.engine new.marks new.joins (answered old pass) later lists
 found_behind history old new pass later lists fed few keeps finds =
     let before = answered old pass in
     let kept = fed.keeps_up in
     let queries = ap definitions_of keeps.setup.queries in
-    let two_way = ap (λ (o : Options). o.two_way) keeps.setup.options in
-    let paths = ap (λ (o : Options). o.paths) keeps.setup.options in
+    let two_way = ap (λ (o : OptionsValue). o.two_way) keeps.setup.options in
+    let paths = ap (λ (o : OptionsValue). o.paths) keeps.setup.options in
     record {
       stands = finds.stands.stands;
       events = finds.events;
-      evaluable = subst AreEvaluable (sym (queries ∙ kept.queries)) kept.accepted;
+      evaluable = subst AreEvaluable (sym (queries ∙ kept.queries)) kept.accepted.evaluable;
       marked = subst (λ (marks : Option MarksValue).
           HaveMarks new.options.paths (definitions new.engine) before marks) (sym keeps.marks)
           (subst (λ (qs : List Query). HaveMarks new.options.paths qs before old.marks)
           (sym queries)
           (subst (λ (told : Bool). HaveMarks told (definitions old.engine) before old.marks)
           (sym paths) kept.marks));
+      joined = subst (λ (joins : Option JoinsValue).
+          HaveJoins new.options.joins (definitions new.engine) (walked new.options.two_way before)
+          joins) (sym keeps.joins)
+          (subst (λ (qs : List Query). HaveJoins new.options.joins qs
+          (walked new.options.two_way before) old.joins) (sym queries)
+          (subst (λ (o : OptionsValue). HaveJoins o.joins (definitions old.engine)
+          (walked o.two_way before) old.joins) (sym keeps.setup.options) kept.joins));
       forwards = λ told. two_way ∙ kept.forwards (sym paths ∙ told);
       one = λ told. few (sym paths ∙ told);
     }
 
--- and then the marks alone took the entries
+-- and then the marks alone took the entries, and the conjunctions their events
 pub finds_steps : (before later : List Entry) (evaluator : Evaluator) (marks : Option MarksValue)
-    (lists : List (List Event)) (steps : List StepValue) → Finds before evaluator later lists →
-    events_of steps ≡ lists →
-    AreStepsOf evaluator.options evaluator.engine marks before later steps →
-    FindsSteps before (record evaluator { marks = marks }) later steps
-finds_steps before later evaluator marks lists steps finds same are = record {
+    (joins : Option JoinsValue) (lists : List (List Event)) (steps : List StepValue) →
+    Finds before evaluator later lists → events_of steps ≡ lists →
+    AreStepsOf evaluator.options evaluator.engine marks joins before later steps →
+    FindsSteps before (record evaluator { marks = marks; joins = joins }) later steps
+finds_steps before later evaluator marks joins lists steps finds same are = record {
   stands = record { stands = finds.stands.stands; counted = finds.stands.counted };
   marks = are.marked;
+  joins = are.joined;
   are_steps = are.are_steps;
   numbers = subst (AreNumbered evaluator) (sym same) finds.numbers;
 }

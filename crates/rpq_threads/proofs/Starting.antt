@@ -3,6 +3,7 @@ use Rattle.std.proofs.Common.{◌≡◌, ℕ, suc, ◌<◌, List, [], ◌∷◌,
 use Rattle.std.proofs.Common.{Option, get_or, arith}
 use Rattle.std.specs.List.{All}
 use Rattle.std.proofs.lemmas.List.Elements.{All-map, All-same}
+use Rattle.conj_query.specs.Sound.{IsSound}
 use Rattle.containment_laws.specs.Accepted.{IsAccepted}
 use Rattle.query_file.specs.Compiled.{CompiledValue}
 use Rattle.rpq_base.specs.declared.data.Entry.{Entry}
@@ -11,8 +12,7 @@ use Rattle.two_way.specs.TwoWay.{walked}
 use Rattle.answer_view.specs.View.{ViewValue, IsViewOf}
 use Rattle.path_engine.specs.Engine.{definitions}
 use Rattle.rpq_text.specs.Definitions.{definitions_of}
-use Rattle.rpq_text.specs.declared.options.Options.{Options}
-use Rattle.rpq_text.specs.Steps.{AreEvaluable}
+use Rattle.rpq_text.specs.Steps.{OptionsValue, CanRun}
 use Rattle.history_model.specs.World.{Terms}
 use Rattle.stream_history.specs.History.{HistoryValue}
 use Rattle.stream_history.specs.Journal.{empty_view}
@@ -22,13 +22,13 @@ use Rattle.ask_text.specs.Ranges.{IsInRange, IsSession}
 use Rattle.rpq_workers.specs.Started.{new_pass}
 use Rattle.rpq_threads.specs.declared.evaluator.Evaluator.{Evaluator}
 use Rattle.rpq_threads.specs.declared.task.Task.{Task}
-use Rattle.rpq_threads.specs.Fed.{StandsOver, MarksOver, IsFed}
+use Rattle.rpq_threads.specs.Fed.{StandsOver, MarksOver, JoinsOver, IsFed}
 use Rattle.rpq_threads.specs.Runs.{IsTask}
 use Rattle.rpq_threads.specs.Served.{AreAbout}
 use Rattle.rpq_threads.proofs.Rebuilt.{walked_none}
 use Rattle.rpq_threads.proofs.Turns.{first_fed}
 
-length-definitions : (queries : List CompiledValue) →
+pub length-definitions : (queries : List CompiledValue) →
     length (definitions_of queries) ≡ length queries
 length-definitions [] = refl
 length-definitions (each ∷ queries) = ap suc (length-definitions queries)
@@ -62,16 +62,21 @@ module _ {S : Type 0} (left : S → Option (List ℕ)) (faults : S → ℕ) (tas
   same_queries : history.terms.queries ≡ definitions_of task.queries.items
   same_queries = ap (λ (t : Terms). t.queries) terms
 
-  -- the history's queries can be evaluated
-  begun_evaluable : All Moves (definitions_of task.queries.items) →
-      AreEvaluable history.terms.queries
-  begun_evaluable move =
+  -- the history's queries can be evaluated, and the conjunctions are over them
+  begun_can_run : All Moves (definitions_of task.queries.items) →
+      CanRun task.options history.terms.queries
+  begun_can_run move =
       let queries = definitions_of task.queries.items in
+      let many : length task.queries.items ≡ length history.terms.queries =
+      sym (ap length same_queries ∙ length-definitions task.queries.items) in
       record {
-        accepted = All-same IsAccepted history.terms.queries queries same_queries
-            (All-map IsAccepted (λ (each : CompiledValue). each.def) task.queries.items
-            given.understood.accepted);
-        move = All-same Moves history.terms.queries queries same_queries move;
+        evaluable = record {
+          accepted = All-same IsAccepted history.terms.queries queries same_queries
+              (All-map IsAccepted (λ (each : CompiledValue). each.def) task.queries.items
+              given.understood.accepted);
+          move = All-same Moves history.terms.queries queries same_queries move;
+        };
+        sound = subst (λ (n : ℕ). All (IsSound n) task.options.joins) many given.sound;
       }
 
   -- the engine begins at the first position
@@ -79,17 +84,20 @@ module _ {S : Type 0} (left : S → Option (List ℕ)) (faults : S → ℕ) (tas
       evaluator.workers ≡ task.workers → evaluator.options ≡ task.options →
       history.readers ≡ length task.sessions.items →
       All Moves (definitions_of task.queries.items) → StandsOver evaluator [] →
-      MarksOver evaluator [] → IsFed history evaluator (new_pass history 0)
-  begun_fed evaluator queries workers options readers move stands marks =
-      let two_way = ap (λ (o : Options). o.two_way) options in
-      let paths = ap (λ (o : Options). o.paths) options in
+      MarksOver evaluator [] → JoinsOver evaluator [] →
+      IsFed history evaluator (new_pass history 0)
+  begun_fed evaluator queries workers options readers move stands marks joins =
+      let two_way = ap (λ (o : OptionsValue). o.two_way) options in
+      let paths = ap (λ (o : OptionsValue). o.paths) options in
       first_fed history evaluator (omega (arith, workers, given.workers.0))
       (omega (arith, workers, given.workers.1))
-      (ap definitions_of queries ∙ sym same_queries) (begun_evaluable move)
+      (ap definitions_of queries ∙ sym same_queries)
+      (subst (λ (o : OptionsValue). CanRun o history.terms.queries) (sym options)
+      (begun_can_run move))
       (λ is. readers ∙ ap (λ (sessions : List (List Ask)). length sessions)
       (given.unasked (sym two_way ∙ is)))
       (λ told. two_way ∙ given.forwards (sym paths ∙ told))
-      (omega (arith, ap (λ (t : Terms). t.cap) terms, given.limit.1)) stands marks
+      (omega (arith, ap (λ (t : Terms). t.cap) terms, given.limit.1)) stands marks joins
 
   -- what is asked is about the queries of the history
   pub begun_asks : AreAbout history task.sessions.items

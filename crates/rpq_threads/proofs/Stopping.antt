@@ -5,9 +5,8 @@ use Rattle.rpq_model.specs.Query.{Query}
 use Rattle.turn_lock.specs.Lines.{StartsWith}
 use Rattle.history_model.specs.declared.line.Why.{Why}
 use Rattle.history_model.specs.declared.line.Why.TheVariants.{Memory}
-use Rattle.rpq_text.specs.declared.options.Options.{Options}
 use Rattle.rpq_text.specs.Laws.{EveryEntryHasAStep}
-use Rattle.rpq_text.specs.Steps.{AreEvaluable}
+use Rattle.rpq_text.specs.Steps.{OptionsValue, CanRun}
 use Rattle.rpq_text.specs.Text.{IsText}
 use Rattle.standing.specs.Circles.{CircleValue}
 use Rattle.rpq_threads.specs.Written.{Grew, GrewByPrefix, GrewByProperPrefix}
@@ -15,8 +14,8 @@ use Rattle.rpq_threads.specs.Fed.{Onward, HearsOn, Stops}
 use Rattle.rpq_threads.proofs.Grows.{prefix_of_longer, prefix_of_more, proper_of_longer}
 use Rattle.rpq_threads.proofs.Tellings.{tells_front, tells_of_longer}
 
-module _ (have : EveryEntryHasAStep) (options : Options) (queries : List Query)
-    (all : AreEvaluable queries) where
+module _ (have : EveryEntryHasAStep) (options : OptionsValue) (queries : List Query)
+    (all : CanRun options queries) where
   -- a front of the entries, and all of them
   module _ (front entries : List Entry) (starts : StartsWith entries front)
       (start now : Option (List ℕ)) where

@@ -19,8 +19,7 @@ use Rattle.rpq_model.proofs.EachEntry.{each_are_one}
 use Rattle.turn_lock.specs.Lines.{StartsWith}
 use Rattle.history_model.specs.declared.line.Why.{Why}
 use Rattle.history_model.specs.declared.line.Why.TheVariants.{Write, Memory}
-use Rattle.rpq_text.specs.declared.options.Options.{Options}
-use Rattle.rpq_text.specs.Steps.{StepValue, IsStep, AreSteps, AreStepsFrom, events_of}
+use Rattle.rpq_text.specs.Steps.{OptionsValue, StepValue, IsStep, AreSteps, AreStepsFrom, events_of}
 use Rattle.rpq_text.specs.Text.{block, blocks_from, IsText}
 use Rattle.rpq_text.proofs.StepLists.{steps_as_many, steps_fronts, steps_have_events}
 use Rattle.standing.specs.Objects.{ObjectValue}
@@ -165,7 +164,7 @@ module _ (entries : List Entry) (steps : List StepValue) (i : ℕ) (entry : Entr
 -- ---- the events of a history
 
 -- the step of the entry at a place
-step_at : (entries : List Entry) (steps : List StepValue) (i : ℕ) (options : Options)
+step_at : (entries : List Entry) (steps : List StepValue) (i : ℕ) (options : OptionsValue)
     (queries : List Query) (before : List Entry) (entry : Entry) (step : StepValue) →
     AreStepsFrom options queries before entries steps → slice_get entries i ≡ Some entry →
     slice_get steps i ≡ Some step →
@@ -205,7 +204,7 @@ get_before first later i entry there =
     ∙ get_or_from_slice_get first i entry entry there)
 
 -- the steps of a history have its events, which are one list
-events_are : (options : Options) (queries : List Query) (history : List Entry)
+events_are : (options : OptionsValue) (queries : List Query) (history : List Entry)
     (steps : List StepValue) (events : List (List Event)) →
     AreSteps options queries history steps →
     AreAllWalkedEvents options.two_way queries history events → events ≡ events_of steps
@@ -216,7 +215,7 @@ events_are options queries history steps events steps_are are =
     (steps_have_events history [] options queries steps steps_are)
 
 -- what objects heard that were just handed in
-pub heard_nothing : (options : Options) (queries : List Query) (circle : CircleValue) →
+pub heard_nothing : (options : OptionsValue) (queries : List Query) (circle : CircleValue) →
     circle.left ≡ [] → HaveHeardAll options queries [] circle.members circle
 heard_nothing options queries circle fresh = record {
   events = [];
@@ -226,7 +225,7 @@ heard_nothing options queries circle fresh = record {
 }
 
 -- objects that heard all events of a history were told of its blocks, all of which were written
-module _ (options : Options) (queries : List Query) (front : List Entry)
+module _ (options : OptionsValue) (queries : List Query) (front : List Entry)
     (start now : Option (List ℕ)) (objects : List ObjectValue) (circle : CircleValue)
     (heard : HaveHeardAll options queries front objects circle)
     (text : Grew (IsText options queries front) start now) where
@@ -267,7 +266,7 @@ module _ (options : Options) (queries : List Query) (front : List Entry)
       }
 
 -- the objects of a circle heard the events of a history and then those of the entries behind it
-module _ (options : Options) (queries : List Query) (front later : List Entry)
+module _ (options : OptionsValue) (queries : List Query) (front later : List Entry)
     (found : List StepValue) (are : AreStepsFrom options queries front later found)
     (old new : CircleValue) where
   pub hears_all : TellsOn (all_events (events_of found)) ⊤ old new →
@@ -359,7 +358,7 @@ module _ (options : Options) (queries : List Query) (front later : List Entry)
           }
 
 -- what is so of the first entries is so of all, where something ended the run early
-pub tells_of_longer : (options : Options) (queries : List Query) (front entries : List Entry) →
+pub tells_of_longer : (options : OptionsValue) (queries : List Query) (front entries : List Entry) →
     StartsWith entries front → (start now : Option (List ℕ)) (objects : List ObjectValue)
     (why : Why) (circle : CircleValue) →
     TellsObjects options queries front start now objects (Some why) circle →

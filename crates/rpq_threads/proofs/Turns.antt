@@ -27,9 +27,8 @@ use Rattle.stream_history.specs.History.{HistoryValue, IsFeedingPass, HasSeen, H
 use Rattle.stream_history.proofs.Pushes.{calls_push, called, published_push}
 use Rattle.stream_history.proofs.Steps.{still_feeds, going_after}
 use Rattle.stream_history.proofs.Turns.{first_entries}
-use Rattle.rpq_text.specs.declared.options.Options.{Options}
 use Rattle.rpq_text.specs.Laws.{EveryEntryHasAStep}
-use Rattle.rpq_text.specs.Steps.{AreEvaluable}
+use Rattle.rpq_text.specs.Steps.{OptionsValue, CanRun}
 use Rattle.rpq_text.specs.Text.{IsText}
 use Rattle.standing.specs.Circles.{CircleValue}
 use Rattle.rpq_workers.specs.Started.{new_pass}
@@ -37,10 +36,11 @@ use Rattle.rpq_workers.proofs.Numbering.{Each, new_is}
 use Rattle.rpq_workers.proofs.Seen.{entries_grow, same_front, take_part, part_fits}
 use Rattle.rpq_workers.proofs.Seen.{none_after, starts_then, added_starts}
 use Rattle.rpq_threads.specs.declared.evaluator.Evaluator.{Evaluator}
+use Rattle.rpq_threads.specs.Joining.{HaveJoins}
 use Rattle.rpq_threads.specs.Showing.{HaveMarks}
 use Rattle.rpq_threads.specs.Fed.{HaveHeardAll, HearsOn, Onward, Emits, Stops, StandsOver, answered}
-use Rattle.rpq_threads.specs.Fed.{MarksOver, KeepsUp, IsFed, ComeNext, GetsOn, LooksOn, IsAtStart}
-use Rattle.rpq_threads.specs.Fed.{IsWhole, HasFed}
+use Rattle.rpq_threads.specs.Fed.{MarksOver, JoinsOver, KeepsUp, IsFed, ComeNext, GetsOn, LooksOn}
+use Rattle.rpq_threads.specs.Fed.{IsAtStart, IsWhole, HasFed}
 use Rattle.rpq_threads.specs.Written.{Grew}
 use Rattle.rpq_threads.proofs.Grows.{begins}
 use Rattle.rpq_threads.proofs.Tellings.{heard_nothing, tells_front, tells_of_longer}
@@ -72,6 +72,7 @@ module _ (history : HistoryValue) (evaluator : Evaluator) (before after : Each)
     there = omega (arith, was.there, entries_grow after.seen before.seen starts);
     stands = subst (StandsOver evaluator) (sym answered_stays) was.stands;
     marks = subst (MarksOver evaluator) (sym answered_stays) was.marks;
+    joins = subst (JoinsOver evaluator) (sym answered_stays) was.joins;
   }
 
   -- what was answered begins all entries
@@ -117,6 +118,8 @@ keeps_up_viewed history old engine pass queries stands was =
       };
       marks = subst (λ (qs : List Query). HaveMarks old.options.paths qs (answered old pass)
           old.marks) (sym same) was.marks;
+      joins = subst (λ (qs : List Query). HaveJoins old.options.joins qs
+          (walked old.options.two_way (answered old pass)) old.joins) (sym same) was.joins;
     }
 
 -- after the answers over all that was answered are published
@@ -173,12 +176,12 @@ module _ (history : HistoryValue) (evaluator : Evaluator) (pass : Each)
 pub first_fed : (history : HistoryValue) (evaluator : Evaluator) →
     1 ≤ evaluator.workers → evaluator.workers ≤ 64 →
     definitions evaluator.engine ≡ history.terms.queries →
-    AreEvaluable history.terms.queries →
+    CanRun evaluator.options history.terms.queries →
     (evaluator.options.two_way ≡ true → history.readers ≡ 0) →
     (evaluator.options.paths ≡ true → evaluator.options.two_way ≡ false) →
     history.terms.cap ≤ 536870912 → StandsOver evaluator [] → MarksOver evaluator [] →
-    IsFed history evaluator (new_pass history 0)
-first_fed history evaluator some few queries accepted unread forwards small stands marks =
+    JoinsOver evaluator [] → IsFed history evaluator (new_pass history 0)
+first_fed history evaluator some few queries accepted unread forwards small stands marks joins =
     let none : evaluator.position ≡ 0 = stands.counted in
     record {
       keeps_up = record {
@@ -195,6 +198,7 @@ first_fed history evaluator some few queries accepted unread forwards small stan
         there = omega (arith, none);
         stands = subst (λ (n : ℕ). StandsOver evaluator (take n [])) (sym none) stands;
         marks = subst (λ (n : ℕ). MarksOver evaluator (take n [])) (sym none) marks;
+        joins = subst (λ (n : ℕ). JoinsOver evaluator (take n [])) (sym none) joins;
       };
       told = λ readers. sym none;
     }
@@ -243,17 +247,19 @@ module _ (history : HistoryValue) (old : Evaluator) (pass : Each) (was : IsFed h
       part_is_kept =
           let kept = was.keeps_up in
           let two_way : new.options.two_way ≡ old.options.two_way =
-          ap (λ (options : Options). options.two_way) did.setup.options in
+          ap (λ (options : OptionsValue). options.two_way) did.setup.options in
           let paths : new.options.paths ≡ old.options.paths =
-          ap (λ (options : Options). options.paths) did.setup.options in
+          ap (λ (options : OptionsValue). options.paths) did.setup.options in
           record {
             feeds = kept.feeds;
             workers = (
               omega (arith, did.setup.workers, kept.workers.0),
               omega (arith, did.setup.workers, kept.workers.1),
             );
-            queries = ap (map (λ (each : CompiledValue). each.def)) did.setup.queries ∙ kept.queries;
-            accepted = kept.accepted;
+            queries = ap (map (λ (each : CompiledValue). each.def)) did.setup.queries
+                ∙ kept.queries;
+            accepted = subst (λ (options : OptionsValue). CanRun options history.terms.queries)
+                (sym did.setup.options) kept.accepted;
             unread = λ is. kept.unread (sym two_way ∙ is);
             forwards = λ is. two_way ∙ kept.forwards (sym paths ∙ is);
             few = kept.few;
@@ -265,6 +271,7 @@ module _ (history : HistoryValue) (old : Evaluator) (pass : Each) (was : IsFed h
             );
             stands = subst (StandsOver new) answered_more did.stands;
             marks = subst (MarksOver new) answered_more did.marks;
+            joins = subst (JoinsOver new) answered_more did.joins;
           }
 
       pub part_keeps_up : (after : Each) → LooksOn history pass after → KeepsUp history new after
@@ -415,13 +422,14 @@ module _ (history : HistoryValue) (old mid : Evaluator) (first between : Each)
     fed = then.fed;
     options = then.options ∙ did.options;
     text = λ start so_far.
-        subst (λ (options : Options). Onward options history.terms.queries (answered mid between)
-        written_between (λ begun. Grew (IsText options history.terms.queries (answered new last))
-        begun written_last)) did.options then.text start (did.text start so_far);
+        subst (λ (options : OptionsValue). Onward options history.terms.queries
+        (answered mid between) written_between (λ begun.
+        Grew (IsText options history.terms.queries (answered new last)) begun written_last))
+        did.options then.text start (did.text start so_far);
     heard = λ objects heard.
-        subst (λ (options : Options). HearsOn options history.terms.queries (answered mid between)
-        (answered new last) circle_between circle_last) did.options then.heard objects
-        (did.heard objects heard);
+        subst (λ (options : OptionsValue). HearsOn options history.terms.queries
+        (answered mid between) (answered new last) circle_between circle_last) did.options
+        then.heard objects (did.heard objects heard);
   }
 
   -- and then stopped
@@ -431,7 +439,7 @@ module _ (history : HistoryValue) (old mid : Evaluator) (first between : Each)
       Stops old.options history.terms.queries (answered old first) all why written_first
       written_last circle_first circle_last
   stops_behind all why stops =
-      let then = subst (λ (options : Options). Stops options history.terms.queries
+      let then = subst (λ (options : OptionsValue). Stops options history.terms.queries
       (answered mid between) all why written_between written_last circle_between circle_last)
       did.options stops in
       record {

@@ -11,8 +11,7 @@ use Rattle.rpq_model.specs.Query.{Query}
 use Rattle.two_way.specs.TwoWay.{walked, AreAllWalkedEvents, AreAllWalkedEventsFrom}
 use Rattle.path_engine.specs.Engine.{StandsFor, definitions}
 use Rattle.rpq_words.specs.Modes.{IsWithin}
-use Rattle.rpq_text.specs.declared.options.Options.{Options}
-use Rattle.rpq_text.specs.Steps.{StepValue, AreStepsFrom, AreEvaluable, events_of}
+use Rattle.rpq_text.specs.Steps.{OptionsValue, StepValue, AreStepsFrom, CanRun, events_of}
 use Rattle.rpq_text.specs.Text.{block, blocks_from, IsText}
 use Rattle.standing.specs.Objects.{ObjectValue}
 use Rattle.standing.specs.Circles.{CircleValue}
@@ -26,6 +25,7 @@ use Rattle.history_model.specs.Lines.{entries, published, AllEnded, IsShutFor}
 use Rattle.history_model.specs.World.{Terms}
 use Rattle.stream_history.specs.History.{HistoryValue, IsPassOf, IsFeedingPass}
 use Rattle.rpq_threads.specs.declared.evaluator.Evaluator.{Evaluator}
+use Rattle.rpq_threads.specs.Joining.{HaveJoins}
 use Rattle.rpq_threads.specs.Showing.{HaveMarks}
 use Rattle.rpq_threads.specs.Written.{Grew, GrewByPrefix, GrewByProperPrefix}
 use Rattle.rpq_threads.specs.Told.{all_events, TellsObjects}
@@ -73,21 +73,21 @@ pub record WritesAndTells (queries : List Query) (position : ℕ) (entries : Lis
   pub told : TellsOn (all_events (events_of (take count steps))) (why ≢ Memory) old new
 
 -- objects that were handed in have heard the events of all these entries
-pub record HaveHeardAll (options : Options) (queries : List Query) (history : List Entry)
+pub record HaveHeardAll (options : OptionsValue) (queries : List Query) (history : List Entry)
     (objects : List ObjectValue) (circle : CircleValue) : Type 0 where
   pub events : List (List Event)
   pub are_events : AreAllWalkedEvents options.two_way queries history events
   pub heard : HaveStood objects (all_events events) ⊤ circle.members circle.left
 
 -- objects that had heard the events of the first of these histories have heard those of the second
-abbrev pub HearsOn : Options → List Query → List Entry → List Entry → CircleValue → CircleValue
+abbrev pub HearsOn : OptionsValue → List Query → List Entry → List Entry → CircleValue → CircleValue
     → Type 0
 HearsOn options queries first second old new =
     (objects : List ObjectValue) → HaveHeardAll options queries first objects old
     → HaveHeardAll options queries second objects new
 
 -- where what was written since some start is the text of these entries, this is so of the start
-abbrev pub Onward : Options → List Query → List Entry → Option (List ℕ)
+abbrev pub Onward : OptionsValue → List Query → List Entry → Option (List ℕ)
     → (Option (List ℕ) → Type 0) → Type 0
 Onward options queries front written P =
     (start : Option (List ℕ)) → Grew (IsText options queries front) start written → P start
@@ -102,6 +102,7 @@ pub record KeepsSetup (old new : Evaluator) : Type 0 where
 pub record OnlyFeeds (old new : Evaluator) : Type 0 where
   pub setup : KeepsSetup old new
   pub marks : new.marks ≡ old.marks
+  pub joins : new.joins ≡ old.joins
 
 -- the engine stands for what its queries are evaluated over, of so many entries, which are these
 pub record StandsOver (evaluator : Evaluator) (history : List Entry) : Type 0 where
@@ -127,12 +128,21 @@ abbrev pub MarksOver : Evaluator → List Entry → Type 0
 MarksOver evaluator history =
     HaveMarks evaluator.options.paths (definitions evaluator.engine) history evaluator.marks
 
+-- the conjunctions of the evaluator have the answers over what its queries are evaluated over, of
+-- this history
+abbrev pub JoinsOver : Evaluator → List Entry → Type 0
+JoinsOver evaluator history =
+    HaveJoins evaluator.options.joins (definitions evaluator.engine)
+    (walked evaluator.options.two_way history) evaluator.joins
+
 -- behind this history the engine answered these entries, each of which brings the step in its
--- place, and now it and the marks stand for all of them; each event has the number of a query
+-- place, and now it, the marks and the conjunctions stand for all of them; each event has the
+-- number of a query
 pub record FindsSteps (before : List Entry) (evaluator : Evaluator) (later : List Entry)
     (steps : List StepValue) : Type 0 where
   pub stands : StandsOver evaluator (before ++ later)
   pub marks : MarksOver evaluator (before ++ later)
+  pub joins : JoinsOver evaluator (before ++ later)
   pub are_steps : AreStepsFrom evaluator.options (definitions evaluator.engine) before later steps
   pub numbers : AreNumbered evaluator (events_of steps)
 
@@ -145,6 +155,7 @@ pub record Emits (before : List Entry) (old new : Evaluator) (later : List Entry
   pub setup : KeepsSetup old new
   pub stands : StandsOver new (before ++ later)
   pub marks : MarksOver new (before ++ later)
+  pub joins : JoinsOver new (before ++ later)
   pub text : Onward old.options (definitions old.engine) before written_before (λ start.
       Grew (IsText old.options (definitions old.engine) (before ++ later)) start written_after)
   pub heard : HearsOn old.options (definitions old.engine) before (before ++ later)
@@ -153,8 +164,9 @@ pub record Emits (before : List Entry) (old new : Evaluator) (later : List Entry
 -- for this reason not all entries were answered: what was written since a start, where it was the
 -- text of the first of them, is now a prefix of the text of all, a proper one where a write failed;
 -- and the objects were told of the events of the blocks that were written whole, and of no other
-pub record Stops (options : Options) (queries : List Query) (first all : List Entry) (why : Why)
-    (written_before written_after : Option (List ℕ)) (circle_before circle_after : CircleValue)
+pub record Stops (options : OptionsValue) (queries : List Query) (first all : List Entry)
+    (why : Why) (written_before written_after : Option (List ℕ))
+    (circle_before circle_after : CircleValue)
     : Type 0 where
   pub write : why ≡ Write → Onward options queries first written_before (λ start.
       GrewByProperPrefix (IsText options queries all) start written_after)
@@ -170,20 +182,22 @@ abbrev pub answered : Evaluator → PassValue Line Terms → List Entry
 answered evaluator pass = take evaluator.position (entries pass.seen)
 
 -- the pass is the engine's, and the engine, which has from 1 to 64 workers and the queries of the
--- history, which can be evaluated, stands for the first entries that the pass has seen, and so do
--- the marks; where edges may be taken backwards, nobody reads along, and no paths are told
+-- history, with which a run can be, stands for the first entries that the pass has seen, and so do
+-- the marks and the conjunctions; where edges may be taken backwards, nobody reads along, and no
+-- paths are told
 pub record KeepsUp (history : HistoryValue) (evaluator : Evaluator) (pass : PassValue Line Terms)
     : Type 0 where
   pub feeds : IsFeedingPass history pass
   pub workers : IsWithin 64 evaluator.workers
   pub queries : definitions evaluator.engine ≡ history.terms.queries
-  pub accepted : AreEvaluable history.terms.queries
+  pub accepted : CanRun evaluator.options history.terms.queries
   pub unread : evaluator.options.two_way ≡ true → history.readers ≡ 0
   pub forwards : evaluator.options.paths ≡ true → evaluator.options.two_way ≡ false
   pub few : history.terms.cap ≤ 2 ^ 29
   pub there : evaluator.position ≤ length (entries pass.seen)
   pub stands : StandsOver evaluator (answered evaluator pass)
   pub marks : MarksOver evaluator (answered evaluator pass)
+  pub joins : JoinsOver evaluator (answered evaluator pass)
 
 -- and its answers are published, where the history has readers
 pub record IsFed (history : HistoryValue) (evaluator : Evaluator) (pass : PassValue Line Terms)
@@ -246,7 +260,7 @@ pub record IsWhole (history : HistoryValue) (evaluator : Evaluator) (pass : Pass
 -- was written, or a prefix of it; a write failed exactly where that is the reason; and the objects
 -- were told of the events of the blocks that were written whole
 pub record HasFed {K : Type 0} (written : K → Option (List ℕ)) (faults : K → ℕ)
-    (options : Options) (history : HistoryValue) (before after : K)
+    (options : OptionsValue) (history : HistoryValue) (before after : K)
     (circle_before circle_after : CircleValue) (pass : PassValue Line Terms) (why : Option Why)
     : Type 0 where
   pub is : IsPassOf history pass

@@ -5,12 +5,13 @@ use Rattle.std.specs.List.{AllZip}
 use Rattle.std.specs.Global.{Vec}
 use Rattle.rpq_base.specs.declared.data.Entry.{Entry}
 use Rattle.rpq_base.specs.Plain.{IsPlain}
+use Rattle.conj_query.specs.Sound.{IsSound}
 use Rattle.rpq_io.specs.Counts.{CountsFault}
 use Rattle.rpq_io.specs.Reader.{ReaderState}
 use Rattle.rpq_model.specs.Query.{Query}
 use Rattle.rpq_words.specs.Modes.{IsWithin}
 use Rattle.rpq_text.specs.Definitions.{definitions_of}
-use Rattle.rpq_text.specs.declared.options.Options.{Options}
+use Rattle.rpq_text.specs.Steps.{OptionsValue}
 use Rattle.rpq_text.specs.Text.{IsText}
 use Rattle.turn_lock.specs.Lines.{StartsWith}
 use Rattle.history_model.specs.declared.line.Why.{Why}
@@ -31,8 +32,9 @@ use Rattle.rpq_threads.specs.Written.{Grew, GrewByPrefix, GrewByProperPrefix}
 use Rattle.rpq_threads.specs.Told.{TellsObjects}
 
 -- what is given to the threads of a run: queries, understood; from 1 to 64 workers; new readers of
--- from 1 to 64 streams; at most 64 sessions about the queries; and how many entries the history may
--- have. Where edges may be taken backwards, nobody asks, and no paths are told
+-- from 1 to 64 streams; at most 64 sessions about the queries; how many entries the history may
+-- have; and at most 32 conjunctions over the queries. Where edges may be taken backwards, nobody
+-- asks, and no paths are told
 pub record IsTask {S : Type 0} (left : S → Option (List ℕ)) (faults : S → ℕ) (task : Task S)
     : Type 0 where
   pub understood : AreUnderstood task.queries.items
@@ -44,10 +46,12 @@ pub record IsTask {S : Type 0} (left : S → Option (List ℕ)) (faults : S → 
   pub unasked : task.options.two_way ≡ true → task.sessions.items ≡ []
   pub forwards : task.options.paths ≡ true → task.options.two_way ≡ false
   pub limit : IsWithin 2000000 task.limit
+  pub few_joins : length task.options.joins ≤ 32
+  pub sound : All (IsSound (length task.queries.items)) task.options.joins
 
 -- the text of the history was written, or a prefix of it: a proper one where a write failed
 pub record WritesText {K : Type 0} (written : K → Option (List ℕ)) (failures : K → ℕ)
-    (options : Options) (queries : List Query) (history : List Entry) (before after : K)
+    (options : OptionsValue) (queries : List Query) (history : List Entry) (before after : K)
     (why : Option Why) : Type 0 where
   pub whole : why ≡ None → Grew (IsText options queries history) (written before) (written after)
   pub write : why ≡ Some Write →

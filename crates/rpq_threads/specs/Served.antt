@@ -7,7 +7,7 @@ use Rattle.std.specs.Vec.{vec_len, vec_capacity}
 use Rattle.rpq_io.specs.Reader.{ReaderState}
 use Rattle.rpq_model.specs.Query.{Query}
 use Rattle.rpq_text.specs.Definitions.{definitions_of}
-use Rattle.rpq_text.specs.declared.options.Options.{Options}
+use Rattle.rpq_text.specs.Steps.{OptionsValue}
 use Rattle.turn_lock.specs.Passes.{PassValue, newcomers}
 use Rattle.history_model.specs.declared.line.Why.{Why}
 use Rattle.history_model.specs.declared.line.Line.{Line}
@@ -108,7 +108,7 @@ pub record IsBegun {S : Type 0} (left : S → Option (List ℕ)) (faults : S →
 -- what a run's threads were given, among this how the queries are evaluated and told, the sink of
 -- the events before it, and the objects
 pub record Given (S K : Type 0) : Type 0 where
-  pub options : Options
+  pub options : OptionsValue
   pub readers : List (ReaderState S)
   pub sessions : List (List Ask)
   pub events : K

@@ -6,11 +6,13 @@ use Rattle.rpq_base.specs.declared.data.Event.{Event}
 use Rattle.rpq_model.specs.Answers.{IsAnswer}
 use Rattle.rpq_model.specs.Query.{Query, path_query}
 use Rattle.two_way.specs.TwoWay.{walked, AreAllWalkedEventsFrom}
+use Rattle.conj_query.specs.State.{JoinsValue}
 use Rattle.path_engine.specs.Engine.{EngineValue, StandsFor, definitions}
 use Rattle.path_witness.specs.Marks.{MarksValue, StandsFor as MarksStandFor}
 use Rattle.path_witness.specs.Shows.{Shown}
-use Rattle.rpq_text.specs.declared.options.Options.{Options}
-use Rattle.rpq_text.specs.Steps.{StepValue, AreShown, AreStepsFrom, AreEvaluable, additions}
+use Rattle.rpq_text.specs.Steps.{OptionsValue, StepValue, AreShown, AreStepsFrom, AreEvaluable}
+use Rattle.rpq_text.specs.Steps.{additions}
+use Rattle.rpq_threads.specs.Joining.{HaveJoins}
 
 -- where paths are told, the marks are those of the queries, and stand for this history; else there
 -- are none
@@ -62,19 +64,25 @@ AreShownBy engine (Some marks) events shown = (history : List Entry) →
     AreShown (definitions engine) history (additions events) shown
 
 -- behind this history the engine answered these entries, each by the events in its place, and now
--- it stands for all of them, where the marks stand for the history alone; where paths are told,
--- edges aren't taken backwards, and there is one entry at most
-pub record AreFound (options : Options) (engine : EngineValue) (marks : Option MarksValue)
-    (before later : List Entry) (lists : List (List Event)) : Type 0 where
+-- it stands for all of them, where the marks and the conjunctions stand for the history alone;
+-- where paths are told, edges aren't taken backwards, and there is one entry at most
+pub record AreFound (options : OptionsValue) (engine : EngineValue) (marks : Option MarksValue)
+    (joins : Option JoinsValue) (before later : List Entry) (lists : List (List Event))
+    : Type 0 where
   pub stands : StandsFor engine (walked options.two_way (before ++ later))
   pub events : AreAllWalkedEventsFrom options.two_way (definitions engine) before later lists
   pub evaluable : AreEvaluable (definitions engine)
   pub marked : HaveMarks options.paths (definitions engine) before marks
+  pub joined : HaveJoins options.joins (definitions engine) (walked options.two_way before) joins
   pub forwards : options.paths ≡ true → options.two_way ≡ false
   pub one : options.paths ≡ true → length later ≤ 1
 
--- behind this history these are the steps of the entries, and the marks stand for all of them
-pub record AreStepsOf (options : Options) (engine : EngineValue) (marks : Option MarksValue)
-    (before later : List Entry) (steps : List StepValue) : Type 0 where
+-- behind this history these are the steps of the entries, and the marks and the conjunctions stand
+-- for all of them
+pub record AreStepsOf (options : OptionsValue) (engine : EngineValue) (marks : Option MarksValue)
+    (joins : Option JoinsValue) (before later : List Entry) (steps : List StepValue)
+    : Type 0 where
   pub are_steps : AreStepsFrom options (definitions engine) before later steps
   pub marked : HaveMarks options.paths (definitions engine) (before ++ later) marks
+  pub joined : HaveJoins options.joins (definitions engine)
+      (walked options.two_way (before ++ later)) joins

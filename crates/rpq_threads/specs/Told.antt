@@ -7,8 +7,7 @@ use Rattle.rpq_base.specs.declared.data.Event.{Event}
 use Rattle.rpq_model.specs.Query.{Query}
 use Rattle.history_model.specs.declared.line.Why.{Why}
 use Rattle.history_model.specs.declared.line.Why.TheVariants.{Memory}
-use Rattle.rpq_text.specs.declared.options.Options.{Options}
-use Rattle.rpq_text.specs.Steps.{StepValue, IsStep, AreSteps, events_of}
+use Rattle.rpq_text.specs.Steps.{OptionsValue, StepValue, IsStep, AreSteps, events_of}
 use Rattle.rpq_text.specs.Text.{block, blocks_from}
 use Rattle.standing.specs.Objects.{ObjectValue}
 use Rattle.standing.specs.Circles.{CircleValue}
@@ -19,7 +18,7 @@ abbrev pub all_events : List (List Event) → List Event
 all_events lists = flat_map (λ own. own) lists
 
 -- the bytes begin the block of the entry behind the first ones, so many, and aren't all of it
-pub record BeginsBlock (options : Options) (queries : List Query) (history : List Entry)
+pub record BeginsBlock (options : OptionsValue) (queries : List Query) (history : List Entry)
     (count : ℕ) (bytes : List ℕ) : Type 0 where
   pub entry : Entry
   pub step : StepValue
@@ -33,7 +32,7 @@ pub record BeginsBlock (options : Options) (queries : List Query) (history : Lis
 -- so many blocks of a text of the history were written whole, and of the next one a part or
 -- nothing. Of the events of these blocks, and of no other, the objects were told: each that stayed
 -- of all, unless memory ran out. Where nothing ended the run early these are all blocks
-pub record TellsObjects (options : Options) (queries : List Query) (history : List Entry)
+pub record TellsObjects (options : OptionsValue) (queries : List Query) (history : List Entry)
     (before now : Option (List ℕ)) (objects : List ObjectValue) (why : Option Why)
     (circle : CircleValue) : Type 0 where
   pub count : ℕ

@@ -96,6 +96,7 @@ fn find_steps<R: Threads + Wait + Sync, G: Gate>(
         shared.alloc,
         &evaluator.engine,
         &mut evaluator.marks,
+        &mut evaluator.joins,
         entries,
         found,
     )

@@ -1,11 +1,15 @@
 //! The engine of a run.
 
-ghost use Rattle.std.specs.Prelude.{◌≡◌, ◌≤◌, true, [], IfOk};
+ghost use Rattle.std.specs.Prelude.{◌≡◌, ◌≤◌, true, [], length, All, IfOk};
+ghost use Rattle.conj_query.specs.Sound.{IsSound};
+ghost use Rattle.two_way.specs.TwoWay.{walked};
 ghost use Rattle.rpq_text.specs.Definitions.{definitions_of};
-ghost use Rattle.rpq_threads.specs.Fed.{MarksOver, StandsOver};
+ghost use Rattle.rpq_threads.specs.Fed.{JoinsOver, MarksOver, StandsOver};
+ghost use Rattle.rpq_threads.specs.Joining.{HaveJoins};
 ghost use Rattle.rpq_threads.specs.Showing.{HaveMarks};
-ghost use Rattle.rpq_threads.specs.Understood.{AreUnderstood};
+ghost use Rattle.rpq_threads.specs.Understood.{AreUnderstood, query_limit};
 
+use conj_query::Joins;
 use path_engine::Engine;
 use path_witness::Marks;
 use query_file::Compiled;
@@ -29,6 +33,8 @@ pub struct Evaluator {
     pub options: Options,
     /// The live entries of each edge that last longest, where paths are told.
     pub marks: Option<Marks>,
+    /// The conjunctions with the answers of their queries, where there are any.
+    pub joins: Option<Joins>,
     pub position: u64,
     pub workers: u32,
     pub block: Vec<u8>,
@@ -49,17 +55,22 @@ impl Evaluator {
     ) -> Result<Evaluator, Memory>
         requires understood { AreUnderstood queries.items }
         requires definitions { definitions.now.value.items ≡ definitions_of queries.items }
+        requires few_joins { length options.joins ≤ 32 }
+        requires sound { All (IsSound (length queries.items)) options.joins }
         ensures queries { IfOk result (λ evaluator. evaluator.engine.queries ≡ queries.items) }
         ensures stands { IfOk result (λ evaluator. StandsOver evaluator []) }
         ensures marks { IfOk result (λ evaluator. MarksOver evaluator []) }
+        ensures joined { IfOk result (λ evaluator. JoinsOver evaluator []) }
         ensures options { IfOk result (λ evaluator. evaluator.options ≡ options) }
         ensures workers { IfOk result (λ evaluator. evaluator.workers ≡ workers) }
     {
-        let marks = marks_of(rt, alloc, definitions, options)?;
+        let marks = marks_of(rt, alloc, definitions, options.paths)?;
+        let joins = joins_of(rt, alloc, definitions, &options)?;
         Ok(Evaluator {
             engine: Engine::new(rt, alloc, queries)?,
             options,
             marks,
+            joins,
             position: 0,
             workers,
             block: Vec::new(alloc),
@@ -82,13 +93,35 @@ fn marks_of<R: RandomSource>(
     rt: &R,
     alloc: Global,
     definitions: &Arc<Vec<QueryDef>>,
-    options: Options,
+    paths: bool,
 ) -> Result<Option<Marks>, Memory>
-    ensures { IfOk result (HaveMarks options.paths definitions.now.value.items []) }
+    ensures { IfOk result (HaveMarks paths definitions.now.value.items []) }
 {
-    if !options.paths {
+    if !paths {
         return Ok(None);
     }
     let own = Arc::try_clone(definitions)?;
     Ok(Some(Marks::new(rt, alloc, own)?))
+}
+
+/// The conjunctions over queries with these definitions, which have no pairs yet, where there are
+/// any. The only error is [`Memory`].
+fn joins_of<R: RandomSource>(
+    rt: &R,
+    alloc: Global,
+    definitions: &[QueryDef],
+    options: &Options,
+) -> Result<Option<Joins>, Memory>
+    requires few_queries { length definitions.now ≤ query_limit }
+    requires few { length options.now.joins ≤ 32 }
+    requires sound { All (IsSound (length definitions.now)) options.now.joins }
+    ensures { IfOk result (HaveJoins options.now.joins definitions.now
+        (walked options.now.two_way [])) }
+{
+    if options.joins.is_empty() {
+        return Ok(None);
+    }
+    let joins = Arc::try_clone(&options.joins)?;
+    let queries = definitions.len() as u32;
+    Ok(Some(Joins::new(rt, alloc, joins, queries)?))
 }

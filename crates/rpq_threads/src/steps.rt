@@ -1,14 +1,18 @@
-//! What entries bring: their events, and the paths that show those which gain a pair.
+//! What entries bring: their events, the paths that show those which gain a pair, and the lines of
+//! the bindings that conjunctions lose and gain.
 
 ghost use Rattle.std.specs.Prelude.{◌≡◌, ◌++◌, List, map, All, IfOk, OnOk};
 ghost use Rattle.rpq_base.specs.declared.data.Entry.{Entry as EntryTaken};
 ghost use Rattle.path_engine.specs.Engine.{definitions};
 ghost use Rattle.path_witness.specs.Marks.{StandsFor as MarksStandFor};
-ghost use Rattle.rpq_text.specs.declared.options.Options.{Options as OptionsTaken};
-ghost use Rattle.rpq_text.specs.Steps.{IsShown, AreShown, additions, events_of};
+ghost use Rattle.rpq_text.specs.Steps.{OptionsValue, IsShown, AreShown, additions};
+ghost use Rattle.rpq_text.specs.Steps.{events_of, lines_of};
+ghost use Rattle.rpq_threads.specs.Joining.{MayTakeEach, TakesEach};
 ghost use Rattle.rpq_threads.specs.Showing.{AreFound, AreStepsOf, AreShownBy, CanShow, IsGained};
 ghost use Rattle.rpq_threads.specs.Showing.{IsOver, MayShow, TakesAll};
 
+use crate::joining::joined_of;
+use conj_query::{Joins, accepted_queries_have_join_events, events_lead_on};
 use path_engine::Engine;
 use path_witness::{Marks, ShownPath};
 use rpq_base::{Entry, Event, Memory};
@@ -16,26 +20,31 @@ use rpq_text::Step;
 use std::alloc::Global;
 
 /// What these entries bring, of which the engine found these events. Marks that are there take the
-/// entries, and each addition gets a path that shows it. The only error is [`Memory`].
+/// entries, and each addition gets a path that shows it. Conjunctions that are there take the
+/// events of one entry after another, and tell how their bindings change. The only error is
+/// [`Memory`].
 pub fn take_steps(
     alloc: Global,
     engine: &Engine,
     marks: &mut Option<Marks>,
+    joins: &mut Option<Joins>,
     entries: &[Entry],
     found: Vec<Vec<Event>>,
 ) -> Result<Vec<Step>, Memory>
-    requires found { (options : OptionsTaken) × (before : List EntryTaken)
-        × AreFound options engine.now marks.old before entries.now
+    requires found { (options : OptionsValue) × (before : List EntryTaken)
+        × AreFound options engine.now marks.old joins.old before entries.now
         (map (λ own. own.items) found.items) }
     ensures events { IfOk result (λ steps.
         events_of steps.items ≡ map (λ own. own.items) found.items) }
-    ensures steps { IfOk result (λ steps. (options : OptionsTaken) (before : List EntryTaken)
-        → AreFound options engine.now marks.old before entries.now
+    ensures steps { IfOk result (λ steps. (options : OptionsValue) (before : List EntryTaken)
+        → AreFound options engine.now marks.old joins.old before entries.now
         (map (λ own. own.items) found.items)
-        → AreStepsOf options engine.now marks.new before entries.now steps.items) }
+        → AreStepsOf options engine.now marks.new joins.new before entries.now steps.items) }
 {
+    events_lead_on(); // these are called for their clauses
+    accepted_queries_have_join_events();
     take_entries(marks, entries)?;
-    shown_steps(alloc, engine, marks, found)
+    make_steps(alloc, engine, marks, joins, found)
 }
 
 /// Marks that are there take the entries. The only error is [`Memory`].
@@ -60,23 +69,33 @@ fn take_each(marks: &mut Marks, entries: &[Entry]) -> Result<(), Memory>
     Ok(())
 }
 
-/// These events, entry by entry, and what is shown of them. The only error is [`Memory`].
-fn shown_steps(
+/// These events, entry by entry, with what is shown of them, and the lines that the conjunctions
+/// tell of them. The only error is [`Memory`].
+fn make_steps(
     alloc: Global,
     engine: &Engine,
     marks: &Option<Marks>,
+    joins: &mut Option<Joins>,
     found: Vec<Vec<Event>>,
 ) -> Result<Vec<Step>, Memory>
-    requires { All (λ own. MayShow engine.now marks.now own.items) found.items }
+    requires may_show { All (λ own. MayShow engine.now marks.now own.items) found.items }
+    requires may_take { MayTakeEach joins.old (map (λ own. own.items) found.items) }
     ensures events { IfOk result (λ steps.
         events_of steps.items ≡ map (λ own. own.items) found.items) }
     ensures shown { IfOk result (λ steps. All (λ step.
         AreShownBy engine.now marks.now step.events step.shown) steps.items) }
+    ensures joined { IfOk result (λ steps. TakesEach joins.old
+        (map (λ own. own.items) found.items) joins.new (lines_of steps.items)) }
 {
     let mut steps = Vec::with_capacity(alloc, found.len())?;
     for events in found {
         let shown = shown_of(alloc, engine, marks, &events)?;
-        steps.push(Step { events, shown })?;
+        let joined = joined_of(alloc, joins, &events)?;
+        steps.push(Step {
+            events,
+            shown,
+            joined,
+        })?;
     }
     Ok(steps)
 }

@@ -3,7 +3,8 @@ use Rattle.std.specs.Prelude.{refl}
 use Rattle.clap.proofs.OnLiterals.{clap_on_literals}
 use Rattle.text_parts.specs.Numbers.{number_within}
 use Rattle.rpq_words.specs.Command.{found_in, is_taken, rpq_command}
-use Rattle.rpq_words.specs.Examples.{PathsExamples, SavedExamples, SettingsExamples, TwoWayExamples}
+use Rattle.rpq_words.specs.Examples.{JoinsExamples, PathsExamples, SavedExamples}
+use Rattle.rpq_words.specs.Examples.{SettingsExamples, TwoWayExamples}
 use Rattle.rpq_words.specs.Settings.{clash, number_from_one, optional_number, settings, settings_of}
 use Rattle.rpq_words.specs.Settings.{settled}
 
@@ -45,6 +46,19 @@ paths_examples = record {
   backwards = refl;
 }
 
+joins_examples : JoinsExamples
+unfolding clap_on_literals number_within found_in is_taken rpq_command clash number_from_one
+    optional_number settings settings_of settled
+joins_examples = record {
+  over_stream = refl;
+  all_files = refl;
+  checked = refl;
+  made = refl;
+  backwards = refl;
+  with_paths = refl;
+  twice = refl;
+}
+
 pub examples : SettingsExamples
 unfolding clap_on_literals number_within found_in is_taken rpq_command clash number_from_one
     optional_number settings settings_of settled
@@ -72,4 +86,5 @@ examples = record {
   windows = saved_examples;
   both_ways = two_way_examples;
   paths = paths_examples;
+  joins = joins_examples;
 }

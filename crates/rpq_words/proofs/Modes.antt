@@ -58,28 +58,33 @@ true_from : (b : Bool) → not b ≡ false → b ≡ true
 true_from true is = refl
 true_from false is = absurd cc
 
-reads_nothing : (given : Settings) (asks replies save from : Option Text) → given.asks ≡ asks →
-    given.replies ≡ replies → given.save ≡ save → given.from ≡ from →
-    given.paths ≡ false → is_one_alone asks replies ≡ false →
-    ((is_some asks || (is_some save || is_some from)) || not (is_empty given.streams)) ≡ false →
-    ReadsNothing given
-reads_nothing given None None None None no_asks no_replies no_save no_from no_paths alone is =
+none_is : {A : Type 0} (option : Option A) → is_some option ≡ false → option ≡ None
+none_is (Some x) is = absurd cc
+none_is None is = refl
+
+neither_of : (a b : Bool) → (a || b) ≡ false → (a ≡ false) × (b ≡ false)
+neither_of true b is = absurd cc
+neither_of false b is = (refl, is)
+
+names_none : (given : Settings) → names_file given ≡ false → NamesNoFile given
+names_none given is =
+    let asks = neither_of (is_some given.asks)
+    (is_some given.joins || (is_some given.save || is_some given.from)) is in
+    let joins = neither_of (is_some given.joins) (is_some given.save || is_some given.from)
+    asks.1 in
+    let saved = neither_of (is_some given.save) (is_some given.from) joins.1 in
     record {
-      no_stream = is_nil given.streams (true_from (is_empty given.streams) is);
-      no_asks = no_asks;
-      no_replies = no_replies;
-      no_save = no_save;
-      no_from = no_from;
-      no_paths = no_paths;
+      no_asks = none_is given.asks asks.0;
+      no_joins = none_is given.joins joins.0;
+      no_save = none_is given.save saved.0;
+      no_from = none_is given.from saved.1;
     }
-reads_nothing given (Some ask) replies save from no_asks no_replies no_save no_from no_paths alone
-    is = absurd cc
-reads_nothing given None (Some reply) save from no_asks no_replies no_save no_from no_paths alone
-    is = absurd cc
-reads_nothing given None None (Some file) from no_asks no_replies no_save no_from no_paths alone
-    is = absurd cc
-reads_nothing given None None None (Some file) no_asks no_replies no_save no_from no_paths alone
-    is = absurd cc
+
+no_reply : {A B : Type 0} (asks : Option A) (replies : Option B) → asks ≡ None →
+    is_one_alone asks replies ≡ false → replies ≡ None
+no_reply (Some ask) replies none is = absurd cc
+no_reply None (Some reply) none is = absurd cc
+no_reply None None none is = refl
 
 no_paths_from : (paths : Bool) → (paths && true) ≡ false → paths ≡ false
 no_paths_from true is = absurd cc
@@ -89,33 +94,33 @@ no_paths_from false is = refl
 nothing_from : (given : Settings) → is_one_alone given.asks given.replies ≡ false →
     (names_file given || not (is_empty given.streams)) ≡ false → (given.paths && true) ≡ false →
     ReadsNothing given
-nothing_from given alone reads paths = reads_nothing given given.asks given.replies given.save
-    given.from refl refl refl refl (no_paths_from given.paths paths) alone reads
-
-names_none : (given : Settings) (asks save from : Option Text) → given.asks ≡ asks →
-    given.save ≡ save → given.from ≡ from →
-    (is_some asks || (is_some save || is_some from)) ≡ false → NamesNoFile given
-names_none given None None None no_asks no_save no_from is = record {
-  no_asks = no_asks;
-  no_save = no_save;
-  no_from = no_from;
-}
-names_none given (Some ask) save from no_asks no_save no_from is = absurd cc
-names_none given None (Some file) from no_asks no_save no_from is = absurd cc
-names_none given None None (Some file) no_asks no_save no_from is = absurd cc
+nothing_from given alone reads paths =
+    let parts = neither_of (names_file given) (not (is_empty given.streams)) reads in
+    let none = names_none given parts.0 in
+    record {
+      no_stream = is_nil given.streams (true_from (is_empty given.streams) parts.1);
+      no_asks = none.no_asks;
+      no_replies = no_reply given.asks given.replies none.no_asks alone;
+      no_joins = none.no_joins;
+      no_save = none.no_save;
+      no_from = none.no_from;
+      no_paths = no_paths_from given.paths paths;
+    }
 
 -- where edges may be taken backwards
 both_ways_from : (given : Settings) (two_way : Bool) → (two_way && names_file given) ≡ false →
     two_way ≡ true → NamesNoFile given
-both_ways_from given true is backwards =
-    names_none given given.asks given.save given.from refl refl refl is
+both_ways_from given true is backwards = names_none given is
 both_ways_from given false is backwards = absurd cc
 
 -- where paths are written
-forwards_from : (paths two_way : Bool) → (paths && two_way) ≡ false → paths ≡ true →
-    two_way ≡ false
-forwards_from true two_way is written = is
-forwards_from false two_way is written = absurd cc
+forwards_from : {A : Type 0} (paths two_way : Bool) (joins : Option A) →
+    (paths && (two_way || is_some joins)) ≡ false → paths ≡ true →
+    (two_way ≡ false) × (joins ≡ None)
+forwards_from true two_way joins is written =
+    let parts = neither_of two_way (is_some joins) is in
+    (parts.0, none_is joins parts.1)
+forwards_from false two_way joins is written = absurd cc
 
 some_same : (x y : Text) → Some x ≡ Some y → x ≡ y
 some_same x y same = cc
@@ -149,7 +154,8 @@ mode_by : (given : Settings) (check : Bool) (generate : Option ℕ) → given.ch
     (not (check || is_some generate) && is_empty given.streams) ≡ false →
     nat_lt 64 (length given.streams) ≡ false → IfSome given.from (BeginsWith given) →
     (given.two_way ≡ true → NamesNoFile given) →
-    (given.paths && ((check || is_some generate) || given.two_way)) ≡ false → HasMode given
+    (given.paths && ((check || is_some generate) || (given.two_way || is_some given.joins)))
+    ≡ false → HasMode given
 mode_by given true (Some number) checked made alone one reads some few begun both_ways paths =
     absurd cc
 mode_by given true None checked made alone one reads some few begun both_ways paths =
@@ -172,7 +178,8 @@ mode_by given false None checked made alone one reads some few begun both_ways p
   paired = paired_from given.asks given.replies alone;
   begun = begun;
   both_ways = both_ways;
-  forwards = forwards_from given.paths given.two_way paths;
+  forwards = λ written. (forwards_from given.paths given.two_way given.joins paths written).0;
+  unjoined = λ written. (forwards_from given.paths given.two_way given.joins paths written).1;
 })
 
 mode_from : (given : Settings) → clash given ≡ false → HasMode given
@@ -181,7 +188,8 @@ mode_from given is =
     let parts = none_holds (is_one_alone given.asks given.replies)
     (given.check && is_some given.generate)
     (reads_none given && (names_file given || not (is_empty given.streams)))
-    (given.two_way && names_file given) (given.paths && (reads_none given || given.two_way))
+    (given.two_way && names_file given)
+    (given.paths && (reads_none given || (given.two_way || is_some given.joins)))
     (not (reads_none given) && is_empty given.streams) (nat_lt 64 (length given.streams))
     (is_some given.from && not (length given.streams == 1)) (is_same_file given.save given.from)
     is in
@@ -223,17 +231,20 @@ files_differ given (Some file) begun = not_same given.save file begun.another
 
 no_file : (given : Settings) → NamesNoFile given → names_file given ≡ false
 no_file given none = ap₂ (λ asks others. is_some asks || others) none.no_asks
-    (ap₂ (λ save from. is_some save || is_some from) none.no_save none.no_from)
+    (ap₂ (λ joins others. is_some joins || others) none.no_joins
+    (ap₂ (λ save from. is_some save || is_some from) none.no_save none.no_from))
 
 both_ways_agree : (given : Settings) (two_way : Bool) → (two_way ≡ true → NamesNoFile given) →
     (two_way && names_file given) ≡ false
 both_ways_agree given true both_ways = no_file given (both_ways refl)
 both_ways_agree given false both_ways = refl
 
-forwards_agree : (paths two_way : Bool) → (paths ≡ true → two_way ≡ false) →
-    (paths && two_way) ≡ false
-forwards_agree true two_way forwards = forwards refl
-forwards_agree false two_way forwards = refl
+forwards_agree : {A : Type 0} (paths two_way : Bool) (joins : Option A) →
+    (paths ≡ true → two_way ≡ false) → (paths ≡ true → joins ≡ None) →
+    (paths && (two_way || is_some joins)) ≡ false
+forwards_agree true two_way joins forwards unjoined =
+    neither two_way (is_some joins) (forwards refl) (ap is_some (unjoined refl))
+forwards_agree false two_way joins forwards unjoined = refl
 
 streams_agree : (given : Settings) → ReadsStreams given → clash given ≡ false
 unfolding clash
@@ -243,8 +254,10 @@ streams_agree given reads = none_of _ _ _ _ _ _ _ _ _
     (ap₂ (λ check generate. (check || is_some generate)
     && (names_file given || not (is_empty given.streams))) reads.unchecked reads.none_made)
     (both_ways_agree given given.two_way reads.both_ways)
-    (ap₂ (λ check generate. given.paths && ((check || is_some generate) || given.two_way))
-    reads.unchecked reads.none_made ∙ forwards_agree given.paths given.two_way reads.forwards)
+    (ap₂ (λ check generate. given.paths
+    && ((check || is_some generate) || (given.two_way || is_some given.joins)))
+    reads.unchecked reads.none_made
+    ∙ forwards_agree given.paths given.two_way given.joins reads.forwards reads.unjoined)
     (ap₂ (λ check generate. not (check || is_some generate) && is_empty given.streams)
     reads.unchecked reads.none_made ∙ not_empty given.streams reads.some)
     (le-ltb 64 (length given.streams) reads.few)
@@ -254,6 +267,7 @@ streams_agree given reads = none_of _ _ _ _ _ _ _ _ _
 alone_names_none : (given : Settings) → ReadsNothing given → NamesNoFile given
 alone_names_none given alone = record {
   no_asks = alone.no_asks;
+  no_joins = alone.no_joins;
   no_save = alone.no_save;
   no_from = alone.no_from;
 }
@@ -269,7 +283,8 @@ alone_agrees given alone one none = none_of _ _ _ _ _ _ _ _ _
     (ap₂ (λ named streams. named || not (is_empty streams))
     (no_file given (alone_names_none given alone)) alone.no_stream))
     (both_ways_agree given given.two_way (λ backwards. alone_names_none given alone))
-    (ap (λ paths. paths && (reads_none given || given.two_way)) alone.no_paths)
+    (ap (λ paths. paths && (reads_none given || (given.two_way || is_some given.joins)))
+    alone.no_paths)
     (ap (λ reads. not reads && is_empty given.streams) none)
     (ap (λ streams. nat_lt 64 (length streams)) alone.no_stream)
     (ap (λ from. is_some from && not (length given.streams == 1)) alone.no_from)
@@ -303,7 +318,8 @@ within_most : (most : ℕ) (text : Text) (number : ℕ) → number_within most t
     number ≤ most
 unfolding number_within
 within_most most text number is =
-    let read = guarded (is_digit_text text && nat_le (number_of text) most) (number_of text) number is in
+    let read = guarded (is_digit_text text && nat_le (number_of text) most) (number_of text) number
+    is in
     let few = leb-true (number_of text) most
     (both (is_digit_text text) (nat_le (number_of text) most) read.0).1 in
     subst (λ x. x ≤ most) read.1 few
@@ -345,8 +361,8 @@ optional_in_range most None (Some number) is = absurd cc
 module _ (make : ℕ → ℕ → Option ℕ → Text → Settings) where
   made_by : (workers history : Option ℕ) (generate : Option (Option ℕ)) (queries : Option Text)
       (given : Settings) →
-      (workers >>= λ w. (history >>= λ h. (generate >>= λ g. (queries >>= λ q. Some (make w h g q)))))
-      ≡ Some given →
+      (workers >>= λ w. (history >>= λ h. (generate >>= λ g.
+      (queries >>= λ q. Some (make w h g q))))) ≡ Some given →
       (w : ℕ) × (h : ℕ) × (g : Option ℕ) × (q : Text) × (workers ≡ Some w) × (history ≡ Some h)
       × (generate ≡ Some g) × (make w h g q ≡ given)
   made_by (Some w) (Some h) (Some g) (Some q) given is = (w, h, g, q, refl, refl, refl, cc)
@@ -367,6 +383,7 @@ are_settings rows given is mode =
       generate = generate;
       two_way = has_flag (codes "two-way") rows;
       paths = has_flag (codes "paths") rows;
+      joins = first_of (codes "joins") rows;
       asks = first_of (codes "asks") rows;
       replies = first_of (codes "replies") rows;
       save = first_of (codes "save") rows;
@@ -393,7 +410,8 @@ false_from : (b : Bool) → not b ≡ true → b ≡ false
 false_from false is = refl
 false_from true is = absurd cc
 
-pub settled_are : (rows : List Row) (given : Settings) → settled rows ≡ Some given → AreSettings given
+pub settled_are : (rows : List Row) (given : Settings) → settled rows ≡ Some given →
+    AreSettings given
 unfolding settled
 settled_are rows given is =
     let read = bound (settings_of rows) (only_if (λ s. not (clash s))) given is in

@@ -24,7 +24,8 @@ pub taken_from : (command : App) (words : List Text) → command ≡ rpq_command
 unfolding is_taken
 taken_from command words same none =
     ap is_empty
-    (ap (λ app. fault_of app words) (sym same) ∙ none (ap is_simple_and_free same ∙ command_is_free))
+    (ap (λ app. fault_of app words) (sym same)
+    ∙ none (ap is_simple_and_free same ∙ command_is_free))
 
 some_kind : (kinds : Kinds) (error : Error) → HasKind kinds error →
     (kind_of error ≡ OutOfMemory → ⊥) → is_empty kinds ≡ false

@@ -26,7 +26,7 @@ one_word name = record (new_rule name) { action = Some Set; required = true }
 abbrev pub any_words : Text → Rule
 any_words name = record (new_rule name) { action = Some Append }
 
--- seven options, three flags, the word for the queries file, and the words for the streams
+-- eight options, three flags, the word for the queries file, and the words for the streams
 abbrev pub rules : List Rule
 rules =
     option_or (codes "workers") (codes "4")
@@ -37,6 +37,7 @@ rules =
     ∷ option_with_value (codes "generate")
     ∷ flag (codes "two-way")
     ∷ flag (codes "paths")
+    ∷ option_with_value (codes "joins")
     ∷ option_with_value (codes "save")
     ∷ option_with_value (codes "from")
     ∷ one_word (codes "queries")

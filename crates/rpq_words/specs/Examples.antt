@@ -12,6 +12,7 @@ plain streams = record {
   generate = None;
   two_way = false;
   paths = false;
+  joins = None;
   asks = None;
   replies = None;
   save = None;
@@ -48,8 +49,8 @@ pub record SavedExamples : Type 0 where
   pub made : settings (codes "rpq" ∷ codes "--generate" ∷ codes "3" ∷ codes "--from" ∷ codes "f"
       ∷ codes "q" ∷ []) ≡ None
 
--- Edges taken backwards in a run over a stream, in a check, and over generated tuples. Refused: with
--- asks and replies; with a file to save to; with one to begin with; and the flag given twice.
+-- Edges taken backwards in a run over a stream, in a check, and over generated tuples. Refused:
+-- with asks and replies; with a file to save to; with one to begin with; and the flag given twice.
 pub record TwoWayExamples : Type 0 where
   pub over_stream : settings (codes "rpq" ∷ codes "--two-way" ∷ codes "q" ∷ codes "t" ∷ [])
       ≡ Some (record (plain (codes "t" ∷ [])) { two_way = true })
@@ -77,12 +78,40 @@ pub record PathsExamples : Type 0 where
   pub backwards : settings (codes "rpq" ∷ codes "--two-way" ∷ codes "--paths" ∷ codes "q"
       ∷ codes "t" ∷ []) ≡ None
 
+-- Conjunctions in a run over a stream; and with asks and replies, a file to save to, and one to
+-- begin with. Refused: in a check; over generated tuples; with edges taken backwards; with paths;
+-- and the option given twice.
+pub record JoinsExamples : Type 0 where
+  pub over_stream : settings (codes "rpq" ∷ codes "--joins" ∷ codes "j" ∷ codes "q" ∷ codes "t"
+      ∷ [])
+      ≡ Some (record (plain (codes "t" ∷ [])) { joins = Some (codes "j") })
+  pub all_files : settings (codes "rpq" ∷ codes "--joins=j" ∷ codes "--asks=a"
+      ∷ codes "--replies=r" ∷ codes "--save=s" ∷ codes "--from=f" ∷ codes "q" ∷ codes "t" ∷ [])
+      ≡ Some (record (plain (codes "t" ∷ [])) {
+        joins = Some (codes "j");
+        asks = Some (codes "a");
+        replies = Some (codes "r");
+        save = Some (codes "s");
+        from = Some (codes "f");
+      })
+  pub checked : settings (codes "rpq" ∷ codes "--check" ∷ codes "--joins=j" ∷ codes "q" ∷ [])
+      ≡ None
+  pub made : settings (codes "rpq" ∷ codes "--generate=5" ∷ codes "--joins=j" ∷ codes "q" ∷ [])
+      ≡ None
+  pub backwards : settings (codes "rpq" ∷ codes "--two-way" ∷ codes "--joins=j" ∷ codes "q"
+      ∷ codes "t" ∷ []) ≡ None
+  pub with_paths : settings (codes "rpq" ∷ codes "--paths" ∷ codes "--joins=j" ∷ codes "q"
+      ∷ codes "t" ∷ []) ≡ None
+  pub twice : settings (codes "rpq" ∷ codes "--joins=j" ∷ codes "--joins=k" ∷ codes "q"
+      ∷ codes "t" ∷ []) ≡ None
+
 -- The defaults. An option between streams, and zeros in front of its number. Values that begin with
 -- `-` or are empty behind `=`, and words behind `--`. A check; generated tuples. The greatest
 -- numbers. Refused: too many tuples to generate; no stream; no queries; a number above its range,
 -- below it, or with a sign; a flag given twice; asks without replies; a check with generated
 -- tuples, or with a stream; a value that begins with `-`; a name cut short; and `--help`.
--- And the examples of files to save to and to begin with, of edges taken backwards, and of paths.
+-- And the examples of files to save to and to begin with, of edges taken backwards, of paths, and
+-- of conjunctions.
 pub record SettingsExamples : Type 0 where
   pub defaults : settings (codes "rpq" ∷ codes "q" ∷ codes "s" ∷ [])
       ≡ Some (plain (codes "s" ∷ []))
@@ -120,3 +149,4 @@ pub record SettingsExamples : Type 0 where
   pub windows : SavedExamples
   pub both_ways : TwoWayExamples
   pub paths : PathsExamples
+  pub joins : JoinsExamples

@@ -9,14 +9,16 @@ pub record BeginsWith (given : Settings) (file : Text) : Type 0 where
   pub one_stream : length given.streams ≡ 1
   pub another : given.save ≢ Some file
 
--- nothing is asked, and nothing is saved or taken from an earlier run
+-- nothing is asked, there are no conjunctions, and nothing is saved or taken from an earlier run
 pub record NamesNoFile (given : Settings) : Type 0 where
   pub no_asks : given.asks ≡ None
+  pub no_joins : given.joins ≡ None
   pub no_save : given.save ≡ None
   pub no_from : given.from ≡ None
 
 -- some streams are read, 64 at most; asks and replies stand together; where edges may be taken
--- backwards, no such file is named; where paths are written, edges are taken forwards alone
+-- backwards, no such file is named; where paths are written, edges are taken forwards alone, and
+-- there are no conjunctions
 pub record ReadsStreams (given : Settings) : Type 0 where
   pub unchecked : given.check ≡ false
   pub none_made : given.generate ≡ None
@@ -26,13 +28,15 @@ pub record ReadsStreams (given : Settings) : Type 0 where
   pub begun : IfSome given.from (BeginsWith given)
   pub both_ways : given.two_way ≡ true → NamesNoFile given
   pub forwards : given.paths ≡ true → given.two_way ≡ false
+  pub unjoined : given.paths ≡ true → given.joins ≡ None
 
--- no stream is read, nothing is asked, nothing is saved or taken from an earlier run, and no path
--- is written
+-- no stream is read, nothing is asked, there are no conjunctions, nothing is saved or taken from an
+-- earlier run, and no path is written
 pub record ReadsNothing (given : Settings) : Type 0 where
   pub no_stream : given.streams ≡ []
   pub no_asks : given.asks ≡ None
   pub no_replies : given.replies ≡ None
+  pub no_joins : given.joins ≡ None
   pub no_save : given.save ≡ None
   pub no_from : given.from ≡ None
   pub no_paths : given.paths ≡ false

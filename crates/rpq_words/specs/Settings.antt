@@ -15,8 +15,9 @@ texts words = map (λ word. string_bytes word) words
 
 -- the numbers of workers and of entries in the history; whether the queries are to be checked
 -- alone; how many tuples are to be generated; whether expressions may take edges backwards; whether
--- a path that shows it is written behind each gained pair; and the names of the files, of which the
--- run saves to `save` what a later run needs, and begins with what an earlier one saved in `from`
+-- a path that shows it is written behind each gained pair; and the names of the files. The
+-- bindings of the conjunctions in `joins` are told. The run saves to `save` what a later run needs,
+-- and begins with what an earlier one saved in `from`
 pub record Settings : Type 0 where
   pub workers : ℕ
   pub history : ℕ
@@ -24,6 +25,7 @@ pub record Settings : Type 0 where
   pub generate : Option ℕ
   pub two_way : Bool
   pub paths : Bool
+  pub joins : Option Text
   pub asks : Option Text
   pub replies : Option Text
   pub save : Option Text
@@ -67,6 +69,7 @@ settings_of rows =
       generate = generate;
       two_way = has_flag (codes "two-way") rows;
       paths = has_flag (codes "paths") rows;
+      joins = first_of (codes "joins") rows;
       asks = first_of (codes "asks") rows;
       replies = first_of (codes "replies") rows;
       save = first_of (codes "save") rows;
@@ -87,11 +90,15 @@ is_one_alone _ _ = false
 
 -- a file is named that only a run over streams has; it can't stand with edges taken backwards
 abbrev pub names_file : Settings → Bool
-names_file settings = is_some settings.asks || (is_some settings.save || is_some settings.from)
+names_file settings =
+    is_some settings.asks
+    || (is_some settings.joins || (is_some settings.save || is_some settings.from))
 
--- paths are written, but no stream is read, or edges may be taken backwards
+-- paths are written, but no stream is read, edges may be taken backwards, or there is a file of
+-- conjunctions
 abbrev pub paths_clash : Settings → Bool
-paths_clash settings = settings.paths && (reads_none settings || settings.two_way)
+paths_clash settings =
+    settings.paths && (reads_none settings || (settings.two_way || is_some settings.joins))
 
 -- both are there, and are the same text
 abbrev pub is_same_file : Option Text → Option Text → Bool
@@ -112,11 +119,11 @@ streams_clash settings =
     || (nat_lt 64 (length settings.streams) || from_clashes settings)
 
 -- what can't stand together does: one of the asks and the replies without the other; a check and
--- generated tuples; one of these and asks, a file to save to or to begin with, or a stream; edges
--- taken backwards and asks, or a file to save to or to begin with; paths and a check, generated
--- tuples, or edges taken backwards; neither a check nor generated tuples, and no stream; more
--- streams than are taken; or a file to begin with and not exactly one stream, or the same file to
--- save to
+-- generated tuples; one of these and asks, conjunctions, a file to save to or to begin with, or a
+-- stream; edges taken backwards and asks, conjunctions, or a file to save to or to begin with;
+-- paths and a check, generated tuples, edges taken backwards, or conjunctions; neither a check nor
+-- generated tuples, and no stream; more streams than are taken; or a file to begin with and not
+-- exactly one stream, or the same file to save to
 unfoldable pub clash : Settings → Bool
 clash settings =
     is_one_alone settings.asks settings.replies

@@ -5,4 +5,5 @@ use Rattle.std.specs.Prelude.{ℕ, List, ◌++◌, codes}
 abbrev pub usage : List ℕ
 usage =
     codes "usage: rpq [--workers N] [--history N] [--asks FILE --replies FILE] [--check] "
-    ++ codes "[--generate N] [--two-way] [--paths] [--save FILE] [--from FILE] QUERIES [STREAM...]"
+    ++ codes "[--generate N] [--two-way] [--paths] [--joins FILE] [--save FILE] [--from FILE] "
+    ++ codes "QUERIES [STREAM...]"

@@ -25,6 +25,8 @@ pub struct Chosen {
     pub two_way: bool,
     /// Whether a path is written behind each gained pair that shows it.
     pub paths: bool,
+    /// The file of the conjunctions over the queries, whose bindings are told.
+    pub joins: Option<FileWord>,
     /// The file of the asks, which stands there exactly where `replies` does.
     pub asks: Option<FileWord>,
     /// The file that the replies are written to.
@@ -51,6 +53,7 @@ impl Model for Chosen {
       generate = chosen.generate;
       two_way = chosen.two_way;
       paths = chosen.paths;
+      joins = chosen.joins;
       asks = chosen.asks;
       replies = chosen.replies;
       save = chosen.save;
@@ -86,14 +89,15 @@ impl Chosen {
     fn names_file(&self) -> bool
         ensures { result ≡ names_file self.now }
     {
-        self.asks.is_some() || self.save.is_some() || self.from.is_some()
+        self.asks.is_some() || self.joins.is_some() || self.save.is_some() || self.from.is_some()
     }
 
-    /// Whether paths are written where no stream is read, or edges may be taken backwards.
+    /// Whether paths are written where no stream is read, edges may be taken backwards, or there is
+    /// a file of conjunctions.
     fn paths_clash(&self) -> bool
         ensures { result ≡ paths_clash self.now }
     {
-        self.paths && (self.reads_none() || self.two_way)
+        self.paths && (self.reads_none() || self.two_way || self.joins.is_some())
     }
 
     /// Whether no stream stands there where some are to be read, or more than are taken, or a file

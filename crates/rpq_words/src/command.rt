@@ -22,6 +22,7 @@ pub(crate) fn command<'a>(alloc: Global) -> Result<Command<'a>, AllocError>
         .arg(option_with_value(alloc, "generate"))?
         .arg(flag(alloc, "two-way"))?
         .arg(flag(alloc, "paths"))?
+        .arg(option_with_value(alloc, "joins"))?
         .arg(option_with_value(alloc, "save"))?
         .arg(option_with_value(alloc, "from"))?
         .arg(one_word(alloc, "queries"))?

@@ -1,10 +1,11 @@
 //! The words of a command line and the settings that they are.
 //!
 //! The command is `rpq [--workers N] [--history N] [--asks FILE --replies FILE] [--check]
-//! [--generate N] [--two-way] [--paths] [--save FILE] [--from FILE] QUERIES [STREAM...]`, read by
-//! `clap` as one simple command. The contract for the layer above: [`read_words`] answers the
-//! settings of the words, as `specs/Settings` defines them by clap's own definition of such a
-//! command and the table of the ranges, or that the words have none, unless memory runs out.
+//! [--generate N] [--two-way] [--paths] [--joins FILE] [--save FILE] [--from FILE] QUERIES
+//! [STREAM...]`, read by `clap` as one simple command. The contract for the layer above:
+//! [`read_words`] answers the settings of the words, as `specs/Settings` defines them by clap's own
+//! definition of such a command and the table of the ranges, or that the words have none, unless
+//! memory runs out.
 //!
 //! A word that names a file is copied once; the rest of the cost is clap's. The laws say which
 //! settings can stand together once more, by the three things that a run may be, and give some

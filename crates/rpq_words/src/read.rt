@@ -106,6 +106,7 @@ fn read_choices(alloc: Global, matches: &ArgMatches<'_>) -> Result<Chosen, Words
         generate,
         two_way: has_flag(matches, "two-way"),
         paths: has_flag(matches, "paths"),
+        joins: optional_file_word(alloc, first_of(matches, "joins"))?,
         asks: optional_file_word(alloc, first_of(matches, "asks"))?,
         replies: optional_file_word(alloc, first_of(matches, "replies"))?,
         save: optional_file_word(alloc, first_of(matches, "save"))?,

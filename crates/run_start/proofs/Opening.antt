@@ -8,23 +8,26 @@ use Rattle.std.proofs.lemmas.Option.{get_or_from_slice_get, slice_get_within}
 use Rattle.std.proofs.Math.Seq.{take-suc}
 use Rattle.rpq_io.specs.Counts.{CountsFault, CountsOpening, Rose}
 use Rattle.rpq_io.specs.Reader.{ReaderState}
+use Rattle.rpq_model.specs.Query.{Query}
 use Rattle.rpq_words.specs.Settings.{Settings}
 use Rattle.stream_tuples.specs.History.{IsPrefix}
 use Rattle.rpq_text.specs.declared.ends.Which.{Which}
-use Rattle.rpq_text.specs.declared.ends.Which.TheVariants.{Queries, Asks, From, Stream}
-use Rattle.rpq_text.specs.declared.ends.Which.TheVariants.{Replies, Save}
+use Rattle.rpq_text.specs.declared.ends.Which.TheVariants.{Queries, Joins, Asks, From}
+use Rattle.rpq_text.specs.declared.ends.Which.TheVariants.{Stream, Replies, Save}
 use Rattle.rpq_text.specs.declared.ends.StartFault.{StartFault}
 use Rattle.rpq_text.specs.declared.ends.StartFault.TheVariants.{Words, Queries as QueriesFault}
+use Rattle.rpq_text.specs.declared.ends.StartFault.TheVariants.{Joins as JoinsFault}
 use Rattle.rpq_text.specs.declared.ends.StartFault.TheVariants.{Asks as AsksFault, Open, Read, Long}
 use Rattle.rpq_text.specs.declared.ends.StartFault.TheVariants.{Memory}
 use Rattle.saved_window.specs.Then.{join_known}
 use Rattle.run_start.specs.Files.{stream_contents, with_first}
-use Rattle.run_start.specs.Given.{file_names, first_names, names_before, names_up_to, whole_names}
+use Rattle.run_start.specs.Given.{file_names, first_names, names_before, names_up_to}
+use Rattle.run_start.specs.Given.{understood_names, whole_names}
 use Rattle.run_start.specs.Start.{AreOpened, IsOpeningOf}
 use Rattle.run_start.specs.Steps.{AreNamesOfFile, AreOpenedBehind, IsFaultOfFile, OpensFile, UsesMore}
-use Rattle.run_start.specs.Steps.{IsRefusalOfOpening}
+use Rattle.run_start.specs.Steps.{IsFaultOfAsks, IsRefusalOfOpening}
 use Rattle.run_start.specs.declared.refusal.Refusal.{Refusal}
-use Rattle.run_start.proofs.Using.{IsToRead, one_by_one, only_reads}
+use Rattle.run_start.proofs.Using.{IsToRead, one_by_one, only_reads, then_refused}
 
 -- the file of this name is opened as this one, behind these
 pub record IsPlace (given : Settings) (which : Which) (before : List (List ℕ)) (name : List ℕ) : Type 0 where
@@ -36,6 +39,11 @@ pub record IsPlace (given : Settings) (which : Which) (before : List (List ℕ))
   pub no_replies : which ≢ Replies
   pub no_save : which ≢ Save
 
+-- the names of all files that are read behind that of the queries
+abbrev behind_queries : Settings → List (List ℕ)
+behind_queries given = ((option_to_list given.joins ++ option_to_list given.asks)
+    ++ option_to_list given.from) ++ given.streams
+
 -- the queries file
 pub queries_place : (given : Settings) (name : List ℕ) → name ≡ given.queries
     → IsPlace given Queries [] name
@@ -43,9 +51,8 @@ queries_place given name is = record {
   behind = refl;
   up_to = ap (λ (n : List ℕ). n ∷ []) (sym is);
   front = record {
-    rest = (option_to_list given.asks ++ option_to_list given.from) ++ given.streams;
-    cut = ap (λ (n : List ℕ). n ∷ ((option_to_list given.asks ++ option_to_list given.from) ++ given.streams))
-        (sym is);
+    rest = behind_queries given;
+    cut = ap (λ (n : List ℕ). n ∷ behind_queries given) (sym is);
   };
   named = λ any opening. opening ∙ sym is;
   names = is;
@@ -53,17 +60,42 @@ queries_place given name is = record {
   no_save = λ other. cc other;
 }
 
--- the asks file
-pub asks_place : (given : Settings) (name : List ℕ) → given.asks ≡ Some name
-    → IsPlace given Asks (given.queries ∷ []) name
-asks_place given name is =
+-- the joins file
+pub joins_place : (given : Settings) (name : List ℕ) → given.joins ≡ Some name
+    → IsPlace given Joins (given.queries ∷ []) name
+joins_place given name is =
     let only = ap (λ (a : Option (List ℕ)). option_to_list a) is in
     record {
       behind = refl;
       up_to = ap (λ (ns : List (List ℕ)). given.queries ∷ ns) only;
       front = record {
+        rest = (option_to_list given.asks ++ option_to_list given.from) ++ given.streams;
+        cut = ap (λ (ns : List (List ℕ)). given.queries ∷ (((ns ++ option_to_list given.asks)
+            ++ option_to_list given.from) ++ given.streams)) only;
+      };
+      named = λ any opening.
+          let found : ◌≡◌ {A = Option (List ℕ)} (Some any) (Some name) = sym opening ∙ is in
+          cc found;
+      names = is;
+      no_replies = λ other. cc other;
+      no_save = λ other. cc other;
+    }
+
+-- the asks file
+pub asks_place : (given : Settings) (name : List ℕ) → given.asks ≡ Some name
+    → IsPlace given Asks (understood_names given) name
+asks_place given name is =
+    let only = ap (λ (a : Option (List ℕ)). option_to_list a) is in
+    let front = option_to_list given.joins ++ name ∷ [] in
+    record {
+      behind = refl;
+      up_to = ap (λ (ns : List (List ℕ)). understood_names given ++ ns) only;
+      front = record {
         rest = option_to_list given.from ++ given.streams;
-        cut = ap (λ (ns : List (List ℕ)). given.queries ∷ ((ns ++ option_to_list given.from) ++ given.streams)) only;
+        cut = ap (λ (ns : List (List ℕ)). given.queries ∷ (((option_to_list given.joins ++ ns)
+            ++ option_to_list given.from) ++ given.streams)) only
+            ∙ ap (λ (ns : List (List ℕ)). given.queries ∷ ns)
+            (append_assoc front (option_to_list given.from) given.streams);
       };
       named = λ any opening.
           let found : ◌≡◌ {A = Option (List ℕ)} (Some any) (Some name) = sym opening ∙ is in
@@ -133,6 +165,7 @@ other_than : (which other : Which) (file : Option (List ℕ)) (fault : StartFaul
     → IsFaultOfFile which file fault → fault ≢ Open other
 other_than which other file Words apart is opens = is
 other_than which other file (QueriesFault fault) apart is opens = is
+other_than which other file (JoinsFault fault) apart is opens = is
 other_than which other file (AsksFault fault) apart is opens = is
 other_than which other file (Open one) apart is opens =
     let same : one ≡ other = cc opens in
@@ -148,6 +181,7 @@ is_opening : (given : Settings) (which : Which) (before : List (List ℕ)) (name
     → (fault ≡ Open which) × (any ≡ name)
 is_opening given which before name file Words at is any opening = absurd opening
 is_opening given which before name file (QueriesFault fault) at is any opening = absurd opening
+is_opening given which before name file (JoinsFault fault) at is any opening = absurd opening
 is_opening given which before name file (AsksFault fault) at is any opening = absurd opening
 is_opening given which before name file (Open one) at is any opening =
     let same : Open one ≡ Open which = ap (λ w. Open w) is in
@@ -163,6 +197,7 @@ opened_to : (given : Settings) (which : Which) (before : List (List ℕ)) (name 
     → AreOpened given (Some fault) (before ++ names)
 opened_to given which before name file Words names at is are = absurd is
 opened_to given which before name file (QueriesFault fault) names at is are = absurd is
+opened_to given which before name file (JoinsFault fault) names at is are = absurd is
 opened_to given which before name file (AsksFault fault) names at is are = absurd is
 opened_to given which before name file (Open one) names at is are =
     ap (λ (ns : List (List ℕ)). before ++ ns) are ∙ (append-nil before
@@ -186,6 +221,7 @@ quietly : (given : Settings) (which : Which) (before : List (List ℕ)) (name : 
     → (any : List ℕ) → (IsOpeningOf given any fault → ⊥) → new any ≡ old any
 quietly given which before name file Words old new at is counts any none = absurd is
 quietly given which before name file (QueriesFault fault) old new at is counts any none = absurd is
+quietly given which before name file (JoinsFault fault) old new at is counts any none = absurd is
 quietly given which before name file (AsksFault fault) old new at is counts any none = absurd is
 quietly given which before name file (Open one) old new at is counts any none =
     let opening : IsOpeningOf given name (Open one) =
@@ -261,6 +297,43 @@ from_opened {F} {holds} {opened} {made} {unread} {unmade} given name start old n
     subst (λ (ns : List (List ℕ)). UsesMore holds opened made unread unmade given (whole_names given) ns [] start old new)
     (sym (ap (λ (o : Option (List ℕ)). option_to_list o) named))
     (uses_file given From (whole_names given) name None start old new (from_place given name named) cause opens)
+
+-- the asks file was read whole and taken, or not for a fault of its bytes
+pub uses_asks : {F : Type 0} {holds : F → List ℕ → Option (List ℕ)}
+    {opened made : F → List (List ℕ)} {unread unmade : F → List ℕ → ℕ} (given : Settings)
+    (name : List ℕ) (queries : List Query) (bytes : List ℕ) (start : Option StartFault) (old new : F)
+    → given.asks ≡ Some name
+    → IfSome start (IsFaultOfAsks queries bytes)
+    → OpensFile holds opened made unread unmade Asks name None old new
+    → UsesMore holds opened made unread unmade given (understood_names given)
+    (option_to_list given.asks) [] start old new
+uses_asks {F} {holds} {opened} {made} {unread} {unmade} given name queries bytes start old new is
+    cause opens =
+    by start cause
+  where
+    taken : UsesMore holds opened made unread unmade given (understood_names given) (name ∷ []) []
+        None old new
+    taken = uses_file given Asks (understood_names given) name None None old new
+        (asks_place given name is) tt opens
+
+    only : name ∷ [] ≡ option_to_list given.asks
+    only = ap (λ (a : Option (List ℕ)). option_to_list a) (sym is)
+
+    by : (s : Option StartFault) → IfSome s (IsFaultOfAsks queries bytes)
+        → UsesMore holds opened made unread unmade given (understood_names given)
+        (option_to_list given.asks) [] s old new
+    by None cause = subst (λ (ns : List (List ℕ)). UsesMore holds opened made unread unmade given
+        (understood_names given) ns [] None old new) only taken
+    by (Some Words) cause = absurd cause
+    by (Some (QueriesFault fault)) cause = absurd cause
+    by (Some (JoinsFault fault)) cause = absurd cause
+    by (Some (AsksFault fault)) cause = then_refused (option_to_list given.asks) (AsksFault fault)
+        tt (ap (λ (ns : List (List ℕ)). understood_names given ++ ns) only) taken
+    by (Some (Open which)) cause = absurd cause
+    by (Some (Read which)) cause = absurd cause
+    by (Some (Long which)) cause = absurd cause
+    by (Some Memory) cause = then_refused (option_to_list given.asks) Memory tt
+        (asks_place given name is).front taken
 
 -- one stream more was opened, or not, behind those before it
 pub uses_stream : {F : Type 0} {holds : F → List ℕ → Option (List ℕ)} {opened made : F → List (List ℕ)}

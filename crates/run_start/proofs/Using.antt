@@ -6,17 +6,20 @@ use Rattle.std.specs.Result.{IsErrAnd}
 use Rattle.rpq_io.specs.Counts.{CountsFault}
 use Rattle.rpq_io.specs.Files.{KeepsFiles}
 use Rattle.rpq_model.specs.Query.{Query}
+use Rattle.conj_query.specs.Joins.{JoinValue}
 use Rattle.ask_text.specs.declared.ask.Ask.{Ask}
 use Rattle.rpq_words.specs.Settings.{Settings}
 use Rattle.rpq_text.specs.declared.ends.Which.{Which}
-use Rattle.rpq_text.specs.declared.ends.Which.TheVariants.{Queries, Asks, From, Stream}
-use Rattle.rpq_text.specs.declared.ends.Which.TheVariants.{Replies, Save}
+use Rattle.rpq_text.specs.declared.ends.Which.TheVariants.{Queries, Joins, Asks, From}
+use Rattle.rpq_text.specs.declared.ends.Which.TheVariants.{Stream, Replies, Save}
 use Rattle.rpq_text.specs.declared.ends.StartFault.{StartFault}
 use Rattle.rpq_text.specs.declared.ends.StartFault.TheVariants.{Words, Queries as QueriesFault}
+use Rattle.rpq_text.specs.declared.ends.StartFault.TheVariants.{Joins as JoinsFault}
 use Rattle.rpq_text.specs.declared.ends.StartFault.TheVariants.{Asks as AsksFault, Open, Read, Long}
 use Rattle.rpq_text.specs.declared.ends.StartFault.TheVariants.{Memory}
-use Rattle.run_start.specs.Files.{AreUnderstoodFiles, ForQueries, ForSessions, HasQueries, HasSessions}
-use Rattle.run_start.specs.Given.{file_names, sink_names}
+use Rattle.run_start.specs.Files.{AreUnderstoodFiles, AreUnderstoodJoins, ForJoins, ForQueries}
+use Rattle.run_start.specs.Files.{ForSessions, HasJoins, HasQueries, HasSessions}
+use Rattle.run_start.specs.Given.{file_names, later_names, sink_names}
 use Rattle.run_start.specs.Ready.{fault_of}
 use Rattle.run_start.specs.Start.{AreMade, AreOpened, AreSourcesOf, IsMakingOf, IsOpeningOf, IsRefusedFor, Opens}
 use Rattle.run_start.specs.Start.{UsesFiles, file_held}
@@ -32,8 +35,10 @@ pub record IsToRead (fault : StartFault) : Type 0 where
 none_made : (given : Settings) (fault : StartFault) → IsToRead fault → AreMade given (Some fault) []
 none_made given Words reads = refl
 none_made given (QueriesFault fault) reads = refl
+none_made given (JoinsFault fault) reads = refl
 none_made given (AsksFault fault) reads = refl
 none_made given (Open Queries) reads = refl
+none_made given (Open Joins) reads = refl
 none_made given (Open Asks) reads = refl
 none_made given (Open From) reads = refl
 none_made given (Open (Stream number)) reads = refl
@@ -53,8 +58,10 @@ no_making : (given : Settings) (name : List ℕ) (fault : StartFault) → IsToRe
     → IsMakingOf given name fault → ⊥
 no_making given name Words other making = making
 no_making given name (QueriesFault fault) other making = making
+no_making given name (JoinsFault fault) other making = making
 no_making given name (AsksFault fault) other making = making
 no_making given name (Open Queries) other making = making
+no_making given name (Open Joins) other making = making
 no_making given name (Open Asks) other making = making
 no_making given name (Open From) other making = making
 no_making given name (Open (Stream number)) other making = making
@@ -150,6 +157,7 @@ one_by_one {F} {holds} {opened} {made} {unread} {unmade} {given} {before} {own} 
 abbrev pub IsFoundLater : StartFault → Type 0
 IsFoundLater Words = ⊥
 IsFoundLater (QueriesFault fault) = Unit {0}
+IsFoundLater (JoinsFault fault) = Unit {0}
 IsFoundLater (AsksFault fault) = Unit {0}
 IsFoundLater (Open which) = ⊥
 IsFoundLater (Read which) = ⊥
@@ -198,6 +206,7 @@ then_refused {F} {holds} {opened} {made} {unread} {unmade} {given} {before} {own
     no_opening : (f : StartFault) → IsFoundLater f → (name : List ℕ) → IsOpeningOf given name f → ⊥
     no_opening Words is name opening = opening
     no_opening (QueriesFault fault) is name opening = opening
+    no_opening (JoinsFault fault) is name opening = opening
     no_opening (AsksFault fault) is name opening = opening
     no_opening (Open which) is name opening = is
     no_opening (Read which) is name opening = opening
@@ -207,6 +216,7 @@ then_refused {F} {holds} {opened} {made} {unread} {unmade} {given} {before} {own
     none_later : (f : StartFault) → IsFoundLater f → (name : List ℕ) → IsMakingOf given name f → ⊥
     none_later Words is name making = making
     none_later (QueriesFault fault) is name making = making
+    none_later (JoinsFault fault) is name making = making
     none_later (AsksFault fault) is name making = making
     none_later (Open which) is name making = is
     none_later (Read which) is name making = making
@@ -237,17 +247,17 @@ refused_as other other_write uses = record {
 
 -- the names of the files that are read, by the steps that open them
 pub names_in_order : (given : Settings)
-    → given.queries ∷ (option_to_list given.asks ++ (option_to_list given.from ++ given.streams)) ≡ file_names given
+    → given.queries ∷ later_names given ≡ file_names given
 names_in_order given = ap (λ (ns : List (List ℕ)). given.queries ∷ ns)
-    (sym (append_assoc (option_to_list given.asks) (option_to_list given.from) given.streams))
+    (sym (append_assoc (option_to_list given.joins ++ option_to_list given.asks)
+    (option_to_list given.from) given.streams))
 
 -- the step behind all files that are read
 pub behind_all : {F : Type 0} {holds : F → List ℕ → Option (List ℕ)} {opened made : F → List (List ℕ)}
     {unread unmade : F → List ℕ → ℕ} {given : Settings} {to_write : List (List ℕ)} {start : Option StartFault}
     {old new : F} → UsesMore holds opened made unread unmade given (file_names given) [] to_write start old new
-    → UsesMore holds opened made unread unmade given
-    (given.queries ∷ (option_to_list given.asks ++ (option_to_list given.from ++ given.streams))) [] to_write start
-    old new
+    → UsesMore holds opened made unread unmade given (given.queries ∷ later_names given) [] to_write
+    start old new
 behind_all {F} {holds} {opened} {made} {unread} {unmade} {given} {to_write} {start} {old} {new} uses =
     subst (λ (ns : List (List ℕ)). UsesMore holds opened made unread unmade given ns [] to_write start old new)
     (sym (names_in_order given)) uses
@@ -297,6 +307,33 @@ pub refused_by : {A S : Type 0} (P : Refusal S → Type 0) (result : Result A (R
 refused_by P (Ok x) refusal handed p = tt
 refused_by P (Err e) refusal handed p = subst P (sym handed) p
 
+-- a refusal of a step is one of the run where the files hold what they held
+pub refused_behind : {A S : Type 0} (left : S → Option (List ℕ)) (faults : S → ℕ) (given : Settings)
+    (holds now : List ℕ → Option (List ℕ)) (result : Result A (Refusal S)) (refusal : Refusal S)
+    → IsErrAnd result (λ handed. handed ≡ refusal) → now ≡ holds → IsRefusal left faults given now
+    refusal
+    → IfErr result (IsRefusal left faults given holds)
+refused_behind left faults given holds now result refusal handed same is =
+    refused_by (IsRefusal left faults given holds) result refusal handed
+    (subst (λ (h : List ℕ → Option (List ℕ)). IsRefusal left faults given h refusal) same is)
+
+-- the files of a run that a step refuses
+pub files_behind : {A S F : Type 0} {holds : F → List ℕ → Option (List ℕ)}
+    {opened made : F → List (List ℕ)} {unread unmade : F → List ℕ → ℕ} {given : Settings}
+    {before own to_write : List (List ℕ)} {old new : F}
+    (more more_write : List (List ℕ)) (result : Result A (Refusal S)) (refusal : Refusal S)
+    → IsErrAnd result (λ handed. handed ≡ refusal)
+    → UsesMore holds opened made unread unmade given before own to_write (Some refusal.fault)
+    old new
+    → UsesMore holds opened made unread unmade given before more more_write (fault_of result)
+    old new
+files_behind {A} {S} {F} {holds} {opened} {made} {unread} {unmade} {given} {before} {own} {to_write}
+    {old} {new}
+    more more_write result refusal handed uses =
+    subst (λ (s : Option StartFault). UsesMore holds opened made unread unmade given before more
+    more_write s old new)
+    (start_is result refusal handed) (refused_as more more_write uses)
+
 -- an opening that failed is a reason to refuse the run where it may come
 pub opening_refuses : {S : Type 0} (left : S → Option (List ℕ)) (faults : S → ℕ) (given : Settings)
     (holds : List ℕ → Option (List ℕ)) (which : Which) (refusal : Refusal S)
@@ -321,12 +358,42 @@ opening_refuses {S} left faults given holds which refusal may is = record {
     by_sources (inr memory) = subst (λ (f : StartFault). AreSourcesOf left faults (file_held (Some given) holds) f
         (option_to_list refusal.source)) (sym memory) none
 
--- the files that were read whole are understood
+-- the queries file and the joins file that were read whole are understood
+pub joins_understood : (given : Settings) (holds : List ℕ → Option (List ℕ)) (queries : List Query)
+    (joins : List JoinValue) → IfSome (holds given.queries)
+    (λ bytes. HasQueries given.two_way bytes queries)
+    → ForJoins given holds queries (λ found. joins ≡ found) → AreUnderstoodJoins given holds
+joins_understood given holds queries joins has are = by (holds given.queries) has
+  where
+    by_file : (file : Option (List ℕ))
+        → IfSome file (λ bytes. (found : List JoinValue) × HasJoins queries bytes found
+        × (joins ≡ found))
+        → IfSome file (λ bytes. (found : List JoinValue) × HasJoins queries bytes found × Unit {0})
+    by_file None told = tt
+    by_file (Some bytes) (found, has, same) = (found, has, tt)
+
+    by_joins : (named : Option (List ℕ))
+        → MatchOption named (joins ≡ []) (λ name. IfSome (holds name)
+        (λ bytes. (found : List JoinValue) × HasJoins queries bytes found × (joins ≡ found)))
+        → MatchOption named (Unit {0}) (λ name. IfSome (holds name)
+        (λ bytes. (found : List JoinValue) × HasJoins queries bytes found × Unit {0}))
+    by_joins None same = tt
+    by_joins (Some name) told = by_file (holds name) told
+
+    by : (file : Option (List ℕ)) → IfSome file (λ bytes. HasQueries given.two_way bytes queries)
+        → ForQueries given.two_way file (λ all. ForJoins given holds all (λ found. Unit {0}))
+    by None has = tt
+    by (Some bytes) has = (queries, has, by_joins given.joins are)
+
+-- and so are all files that were read whole
 pub understood_by : (given : Settings) (holds : List ℕ → Option (List ℕ)) (queries : List Query)
-    (sessions : List (List Ask)) → IfSome (holds given.queries)
+    (sessions : List (List Ask)) → AreUnderstoodJoins given holds → IfSome (holds given.queries)
     (λ bytes. HasQueries given.two_way bytes queries)
     → ForSessions given holds queries (λ asked. sessions ≡ asked) → AreUnderstoodFiles given holds
-understood_by given holds queries sessions has are = by (holds given.queries) has
+understood_by given holds queries sessions joined has are = record {
+  joins = joined;
+  asks = by (holds given.queries) has;
+}
   where
     by_file : (file : Option (List ℕ))
         → IfSome file (λ bytes. (asked : List (List Ask)) × HasSessions queries bytes asked × (sessions ≡ asked))
@@ -346,3 +413,18 @@ understood_by given holds queries sessions has are = by (holds given.queries) ha
         → ForQueries given.two_way file (λ all. ForSessions given holds all (λ asked. Unit {0}))
     by None has = tt
     by (Some bytes) has = (queries, has, by_asks given.asks are)
+
+-- and are so where the files hold what they held
+pub all_understood : (given : Settings) (holds now later : List ℕ → Option (List ℕ))
+    (queries : List Query)
+    (joins : List JoinValue) (sessions : List (List Ask)) → now ≡ holds → later ≡ holds
+    → IfSome (holds given.queries) (λ bytes. HasQueries given.two_way bytes queries)
+    → ForJoins given holds queries (λ found. joins ≡ found)
+    → ForSessions given now queries (λ asked. sessions ≡ asked) → AreUnderstoodFiles given later
+all_understood given holds now later queries joins sessions same still has joined asked =
+    subst (λ (h : List ℕ → Option (List ℕ)). AreUnderstoodFiles given h) (sym still)
+    (understood_by given holds queries sessions
+    (joins_understood given holds queries joins has joined) has
+    (subst (λ (h : List ℕ → Option (List ℕ)). ForSessions given h queries
+    (λ asked. sessions ≡ asked)) same
+    asked))

@@ -6,6 +6,10 @@ use Rattle.rpq_model.specs.Query.{Query}
 use Rattle.query_file.specs.declared.fault.QueryFault.{QueryFault}
 use Rattle.query_file.specs.declared.fault.QueryKind.TheVariants.{Memory}
 use Rattle.query_file.specs.Queries.{QueriesOf}
+use Rattle.conj_query.specs.declared.fault.JoinsFault.{JoinsFault}
+use Rattle.conj_query.specs.declared.fault.JoinsKind.TheVariants.{Memory as MemoryOfJoins}
+use Rattle.conj_query.specs.Joins.{JoinValue}
+use Rattle.conj_query.specs.JoinsFile.{joins}
 use Rattle.ask_text.specs.declared.ask.Ask.{Ask}
 use Rattle.ask_text.specs.declared.fault.AskFault.{AskFault}
 use Rattle.ask_text.specs.declared.fault.AskKind.TheVariants.{Memory as MemoryOfAsks}
@@ -39,6 +43,29 @@ IsQueriesFile two_way file =
 abbrev pub IsFaultyFile : Bool → Option (List ℕ) → QueryFault → Type 0
 IsFaultyFile two_way file fault =
     (fault.kind ≢ Memory) × IfSome file (λ bytes. HasFault two_way bytes fault)
+
+-- a joins file over these queries has these bytes, which are not too many, and these conjunctions
+abbrev pub HasJoins : List Query → List ℕ → List JoinValue → Type 0
+HasJoins queries bytes found = (length bytes < file_limit) × (joins queries bytes ≡ Ok found)
+
+-- a joins file over these queries has these bytes, which are not too many, and this fault
+abbrev pub HasJoinsFault : List Query → List ℕ → JoinsFault → Type 0
+HasJoinsFault queries bytes fault =
+    (length bytes < file_limit) × (joins queries bytes ≡ Err fault)
+
+-- the conjunctions of a run over these queries, where the bytes of the joins file are told, and
+-- this holds of them; where no joins file is named there is none
+abbrev pub ForJoins : Settings → (List ℕ → Option (List ℕ)) → List Query
+    → (List JoinValue → Type 0) → Type 0
+ForJoins given holds queries P = MatchOption given.joins (P []) (λ name. IfSome (holds name)
+    (λ bytes. (found : List JoinValue) × HasJoins queries bytes found × P found))
+
+-- what is evaluated in a run: its queries and the conjunctions over them, where the bytes of their
+-- files are told, and this holds of them
+abbrev pub ForJoined : Settings → (List ℕ → Option (List ℕ))
+    → (List Query → List JoinValue → Type 0) → Type 0
+ForJoined given holds P = ForQueries given.two_way (holds given.queries)
+    (λ queries. ForJoins given holds queries (P queries))
 
 -- an asks file about these queries has these bytes, which are not too many, and these sessions
 abbrev pub HasSessions : List Query → List ℕ → List (List Ask) → Type 0
@@ -76,9 +103,21 @@ with_first first (file ∷ files) = join_known first file ∷ files
 abbrev pub stream_contents : Settings → (List ℕ → Option (List ℕ)) → List (Option (List ℕ))
 stream_contents given holds = with_first (from_content given holds) (map holds given.streams)
 
+-- the queries file has no fault, nor has the joins file, if there is one
+abbrev pub AreUnderstoodJoins : Settings → (List ℕ → Option (List ℕ)) → Type 0
+AreUnderstoodJoins given holds = ForJoined given holds (λ queries found. Unit {0})
+
 -- the files that are read whole have no fault
-abbrev pub AreUnderstoodFiles : Settings → (List ℕ → Option (List ℕ)) → Type 0
-AreUnderstoodFiles given holds = ForAsked given holds (λ queries sessions. Unit {0})
+pub record AreUnderstoodFiles (given : Settings) (holds : List ℕ → Option (List ℕ)) : Type 0 where
+  pub joins : AreUnderstoodJoins given holds
+  pub asks : ForAsked given holds (λ queries sessions. Unit {0})
+
+-- the bytes of a joins file, where they are told, have this fault, which isn't out of memory, over
+-- the queries of the queries file, where its bytes are told
+abbrev pub AreFaultyJoins : Bool → Option (List ℕ) → Option (List ℕ) → JoinsFault → Type 0
+AreFaultyJoins two_way queries_file file fault = (fault.kind ≢ MemoryOfJoins)
+    × ForQueries two_way queries_file
+    (λ queries. IfSome file (λ bytes. HasJoinsFault queries bytes fault))
 
 -- the bytes of an asks file, where they are told, have this fault, which isn't out of memory, about
 -- the queries of the queries file, where its bytes are told
@@ -99,6 +138,14 @@ IsRestOf file left = (bytes : List ℕ) × (file ≡ prepend_known bytes left)
 pub record IsFaultless (two_way : Bool) (bytes : List ℕ) : Type 0 where
   pub short : length bytes < file_limit
   pub no_fault : (fault : QueryFault) → QueriesOf two_way bytes (Err fault) → ⊥
+
+-- a joins file that isn't too long and has no fault over the queries of this queries file, whose
+-- bytes are told
+pub record AreFaultlessJoins (two_way : Bool) (queries_file : Option (List ℕ)) (bytes : List ℕ)
+    : Type 0 where
+  pub short : length bytes < file_limit
+  pub no_fault : (fault : JoinsFault)
+      → ForQueries two_way queries_file (λ queries. joins queries bytes ≡ Err fault) → ⊥
 
 -- an asks file that isn't too long and has no fault about the queries of this queries file, whose
 -- bytes are told

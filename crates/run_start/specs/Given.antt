@@ -3,18 +3,23 @@ use Rattle.std.specs.Prelude.{ℕ, zero, suc, List, [], ◌∷◌, ◌++◌, tak
 use Rattle.std.specs.Prelude.{option_to_list}
 use Rattle.rpq_words.specs.Settings.{Settings}
 use Rattle.rpq_text.specs.declared.ends.Which.{Which}
-use Rattle.rpq_text.specs.declared.ends.Which.TheVariants.{Queries, Asks, From, Stream}
-use Rattle.rpq_text.specs.declared.ends.Which.TheVariants.{Replies, Save}
+use Rattle.rpq_text.specs.declared.ends.Which.TheVariants.{Queries, Joins, Asks, From}
+use Rattle.rpq_text.specs.declared.ends.Which.TheVariants.{Stream, Replies, Save}
 
 -- the name of the stream with this number, from 1
 abbrev pub stream_name : Settings → ℕ → Option (List ℕ)
 stream_name given zero = None
 stream_name given (suc place) = slice_get given.streams place
 
--- the names of the files that are read whole: that of the queries, and that of the asks, if there
--- is one
+-- the names of the files that say what is evaluated: that of the queries, and that of the joins, if
+-- there is one
+abbrev pub understood_names : Settings → List (List ℕ)
+understood_names given = given.queries ∷ option_to_list given.joins
+
+-- the names of the files that are read whole: those, and then that of the asks, if there is one
 abbrev pub whole_names : Settings → List (List ℕ)
-whole_names given = given.queries ∷ option_to_list given.asks
+whole_names given =
+    given.queries ∷ (option_to_list given.joins ++ option_to_list given.asks)
 
 -- the names of the files that are opened before the streams: those, and then that of the saved
 -- window, if there is one
@@ -25,6 +30,12 @@ first_names given = whole_names given ++ option_to_list given.from
 abbrev pub file_names : Settings → List (List ℕ)
 file_names given = first_names given ++ given.streams
 
+-- the names of all files that are read behind that of the queries, in the order in which they are
+-- opened
+abbrev pub later_names : Settings → List (List ℕ)
+later_names given = (option_to_list given.joins ++ option_to_list given.asks)
+    ++ (option_to_list given.from ++ given.streams)
+
 -- the names of all files that are opened to write, in the order in which they are: that of the
 -- replies, and that of the window to be saved, as far as there are such
 abbrev pub sink_names : Settings → List (List ℕ)
@@ -33,7 +44,8 @@ sink_names given = option_to_list given.replies ++ option_to_list given.save
 -- the names of the files that are opened to read before this one is opened
 abbrev pub names_before : Settings → Which → List (List ℕ)
 names_before given Queries = []
-names_before given Asks = given.queries ∷ []
+names_before given Joins = given.queries ∷ []
+names_before given Asks = understood_names given
 names_before given From = whole_names given
 names_before given (Stream zero) = first_names given
 names_before given (Stream (suc place)) = first_names given ++ take place given.streams
@@ -43,6 +55,7 @@ names_before given Save = file_names given
 -- the names of the files that were opened to read when this one was
 abbrev pub names_up_to : Settings → Which → List (List ℕ)
 names_up_to given Queries = given.queries ∷ []
+names_up_to given Joins = understood_names given
 names_up_to given Asks = whole_names given
 names_up_to given From = first_names given
 names_up_to given (Stream number) = first_names given ++ take number given.streams

@@ -4,14 +4,15 @@ use Rattle.std.specs.Prelude.{None, is_some, option_map, IfSome, MatchOption, Re
 use Rattle.containment_laws.specs.Accepted.{IsAccepted}
 use Rattle.rpq_io.specs.Files.{IsNewSink}
 use Rattle.query_file.specs.Compiled.{CompiledValue, IsCompiled}
+use Rattle.conj_query.specs.Sound.{IsSound}
 use Rattle.ask_text.specs.Ranges.{IsSession}
 use Rattle.rpq_words.specs.Settings.{Settings, reads_none}
 use Rattle.rpq_text.specs.Definitions.{definitions_of}
 use Rattle.rpq_text.specs.Limits.{query_limit}
 use Rattle.rpq_text.specs.declared.ends.StartFault.{StartFault}
-use Rattle.rpq_text.specs.declared.ends.StartFault.TheVariants.{Words, Queries, Asks, Open, Read}
-use Rattle.rpq_text.specs.declared.ends.StartFault.TheVariants.{Long, Memory}
-use Rattle.run_start.specs.Files.{ForSessions, HasQueries, stream_contents}
+use Rattle.rpq_text.specs.declared.ends.StartFault.TheVariants.{Words, Queries, Joins, Asks}
+use Rattle.rpq_text.specs.declared.ends.StartFault.TheVariants.{Open, Read, Long, Memory}
+use Rattle.run_start.specs.Files.{ForJoins, ForSessions, HasQueries, stream_contents}
 use Rattle.run_start.specs.Readers.{AreNew, contents_of, is_behind}
 use Rattle.run_start.specs.declared.ready.Reads.{Reads}
 use Rattle.run_start.specs.declared.sinks.OwnSinks.{OwnSinks}
@@ -21,6 +22,7 @@ use Rattle.run_start.specs.declared.refusal.Refusal.{Refusal}
 abbrev pub IsWordsCause : Option Settings → StartFault → Type 0
 IsWordsCause words Words = words ≡ None
 IsWordsCause words (Queries fault) = ⊥
+IsWordsCause words (Joins fault) = ⊥
 IsWordsCause words (Asks fault) = ⊥
 IsWordsCause words (Open which) = ⊥
 IsWordsCause words (Read which) = ⊥
@@ -35,8 +37,8 @@ pub record AreUnderstood (queries : List CompiledValue) : Type 0 where
   pub accepted : All (λ each. IsAccepted each.def) queries
   pub compiled : All IsCompiled queries
 
--- the sinks that are written beside the events, each new, and there exactly where it is wanted: that
--- of the replies, and that of the saved window
+-- the sinks that are written beside the events, each new, and there exactly where it is wanted:
+-- that of the replies, and that of the saved window
 pub record AreNewSinks {K : Type 0} (written : K → Option (List ℕ)) (failures : K → ℕ)
     (given : Settings) (sinks : OwnSinks K) : Type 0 where
   pub replies : is_some sinks.replies ≡ is_some given.replies
@@ -45,8 +47,8 @@ pub record AreNewSinks {K : Type 0} (written : K → Option (List ℕ)) (failure
   pub new_save : IfSome sinks.save (IsNewSink written failures)
 
 -- what is read and answered in a run over streams: a new reader of each stream, in order, with the
--- saved window in front of it where one is named; the sessions of the asks file, not too many, each
--- about the queries; and the sinks
+-- saved window in front of it where one is named; the conjunctions of the joins file and the
+-- sessions of the asks file, not too many of each, and each about the queries; and the sinks
 pub record IsReading {S K : Type 0} (left : S → Option (List ℕ)) (faults : S → ℕ)
     (written : K → Option (List ℕ)) (failures : K → ℕ) (given : Settings)
     (holds : List ℕ → Option (List ℕ)) (queries : List CompiledValue) (reading : Reads S K)
@@ -55,6 +57,10 @@ pub record IsReading {S K : Type 0} (left : S → Option (List ℕ)) (faults : S
   pub contents : stream_contents given holds ≡ contents_of left reading.readers
   pub behind : is_behind reading.readers ≡ is_some given.from
   pub fresh : AreNew left faults reading.readers
+  pub joined : ForJoins given holds (definitions_of queries)
+      (λ found. reading.joins.value.items ≡ found)
+  pub few_joins : length reading.joins.value.items ≤ 32
+  pub sound : All (IsSound (length queries)) reading.joins.value.items
   pub asked : ForSessions given holds (definitions_of queries)
       (λ asked. reading.sessions.items ≡ asked)
   pub few : length reading.sessions.items ≤ 64
@@ -80,10 +86,12 @@ pub record IsReadWhole {S : Type 0} (left : S → Option (List ℕ)) (faults : S
   pub no_fault : faults source ≡ 0
   pub taken : left source ≡ option_map (λ bytes. []) file
 
--- the queries file was read whole, and so was the asks file, if there is one
+-- the queries file was read whole, and so were the joins file and the asks file, where there are
+-- such
 pub record AreReadWhole {S : Type 0} (left : S → Option (List ℕ)) (faults : S → ℕ)
     (given : Settings) (holds : List ℕ → Option (List ℕ)) : Type 0 where
   pub queries : IsReadWhole left faults (holds given.queries)
+  pub joins : IfSome given.joins (λ name. IsReadWhole left faults (holds name))
   pub asks : IfSome given.asks (λ name. IsReadWhole left faults (holds name))
 
 -- why a run didn't begin, if it didn't

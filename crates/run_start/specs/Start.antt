@@ -4,17 +4,19 @@ use Rattle.std.specs.Prelude.{IsSomeAnd, Contains, option_and_then, option_to_li
 use Rattle.rpq_io.specs.Counts.{Rose, CountsFault}
 use Rattle.rpq_words.specs.Settings.{Settings}
 use Rattle.rpq_text.specs.declared.ends.Which.{Which}
-use Rattle.rpq_text.specs.declared.ends.Which.TheVariants.{Queries, Asks, From, Stream}
-use Rattle.rpq_text.specs.declared.ends.Which.TheVariants.{Replies, Save}
+use Rattle.rpq_text.specs.declared.ends.Which.TheVariants.{Queries, Joins, Asks, From}
+use Rattle.rpq_text.specs.declared.ends.Which.TheVariants.{Stream, Replies, Save}
 use Rattle.rpq_text.specs.declared.ends.StartFault.{StartFault}
 use Rattle.rpq_text.specs.declared.ends.StartFault.TheVariants.{Words, Queries as QueriesFault}
+use Rattle.rpq_text.specs.declared.ends.StartFault.TheVariants.{Joins as JoinsFault}
 use Rattle.rpq_text.specs.declared.ends.StartFault.TheVariants.{Asks as AsksFault, Open, Read, Long}
 use Rattle.rpq_text.specs.declared.ends.StartFault.TheVariants.{Memory}
 use Rattle.stream_tuples.specs.History.{IsNumberOf, IsPrefix}
-use Rattle.run_start.specs.Files.{AreFaultyAsks, AreUnderstoodFiles, IsFaultyFile, IsQueriesFile}
-use Rattle.run_start.specs.Files.{IsRestOf, IsTooLong}
-use Rattle.run_start.specs.Given.{stream_name, whole_names, file_names, sink_names, names_before}
-use Rattle.run_start.specs.Given.{names_up_to}
+use Rattle.run_start.specs.Files.{AreFaultyAsks, AreFaultyJoins, AreUnderstoodFiles}
+use Rattle.run_start.specs.Files.{AreUnderstoodJoins, IsFaultyFile, IsQueriesFile, IsRestOf}
+use Rattle.run_start.specs.Files.{IsTooLong}
+use Rattle.run_start.specs.Given.{stream_name, understood_names, whole_names, file_names}
+use Rattle.run_start.specs.Given.{sink_names, names_before, names_up_to}
 
 -- where each cause of a refusal may come that isn't one of the words, by what the files hold: a
 -- file is looked at only where all that come before it are understood, and only one that is given
@@ -22,12 +24,18 @@ abbrev pub IsRefusedFor : Settings → (List ℕ → Option (List ℕ)) → Star
 IsRefusedFor given holds Words = ⊥
 IsRefusedFor given holds (QueriesFault fault) =
     IsFaultyFile given.two_way (holds given.queries) fault
+IsRefusedFor given holds (JoinsFault fault) =
+    IsSomeAnd given.joins (λ name.
+    AreFaultyJoins given.two_way (holds given.queries) (holds name) fault)
 IsRefusedFor given holds (AsksFault fault) =
     IsSomeAnd given.asks (λ name.
-    AreFaultyAsks given.two_way (holds given.queries) (holds name) fault)
+    AreFaultyAsks given.two_way (holds given.queries) (holds name) fault
+    × AreUnderstoodJoins given holds)
 IsRefusedFor given holds (Open Queries) = Unit {0}
+IsRefusedFor given holds (Open Joins) =
+    IsSomeAnd given.joins (λ name. IsQueriesFile given.two_way (holds given.queries))
 IsRefusedFor given holds (Open Asks) =
-    IsSomeAnd given.asks (λ name. IsQueriesFile given.two_way (holds given.queries))
+    IsSomeAnd given.asks (λ name. AreUnderstoodJoins given holds)
 IsRefusedFor given holds (Open From) =
     IsSomeAnd given.from (λ name. AreUnderstoodFiles given holds)
 IsRefusedFor given holds (Open (Stream number)) =
@@ -37,16 +45,20 @@ IsRefusedFor given holds (Open Replies) =
 IsRefusedFor given holds (Open Save) =
     IsSomeAnd given.save (λ name. AreUnderstoodFiles given holds)
 IsRefusedFor given holds (Read Queries) = Unit {0}
+IsRefusedFor given holds (Read Joins) =
+    IsSomeAnd given.joins (λ name. IsQueriesFile given.two_way (holds given.queries))
 IsRefusedFor given holds (Read Asks) =
-    IsSomeAnd given.asks (λ name. IsQueriesFile given.two_way (holds given.queries))
+    IsSomeAnd given.asks (λ name. AreUnderstoodJoins given holds)
 IsRefusedFor given holds (Read From) = ⊥
 IsRefusedFor given holds (Read (Stream number)) = ⊥
 IsRefusedFor given holds (Read Replies) = ⊥
 IsRefusedFor given holds (Read Save) = ⊥
 IsRefusedFor given holds (Long Queries) = IsTooLong (holds given.queries)
-IsRefusedFor given holds (Long Asks) =
-    IsSomeAnd given.asks (λ name.
+IsRefusedFor given holds (Long Joins) =
+    IsSomeAnd given.joins (λ name.
     IsQueriesFile given.two_way (holds given.queries) × IsTooLong (holds name))
+IsRefusedFor given holds (Long Asks) =
+    IsSomeAnd given.asks (λ name. AreUnderstoodJoins given holds × IsTooLong (holds name))
 IsRefusedFor given holds (Long From) = ⊥
 IsRefusedFor given holds (Long (Stream number)) = ⊥
 IsRefusedFor given holds (Long Replies) = ⊥
@@ -63,8 +75,10 @@ IsCause (Some given) holds fault = IsRefusedFor given holds fault
 abbrev pub IsOpeningOf : Settings → List ℕ → StartFault → Type 0
 IsOpeningOf given name Words = ⊥
 IsOpeningOf given name (QueriesFault fault) = ⊥
+IsOpeningOf given name (JoinsFault fault) = ⊥
 IsOpeningOf given name (AsksFault fault) = ⊥
 IsOpeningOf given name (Open Queries) = name ≡ given.queries
+IsOpeningOf given name (Open Joins) = given.joins ≡ Some name
 IsOpeningOf given name (Open Asks) = given.asks ≡ Some name
 IsOpeningOf given name (Open From) = given.from ≡ Some name
 IsOpeningOf given name (Open (Stream number)) = stream_name given number ≡ Some name
@@ -78,8 +92,10 @@ IsOpeningOf given name Memory = ⊥
 abbrev pub IsMakingOf : Settings → List ℕ → StartFault → Type 0
 IsMakingOf given name Words = ⊥
 IsMakingOf given name (QueriesFault fault) = ⊥
+IsMakingOf given name (JoinsFault fault) = ⊥
 IsMakingOf given name (AsksFault fault) = ⊥
 IsMakingOf given name (Open Queries) = ⊥
+IsMakingOf given name (Open Joins) = ⊥
 IsMakingOf given name (Open Asks) = ⊥
 IsMakingOf given name (Open From) = ⊥
 IsMakingOf given name (Open (Stream number)) = ⊥
@@ -93,6 +109,7 @@ IsMakingOf given name Memory = ⊥
 abbrev pub file_held : Option Settings → (List ℕ → Option (List ℕ)) → Which → Option (List ℕ)
 file_held None holds which = None
 file_held (Some given) holds Queries = holds given.queries
+file_held (Some given) holds Joins = option_and_then holds given.joins
 file_held (Some given) holds Asks = option_and_then holds given.asks
 file_held (Some given) holds From = option_and_then holds given.from
 file_held (Some given) holds (Stream number) = option_and_then holds (stream_name given number)
@@ -105,6 +122,7 @@ abbrev pub AreSourcesOf : {S : Type 0} → (S → Option (List ℕ)) → (S → 
     → (Which → Option (List ℕ)) → StartFault → List S → Type 0
 AreSourcesOf {S} left faults held Words sources = sources ≡ []
 AreSourcesOf {S} left faults held (QueriesFault fault) sources = sources ≡ []
+AreSourcesOf {S} left faults held (JoinsFault fault) sources = sources ≡ []
 AreSourcesOf {S} left faults held (AsksFault fault) sources = sources ≡ []
 AreSourcesOf {S} left faults held (Open which) sources = sources ≡ []
 AreSourcesOf {S} left faults held (Read which) sources = (source : S) × (sources ≡ source ∷ [])
@@ -122,6 +140,7 @@ abbrev pub AreOpened : Settings → Option StartFault → List (List ℕ) → Ty
 AreOpened given None names = names ≡ file_names given
 AreOpened given (Some Words) names = names ≡ []
 AreOpened given (Some (QueriesFault fault)) names = names ≡ given.queries ∷ []
+AreOpened given (Some (JoinsFault fault)) names = names ≡ understood_names given
 AreOpened given (Some (AsksFault fault)) names = names ≡ whole_names given
 AreOpened given (Some (Open which)) names = names ≡ names_before given which
 AreOpened given (Some (Read which)) names = names ≡ names_up_to given which
@@ -131,6 +150,7 @@ AreOpened given (Some Memory) names = IsPrefix names (file_names given)
 -- the names of the files that were opened to write before this one is opened
 abbrev pub sinks_before : Settings → Which → List (List ℕ)
 sinks_before given Queries = []
+sinks_before given Joins = []
 sinks_before given Asks = []
 sinks_before given From = []
 sinks_before given (Stream number) = []
@@ -142,6 +162,7 @@ abbrev pub AreMade : Settings → Option StartFault → List (List ℕ) → Type
 AreMade given None names = names ≡ sink_names given
 AreMade given (Some Words) names = names ≡ []
 AreMade given (Some (QueriesFault fault)) names = names ≡ []
+AreMade given (Some (JoinsFault fault)) names = names ≡ []
 AreMade given (Some (AsksFault fault)) names = names ≡ []
 AreMade given (Some (Open which)) names = names ≡ sinks_before given which
 AreMade given (Some (Read which)) names = names ≡ []
@@ -165,8 +186,8 @@ pub record Opens (IsKind : List (List ℕ) → Type 0) (before after : List (Lis
   pub more : after ≡ before ++ names
 
 -- what a run does to the files: it opens those to read that its words name, each once and in
--- order, and then those to write, as far as they name such; it changes no other; and the openings of
--- no name failed but of the one for which it didn't begin
+-- order, and then those to write, as far as they name such; it changes no other; and the openings
+-- of no name failed but of the one for which it didn't begin
 pub record UsesFiles {F : Type 0} (holds : F → List ℕ → Option (List ℕ))
     (opened made : F → List (List ℕ)) (unread unmade : F → List ℕ → ℕ) (words : Option Settings)
     (start : Option StartFault) (old new : F) : Type 0 where

@@ -2,6 +2,8 @@
 use Rattle.std.specs.Prelude.{◌≡◌, ◌≢◌, ◌⊎◌, ℕ, List, [], ◌∷◌, ◌++◌, option_to_list}
 use Rattle.std.specs.Prelude.{Option, Some, None, IsSomeAnd, Contains, Err}
 use Rattle.rpq_model.specs.Query.{Query}
+use Rattle.conj_query.specs.declared.fault.JoinsKind.TheVariants.{Memory as MemoryOfJoins}
+use Rattle.conj_query.specs.JoinsFile.{joins}
 use Rattle.ask_text.specs.declared.fault.AskKind.TheVariants.{Memory as MemoryOfAsks}
 use Rattle.ask_text.specs.Asks.{asks}
 use Rattle.rpq_io.specs.Counts.{CountsFault, CountsOpening}
@@ -10,8 +12,8 @@ use Rattle.rpq_words.specs.Settings.{Settings}
 use Rattle.stream_tuples.specs.History.{IsPrefix}
 use Rattle.rpq_text.specs.declared.ends.Which.{Which}
 use Rattle.rpq_text.specs.declared.ends.StartFault.{StartFault}
-use Rattle.rpq_text.specs.declared.ends.StartFault.TheVariants.{Words, Queries, Asks, Open, Read}
-use Rattle.rpq_text.specs.declared.ends.StartFault.TheVariants.{Long, Memory}
+use Rattle.rpq_text.specs.declared.ends.StartFault.TheVariants.{Words, Queries, Joins, Asks}
+use Rattle.rpq_text.specs.declared.ends.StartFault.TheVariants.{Open, Read, Long, Memory}
 use Rattle.run_start.specs.Files.{IsTooLong}
 use Rattle.run_start.specs.Given.{sink_names}
 use Rattle.run_start.specs.Start.{AreMade, AreOpened, AreSourcesOf, IsMakingOf, IsOpeningOf}
@@ -22,6 +24,7 @@ use Rattle.run_start.specs.declared.refusal.Refusal.{Refusal}
 abbrev pub IsFaultOfFile : Which → Option (List ℕ) → StartFault → Type 0
 IsFaultOfFile which file Words = ⊥
 IsFaultOfFile which file (Queries fault) = ⊥
+IsFaultOfFile which file (Joins fault) = ⊥
 IsFaultOfFile which file (Asks fault) = ⊥
 IsFaultOfFile which file (Open other) = other ≡ which
 IsFaultOfFile which file (Read other) = other ≡ which
@@ -34,6 +37,7 @@ abbrev pub AreNamesOfFile : List ℕ → Option StartFault → List (List ℕ) �
 AreNamesOfFile name None names = names ≡ name ∷ []
 AreNamesOfFile name (Some Words) names = names ≡ []
 AreNamesOfFile name (Some (Queries fault)) names = names ≡ name ∷ []
+AreNamesOfFile name (Some (Joins fault)) names = names ≡ name ∷ []
 AreNamesOfFile name (Some (Asks fault)) names = names ≡ name ∷ []
 AreNamesOfFile name (Some (Open which)) names = names ≡ []
 AreNamesOfFile name (Some (Read which)) names = names ≡ name ∷ []
@@ -71,11 +75,25 @@ pub record OpensSink {F : Type 0} (holds : F → List ℕ → Option (List ℕ))
   pub opened_stays : opened new ≡ opened old
   pub unread_stays : (any : List ℕ) → unread new any ≡ unread old any
 
+-- why the bytes of a joins file give no conjunctions over these queries: their fault, which isn't
+-- out of memory; or memory ran out
+abbrev pub IsFaultOfJoins : List Query → List ℕ → StartFault → Type 0
+IsFaultOfJoins queries bytes Words = ⊥
+IsFaultOfJoins queries bytes (Queries fault) = ⊥
+IsFaultOfJoins queries bytes (Joins fault) =
+    (fault.kind ≢ MemoryOfJoins) × (joins queries bytes ≡ Err fault)
+IsFaultOfJoins queries bytes (Asks fault) = ⊥
+IsFaultOfJoins queries bytes (Open which) = ⊥
+IsFaultOfJoins queries bytes (Read which) = ⊥
+IsFaultOfJoins queries bytes (Long which) = ⊥
+IsFaultOfJoins queries bytes Memory = Unit {0}
+
 -- why the bytes of an asks file give no sessions about these queries: their fault, which isn't out
 -- of memory; or memory ran out
 abbrev pub IsFaultOfAsks : List Query → List ℕ → StartFault → Type 0
 IsFaultOfAsks queries bytes Words = ⊥
 IsFaultOfAsks queries bytes (Queries fault) = ⊥
+IsFaultOfAsks queries bytes (Joins fault) = ⊥
 IsFaultOfAsks queries bytes (Asks fault) =
     (fault.kind ≢ MemoryOfAsks) × (asks queries bytes ≡ Err fault)
 IsFaultOfAsks queries bytes (Open which) = ⊥

@@ -1,27 +1,30 @@
 //! What a run begins with, or why it doesn't.
 
-ghost use Rattle.std.specs.Prelude.{◌≡◌, ◌∷◌, ◌++◌, [], false, Some, option_to_list, IfOk, IfErr};
+ghost use Rattle.std.specs.Prelude.{◌≡◌, ◌∷◌, [], false, Some, option_to_list, IfOk, IfErr};
 ghost use Rattle.std.specs.Prelude.{IfSome};
 ghost use Rattle.rpq_words.specs.Modes.{AreSettings};
 ghost use Rattle.rpq_words.specs.Settings.{reads_none};
 ghost use Rattle.rpq_text.specs.Definitions.{definitions_of};
 ghost use Rattle.run_start.specs.Files.{HasQueries};
-ghost use Rattle.run_start.specs.Given.{sink_names};
+ghost use Rattle.run_start.specs.Given.{later_names, sink_names};
 ghost use Rattle.run_start.specs.Ready.{AreReadWhole, AreUnderstood, IsReading, IsReady};
 ghost use Rattle.run_start.specs.Ready.{IsReadWhole, fault_of};
 ghost use Rattle.run_start.specs.Start.{AreSourcesOf, IsRefusedFor, UsesFiles, file_held};
 ghost use Rattle.run_start.specs.Steps.{IsRefusal, UsesMore};
 
+use crate::joins::joins_of_file;
 use crate::queries::queries_of_file;
 use crate::refusal::Refusal;
 use crate::sessions::sessions_of_file;
 use crate::sinks::{OwnSinks, open_sinks};
 use crate::streams::{Readers, open_readers};
 use ask_text::Session;
+use conj_query::JoinDef;
 use query_file::Compiled;
 use rpq_io::{Files, Sink, Source};
 use rpq_words::Chosen;
 use std::alloc::Global;
+use std::sync::Arc;
 
 /// What a run begins with.
 #[derive(Drop)]
@@ -36,17 +39,19 @@ pub struct Ready<S: Source, K: Sink> {
 pub struct Reads<S: Source, K: Sink> {
     /// The lines of each stream, in order, of which none was read.
     pub readers: Readers<S>,
+    /// The conjunctions over the queries, in the order of their file.
+    pub joins: Arc<Vec<JoinDef>>,
     /// What each session asks, in order.
     pub sessions: Vec<Session>,
     /// Where the replies and the saved window go.
     pub sinks: OwnSinks<K>,
 }
 
-/// Reads the queries file whole and understands it; then the asks file, if there is one; opens the
-/// saved window with which the run begins, if there is one, and the streams in their order; and
-/// opens the sinks of the replies and of the window to be saved, as far as there are such. For a
-/// check, and for generated tuples, only the queries file is opened. The first of these that fails
-/// ends it.
+/// Reads the queries file whole and understands it; then the joins file, if there is one, and the
+/// asks file, if there is one; opens the saved window with which the run begins, if there is one,
+/// and the streams in their order; and opens the sinks of the replies and of the window to be saved,
+/// as far as there are such. For a check, and for generated tuples, only the queries file is opened.
+/// The first of these that fails ends it.
 pub fn begin<F: Files>(
     alloc: Global,
     files: &mut F,
@@ -87,7 +92,7 @@ fn reads_none(chosen: &Chosen) -> bool
     chosen.check || chosen.generate.is_some()
 }
 
-/// Reads the asks file and opens the streams and the sinks, in a run with these queries, which are
+/// Reads the joins file and the asks file, and opens the streams and the sinks, in a run with these queries, which are
 /// those of its queries file.
 fn begin_reading<F: Files>(
     alloc: Global,
@@ -102,20 +107,23 @@ fn begin_reading<F: Files>(
         (λ bytes. HasQueries chosen.now.two_way bytes (definitions_of queries.now)) }
     ensures reading { IfOk result (IsReading F.Source.left F.Source.faults
         F.Sink.written F.Sink.faults chosen.now (F.holds files.old) queries.now) }
-    ensures read { IfOk result (λ reads. IfSome chosen.now.asks (λ name.
+    ensures read_joins { IfOk result (λ reads. IfSome chosen.now.joins (λ name.
+        IsReadWhole F.Source.left F.Source.faults (F.holds files.old name))) }
+    ensures read_asks { IfOk result (λ reads. IfSome chosen.now.asks (λ name.
         IsReadWhole F.Source.left F.Source.faults (F.holds files.old name))) }
     ensures refused { IfErr result
         (IsRefusal F.Source.left F.Source.faults chosen.now (F.holds files.old)) }
     ensures files { UsesMore F.holds F.opened F.made F.unread F.unmade chosen.now
-        (chosen.now.queries ∷ [])
-        (option_to_list chosen.now.asks ++ (option_to_list chosen.now.from ++ chosen.now.streams))
-        (sink_names chosen.now) (fault_of result) files.old files.new }
+        (chosen.now.queries ∷ []) (later_names chosen.now) (sink_names chosen.now)
+        (fault_of result) files.old files.new }
 {
+    let joins = joins_of_file(alloc, files, chosen, queries)?;
     let sessions = sessions_of_file(alloc, files, chosen, queries)?;
     let readers = open_readers(alloc, files, chosen)?;
     let sinks = open_sinks(files, chosen)?;
     Ok(Reads {
         readers,
+        joins,
         sessions,
         sinks,
     })

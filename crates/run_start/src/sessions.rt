@@ -1,23 +1,23 @@
 //! The asks file is read and understood.
 
-ghost use Rattle.std.specs.Prelude.{◌≡◌, ◌≢◌, ◌⊎◌, ◌<◌, ◌≤◌, ◌∷◌, [], All, length, Ok, IfOk};
+ghost use Rattle.std.specs.Prelude.{◌≡◌, ◌≢◌, ◌⊎◌, ◌<◌, ◌≤◌, [], All, length, Ok, IfOk};
 ghost use Rattle.std.specs.Prelude.{IfErr, IfSome, option_to_list};
 ghost use Rattle.ask_text.specs.declared.fault.AskKind.{AskKind};
 ghost use Rattle.ask_text.specs.Asks.{asks};
 ghost use Rattle.ask_text.specs.Ranges.{IsSession};
 ghost use Rattle.rpq_text.specs.Definitions.{definitions_of};
 ghost use Rattle.rpq_text.specs.Limits.{file_limit};
-ghost use Rattle.run_start.specs.Files.{ForSessions, HasQueries};
+ghost use Rattle.run_start.specs.Files.{AreUnderstoodJoins, ForSessions, HasQueries};
+ghost use Rattle.run_start.specs.Given.{understood_names};
 ghost use Rattle.run_start.specs.Ready.{IsReadWhole, fault_of};
 ghost use Rattle.run_start.specs.Steps.{IsFaultOfAsks, IsRefusal, UsesMore};
 
+use crate::definitions::copied_definitions;
 use crate::refusal::{Refusal, without_source};
 use crate::whole::whole_file;
 use ask_text::{AskFault, AskKind, Session, read_asks};
 use query_file::Compiled;
-use rpq_base::Memory;
 use rpq_io::Files;
-use rpq_model::QueryDef;
 use rpq_text::{StartFault, Which};
 use rpq_words::Chosen;
 use std::alloc::Global;
@@ -33,6 +33,7 @@ pub fn sessions_of_file<F: Files>(
     requires few { length queries.now ≤ 64 }
     requires has { IfSome (F.holds files.old chosen.now.queries)
         (λ bytes. HasQueries chosen.now.two_way bytes (definitions_of queries.now)) }
+    requires joins { AreUnderstoodJoins chosen.now (F.holds files.old) }
     ensures sessions { IfOk result (λ sessions. ForSessions chosen.now (F.holds files.old)
         (definitions_of queries.now) (λ asked. sessions.items ≡ asked)) }
     ensures few { IfOk result (λ sessions. length sessions.items ≤ 64) }
@@ -43,7 +44,7 @@ pub fn sessions_of_file<F: Files>(
     ensures refused { IfErr result
         (IsRefusal F.Source.left F.Source.faults chosen.now (F.holds files.old)) }
     ensures files { UsesMore F.holds F.opened F.made F.unread F.unmade chosen.now
-        (chosen.now.queries ∷ []) (option_to_list chosen.now.asks) [] (fault_of result)
+        (understood_names chosen.now) (option_to_list chosen.now.asks) [] (fault_of result)
         files.old files.new }
 {
     let Some(name) = &chosen.asks else {
@@ -78,17 +79,6 @@ fn sessions_about(
         Ok(sessions) => Ok(sessions),
         Err(fault) => Err(start_fault(fault)),
     }
-}
-
-/// Copies of the definitions of the queries.
-fn copied_definitions(alloc: Global, queries: &[Compiled]) -> Result<Vec<QueryDef>, Memory>
-    ensures { IfOk result (λ copies. copies.items ≡ definitions_of queries.now) }
-{
-    let mut copies = Vec::with_capacity(alloc, queries.len())?;
-    for query in queries {
-        copies.push(query.def.copy(alloc)?)?;
-    }
-    Ok(copies)
 }
 
 /// Why a run doesn't begin for this fault of its asks file.

@@ -1,7 +1,6 @@
 use Rattle.std.proofs.Common.{ap, sym, ◌∙◌, arith}
 use Rattle.conj_query.specs.JoinsFile.{after_line}
-use Rattle.conj_query.proofs.ReadSound.{joins_are_sound}
-use Rattle.conj_query.proofs.SomeVariable.{all_some}
+use Rattle.conj_query.proofs.SomeVariable.{joins_are_sound}
 use Rattle.conj_query.proofs.Reading.{turn, stop, end, whole}
 use Rattle.conj_query.proofs.read.read_joins.Goals as goal
 
@@ -32,10 +31,13 @@ returns-clause-joins c =
     ∙ end c.args.queries.now loop.rest.now loop.found.items loop.count _ loop.invariant.so_far c.in_default.ensures.end
 
 pub returns-clause-few : goal.returns-clause-few
-returns-clause-few c = (joins_are_sound c.args.queries.now c.args.bytes.now _ (returns-clause-joins c)).0
+returns-clause-few c =
+    (joins_are_sound c.args.queries.now c.args.bytes.now _ (returns-clause-joins c)).0
 
 pub returns-clause-sound : goal.returns-clause-sound
-returns-clause-sound c = (joins_are_sound c.args.queries.now c.args.bytes.now _ (returns-clause-joins c)).1
+returns-clause-sound c =
+    (joins_are_sound c.args.queries.now c.args.bytes.now _ (returns-clause-joins c)).1
 
 pub returns-clause-variables : goal.returns-clause-variables
-returns-clause-variables c = all_some c.args.queries.now c.args.bytes.now _ (returns-clause-joins c)
+returns-clause-variables c =
+    (joins_are_sound c.args.queries.now c.args.bytes.now _ (returns-clause-joins c)).2

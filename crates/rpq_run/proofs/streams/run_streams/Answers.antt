@@ -21,7 +21,8 @@ write_own-written-requires-clause-few g c =
     let own : Vec AnsweredValue → List AnsweredValue = λ session. session.items in
     let threads = c.in-Ok.outcome in
     let answers = c.in-Ok.ensures.ok.answers in
-    let as_many = AllZip-long (IsSessionOf (definitions_of c.args.task.queries.items) threads.history.items answers.last)
+    let as_many = AllZip-long
+    (IsSessionOf (definitions_of c.args.task.queries.items) threads.history.items answers.last)
     c.args.task.sessions.items (map own threads.sessions.items) answers.sessions in
     omega (arith, length-map threads.sessions.items own, as_many, c.requires.task.few)
 
@@ -65,13 +66,17 @@ returns-clause-runs g c = λ given holds asked.
     let report = c.end_run.result in
     let ended = c.end_run.ensures in
     let definitions : c.deref-2.result.now ≡ definitions_of c.args.task.queries.items =
-    c.deref-2.ensures.value ∙ (c.in_ok-definitions.ensures ∙ ap definitions_of c.deref.ensures.value) in
+    c.deref-2.ensures.value
+    ∙ (c.in_ok-definitions.ensures ∙ ap definitions_of c.deref.ensures.value) in
     run_reported (meanings left faults written failures) given holds _ c.args.task c.args.own own
-    (sinks c.args.events.now c.run_threads.new.events c.args.errors.now c.end_run.new.errors) _ c.in_ok-circle.circle
-    threads report texts asked c.in-Ok.ensures.ok c.write_own-written.ensures.replied
-    (subst (λ (queries : List Query). SavesIfThere written failures (saved_text (saved queries threads.history.items))
-    threads.why (IsUnsaved threads.why threads.short_of_memory threads.ends.items texts.replied) c.args.own.save own.save
-    texts.saved) definitions c.write_own-written.ensures.saved)
+    (sinks c.args.events.now c.run_threads.new.events c.args.errors.now c.end_run.new.errors) _
+    c.in_ok-circle.circle threads report texts asked c.in-Ok.ensures.ok
+    c.write_own-written.ensures.replied
+    (subst (λ (queries : List Query). SavesIfThere written failures
+    (saved_text (saved queries threads.history.items)) threads.why
+    (IsUnsaved threads.why threads.short_of_memory threads.ends.items texts.replied)
+    c.args.own.save own.save texts.saved) definitions c.write_own-written.ensures.saved)
     ended.sources ended.from ended.memory ended.status ended.parts c.args.standing.now.items
-    c.end_run.new.standing.items report.left.items c.in_ok-circle.ensures.members (sym ended.objects.0)
-    (sym ended.objects.1) c.fronts_hold_answers.ensures ended.told
+    c.end_run.new.standing.items report.left.items c.in_ok-circle.ensures.members
+    (sym ended.objects.0) (sym ended.objects.1) c.fronts_hold_answers.ensures
+    c.joins_are_sound.ensures c.fronts_hold_bindings.ensures ended.told

@@ -2,7 +2,7 @@ use Rattle.std.proofs.Common.{◌+◌, List, ◌++◌, Err, refl, sym, ap, subst
 use Rattle.rpq_model.specs.Query.{Query}
 use Rattle.path_engine.specs.Engine.{definitions}
 use Rattle.history_model.specs.declared.line.Why.{Why}
-use Rattle.rpq_text.specs.Steps.{StepValue, AreEvaluable}
+use Rattle.rpq_text.specs.Steps.{StepValue, CanRun}
 use Rattle.standing.specs.Circles.{as_seen}
 use Rattle.rpq_threads.specs.Fed.{FindsSteps, answered}
 use Rattle.rpq_threads.proofs.Fronts.{ok_then_both, err_with, numbers_found, many_found}
@@ -17,7 +17,7 @@ returns-in_default-clause-stops g c =
     let before = answered old c.args.pass.now in
     let entries = c.args.entries.now in
     stops_before c.every_history_has_a_text.ensures.step old.options (definitions old.engine)
-    (subst (λ (queries : List Query). AreEvaluable queries) (sym was.queries) was.accepted)
+    (subst (λ (queries : List Query). CanRun old.options queries) (sym was.queries) was.accepted)
     before (before ++ entries) (entries, refl)
     (g.K.Sink.written c.args.events.now) (as_seen g.O.Standing.seen c.args.circle.now)
 

@@ -2,7 +2,7 @@ use Rattle.std.proofs.Common.{◌∙◌, refl, sym, ap, arith, []}
 use Rattle.std.proofs.lemmas.List.{append-nil}
 use Rattle.history_model.specs.Lines.{entries}
 use Rattle.rpq_workers.proofs.Seen.{starts_then}
-use Rattle.rpq_text.specs.declared.options.Options.{Options}
+use Rattle.rpq_text.specs.Steps.{OptionsValue}
 use Rattle.standing.specs.Circles.{as_seen}
 use Rattle.rpq_threads.proofs.Fronts.{handed_err}
 use Rattle.rpq_threads.proofs.Turns.{gets_nowhere, gets_further, stops_behind}
@@ -28,7 +28,7 @@ answer_part-requires-clause-next g c = λ _ _.
 
 pub answer_part-requires-clause-one : goal.answer_part-requires-clause-one
 answer_part-requires-clause-one g c = λ _ _ paths.
-    let same = ap (λ (options : Options). options.paths) c.loop-rest.invariant.gets_on.options in
+    let same = ap (λ (o : OptionsValue). o.paths) c.loop-rest.invariant.gets_on.options in
     let one = c.at_once-at_once.ensures.one (sym same ∙ paths) in
     omega (arith, c.split_at.ensures.front_len, c.min.ensures, one)
 

@@ -5,7 +5,8 @@ use Rattle.rpq_text.specs.Definitions.{definitions_of}
 use Rattle.two_way.specs.TwoWay.{walked}
 use Rattle.rpq_workers.proofs.Numbering.{new_length}
 use Rattle.rpq_threads.specs.declared.evaluator.Evaluator.{Evaluator}
-use Rattle.rpq_threads.specs.Fed.{MarksOver}
+use Rattle.rpq_threads.specs.Fed.{MarksOver, JoinsOver}
+use Rattle.rpq_threads.specs.Joining.{HaveJoins}
 use Rattle.rpq_threads.specs.Showing.{HaveMarks}
 use Rattle.rpq_threads.proofs.Starting.{first_shown, Moves, terms_of, begun_fed, begun_asks}
 use Rattle.rpq_threads.proofs.run.begin.Goals as goal
@@ -60,6 +61,10 @@ returns g c =
     let marks : MarksOver evaluator [] =
     subst (λ (qs : List Query). HaveMarks evaluator.options.paths qs [] evaluator.marks)
     (sym (ap definitions_of kept.queries)) c.in_ok-evaluator.ensures.marks in
+    let joins : JoinsOver evaluator [] =
+    subst (λ (qs : List Query). HaveJoins evaluator.options.joins qs
+    (walked evaluator.options.two_way []) evaluator.joins) (sym (ap definitions_of kept.queries))
+    c.in_ok-evaluator.ensures.joined in
     let terms : history.terms ≡ terms_of task =
     made.terms ∙ (λ i. record { queries = queries i; streams = streams i; cap = task.limit }) in
     record {
@@ -76,7 +81,7 @@ returns g c =
               stands = kept.stands (walked c.in_ok-evaluator.evaluator.options.two_way [])
                   c.in_ok-evaluator.ensures.stands.stands;
               counted = c.in_ok-evaluator.ensures.stands.counted;
-            }) marks;
+            }) marks joins;
         streams = sym (ap (λ (t : Terms). t.streams) terms);
         fresh = c.requires.fresh;
         readers = sym (made.readers ∙ asking);

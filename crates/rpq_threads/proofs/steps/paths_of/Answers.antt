@@ -28,7 +28,8 @@ loop-event-preserved c = λ history can.
       | then-event+in_ok-path_of+in_ok-push w ↦
           let there = subst (Contains events) (sym c.event-item.is)
           (Contains-get_or events i event c.loop-event-test.true) in
-          let shows = w.in_ok-path_of.ensures history can.over (can.gained event there w.if-event.true) in
+          let gained = can.gained event there w.if-event.true in
+          let shows = w.in_ok-path_of.ensures history can.over gained in
           subst (AreShown queries history (additions (take (i + 1) events)))
           (sym (ap items w.shown-is ∙ w.in_ok-push.ensures.items))
           (shown_more queries history events i event c.loop-event.shown.items

@@ -1,8 +1,8 @@
-use Rattle.std.proofs.Common.{rules, ◌≡◌, ◌∷◌, ◌++◌, ℕ, List, Option, Some, None, refl, subst}
-use Rattle.std.specs.Prelude.{IfSome, option_to_list}
+use Rattle.std.proofs.Common.{rules, ◌≡◌, ◌∷◌, ℕ, List, Option, Some, None, refl, subst}
+use Rattle.std.specs.Prelude.{IfSome}
 use Rattle.query_file.specs.Compiled.{CompiledValue}
 use Rattle.rpq_text.specs.declared.ends.StartFault.{StartFault}
-use Rattle.run_start.specs.Given.{sink_names}
+use Rattle.run_start.specs.Given.{later_names, sink_names}
 use Rattle.run_start.specs.Ready.{IsReading, IsReadWhole, fault_of}
 use Rattle.run_start.specs.Start.{IsRefusedFor, UsesFiles}
 use Rattle.run_start.proofs.Using.{all_steps, holds_stays, names_in_order, one_by_one}
@@ -23,18 +23,20 @@ returns-in_err-reads-clause-files g c =
     let start : Some fault ≡ fault_of c.from_residual-in_err-reads.result = search rules in
     subst (λ (s : Option StartFault). UsesFiles g.F.Files.holds g.F.Files.opened g.F.Files.made g.F.Files.unread
     g.F.Files.unmade (Some given) s c.args.files.now c.begin_reading.new.files) start
-    (all_steps given (given.queries ∷ (option_to_list given.asks ++ (option_to_list given.from ++ given.streams))) (sink_names given) (Some fault)
+    (all_steps given (given.queries ∷ later_names given) (sink_names given) (Some fault)
     c.args.files.now c.begin_reading.new.files (names_in_order given) refl
-    (one_by_one {more = option_to_list given.asks ++ (option_to_list given.from ++ given.streams)}
-    {start = Some c.in_err-reads.field-0.0.fault} c.in_ok-queries.ensures.files
+    (one_by_one {more = later_names given} {start = Some fault} c.in_ok-queries.ensures.files
     c.in_err-reads.ensures.files))
 
 pub returns-clause-read : goal.returns-clause-read
 returns-clause-read g c = record {
   queries = c.in_ok-queries.ensures.read;
+  joins = subst (λ (h : List ℕ → Option (List ℕ)). IfSome c.args.chosen.now.joins (λ name.
+      IsReadWhole g.F.Source.Source.left g.F.Source.Source.faults (h name)))
+      (holds_stays c.in_ok-queries.ensures.files) c.in_ok-reads.ensures.read_joins;
   asks = subst (λ (h : List ℕ → Option (List ℕ)). IfSome c.args.chosen.now.asks (λ name.
       IsReadWhole g.F.Source.Source.left g.F.Source.Source.faults (h name)))
-      (holds_stays c.in_ok-queries.ensures.files) c.in_ok-reads.ensures.read;
+      (holds_stays c.in_ok-queries.ensures.files) c.in_ok-reads.ensures.read_asks;
 }
 
 pub returns-clause-ready : goal.returns-clause-ready
@@ -55,7 +57,7 @@ returns-clause-ready g c =
 pub returns-clause-files : goal.returns-clause-files
 returns-clause-files g c =
     let given = c.args.chosen.now in
-    all_steps given (given.queries ∷ (option_to_list given.asks ++ (option_to_list given.from ++ given.streams))) (sink_names given) None
+    all_steps given (given.queries ∷ later_names given) (sink_names given) None
     c.args.files.now c.begin_reading.new.files (names_in_order given) refl
-    (one_by_one {more = option_to_list given.asks ++ (option_to_list given.from ++ given.streams)} {start = None}
+    (one_by_one {more = later_names given} {start = None}
     c.in_ok-queries.ensures.files c.in_ok-reads.ensures.files)

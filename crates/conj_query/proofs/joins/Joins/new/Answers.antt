@@ -6,5 +6,6 @@ use Rattle.conj_query.proofs.joins.Joins.new.Goals as goal
 pub invariant_of-result : goal.invariant_of-result
 invariant_of-result g c = (
   c.requires.few,
-  subst (λ (count : ℕ). All (IsSound count) c.args.defs.items) (sym c.in_ok-sets.ensures.many) c.requires.sound,
+  subst (λ (count : ℕ). All (IsSound count) c.args.defs.value.items)
+      (sym c.in_ok-sets.ensures.many) c.requires.sound,
 )
