@@ -7,6 +7,8 @@
 #   bench/run.sh [--fast] --fronts    fronts of entries, by the program bench/fronts.rattle
 #   bench/run.sh [--fast] --live ..   several streams and readers, by bench/live.py, which says what
 #                                     its words are: --idle, --delay, --before OTHER
+#   bench/run.sh [--fast] --joins ..  what joins add to a run, by bench/joins.py, which says what
+#                                     its words are: --sizes, --changes, --runs, --instructions
 #   bench/run.sh [--fast] --refused   each allocation refused in turn, by tools/refused-allocations.py:
 #                                     rpq, the embedding example and bench/rebuilds.rattle
 #   bench/run.sh [--fast] NAME ..     the program NAME.rattle with these words: edge_store, fronts,
@@ -65,6 +67,9 @@ case "${1:-}" in
             build "$place" rebuilds_bench "$place/rebuilds" "$queries" /dev/null
             "$top/tools/refused-allocations.py" "$place/rpq" --embedding "$place/first_alert" \
                 --engine "$place/rebuilds" "$@"
+        elif [ "${1:-}" = --joins ]; then
+            shift
+            python3 "$top/bench/joins.py" "$place/rpq" "$@"
         elif [ "${1:-}" = --live ]; then
             shift
             python3 "$top/bench/live.py" "$place/rpq" "$@"

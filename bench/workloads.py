@@ -32,6 +32,16 @@ one query over a window that nothing leaves. It has a size:
   names-16          the same with names that are the same in the first 16 of 22 bytes
 
 The files are DIR/ATTACK-SIZE.txt and DIR/ATTACK.queries.
+
+For joins.py there are streams of the pairs of joins. There each label has so many edges, and then
+one edge after another is removed and inserted again. Each tuple behind the first ones changes one
+pair and one binding:
+
+  two-chain, three-chain   two and three atoms, each of which begins where the last one ends
+  two-star, three-star     two and three atoms that begin at one vertex
+  hub                      as two-chain, where all edges of the first label begin at one vertex
+  dead-ends                as three-chain, where one edge of the first label ends at a hub. All
+                           edges of the second label begin there, and one of them leads on
 """
 
 import argparse
@@ -277,6 +287,47 @@ ATTACKS = {
 }
 
 
+# The joins that are measured, each with the labels whose edges are removed and inserted again.
+JOINS = {
+    "two-chain": ("a ?x ?y b ?y ?z", "ab"),
+    "two-star": ("a ?x ?y b ?x ?z", "ab"),
+    "three-chain": ("a ?x ?y b ?y ?z c ?z ?u", "abc"),
+    "three-star": ("a ?x ?y b ?x ?z c ?x ?u", "abc"),
+    "hub": ("a ?x ?y b ?y ?z", "a"),
+    "dead-ends": ("a ?x ?y b ?y ?z c ?z ?u", "a"),
+}
+
+
+def joined_edge(name, label, number):
+    """The edge of this number that a label has for a join."""
+    fields = JOINS[name][0].split()
+    place = fields.index(label)
+    source, target = (f"{end[1:]}{number}" for end in fields[place + 1 : place + 3])
+    if (name, label) in (("hub", "a"), ("dead-ends", "b")):
+        source = "hub"
+    if (name, label, number) == ("dead-ends", "a", 0):
+        target = "hub"
+    if (name, label) == ("dead-ends", "c") and number > 0:
+        source = f"other{number}"
+    return f"{source} {label} {target}"
+
+
+def joined_edges(name, size):
+    """The lines of the first edges."""
+    for number in range(size):
+        for label in JOINS[name][0].split()[::3]:
+            yield f"{joined_edge(name, label, number)} +"
+
+
+def joined_changes(name, size, count):
+    """The lines that remove edges and insert them again, so many in all."""
+    labels = JOINS[name][1]
+    for step in range(count // 2):
+        # by a prime, so that the edges are far from each other
+        number = 0 if name == "dead-ends" else step * 7919 % size
+        yield from toggled(joined_edge(name, labels[step % len(labels)], number), 2)
+
+
 def repeated(part, times):
     return "/".join([part] * times)
 
@@ -340,6 +391,29 @@ def write_attack(name, size, folder):
     path = os.path.join(folder, f"{name}-{size}.txt")
     write_lines(path, (f"{time} {edge}" for time, edge in enumerate(maker(size))))
     return path
+
+
+def write_joined(name, size, count, folder):
+    """Writes the queries, the join, a stream of the first edges, one of so many changes, and one of
+    both; answers the paths of the five."""
+    os.makedirs(folder, exist_ok=True)
+    text = JOINS[name][0]
+    query = f"window {FOR_EVER} slide 1 arbitrary:"
+    edges = list(joined_edges(name, size))
+    first = len(edges)
+    edges += joined_changes(name, size, count)
+    lines = [f"{time} {edge}" for time, edge in enumerate(edges)]
+    files = {
+        f"{name}.queries": [f"query {label} {query} {label}" for label in text.split()[::3]],
+        f"{name}.joins": [f"join {name} {text}"],
+        f"{name}-{size}-{count}-first.txt": lines[:first],
+        f"{name}-{size}-{count}-changes.txt": lines[first:],
+        f"{name}-{size}-{count}.txt": lines,
+    }
+    paths = [os.path.join(folder, file) for file in files]
+    for path, text_lines in zip(paths, files.values()):
+        write_lines(path, text_lines)
+    return paths
 
 
 def write_states(folder, tuples, seed=1):

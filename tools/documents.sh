@@ -6,12 +6,13 @@
 # - Each command of README.md, docs/examples.md, docs/your-data.md, docs/formats.md and
 #   docs/scale.md, which is an indented line behind `$ `. What follows it, up to a blank line or the
 #   next command, is what it writes; a line `...` there is any further lines.
-# - The example of the README's first screen, and the files *-events.txt of examples/, with
-#   `--two-way` and, where the queries have no `^`, without it.
+# - The example of the README's first screen, and the files *-events.txt of examples/, with their
+#   joins file where there is one, else with `--two-way` and, where the queries have no `^`, without
+#   it.
 # - Whether docs/architecture.md has each crate, and docs/proved.md each law.
 # - What `main` makes of words that aren't UTF-8, of too many words, of `--two-way` beside readers
-#   or a saved window, of options with three streams and readers, and of a closed output: no
-#   contract says it.
+#   or a saved window, of options with three streams and readers, of files that are too long, and of
+#   a closed output: no contract says it.
 # - That a file which a run reads isn't opened to write, what stands on the output where a signal
 #   ends the program, and that ten runs, each going on with the window of the one before, write what
 #   one run writes.
@@ -149,6 +150,12 @@ count $? "README.md: the command of the first screen gives another output"
 cd "$top/examples" || exit 1
 for events in *-events.txt; do
     kind="${events%-events.txt}"
+    if [ -e "$kind-joins.txt" ]; then
+        cmp -s "$events" \
+            <(rpq --joins "$kind-joins.txt" "$kind-queries.txt" "$kind-stream.txt" 2>&1)
+        count $? "examples/$events: rpq --joins writes another text"
+        continue
+    fi
     cmp -s "$events" <(rpq --two-way "$kind-queries.txt" "$kind-stream.txt" 2>&1)
     count $? "examples/$events: rpq --two-way writes another text"
     grep -q '\^' "$kind-queries.txt" && continue
@@ -217,8 +224,26 @@ ends_with 1 "rpq: words" "a window saved with --two-way" \
     rpq --two-way --save "$place/unmade" "$queries" "$stream"
 ends_with 1 "rpq: words" "a saved window with --two-way" \
     rpq --two-way --from "$stream" "$queries" "$stream"
+ends_with 1 "rpq: words" "joins with --two-way" \
+    rpq --two-way --joins firm-joins.txt firm-queries.txt "$stream"
+ends_with 1 "rpq: words" "joins with --paths" \
+    rpq --joins firm-joins.txt --save "$place/unmade" --paths firm-queries.txt "$stream"
 [ ! -e "$place/unmade" ]
-count $? "words with --two-way that are refused: a file was made"
+count $? "words with --two-way or --joins that are refused: a file was made"
+ends_with 10 "rpq: joins line 2: unknown query" "joins over other queries" \
+    rpq --joins firm-joins.txt --save "$place/unmade" "$queries" "$stream"
+[ ! -e "$place/unmade" ]
+count $? "a faulty joins file: a file was made"
+# A file that is read whole has fewer than 2^24 bytes.
+yes '# long' | head -c 16777216 > "$place/long"
+ends_with 7 "rpq: queries: too long" "a queries file that is too long" rpq "$place/long" "$stream"
+ends_with 7 "rpq: joins: too long" "a joins file that is too long" \
+    rpq --joins "$place/long" "$queries" "$stream"
+ends_with 7 "rpq: asks: too long" "an asks file that is too long" \
+    rpq --asks "$place/long" --replies "$place/unmade" "$queries" "$stream"
+truncate -s -1 "$place/long"
+cmp -s <(rpq "$queries" "$stream") <(rpq --joins "$place/long" "$queries" "$stream")
+count $? "a joins file of 2^24 - 1 bytes without a join: it changes the text"
 ends_with 6 "rpq: write failed: events" "a closed output" to_closed "$queries" "$stream"
 ends_with 6 "rpq: write failed: events" "a closed output of a check" to_closed --check "$queries"
 ends_with 6 "rpq: write failed: events" "a full device" to_full "$queries" "$stream"
@@ -245,20 +270,21 @@ mkdir "$place/files"
 cp "$queries" "$place/files/queries"
 cp "$stream" "$place/files/stream"
 printf 'session\nwait 2\n' > "$place/files/asks"
+printf 'join ring flow ?x ?y flow ?y ?x\n' > "$place/files/joins"
 cp -r "$place/files" "$place/kept"
 cd "$place/files" || exit 1
-for name in queries asks stream; do
+for name in queries joins asks stream; do
     ends_with 6 "rpq: write failed: replies" "replies into the file $name" \
-        rpq --asks asks --replies "$name" queries stream
+        rpq --joins joins --asks asks --replies "$name" queries stream
     cmp -s "$name" "$place/kept/$name"
     count $? "replies into the file $name: the file is another one"
 done
 
 printf '1 x a y\n' > window
 cp window "$place/kept/window"
-for name in queries stream; do
+for name in queries joins stream; do
     ends_with 6 "rpq: write failed: save" "a window saved into the file $name" \
-        rpq --save "$name" --from window queries stream
+        rpq --joins joins --save "$name" --from window queries stream
     cmp -s "$name" "$place/kept/$name"
     count $? "a window saved into the file $name: the file is another one"
 done
@@ -272,6 +298,7 @@ saving() { rpq --save "$@" > /dev/null; }
 ends_with 6 "rpq: write failed: save" "a window saved on a full device" \
     saving /dev/full queries stream
 ends_with 5 "rpq: read failed: from" "no saved window" rpq --from nowhere queries stream
+ends_with 5 "rpq: read failed: joins" "no joins file" rpq --joins nowhere queries stream
 
 # Ten runs, each of which goes on with the window of the one before, write what one run writes.
 mkdir "$place/continued"

@@ -5,12 +5,13 @@
 
 Each run takes a queries file, an asks file and one or two streams, of which some bytes are changed,
 left out, repeated or put in from elsewhere, or which are random altogether; sometimes it begins
-with a saved window, which is such bytes too, or it checks or generates instead, or it may take
-edges backwards or tell paths. It is to end within 5 seconds, by no signal, with a status that docs/formats.md
-has, and with lines on standard error of the forms that it has. A window that it saves is to be
-taken by a further run over no stream, which is to end with status 0 and save the same bytes. What
-runs ended with which status is printed, and the first runs that did otherwise, whose files stay.
-The last line is `N passed, M failed`; the status is 0 where none failed.
+with a saved window, or has a joins file, which are such bytes too, or it checks or generates
+instead, or it may take edges backwards or tell paths. It is to end within 5 seconds, by no signal,
+with a status that docs/formats.md has, and with lines on standard error of the forms that it has. A
+window that it saves is to be taken by a further run over no stream, which is to end with status 0
+and save the same bytes. What runs ended with which status is printed, and the first runs that did
+otherwise, whose files stay. The last line is `N passed, M failed`; the status is 0 where none
+failed.
 """
 
 import argparse
@@ -39,18 +40,26 @@ STREAMS = [
     b"1 x a y\n2 y b z\n3 x a w +\n7 y b z -\n200\n",
     b"5 u a v until 9\n4 v b u\n6 v b u -\n\n# a comment\n8\r\n9 w a w",
 ]
+# Joins over the queries of each of the files above.
+JOINS = [
+    b"join j q ?x ?y q ?y ?z\njoin k q ?x ?x\n# one\n\njoin m q x ?y\n",
+    b"join s p ?x ?y r ?y ?x\njoin t r ?x ?y r ?y ?z r ?z ?x r ?x ?u\n",
+    b"join e t ?x ?y t ?u ?v\r\n\tjoin\t??\tt\t?? ???\n",
+    b"join i i ?x ?y k ?y x k x ?x k ?x ?y",
+]
 # Each file with how often it is left as it is.
-FILES = [("q", QUERIES, 0.7), ("a", ASKS, 0.5), ("s", STREAMS, 0.2), ("t", STREAMS, 0.2),
-         ("w", STREAMS, 0.4)]
+FILES = [("q", QUERIES, 0.7), ("j", JOINS, 0.5), ("a", ASKS, 0.5), ("s", STREAMS, 0.2),
+         ("t", STREAMS, 0.2), ("w", STREAMS, 0.4)]
 PIECES = [
     b"query ", b"window ", b"slide ", b"arbitrary: ", b"simple: ", b"session\n", b"wait ", b"until ",
-    b"from ", b"(", b")", b"*", b"+", b"?", b"/", b"|", b"^", b'"', b"%", b"\n", b"\r\n", b"\0", b"\xff",
-    b"0", b"-1", b"4611686018427387903", b"4611686018427387904", b"99999999999999999999999", b" ", b"\t",
-    b"x" * 255, b"x" * 256, b"x" * 1023, b"(" * 600, b"a/" * 70 + b"a", b"(a|b)*/a/" * 9 + b"a",
+    b"from ", b"join ", b"join b q ?a ?b ", b" q ?c ?d", b"(", b")", b"*", b"+", b"?", b"/", b"|", b"^",
+    b'"', b"%", b"\n", b"\r\n", b"\0", b"\xff", b"0", b"-1", b"4611686018427387903",
+    b"4611686018427387904", b"99999999999999999999999", b" ", b"\t", b"x" * 255, b"x" * 256,
+    b"x" * 1023, b"(" * 600, b"a/" * 70 + b"a", b"(a|b)*/a/" * 9 + b"a",
 ]
 LINE = re.compile(
-    rb"rpq: (words|memory|(queries|asks) line \d+: .*|(queries|asks): too long"
-    rb"|read failed: (queries|asks|from|stream \d+)|write failed: (events|replies|save)"
+    rb"rpq: (words|memory|(queries|joins|asks) line \d+: .*|(queries|joins|asks): too long"
+    rb"|read failed: (queries|joins|asks|from|stream \d+)|write failed: (events|replies|save)"
     rb"|stream \d+ line \d+: .*|stream \d+: (history full|too long))|usage: rpq .*")
 
 
@@ -71,7 +80,7 @@ def mutated(chance, base):
         elif way == 3:
             text[place:place] = text[:chance.randrange(len(text) + 1)]
         elif way == 4:
-            text[place:place] = chance.choice(QUERIES + ASKS + STREAMS)
+            text[place:place] = chance.choice(QUERIES + JOINS + ASKS + STREAMS)
         else:
             text[place:place] = bytes([chance.randrange(256)])
     return bytes(text)
@@ -81,7 +90,8 @@ def words_of(chance, backwards):
     """The words of a run behind the program, whose queries take edges backwards or don't."""
     way = chance.random()
     words = ["--two-way"] if chance.random() < (0.8 if backwards else 0.2) else []
-    words += ["--paths"] if chance.random() < (0.05 if words else 0.4) else []
+    words += ["--paths"] if chance.random() < (0.05 if words else 0.3) else []
+    words += ["--joins", "j"] if chance.random() < (0.05 if words or way < 0.15 else 0.5) else []
     if way < 0.1:
         return words + ["--check", "q"]
     if way < 0.15:
@@ -116,10 +126,11 @@ def one_run(program, seed, place):
     chance = random.Random(seed)
     folder = os.path.join(place, str(seed))
     os.mkdir(folder)
-    backwards = False
+    backwards, queries = False, chance.randrange(len(QUERIES))
     # Mostly one file is hostile and those before it aren't, else no run would come to the last.
     for name, base, kept in FILES:
-        text = chance.choice(base)
+        is_of_queries = name in ("q", "j") and chance.random() < 0.9
+        text = base[queries] if is_of_queries else chance.choice(base)
         backwards = backwards or b"^" in text
         with open(os.path.join(folder, name), "wb") as out:
             out.write(text if chance.random() < kept else mutated(chance, text))
@@ -130,7 +141,7 @@ def one_run(program, seed, place):
     except subprocess.TimeoutExpired:
         return f"seed {seed}: {words} takes more than {SECONDS} s", None
     status = done.returncode
-    if not 0 <= status <= 7:
+    if not (0 <= status <= 7 or status == 10):
         return f"seed {seed}: {words} ends with {status}", status
     if (status == 0) != (done.stderr == b""):
         return f"seed {seed}: {words} ends with {status} and writes {done.stderr[:200]}", status

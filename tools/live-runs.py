@@ -1,5 +1,5 @@
 #!/usr/bin/env python3
-"""tools/live-runs.py PROGRAM [--runs N] [--seed N]
+"""tools/live-runs.py PROGRAM [--runs N] [--seed N] [--joins]
 
 Runs PROGRAM, an `rpq`, on random queries, streams and asks, on real threads, and checks each run
 against the one history that its own `@` lines spell:
@@ -8,14 +8,17 @@ against the one history that its own `@` lines spell:
 - after each line the events are the pairs lost and gained, found from scratch by the definitions,
   and where the run tells paths, behind each gained pair there is one of the window that lasts
   exactly as long as the pair does;
+- where the run has joins, behind these events are the bindings lost and gained, which
+  tools/bindings.py finds by trying all answers; or the run is refused for the joins file's fault;
 - the window that it saves is what the history leaves;
 - each reply is what the history has at the reply's position, positions never fall within a session,
   and a wait is answered as ended exactly where the history ended before its position;
 - the status and the lines on errors are those of the streams' ends.
 
 A third of the runs, which neither answer readers nor save a window, may take edges backwards: their
-answers are those over the edges of the window and the same edges turned round. Half of the others
-tell paths.
+answers are those over the edges of the window and the same edges turned round. A quarter of the
+others have joins, and more than half of those that are left tell paths. With --joins each run has
+joins, and is made twice, with one worker and with four.
 
 Half of the streams are files, and half are named pipes that are written in pieces while the program
 runs. It isn't part of the gate. The last line is `N passed, M failed`.
@@ -29,6 +32,8 @@ import tempfile
 import threading
 import time
 
+import bindings
+
 NAMES = ["x", "y", "z", "u", "v", "w"]
 LABELS = ["a", "b", "c"]
 # languages whose simple paths may be asked for
@@ -36,6 +41,15 @@ CONTAINED = [("plus", ("label", "a")), ("star", ("label", "b")), ("label", "c"),
              ("plus", ("or", ("label", "a"), ("label", "b")))]
 CONTAINED_BACKWARDS = [("plus", ("or", ("label", "a"), ("label", "^a"))), ("label", "^c"),
                        ("then", ("star", ("label", "a")), ("star", ("label", "^b")))]
+# lines of which a joins file takes none, or not beside what it has
+FAULTY_JOINS = [
+    "join", "join j9", "jion j9 q0 ?x ?y", "join j9 q0 ?x", "join j9 q0 ?x ?y q0",
+    "join j9 q0 ? ?x", "join j9 q0 x y", "join j\x01 q0 ?x ?y", "join j9 q0 x y q9 \x01 y",
+    "join j0 q0 ?x ?y", "join j0 q9 ?x ?y", "join j9 q9 ?x ?y", "join j9 Q0 ?x ?y",
+    "join j9 q0 ?x \x7f", "join j9 q9 ?x y\x01", "join j9 q0 ?x\x01 ?y",
+    "join j9 q0 ?%s ?y" % ("x" * 256),
+    "join j9" + " q0 ?x ?y" * 5, "\n".join("join k%d q0 ?x ?y" % place for place in range(33)),
+]
 
 
 # ---- expressions: trees, their written form, and the words that they match
@@ -224,12 +238,12 @@ def saved_of(queries, history):
 
 # ---- a random case
 
-def random_stream(rng, queries):
+def random_stream(rng, names, most):
     entries, lines, clock = [], [], 0
-    for _ in range(rng.randrange(14)):
+    for _ in range(rng.randrange(most)):
         clock += rng.randrange(4)
         at = max(0, clock - rng.choice([0, 0, 0, 3, 9]))
-        edge = (rng.choice(NAMES), rng.choice(LABELS), rng.choice(NAMES))
+        edge = (rng.choice(names), rng.choice(LABELS), rng.choice(names))
         kind = rng.choice(["+", "+", "+", "until", "-", "tick", "blank"])
         if kind == "blank":
             lines.append(rng.choice(["", "# a comment", "   "]))
@@ -254,31 +268,68 @@ def random_stream(rng, queries):
     return {"entries": entries, "lines": lines, "fault": fault}
 
 
-def random_case(rng):
-    two_way, queries = rng.random() < 0.33, []
+def random_join(rng, name, queries, vertices):
+    variables = ["?" + name for name in "xyzu"[:rng.choice([1, 2, 2, 3, 3, 3, 4])]]
+    fields = ["join", name]
+    for _ in range(rng.randrange(1, 5)):
+        fields.append(rng.choice(queries)["name"])
+        fields += [rng.choice(variables if rng.random() < 0.9 else vertices) for _ in range(2)]
+    if not any(field in variables for field in fields):
+        fields[-1] = variables[0]
+    return rng.choice([" ", " ", "\t"]).join(fields)
+
+
+def random_joins(rng, queries, vertices):
+    """The text of a joins file, which may be faulty."""
+    lines = [random_join(rng, "j%d" % place, queries, vertices)
+             for place in range(rng.choice([0, 1, 2, 2, 3, 3]))]
+    lines += rng.choice([[], [], ["# a comment", "", "  "]])
+    rng.shuffle(lines)
+    if rng.random() < 0.15:
+        lines.insert(rng.randrange(len(lines) + 1), rng.choice(FAULTY_JOINS))
+    return "".join(line + "\n" for line in lines)
+
+
+def read_joins(case):
+    """The joins of a case, and the fault of their file."""
+    if case["joins"] is None:
+        return [], None
+    try:
+        names = [query["name"].encode() for query in case["queries"]]
+        return bindings.read_joins(case["joins"].encode(), names), None
+    except bindings.Fault as fault:
+        return [], fault
+
+
+def random_case(rng, has_joins):
+    two_way, queries = not has_joins and rng.random() < 0.33, []
+    has_joins = has_joins or not two_way and rng.random() < 0.25
+    # Joins have bindings where there are many answers over few names.
+    names, depth, longest, most = (NAMES[:3], 1, 90, 24) if has_joins else (NAMES, 3, 30, 14)
     labels = LABELS + ["^" + label for label in LABELS] if two_way else LABELS
     contained = CONTAINED + CONTAINED_BACKWARDS if two_way else CONTAINED
     for place in range(rng.randrange(1, 4)):
         simple = rng.random() < 0.3
         queries.append({
-            "name": "q%d" % place, "window": rng.randrange(1, 30), "slide": rng.randrange(1, 9),
+            "name": "q%d" % place, "window": rng.randrange(1, longest),
+            "slide": rng.randrange(1, 9),
             "mode": "simple" if simple else "arbitrary", "two_way": two_way,
-            "tree": rng.choice(contained) if simple else random_expression(rng, 3, labels),
+            "tree": rng.choice(contained) if simple else random_expression(rng, depth, labels),
         })
-    streams = [random_stream(rng, queries) for _ in range(rng.randrange(1, 5))]
+    streams = [random_stream(rng, names, most) for _ in range(rng.randrange(1, 5))]
     total = sum(len(stream["entries"]) for stream in streams)
     sessions = []
     for _ in range(0 if two_way else rng.randrange(4)):
         asks = []
         for _ in range(rng.randrange(7)):
-            query, pair = rng.choice(queries)["name"], (rng.choice(NAMES), rng.choice(NAMES))
+            query, pair = rng.choice(queries)["name"], (rng.choice(names), rng.choice(names))
             asks.append(rng.choice([
                 ("answers", query), ("from", query, pair[0]), ("pair", query) + pair,
                 ("count", query), ("until", query) + pair,
                 ("wait", str(rng.randrange(total + 3))), ("wait", str(rng.randrange(total + 3)))]))
         sessions.append(asks)
     begins = len(streams) == 1 and not two_way and rng.random() < 0.5
-    window = random_stream(rng, queries) if begins else None
+    window = random_stream(rng, names, most) if begins else None
     if window is not None and window["fault"] is None:
         # The one stream is the window and then its file.
         own = streams[0]
@@ -290,7 +341,8 @@ def random_case(rng):
     limit = rng.randrange(1, total + 2) if rng.random() < 0.2 else None
     return {"queries": queries, "streams": streams, "sessions": sessions, "limit": limit,
             "window": window, "saves": not two_way and rng.random() < 0.5, "two_way": two_way,
-            "paths": not two_way and rng.random() < 0.5,
+            "joins": random_joins(rng, queries, names) if has_joins else None,
+            "paths": not two_way and not has_joins and rng.random() < 0.6,
             "workers": rng.choice([1, 2, 4, 8])}
 
 
@@ -334,12 +386,17 @@ def run(program, case, folder, seed):
         words.append("--two-way")
     if case["paths"]:
         words.append("--paths")
+    if case["joins"] is not None:
+        words += ["--joins", "joins.txt"]
+        with open(folder + "/joins.txt", "w") as out:
+            out.write(case["joins"])
     words.append("queries.txt")
-    feeders = []
+    # A run that is refused opens no pipe.
+    has_pipes, feeders = read_joins(case)[1] is None, []
     for number, stream in enumerate(case["streams"], 1):
         name = "stream%d" % number
         data = "".join(line + "\n" for line in stream["lines"]).encode()
-        if rng.random() < 0.5:
+        if rng.random() < 0.5 and has_pipes:
             os.mkfifo(folder + "/" + name)
             feeder = threading.Thread(target=feed, args=(folder + "/" + name, data, rng.random()))
             feeder.start()
@@ -455,7 +512,19 @@ def without_paths(case, history, block, ends):
     return None, events
 
 
+def join_lines(joins, before, after):
+    """The lines of what the bindings of joins lose and gain, by the answers of each query."""
+    pairs = [[{(source.encode(), target.encode()) for source, target in answers}
+              for answers in each] for each in (before, after)]
+    return [line.decode() for line in bindings.join_lines(joins, *pairs)]
+
+
 def check(case, status, events, errors, replies, saved):
+    joins, fault = read_joins(case)
+    if fault:
+        given = (status, events, errors, replies, saved)
+        due = (10, "", "rpq: joins %s\n" % fault, None, None)
+        return None if given == due else "%r, due %r" % (given, due)
     history, numbers, blocks = [], [], []
     for line in events.splitlines():
         if line[0] == "@":
@@ -481,6 +550,7 @@ def check(case, status, events, errors, replies, saved):
         for query, old, new in zip(case["queries"], ends[place], ends[place + 1]):
             for sign, pairs in (("-", set(old) - set(new)), ("+", set(new) - set(old))):
                 due += ["%s %s %s %s" % ((sign, query["name"]) + pair) for pair in sorted(pairs)]
+        due += join_lines(joins, ends[place], ends[place + 1])
         if block != due:
             return "block %d: %r, due %r" % (place + 1, block, due)
     due_status, due_errors = expected_errors(case, history, numbers)
@@ -493,27 +563,34 @@ def check(case, status, events, errors, replies, saved):
     return None
 
 
+def fault_of_run(program, case, seed):
+    """What is wrong with a run of the case, if anything is."""
+    with tempfile.TemporaryDirectory(prefix="rpqlive") as folder:
+        try:
+            return check(case, *run(program, case, folder, seed))
+        except subprocess.TimeoutExpired:
+            return "no end within 60 seconds"
+
+
 def main():
     parser = argparse.ArgumentParser(description=__doc__.split("\n\n")[0])
     parser.add_argument("program")
     parser.add_argument("--runs", type=int, default=200)
     parser.add_argument("--seed", type=int, default=1)
+    parser.add_argument("--joins", action="store_true", help="each run with joins, and made twice")
     given = parser.parse_args()
     program = os.path.abspath(given.program)
     passed = failed = 0
     for number in range(given.runs):
         seed = given.seed * 1000003 + number
-        case = random_case(random.Random(seed))
-        with tempfile.TemporaryDirectory(prefix="rpqlive") as folder:
-            try:
-                wrong = check(case, *run(program, case, folder, seed))
-            except subprocess.TimeoutExpired:
-                wrong = "no end within 60 seconds"
-        if wrong:
-            failed += 1
-            print("run %d (--seed %d): %s" % (number, given.seed, wrong))
-        else:
-            passed += 1
+        case = random_case(random.Random(seed), given.joins)
+        for workers in [1, 4] if given.joins else [case["workers"]]:
+            wrong = fault_of_run(program, dict(case, workers=workers), seed)
+            if wrong:
+                failed += 1
+                print("run %d (--seed %d, workers %d): %s" % (number, given.seed, workers, wrong))
+            else:
+                passed += 1
     print("%d passed, %d failed" % (passed, failed))
     return 0 if failed == 0 else 1
 

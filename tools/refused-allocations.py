@@ -44,8 +44,8 @@ def other(name):
 live = other("live-runs")
 
 
-def query(tree, window=100, slide=10):
-    return {"name": "q", "window": window, "slide": slide, "mode": "arbitrary", "two_way": False,
+def query(tree, window=100, slide=10, name="q"):
+    return {"name": name, "window": window, "slide": slide, "mode": "arbitrary", "two_way": False,
             "tree": tree}
 
 
@@ -75,7 +75,8 @@ def long_stream(count):
 
 
 # Each case: its queries, its streams, the asks of its sessions, whether each allocation is refused
-# or a part of them, and the words of the run beside these.
+# or a part of them, and the words of the run beside these. Where they name a joins file, it has the
+# text below.
 CASES = {
     "a cycle survives the delete of its root's edge": (
         [query(("plus", A))], [stream("1 r a x;1 x a y;1 y a x;1 r a x -")], [], 1, []),
@@ -85,9 +86,14 @@ CASES = {
     "paths, with a session": (
         [query(("then", A, ("star", B)))], [stream("1 x a y;2 y b z;3 z b y;4 w a y;5 y b z -")],
         [[("wait", "2"), ("until", "q", "x", "z")]], 1, ["--paths"]),
+    "joins, with a session": (
+        [query(A), query(("then", A, ("star", B)), name="p")],
+        [stream("1 x a y;2 y b z;3 y a x;4 x a x;5 y a x -;130 z a x")],
+        [[("wait", "2"), ("count", "q"), ("wait", "9")]], 1, ["--joins", "j"]),
     "600 tuples": (
         [query(("then", A, ("star", ("or", B, C))), 30, 5)], [long_stream(600)], [], 41, []),
 }
+JOINS = "join s q ?x ?y q ?y ?x\njoin t p ?x ?y q ?y ?z\n# a comment\njoin k q x ?x p ?x ?y\n"
 
 
 class Wrong(Exception):
@@ -116,7 +122,10 @@ def blocks_of(text):
     return history, numbers, blocks
 
 
-def check_blocks(queries, history, blocks, ends, has_paths):
+def check_blocks(queries, history, blocks, ends, options):
+    has_paths, joins = "--paths" in options, []
+    if "--joins" in options:
+        joins, _ = live.read_joins({"queries": queries, "joins": JOINS})
     for place, block in enumerate(blocks):
         due = []
         if has_paths:
@@ -126,10 +135,11 @@ def check_blocks(queries, history, blocks, ends, has_paths):
         for one, old, new in zip(queries, ends[place], ends[place + 1]):
             for sign, pairs in (("-", set(old) - set(new)), ("+", set(new) - set(old))):
                 due += ["%s %s %s %s" % ((sign, one["name"]) + pair) for pair in sorted(pairs)]
+        due += live.join_lines(joins, ends[place], ends[place + 1])
         expect(block == due, "block %d: %r, due %r" % (place + 1, block, due))
 
 
-def check_replies(sessions, replies, ends, total, is_whole):
+def check_replies(sessions, names, replies, ends, is_whole):
     """What was written on the replies is that of the sessions' asks, or a part at the front."""
     for number, asks in enumerate(sessions, 1):
         due = "session %d\n" % number
@@ -142,7 +152,7 @@ def check_replies(sessions, replies, ends, total, is_whole):
                 # what is published but not written any more isn't known here
                 if position >= len(ends):
                     return
-                due = live.expected_reply(ask, position, ends[position], ["q"])
+                due = live.expected_reply(ask, position, ends[position], names)
             if not is_whole and due.startswith(replies):
                 return
             expect(replies.startswith(due), "session %d: %r, due %r" % (number, replies, due))
@@ -165,6 +175,8 @@ class Case:
             with open("%s/s%d" % (folder, number), "w") as out:
                 out.write("\n".join(one["lines"]) + "\n")
             self.words.append("s%d" % number)
+        with open(folder + "/j", "w") as out:
+            out.write(JOINS)
         with open(folder + "/a", "w") as out:
             for asks in self.sessions:
                 out.write("session\n" + "".join(" ".join(ask) + "\n" for ask in asks))
@@ -205,9 +217,10 @@ class Case:
             due = one["entries"] if status == 0 else one["entries"][:len(own)]
             expect(own == due, "the tuples of stream %d" % number)
         ends = self.ends(history)
-        check_blocks(self.queries, history, blocks, ends, "--paths" in self.options)
+        check_blocks(self.queries, history, blocks, ends, self.options)
         if replies is not None:
-            check_replies(self.sessions, replies, ends, len(history), status == 0)
+            names = [one["name"] for one in self.queries]
+            check_replies(self.sessions, names, replies, ends, status == 0)
         expect(status == 8 or not self.sessions or replies is not None, "no replies")
 
 
