@@ -7,16 +7,16 @@ use std::marker::Model;
 /// The greatest time of a tuple: 2^62 - 1. Times are plain numbers in the stream's own unit.
 pub const MAX_TIME: u64 = (1 << 62) - 1;
 
-/// The label of an edge. Labels with `back` are for edges that are taken backwards, and no edge is
-/// yet; a label with it differs from the one without, and comes after it.
-#[derive(Debug, PartialEq, Eq, PartialOrd, Ord, Drop)]
+/// The label of an edge. A label with `back` is for an edge that is taken backwards: it differs from
+/// the one without, and comes after it.
+#[derive(Debug, PartialEq, Eq, PartialOrd, Ord)]
 pub struct Label {
     pub name: Name,
     pub back: bool,
 }
 
 /// A labelled edge from one vertex to another. Edges have no order.
-#[derive(Debug, PartialEq, Eq, Drop)]
+#[derive(Debug, PartialEq, Eq)]
 pub struct Edge {
     pub from: Name,
     pub label: Label,
@@ -25,7 +25,7 @@ pub struct Edge {
 
 /// What a tuple does: it inserts an edge, deletes one, or lets time pass. An insert may have an end
 /// of its own, `until`: the edge is seen at clocks below it alone.
-#[derive(Debug, PartialEq, Eq, Drop)]
+#[derive(Debug, PartialEq, Eq)]
 pub enum Act {
     Insert { edge: Edge, until: Option<u64> },
     Delete(Edge),
@@ -36,7 +36,7 @@ pub enum Act {
 /// one, are at most [`MAX_TIME`].
 ///
 /// Source: the streaming graph tuples of Pacaci, Bonifati and Özsu, SIGMOD 2020.
-#[derive(Debug, PartialEq, Eq, Drop)]
+#[derive(Debug, PartialEq, Eq)]
 pub struct Tuple {
     pub time: u64,
     pub act: Act,
@@ -55,14 +55,14 @@ impl Model for Tuple {
 }
 
 /// A tuple in a history, with the number of its stream. Streams are numbered from 1.
-#[derive(Debug, PartialEq, Eq, Drop)]
+#[derive(Debug, PartialEq, Eq)]
 pub struct Entry {
     pub stream: u32,
     pub tuple: Tuple,
 }
 
 /// An answer of a query: a path leads from the one vertex to the other.
-#[derive(Debug, PartialEq, Eq, PartialOrd, Ord, Drop)]
+#[derive(Debug, PartialEq, Eq, PartialOrd, Ord)]
 pub struct Pair {
     pub from: Name,
     pub to: Name,
@@ -70,11 +70,81 @@ pub struct Pair {
 
 /// A change of a query's answers: the pair is gained where `added`, else lost. Queries are numbered
 /// from 0.
-#[derive(Debug, PartialEq, Eq, Drop)]
+#[derive(Debug, PartialEq, Eq)]
 pub struct Event {
     pub query: u32,
     pub added: bool,
     pub pair: Pair,
+}
+
+// Drops are by hand: of a derived one each crate that drops the value would prove all parts anew.
+impl Drop for Label {
+    fn drop(self) {
+        let Label {
+            name: _name,
+            back: _back,
+        } = self;
+    }
+}
+
+impl Drop for Edge {
+    fn drop(self) {
+        let Edge {
+            from: _from,
+            label: _label,
+            to: _to,
+        } = self;
+    }
+}
+
+impl Drop for Act {
+    fn drop(self) {
+        match self {
+            Act::Insert {
+                edge: _edge,
+                until: _until,
+            } => {}
+            Act::Delete(_edge) => {}
+            Act::Tick => {}
+        }
+    }
+}
+
+impl Drop for Tuple {
+    fn drop(self) {
+        let Tuple {
+            time: _time,
+            act: _act,
+        } = self;
+    }
+}
+
+impl Drop for Entry {
+    fn drop(self) {
+        let Entry {
+            stream: _stream,
+            tuple: _tuple,
+        } = self;
+    }
+}
+
+impl Drop for Pair {
+    fn drop(self) {
+        let Pair {
+            from: _from,
+            to: _to,
+        } = self;
+    }
+}
+
+impl Drop for Event {
+    fn drop(self) {
+        let Event {
+            query: _query,
+            added: _added,
+            pair: _pair,
+        } = self;
+    }
 }
 
 impl Copied for Label {

@@ -13,6 +13,7 @@ use std::alloc::{AllocError, Global};
 use std::cmp::Ordering;
 use std::error::Error;
 use std::fmt;
+use std::hash::{Hash, Hasher};
 use std::marker::Model;
 
 /// The most bytes that a name has.
@@ -57,9 +58,16 @@ impl Error for NameFault {}
 ///
 /// Contracts see it as its bytes. Names are ordered by their bytes, a name before those that it
 /// begins. A name of up to 16 bytes takes no memory of its own, so that it is copied fast.
-#[derive(Debug, Drop)]
+#[derive(Debug)]
 pub struct Name {
     bytes: SmallVec<u8, 16>,
+}
+
+// By hand: of a derived drop each crate that drops a name would prove all parts anew.
+impl Drop for Name {
+    fn drop(self) {
+        let Name { bytes: _bytes } = self;
+    }
 }
 
 impl Model for Name {
@@ -154,6 +162,22 @@ impl Eq for Name {
     ghost use Rattle.std.proofs.Common.{rules};
 
     ghost laws = { Prim.search (comparing, rules) };
+}
+
+/// A name is fed to a hash in one write.
+impl Hash for Name {
+    ghost use Rattle.std.specs.Prelude.{List, ℕ, [], ◌∷◌};
+    ghost use Rattle.std.specs.Cmp.Lexicographic.{bytes_decides};
+    ghost use Rattle.std.proofs.Common.{ap};
+
+    ghost hash_input = { λ name. name ∷ [] };
+
+    ghost respects_eq = { λ first second same.
+        ap (λ (bytes : List ℕ). bytes ∷ []) ((bytes_decides first second).0 same) };
+
+    fn hash<H: Hasher>(&self, state: &mut H) {
+        state.write(self.as_bytes());
+    }
 }
 
 impl PartialOrd for Name {
