@@ -125,6 +125,16 @@ impl Name {
         })
     }
 
+    /// The name with these bytes, which are one. They are copied. The only error is [`Memory`].
+    pub fn of(alloc: Global, bytes: &[u8]) -> Result<Name, Memory>
+        requires { IsName bytes.now }
+        ensures { IfOk result (λ name. name ≡ bytes.now) }
+    {
+        Ok(Name {
+            bytes: SmallVec::from_slice(alloc, bytes)?,
+        })
+    }
+
     /// The bytes of the name.
     pub fn as_bytes(&self) -> &[u8]
         ensures bytes { result.now ≡ self.now }
