@@ -4,8 +4,6 @@ use Rattle.std.specs.Cmp.{IsEquivalence}
 use Rattle.std.specs.Cmp.Lexicographic.{nat_list_eq_equiv}
 use Rattle.std.specs.List.{IsDistinct, position, position_or_len, list_any}
 use Rattle.std.specs.Map.{keys_of, lookup}
-use Rattle.std.specs.declared.vec.Vec.{Vec}
-use Rattle.std.specs.Global.{Global}
 use Rattle.std.proofs.lemmas.Bool.{lt-ltb, ltb-false}
 use Rattle.std.proofs.lemmas.List.{get_or_append_left, get_or_push, length-map, length-append, map-append}
 use Rattle.std.proofs.lemmas.List.Quantifiers.{position-Some}
@@ -91,36 +89,36 @@ apart_more names name distinct none =
 -- ---- the table
 
 -- past the last entry there is no name
-pub no_name : (entries : List (Vec ℕ Global × List ℕ)) (number : ℕ) → slice_get entries number ≡ None → [] ≡ name_at (names_of entries) number
+pub no_name : (entries : List (List ℕ × List ℕ)) (number : ℕ) → slice_get entries number ≡ None → [] ≡ name_at (names_of entries) number
 no_name [] number none = refl
 no_name (entry ∷ entries) zero none = cc
 no_name (entry ∷ entries) (suc number) none = no_name entries number none
 
 -- what a look-up by bytes finds
-pub found_by_bytes : (entries : List (Vec ℕ Global × List ℕ)) (name : List ℕ) → IsKeyed entries →
-    position (λ (key : Vec ℕ Global). same_name name key.items) (keys_of entries) ≡ number_of (names_of entries) name
+pub found_by_bytes : (entries : List (List ℕ × List ℕ)) (name : List ℕ) → IsKeyed entries →
+    position (λ (key : List ℕ). same_name name key) (keys_of entries) ≡ number_of (names_of entries) name
 found_by_bytes entries name keyed =
     ap₂ (λ place len. cond (nat_lt place len) (Some place) None) (same_place entries keyed)
-    (length-map entries (λ (e : Vec ℕ Global × List ℕ). e.0) ∙ sym (length-map entries (λ (e : Vec ℕ Global × List ℕ). e.1)))
+    (length-map entries (λ (e : List ℕ × List ℕ). e.0) ∙ sym (length-map entries (λ (e : List ℕ × List ℕ). e.1)))
   where
-    same_place : (entries : List (Vec ℕ Global × List ℕ)) → IsKeyed entries →
-        position_or_len (λ (key : Vec ℕ Global). same_name name key.items) (keys_of entries)
+    same_place : (entries : List (List ℕ × List ℕ)) → IsKeyed entries →
+        position_or_len (λ (key : List ℕ). same_name name key) (keys_of entries)
         ≡ position_or_len (same_name name) (names_of entries)
     same_place [] keyed = refl
     same_place (entry ∷ entries) keyed =
         ap₂ (λ bytes rest. cond (not (same_name name bytes)) (1 + rest) 0) keyed.0 (same_place entries keyed.1)
 
-keyed_more : (entries : List (Vec ℕ Global × List ℕ)) (key : Vec ℕ Global) (name : List ℕ) → IsKeyed entries → key.items ≡ name →
+keyed_more : (entries : List (List ℕ × List ℕ)) (key : List ℕ) (name : List ℕ) → IsKeyed entries → key ≡ name →
     IsKeyed (entries ++ (key, name) ∷ [])
 keyed_more [] key name keyed is = (is, tt)
 keyed_more (entry ∷ entries) key name keyed is = (keyed.0, keyed_more entries key name keyed.1 is)
 
-pub names_more : (entries : List (Vec ℕ Global × List ℕ)) (key : Vec ℕ Global) (name : List ℕ) →
+pub names_more : (entries : List (List ℕ × List ℕ)) (key : List ℕ) (name : List ℕ) →
     names_of (entries ++ (key, name) ∷ []) ≡ names_of entries ++ name ∷ []
-names_more entries key name = map-append (λ (e : Vec ℕ Global × List ℕ). e.1) entries ((key, name) ∷ [])
+names_more entries key name = map-append (λ (e : List ℕ × List ℕ). e.1) entries ((key, name) ∷ [])
 
 -- a table with a new name
-pub table_more : (entries : List (Vec ℕ Global × List ℕ)) (key : Vec ℕ Global) (name : List ℕ) → IsTable entries → key.items ≡ name →
+pub table_more : (entries : List (List ℕ × List ℕ)) (key : List ℕ) (name : List ℕ) → IsTable entries → key ≡ name →
     number_of (names_of entries) name ≡ None → length entries + 1 < 2 ^ 32 → IsTable (entries ++ (key, name) ∷ [])
 table_more entries key name table is none few = record {
   keyed = keyed_more entries key name table.keyed is;
@@ -129,22 +127,22 @@ table_more entries key name table is none few = record {
 }
 
 -- a name that has no number isn't found by its bytes
-not_found : (entries : List (Vec ℕ Global × List ℕ)) (name : List ℕ) → IsKeyed entries →
-    list_any (same_name name) (names_of entries) ≡ false → lookup (λ (key : Vec ℕ Global). same_name name key.items) entries ≡ None
+not_found : (entries : List (List ℕ × List ℕ)) (name : List ℕ) → IsKeyed entries →
+    list_any (same_name name) (names_of entries) ≡ false → lookup (λ (key : List ℕ). same_name name key) entries ≡ None
 not_found [] name keyed none = refl
 not_found (entry ∷ entries) name keyed none =
     by (same_name name entry.1) refl none (not_found entries name keyed.1)
   where
     by : (b : Bool) → same_name name entry.1 ≡ b → (b || list_any (same_name name) (names_of entries)) ≡ false →
-        (list_any (same_name name) (names_of entries) ≡ false → lookup (λ (key : Vec ℕ Global). same_name name key.items) entries ≡ None) →
-        lookup (λ (key : Vec ℕ Global). same_name name key.items) (entry ∷ entries) ≡ None
+        (list_any (same_name name) (names_of entries) ≡ false → lookup (λ (key : List ℕ). same_name name key) entries ≡ None) →
+        lookup (λ (key : List ℕ). same_name name key) (entry ∷ entries) ≡ None
     by true passes stays rest = absurd (true≢false stays)
     by false fails stays rest =
-        ap (λ b. cond b (Some entry.1) (lookup (λ (key : Vec ℕ Global). same_name name key.items) entries)) (ap (same_name name) keyed.0 ∙ fails)
+        ap (λ b. cond b (Some entry.1) (lookup (λ (key : List ℕ). same_name name key) entries)) (ap (same_name name) keyed.0 ∙ fails)
         ∙ rest stays
 
-pub absent : (entries : List (Vec ℕ Global × List ℕ)) (name : List ℕ) → IsKeyed entries → number_of (names_of entries) name ≡ None →
-    lookup (λ (key : Vec ℕ Global). same_name name key.items) entries ≡ None
+pub absent : (entries : List (List ℕ × List ℕ)) (name : List ℕ) → IsKeyed entries → number_of (names_of entries) name ≡ None →
+    lookup (λ (key : List ℕ). same_name name key) entries ≡ None
 absent entries name keyed none =
     not_found entries name keyed (none_passes (same_name name) (names_of entries) (past_end (same_name name) (names_of entries) none))
 
@@ -154,19 +152,19 @@ unfolding IsDistinct
 no_names = record { keyed = tt; apart = tt; few = omega arith }
 
 -- the entries after a new name came in
-pub added : {S : Type 0} (table : IndexMap (Vec ℕ Global) (List ℕ) S) (after : List (Vec ℕ Global × List ℕ)) (key : Vec ℕ Global) (name copy : List ℕ) →
-    IsTable table.entries → key.items ≡ name → copy ≡ name → number_of (names_of table.entries) name ≡ None →
-    after ≡ insert_entry (λ (x y : Vec ℕ Global). same_name x.items y.items) table.entries key copy →
+pub added : {S : Type 0} (table : IndexMap (List ℕ) (List ℕ) S) (after : List (List ℕ × List ℕ)) (key : List ℕ) (name copy : List ℕ) →
+    IsTable table.entries → key ≡ name → copy ≡ name → number_of (names_of table.entries) name ≡ None →
+    after ≡ insert_entry (λ (x y : List ℕ). same_name x y) table.entries key copy →
     after ≡ table.entries ++ (key, name) ∷ []
 added table after key name copy is_table is same none inserted =
     inserted
-    ∙ insert_entry-new (λ (x y : Vec ℕ Global). same_name x.items y.items) table key copy
-    (subst (λ bytes. lookup (λ (k : Vec ℕ Global). same_name bytes k.items) table.entries ≡ None) (sym is)
+    ∙ insert_entry-new (λ (x y : List ℕ). same_name x y) table key copy
+    (subst (λ bytes. lookup (λ (k : List ℕ). same_name bytes k) table.entries ≡ None) (sym is)
     (absent table.entries name is_table.keyed none))
     ∙ ap (λ n. table.entries ++ (key, n) ∷ []) same
 
 -- their names, and the number of the new one
-pub added_names : {S : Type 0} (table : IndexMap (Vec ℕ Global) (List ℕ) S) (after : List (Vec ℕ Global × List ℕ)) (key : Vec ℕ Global) (name : List ℕ)
+pub added_names : {S : Type 0} (table : IndexMap (List ℕ) (List ℕ) S) (after : List (List ℕ × List ℕ)) (key : List ℕ) (name : List ℕ)
     (names : List (List ℕ)) → after ≡ table.entries ++ (key, name) ∷ [] → names_of table.entries ≡ names →
     names_of after ≡ names ++ name ∷ []
 added_names table after key name names is view =

@@ -9,7 +9,6 @@
 #![tactic(auto)]
 
 mod bytes_order;
-mod name_hash;
 mod named;
 mod names;
 mod ranks;

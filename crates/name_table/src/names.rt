@@ -8,11 +8,10 @@ ghost use Rattle.name_table.specs.Names.{name_at, number_of, with_name, KeepsNum
 ghost use Rattle.name_table.specs.Ranks.{AreRanks};
 
 use crate::bytes_order::bytes_compared;
-use crate::name_hash::NameHash;
 use crate::named::Named;
 use crate::ranks::{numbers_by_rank, places_in};
 use indexmap::IndexMap;
-use rpq_base::{Memory, Name};
+use rpq_base::{Copied, KeyedHash, Memory, Name};
 use std::alloc::Global;
 use std::cmp::Ordering;
 use std::marker::Model;
@@ -25,8 +24,8 @@ use std::random::RandomSource;
 #[derive(Drop)]
 pub struct Names {
     alloc: Global,
-    /// The names in their order, by their bytes.
-    names: IndexMap<Vec<u8>, Named, NameHash>,
+    /// The names in their order, each found by its own hash.
+    names: IndexMap<Name, Named, KeyedHash>,
     /// The ranks of the names that had numbers when they were last made, by these numbers.
     ranks: Vec<u32>,
     /// How many events were told since then.
@@ -55,7 +54,7 @@ impl Names {
     {
         Ok(Names {
             alloc,
-            names: IndexMap::with_hasher(alloc, NameHash::new(rt)),
+            names: IndexMap::with_hasher(alloc, KeyedHash::new(rt)),
             ranks: Vec::new(alloc),
             told: 0,
         })
@@ -96,7 +95,7 @@ impl Names {
         ensures kept { OnOk result (KeepsNumbers self.old self.new) }
         ensures unchanged { OnErr result (self.new ≡ self.old) }
     {
-        let key = Vec::from_slice(self.alloc, name.as_bytes())?;
+        let key = name.copy()?;
         let number = self.names.len() as u32;
         self.names.insert(key, Named::new(name)?)?;
         Ok(number)
@@ -106,7 +105,7 @@ impl Names {
     pub fn find(&self, name: &Name) -> Option<u32>
         ensures { result ≡ number_of self.now name.now }
     {
-        match self.names.get_index_of(name.as_bytes()) {
+        match self.names.get_index_of(name) {
             Some(number) => Some(number as u32),
             None => None,
         }

@@ -16,7 +16,7 @@ entries : (c : goal.Joined-branch-4) →
     c.insert.new.self.entries ≡ c.self.inside.names.entries ++ (c.in_ok-key.key, c.args.name.now) ∷ []
 entries c =
     added c.self.inside.names c.insert.new.self.entries c.in_ok-key.key c.args.name.now c.in_ok-new.field-0 c.self.invariant.0
-    (c.in_ok-key.ensures.items ∙ c.as_bytes.ensures.bytes) c.in_ok-new.ensures (none c) c.in_ok-insert.ensures.entries
+    c.in_ok-key.ensures c.in_ok-new.ensures (none c) c.in_ok-insert.ensures.entries
 
 names : (c : goal.Joined-branch-4) → names_of c.insert.new.self.entries ≡ c.args.self.now ++ c.args.name.now ∷ []
 names c =
@@ -26,7 +26,7 @@ pub invariant_of-self-2 : goal.invariant_of-self-2
 invariant_of-self-2 c = (
   subst IsTable (sym (entries c))
       (table_more c.self.inside.names.entries c.in_ok-key.key c.args.name.now c.self.invariant.0
-      (c.in_ok-key.ensures.items ∙ c.as_bytes.ensures.bytes) (none c)
+      c.in_ok-key.ensures (none c)
       (omega (arith, c.requires.few, ap length c.self.view_is, length-map c.self.inside.names.entries (λ e. e.1)))),
   subst (λ entries. AreRanks (names_of entries) c.self.inside.ranks.items) (sym (entries c))
       (subst (λ names. AreRanks names c.self.inside.ranks.items) (sym (names_more c.self.inside.names.entries c.in_ok-key.key c.args.name.now))
