@@ -1,7 +1,8 @@
 #!/usr/bin/env bash
-# tools/documents.sh PROGRAM
+# tools/documents.sh [PROGRAM]
 #
-# Runs what the documents say, with PROGRAM as `rpq`, and compares what comes out.
+# Runs what the documents say, with PROGRAM as `rpq`, and compares what comes out. Where no program
+# is given, it is the proved one that `.ci/run`, or `rt run` in crates/rpq, left in crates/rpq/out.
 #
 # - Each command of README.md, docs/examples.md, docs/your-data.md, docs/formats.md and
 #   docs/scale.md, which is an indented line behind `$ `. What follows it, up to a blank line or the
@@ -22,10 +23,10 @@
 # clock and `rt`. The last line is `N passed, M failed`; the status is 0 where none failed.
 set -u
 export LC_ALL=C
-[ $# -eq 1 ] || { echo "usage: tools/documents.sh PROGRAM" >&2; exit 1; }
-program="$(realpath "$1")"
-[ -x "$program" ] || { echo "documents: no program $1" >&2; exit 1; }
+[ $# -le 1 ] || { echo "usage: tools/documents.sh [PROGRAM]" >&2; exit 1; }
 top="$(cd "$(dirname "$0")/.." && pwd)"
+program="$(realpath -m "${1:-$top/crates/rpq/out/rpq}")"
+[ -x "$program" ] || { echo "documents: no program $program" >&2; exit 1; }
 place="$(mktemp -d)" || exit 1
 trap 'rm -rf "$place"' EXIT
 exec < /dev/null

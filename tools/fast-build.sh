@@ -2,8 +2,9 @@
 # tools/fast-build.sh OUT [CRATE]
 #
 # Builds the program CRATE (rpq, where it isn't given) optimized and unproved, and leaves it at OUT:
-# for measuring, and for tools/documents.sh. It takes what `rt try` compiles, and compiles it once
-# more with -O3, in some three minutes. Only `rt run` makes the program that is proved.
+# for comparing prototypes in speed, and for a first run of tools/documents.sh on them. It takes what
+# `rt try` compiles, and compiles it once more with -O3, in some three minutes. Only `rt run` and
+# `.ci/run` make the program that is proved.
 set -eu
 [ $# -ge 1 ] && [ $# -le 2 ] || { echo "usage: tools/fast-build.sh OUT [CRATE]" >&2; exit 1; }
 out="$(realpath -m "$1")"
