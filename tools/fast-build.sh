@@ -2,8 +2,8 @@
 # tools/fast-build.sh OUT [CRATE]
 #
 # Builds the program CRATE (rpq, where it isn't given) optimized and unproved, and leaves it at OUT:
-# for comparing prototypes in speed, and for a first run of tools/documents.sh on them. It takes what
-# `rt try` compiles, and compiles it once more with -O3, in some three minutes. Only `rt run` and
+# for comparing prototypes in speed, and for running tools/documents.sh on them. It takes what `rt
+# try` compiles, and compiles it once more with -O3, in some three minutes. Only `rt run` and
 # `.ci/run` make the program that is proved.
 set -eu
 [ $# -ge 1 ] && [ $# -le 2 ] || { echo "usage: tools/fast-build.sh OUT [CRATE]" >&2; exit 1; }
