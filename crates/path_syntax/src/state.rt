@@ -247,13 +247,11 @@ impl BegunLabel {
         ensures { IfOk result (λ atom. expression atom ≡
             Atom (label_with self.now.name.items self.now.back)) }
     {
-        match Name::new(alloc, &self.name) {
-            Ok(name) => Ok(Expr::Atom(Label {
-                name,
-                back: self.back,
-            })),
-            Err(_) => Err(Memory),
-        }
+        let name = Name::of(alloc, &self.name)?;
+        Ok(Expr::Atom(Label {
+            name,
+            back: self.back,
+        }))
     }
 }
 

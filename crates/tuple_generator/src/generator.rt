@@ -111,9 +111,5 @@ fn named(alloc: Global, bytes: &[u8]) -> Result<Name, Memory>
     requires { IsName bytes.now }
     ensures { IfOk result (λ name. name ≡ bytes.now) }
 {
-    match Name::new(alloc, bytes) {
-        Ok(name) => Ok(name),
-        Err(NameFault::Memory) => Err(Memory),
-        Err(NameFault::Length(_) | NameFault::Byte(_)) => unreachable!(),
-    }
+    Name::of(alloc, bytes)
 }
