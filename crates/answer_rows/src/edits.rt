@@ -10,7 +10,7 @@ ghost use Rattle.answer_rows.specs.RowEdits.{target, with_target, without_target
 use crate::row::Row;
 use crate::rows::Rows;
 use crate::target::{Target, has_target};
-use rpq_base::{Copied, Memory, Name};
+use rpq_base::{Copied, Memory, Name, stored_in_all};
 use shared_map::SharedMap;
 
 /// Puts a target into the row of a source, which has one. Answers whether it is new.
@@ -54,7 +54,7 @@ impl Rows {
         ensures others { OnOk result (KeepsOtherRows from.now self.old self.new) }
         ensures unchanged { OnErr result (self.new ≡ self.old) }
     {
-        let more = self.count.checked_add(1).ok_or(Memory)?;
+        let more = stored_in_all(self.count, 1)?;
         let gained = put_in(&mut self.rows, from, to, until)?;
         if gained {
             self.count = more;

@@ -8,7 +8,7 @@ ghost use Rattle.answer_rows.specs.Listing.{listed};
 
 use crate::row::Row;
 use crate::target::{Target, end_of};
-use rpq_base::{Copied, Memory, Name};
+use rpq_base::{Copied, Memory, Name, stored_in_all};
 use shared_map::SharedMap;
 use std::alloc::Global;
 use std::marker::Model;
@@ -153,7 +153,7 @@ impl Rows {
     {
         let lost = self.targets(&from).len() as u128;
         let gained = row.targets().len() as u128;
-        let count = (self.count - lost).checked_add(gained).ok_or(Memory)?;
+        let count = stored_in_all(self.count - lost, gained)?;
         self.rows.insert(from, row)?;
         self.count = count;
         Ok(())

@@ -32,7 +32,7 @@ impl Clone for Target {
     fn clone(&self) -> Result<Target, AllocError> {
         match self.copy() {
             Ok(copy) => Ok(copy),
-            Err(Memory) => Err(AllocError),
+            Err(memory) => Err(AllocError::from(memory)),
         }
     }
 }

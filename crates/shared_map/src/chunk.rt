@@ -185,7 +185,7 @@ impl<K: Ord + Copied, V: Copied> Clone for Chunk<K, V> {
     fn clone(&self) -> Result<Chunk<K, V>, AllocError> {
         match Chunk::of(self.alloc, &self.entries) {
             Ok(clone) => Ok(clone),
-            Err(Memory) => Err(AllocError),
+            Err(memory) => Err(AllocError::from(memory)),
         }
     }
 }

@@ -74,7 +74,7 @@ impl<K: Ord + Copied, V: Copied> SharedMap<K, V> {
         let place = chunk_of(&self.chunks, key);
         match Arc::make_mut(&mut self.chunks[place]) {
             Ok(chunk) => Ok(chunk.value_mut(key)),
-            Err(_) => Err(Memory),
+            Err(refused) => Err(Memory::from(refused)),
         }
     }
 
