@@ -83,7 +83,7 @@ rows_are follow masks first nodes rows are =
 -- only a walk that is full makes too many states
 pub only_full : (fault : DiscoveryFault) → build_fault_of fault ≡ TooManyStates → fault ≡ Full
 only_full Full is = refl
-only_full Memory is = cc
+only_full (Memory memory) is = cc
 
 -- too many nodes are too many sets
 pub many_found : (follow masks : List PositionSet) (first : ℕ) → walk.HasTooMany (set_graph follow masks) 512 first → HasTooMany follow masks (set_of first)

@@ -15,4 +15,4 @@ build_fault_text Memory = memory_text
 -- why no automaton is built where the walk through the sets ends before its end
 abbrev pub build_fault_of : DiscoveryFault → BuildFault
 build_fault_of discovery.Full = TooManyStates
-build_fault_of discovery.Memory = Memory
+build_fault_of (discovery.Memory memory) = Memory

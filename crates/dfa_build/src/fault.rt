@@ -51,7 +51,7 @@ impl From<DiscoveryFault> for BuildFault {
     fn from(fault: DiscoveryFault) -> Self {
         match fault {
             DiscoveryFault::Full => Self::TooManyStates,
-            DiscoveryFault::Memory => Self::Memory,
+            DiscoveryFault::Memory(memory) => Self::from(memory),
         }
     }
 }

@@ -7,4 +7,4 @@ use Rattle.rpq_base.specs.FaultTexts.{memory_text}
 -- why a walk ended before its end, as it is told
 abbrev pub discovery_fault_text : DiscoveryFault → List ℕ
 discovery_fault_text Full = codes "too many nodes"
-discovery_fault_text Memory = memory_text
+discovery_fault_text (Memory memory) = memory_text

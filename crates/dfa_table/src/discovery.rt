@@ -8,6 +8,7 @@ ghost use Rattle.dfa_table.specs.Discovery.{AreNumbered, Grows, IsFull, AreRows,
 ghost use Rattle.dfa_table.specs.FaultTexts.{discovery_fault_text};
 ghost use Rattle.dfa_table.specs.declared.discovery.DiscoveryFault.{DiscoveryFault};
 
+use rpq_base::Memory;
 use std::alloc::{AllocError, AllocFailed, Global};
 use std::error::Error;
 use std::fmt;
@@ -44,22 +45,22 @@ pub enum DiscoveryFault {
     /// Steps lead to more nodes than the limit.
     Full,
     /// Memory ran out.
-    Memory,
+    Memory(Memory),
 }
 
 impl From<AllocError> for DiscoveryFault {
-    ghost from_gives = { λ _ fault. fault ≡ DiscoveryFault.Memory };
+    ghost from_gives = { λ _ fault. fault ≢ DiscoveryFault.Full };
 
-    fn from(_: AllocError) -> Self {
-        Self::Memory
+    fn from(refused: AllocError) -> Self {
+        Self::Memory(Memory::from(refused))
     }
 }
 
 impl<T: Drop> From<AllocFailed<T>> for DiscoveryFault {
-    ghost from_gives = { λ _ fault. fault ≡ DiscoveryFault.Memory };
+    ghost from_gives = { λ _ fault. fault ≢ DiscoveryFault.Full };
 
-    fn from(_: AllocFailed<T>) -> Self {
-        Self::Memory
+    fn from(refused: AllocFailed<T>) -> Self {
+        Self::Memory(Memory::from(refused))
     }
 }
 
@@ -69,7 +70,7 @@ impl fmt::Display for DiscoveryFault {
     fn fmt<W: fmt::Write>(&self, f: &mut fmt::Formatter<W>) -> fmt::Result {
         match self {
             Self::Full => f.write_str("too many nodes"),
-            Self::Memory => f.write_str("out of memory"),
+            Self::Memory(_) => f.write_str("out of memory"),
         }
     }
 }

@@ -9,6 +9,7 @@ ghost use Rattle.minimal_dfa.specs.Least.{IsLeast};
 
 use crate::classes::find_classes;
 use dfa_table::Dfa;
+use dfa_table::discovery::DiscoveryFault;
 use rpq_base::{Memory, copy_all};
 use state_pairs::PairTable;
 use std::alloc::Global;
@@ -47,9 +48,11 @@ pub fn minimize(alloc: Global, dfa: &Dfa) -> Result<Dfa, Memory>
     ensures least { IfOk result IsLeast }
 {
     let pairs = PairTable::new(alloc, dfa)?;
-    // the classes are never too many, so memory is the only fault
-    let Ok(found) = find_classes(alloc, &pairs) else {
-        return Err(Memory);
+    let found = match find_classes(alloc, &pairs) {
+        Ok(found) => found,
+        Err(DiscoveryFault::Memory(memory)) => return Err(memory),
+        // the classes are never too many
+        Err(DiscoveryFault::Full) => unreachable!(),
     };
     let finals = finals_of(alloc, dfa, &found.nodes)?;
     let labels = copy_all(alloc, dfa.labels())?;
