@@ -1,7 +1,7 @@
 -- An expiry under way.
 use Rattle.std.proofs.Common.{◌≡◌, ◌≤◌, ℕ, Bool, true, false, ◌&&◌, ◌⊎◌, inl, inr, cond, nat_lt, List, [], ◌∷◌, ◌++◌, Option, None, Some, refl, sym, ap, subst, ◌∙◌, Contains, IsPermutation, All, get_or, option_map, true≢false, arith}
 use Rattle.std.specs.List.{IsDistinct, list_any}
-use Rattle.std.specs.Bool.{OnTrue}
+use Rattle.std.specs.Prelude.{Result, Ok, Err, OnOk, IsOk}
 use Rattle.std.specs.Option.{MatchOption}
 use Rattle.std.proofs.lemmas.Bool.{cases_lt}
 use Rattle.std.proofs.lemmas.List.{map-append}
@@ -238,12 +238,18 @@ module _ (now : ℕ) (first old new : List (NodeId × Node)) (id : NodeId)
             subst (λ (n : Node). n.value ≤ now) same reached,
           )))
 
--- what follows from two facts where both of two tests pass
-pub on_both : {P Q R : Type 0} (first second : Bool) → OnTrue first P → OnTrue second Q →
-    (P → Q → R) → OnTrue (first && second) R
-on_both true true one other both = both one other
-on_both true false one other both = tt
-on_both false second one other both = tt
+-- what follows from a fact of an outcome and one of the next, which is good only behind a good one
+pub both_ok : {T E P Q R : Type 0} (first second : Result T E) → OnOk first P →
+    OnOk second (IsOk first) → OnOk second Q → (P → Q → R) → OnOk second R
+both_ok first (Err fault) one after other both = tt
+both_ok (Ok x) (Ok y) one after other both = both one other
+both_ok (Err fault) (Ok y) one after other both = absurd cc
+
+-- what follows from a fact of an outcome
+pub told_ok : {T E P R : Type 0} (outcome : Result T E) → OnOk outcome P → (P → R) →
+    OnOk outcome R
+told_ok (Ok x) one gives = gives one
+told_ok (Err fault) one gives = tt
 
 -- where all that are left live, these are all that are due
 pub are_due : (now : ℕ) (tree : TreeValue) (new : List (NodeId × Node)) (ids : List NodeId) →

@@ -1,8 +1,7 @@
 //! The nodes of a tree, and the order in which they leave it.
 
-ghost use Rattle.std.specs.Prelude.{◌≡◌, ◌<◌, ◌≤◌, cond, ◌∷◌, None, Some, Contains, IfOk, OnOk, OnErr, option_map};
+ghost use Rattle.std.specs.Prelude.{◌≡◌, ◌<◌, ◌≤◌, cond, ◌∷◌, None, Some, Contains, IfOk, IsOk, OnOk, OnErr, option_map};
 ghost use Rattle.std.specs.Option.{MatchOption};
-ghost use Rattle.std.specs.Bool.{OnTrue};
 ghost use Rattle.due_queue.specs.Queue.{due};
 ghost use Rattle.delta_tree.specs.declared.node.NodeId.{NodeId};
 ghost use Rattle.delta_tree.specs.Nodes.{Node, same_node, node_in};
@@ -91,15 +90,21 @@ pub(crate) fn drop_or_note(
     }
 }
 
-/// Adds the loss of a node of this value, where one was lost, and answers whether there was memory
-/// for it.
-pub(crate) fn add_loss(lost: Option<u64>, shifts: &mut Vec<Shift>, id: NodeId) -> bool
-    ensures { OnTrue result (shifts.new.items ≡ with_loss shifts.old.items id lost) }
+/// Adds the loss of a node of this value, where one was lost, unless memory ran out before.
+pub(crate) fn add_loss(
+    before: Result<(), Memory>,
+    lost: Option<u64>,
+    shifts: &mut Vec<Shift>,
+    id: NodeId,
+) -> Result<(), Memory>
+    ensures before { OnOk result (IsOk before) }
+    ensures added { OnOk result (shifts.new.items ≡ with_loss shifts.old.items id lost) }
 {
-    match lost {
-        Some(value) => shifts.push(loss(id, Some(value))).is_ok(),
-        None => true,
+    before?;
+    if let Some(value) = lost {
+        shifts.push(loss(id, Some(value)))?;
     }
+    Ok(())
 }
 
 /// That no node of this value stands there any more.

@@ -203,12 +203,12 @@ impl Tree {
     {
         shifts.clear();
         // Where memory for the list is lacking, the nodes go all the same.
-        let mut whole = true;
+        let mut outcome = Ok(());
         while let Some(next) = self.dues.next_due(now) {
             let lost = drop_or_note(&mut self.nodes, &mut self.dues, next.item, now);
-            whole &= add_loss(lost, shifts, next.item);
+            outcome = add_loss(outcome, lost, shifts, next.item);
         }
-        if whole { Ok(()) } else { Err(Memory) }
+        outcome
     }
 
     /// A number that no node's value is below, or none where there is no node, by one look at the

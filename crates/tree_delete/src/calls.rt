@@ -66,9 +66,9 @@ fn cut<L: Ledger>(
 {
     match cut_found(alloc, tree, store, dfa, edge, steps) {
         Ok(shifts) => Ok(shifts),
-        Err(Memory) => {
+        Err(memory) => {
             tree.expire(u64::MAX);
-            Err(Memory)
+            Err(memory)
         }
     }
 }

@@ -1,9 +1,8 @@
 use Rattle.std.proofs.Common.{◌≡◌, refl, sym, ap, subst, ◌∙◌, arith}
-use Rattle.std.proofs.lemmas.Bool.{OnTrue_at}
 use Rattle.delta_tree.specs.Nodes.{TreeValue, node_of}
 use Rattle.delta_tree.specs.Changes.{living, AreDue, AreShifts, Expires, shift_ids}
 use Rattle.delta_tree.specs.Losses.{with_loss}
-use Rattle.delta_tree.proofs.Expiry.{AreTold, expiring_after, all_alive, kept_after, none_told, told_after, on_both, are_due, due_shifts}
+use Rattle.delta_tree.proofs.Expiry.{AreTold, expiring_after, all_alive, kept_after, none_told, told_after, both_ok, told_ok, are_due, due_shifts}
 use Rattle.delta_tree.proofs.Queue.{pending_taken}
 use Rattle.delta_tree.proofs.tree.Tree.cut_due.Goals as goal
 
@@ -43,10 +42,10 @@ loop-next-preserved c =
           c.drop_or_note-lost.ensures.noted;
       root = c.loop-next.invariant.root;
       puts = c.loop-next.invariant.puts;
-      told = on_both c.loop-next.whole c.add_loss-whole.result c.loop-next.invariant.told
-          c.add_loss-whole.ensures
+      told = both_ok c.loop-next.outcome c.add_loss-outcome.result c.loop-next.invariant.told
+          c.add_loss-outcome.ensures.before c.add_loss-outcome.ensures.added
           (λ (told : AreTold c.args.now first old c.loop-next.shifts.items)
-          (is : c.add_loss-whole.new.shifts.items
+          (is : c.add_loss-outcome.new.shifts.items
           ≡ with_loss c.loop-next.shifts.items c.in-Some.next.item c.drop_or_note-lost.result).
           subst (AreTold c.args.now first new) (sym is)
           (told_after c.args.now first old new c.in-Some.next.item c.drop_or_note-lost.ensures.nodes
@@ -72,24 +71,24 @@ invariant_of-self c =
     (record { root = c.loop-next.invariant.root; puts = c.loop-next.invariant.puts })
     c.in_default.ensures.same
 
-pub returns-then-whole-clause-due : goal.returns-then-whole-clause-due
-returns-then-whole-clause-due c =
+pub returns-clause-due : goal.returns-clause-due
+returns-clause-due c =
     let old : TreeValue = record {
       root = c.self.inside.root;
       nodes = c.self.inside.nodes;
       puts = c.self.inside.puts;
     } in
-    let told = OnTrue_at c.if-whole.true c.loop-next.invariant.told in
+    told_ok c.loop-next.outcome c.loop-next.invariant.told (λ told.
     subst (λ (tree : TreeValue). AreDue tree c.args.now (shift_ids c.loop-next.shifts.items))
     c.self.view_is
     (are_due c.args.now old c.loop-next.self-inside.nodes (shift_ids c.loop-next.shifts.items)
     told.gone
     (all_alive c.args.now c.self.inside.nodes c.loop-next.self-inside.nodes
     c.loop-next.self-inside.dues.items c.loop-next.invariant.expiring
-    c.in_default.ensures.later))
+    c.in_default.ensures.later)))
 
-pub returns-then-whole-clause-shifts : goal.returns-then-whole-clause-shifts
-returns-then-whole-clause-shifts c =
+pub returns-clause-shifts : goal.returns-clause-shifts
+returns-clause-shifts c =
     let old : TreeValue = record {
       root = c.self.inside.root;
       nodes = c.self.inside.nodes;
@@ -100,24 +99,17 @@ returns-then-whole-clause-shifts c =
       nodes = c.loop-next.self-inside.nodes;
       puts = c.loop-next.self-inside.puts;
     } in
-    let told = OnTrue_at c.if-whole.true c.loop-next.invariant.told in
     let alive : Expires old new c.args.now = all_alive c.args.now c.self.inside.nodes
     c.loop-next.self-inside.nodes c.loop-next.self-inside.dues.items
     c.loop-next.invariant.expiring c.in_default.ensures.later in
+    told_ok c.loop-next.outcome c.loop-next.invariant.told (λ told.
     subst (λ (tree : TreeValue). AreShifts tree new c.loop-next.shifts.items) c.self.view_is
     (due_shifts old new c.args.now c.loop-next.shifts.items
     (are_due c.args.now old c.loop-next.self-inside.nodes (shift_ids c.loop-next.shifts.items)
-    told.gone alive) told.losses alive)
+    told.gone alive) told.losses alive))
 
-pub returns-then-whole-clause-gone : goal.returns-then-whole-clause-gone
-returns-then-whole-clause-gone c id =
-    all_alive c.args.now c.self.inside.nodes c.loop-next.self-inside.nodes
-    c.loop-next.self-inside.dues.items
-    c.loop-next.invariant.expiring c.in_default.ensures.later id
-    ∙ ap (λ (tree : TreeValue). living c.args.now (node_of tree id)) c.self.view_is
-
-pub returns-else-whole-clause-gone : goal.returns-else-whole-clause-gone
-returns-else-whole-clause-gone c id =
+pub returns-clause-gone : goal.returns-clause-gone
+returns-clause-gone c id =
     all_alive c.args.now c.self.inside.nodes c.loop-next.self-inside.nodes
     c.loop-next.self-inside.dues.items
     c.loop-next.invariant.expiring c.in_default.ensures.later id

@@ -1,5 +1,5 @@
 use Rattle.std.proofs.Common.{◌≡◌}
-use Rattle.std.specs.Bool.{OnTrue}
+use Rattle.std.specs.Prelude.{OnOk}
 use Rattle.delta_tree.specs.Dues.{pending}
 use Rattle.delta_tree.proofs.Expiry.{IsExpiring, AreTold}
 use Rattle.delta_tree.proofs.tree.Tree.cut_due.Given as goal
@@ -11,7 +11,7 @@ invariant-loop-next l = record {
       l.self-inside.dues.items;
   root : l.self-inside.root ≡ l.initial.self-inside.root;
   puts : l.self-inside.puts ≡ l.initial.self-inside.puts;
-  told : OnTrue l.whole (AreTold l.now l.initial.self-inside.nodes
+  told : OnOk l.outcome (AreTold l.now l.initial.self-inside.nodes
       l.self-inside.nodes l.shifts.items);
 }
 
