@@ -158,9 +158,7 @@ pub(crate) fn check(sources: &[SourceTree], chosen: &[usize]) -> Result<(), Memo
     ensures { OnOk result (AreSound chosen.now sources.now) }
 {
     for place in chosen {
-        if sources[*place].is_broken() {
-            return Err(Memory);
-        }
+        sources[*place].outcome()?;
     }
     Ok(())
 }

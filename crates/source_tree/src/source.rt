@@ -1,6 +1,6 @@
 //! The tree of a source.
 
-ghost use Rattle.std.specs.Prelude.{◌≡◌, ◌↔◌, [], None, true, false};
+ghost use Rattle.std.specs.Prelude.{◌≡◌, ◌↔◌, [], None, true, false, is_err};
 ghost use Rattle.std.specs.Prelude.{IfOk, IfNone, IfSome, IsTrue, OnOk, OnErr};
 ghost use Rattle.delta_tree.specs.Nodes.{node_id, node_of, value_of, IsTree};
 ghost use Rattle.delta_tree.specs.Paths.{HangsBy, IsPathTo};
@@ -30,11 +30,12 @@ pub struct SourceTree {
     tree: Tree,
     /// What the last change did to the tree.
     report: Report,
-    /// Whether memory ran out in the last change.
-    broken: bool,
+    /// What came of the last change.
+    outcome: Result<(), Memory>,
 }
 
 impl Model for SourceTree {
+    ghost use Rattle.std.specs.Prelude.{is_err};
     ghost use Rattle.source_tree.specs.Ends.{SourceValue};
 
     ghost Value = { SourceValue };
@@ -44,7 +45,7 @@ impl Model for SourceTree {
       moved = source.report.moved.items;
       log = source.report.log.items;
       touched = source.report.touched;
-      broken = source.broken;
+      broken = is_err source.outcome;
     } };
 }
 
@@ -60,7 +61,7 @@ impl SourceTree {
             alloc,
             tree: Tree::new(alloc, root)?,
             report: empty_report(alloc),
-            broken: false,
+            outcome: Ok(()),
         })
     }
 
@@ -146,11 +147,11 @@ impl SourceTree {
         self.report.touched
     }
 
-    /// Whether memory ran out in the last change.
-    pub fn is_broken(&self) -> bool
-        ensures { result ≡ self.now.broken }
+    /// What came of the last change: an error where memory ran out in it.
+    pub fn outcome(&self) -> Result<(), Memory>
+        ensures { is_err result ≡ self.now.broken }
     {
-        self.broken
+        self.outcome
     }
 
     /// Takes a change of the store into account, which the store has taken before, in the room of a
@@ -166,16 +167,14 @@ impl SourceTree {
         ensures later { IsLater self.old.tree self.new.tree }
         ensures broken { OnErr result (self.new.broken ≡ true) }
     {
-        self.broken = true;
-        change_tree(
+        self.outcome = change_tree(
             self.alloc,
             search,
             &mut self.tree,
             product,
             change,
             &mut self.report,
-        )?;
-        self.broken = false;
-        Ok(())
+        );
+        self.outcome
     }
 }
