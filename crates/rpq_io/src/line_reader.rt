@@ -88,7 +88,7 @@ impl<S: Source> LineReader<S> {
                 line_limit,
                 byte_limit,
             }),
-            Err(_) => Err((source, Memory)),
+            Err(refused) => Err((source, Memory::from(refused))),
         }
     }
 

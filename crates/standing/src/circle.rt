@@ -86,7 +86,7 @@ impl<S: Standing> Circle<S> {
     {
         match Vec::with_capacity(alloc, members.len()) {
             Ok(left) => Ok(Circle { members, left }),
-            Err(_) => Err((members, Memory)),
+            Err(refused) => Err((members, Memory::from(refused))),
         }
     }
 

@@ -34,11 +34,13 @@ impl<V: Kept> Turns<V> {
         ensures newcomers { IfOk result (λ r. r.1.items ≡ newcomers r.0.id (V.fixed value) passes) }
         ensures err { IfErr result (λ e. e.0 ≡ value) }
     {
-        let Ok(mut dealt) = Vec::with_capacity(alloc, passes as usize) else {
-            return Err((value, Memory));
+        let mut dealt = match Vec::with_capacity(alloc, passes as usize) {
+            Ok(dealt) => dealt,
+            Err(refused) => return Err((value, Memory::from(refused))),
         };
-        let Ok(mut slots) = Vec::with_capacity(alloc, 1) else {
-            return Err((value, Memory));
+        let mut slots = match Vec::with_capacity(alloc, 1) {
+            Ok(slots) => slots,
+            Err(refused) => return Err((value, Memory::from(refused))),
         };
         let start = Start {
             value: Snapshot::of(&value),
