@@ -1,11 +1,13 @@
 -- The tries that wait in a search.
-use Rattle.std.proofs.Common.{◌≡◌, ℕ, ◌≤◌, inl, inr, ⊎_elim, List, [], ◌∷◌, ◌++◌, refl, sym, subst, Contains, IsPermutation, arith}
+use Rattle.std.proofs.Common.{◌≡◌, ℕ, ◌+◌, ◌*◌, ◌-◌, ◌^◌, ◌<◌, ◌≤◌, ◌⊎◌, length, length-append, ap, inl, inr, ⊎_elim, List, [], ◌∷◌, ◌++◌, refl, sym, subst, Contains, IsPermutation, arith}
 use Rattle.std.specs.Prelude.{All}
 use Rattle.std.proofs.lemmas.List.Elements.{All-contains, All-cons, Contains-append_cases, Contains-append_left, Contains-append_right, Contains-push, Contains-push_cases}
-use Rattle.std.proofs.lemmas.List.Sorted.{Contains-permutation, All-permutation, IsPermutation-sym}
+use Rattle.std.proofs.lemmas.List.Sorted.{Contains-permutation, All-permutation, IsPermutation-sym, length_permutation}
 use Rattle.delta_tree.specs.declared.node.Shift.{Shift}
 use Rattle.tree_insert.specs.declared.waiting.Waiting.{Waiting}
 use Rattle.tree_insert.specs.Waiting.{SearchValue, Gains, Takes}
+use Rattle.delta_tree.specs.Nodes.{TreeValue}
+use Rattle.tree_insert.specs.UnderWay.{RaisesOnce}
 use Rattle.tree_insert.proofs.Members.{contains_head, contains_tail, contains_cases}
 
 -- a search with these tries
@@ -146,3 +148,62 @@ takes_heap stack stack' heap heap' level shifts taken is moved all =
       shifts = refl;
       greatest = All-contains (λ (each : Waiting). each.value ≤ level) heap taken all there;
     }
+
+-- ---- how many wait
+
+pub fewer_on_stack : (stack stack' heap : List Waiting) (taken : Waiting) →
+    stack ≡ stack' ++ taken ∷ [] → length (stack' ++ heap) + 1 ≡ length (stack ++ heap)
+fewer_on_stack stack stack' heap taken is =
+    omega (
+      arith,
+      ap (λ (all : List Waiting). length all) is,
+      length-append stack' (taken ∷ []),
+      length-append stack' heap,
+      length-append stack heap,
+    )
+
+pub fewer_in_heap : (stack stack' heap heap' : List Waiting) (taken : Waiting) →
+    stack ≡ stack' → IsPermutation heap (taken ∷ heap') →
+    length (stack' ++ heap') + 1 ≡ length (stack ++ heap)
+fewer_in_heap stack stack' heap heap' taken is moved =
+    omega (
+      arith,
+      ap (λ (all : List Waiting). length all) is,
+      length_permutation heap (taken ∷ heap') moved,
+      length-append stack' heap',
+      length-append stack heap,
+    )
+
+-- what a search still has to do: fewer tries wait and nothing was raised, or one place more is
+-- reported, of which there are fewer than 2^63
+abbrev pub to_do : SearchValue → ℕ
+to_do search = (2 ^ 63 - length search.shifts) * 2 ^ 66 + length search.waiting
+
+less_for_less : (olds waits waits' : ℕ) → waits' < waits →
+    (2 ^ 63 - olds) * 2 ^ 66 + waits' < (2 ^ 63 - olds) * 2 ^ 66 + waits
+less_for_less olds waits waits' less = omega (arith, less)
+
+less_for_more : (olds news waits waits' : ℕ) → news ≡ olds + 1 → news < 2 ^ 63 → waits' < 2 ^ 66 →
+    (2 ^ 63 - news) * 2 ^ 66 + waits' < (2 ^ 63 - olds) * 2 ^ 66 + waits
+less_for_more olds news waits waits' more few short = omega (arith, more, few, short)
+
+-- what follows a try
+pub raised_once : (old new : SearchValue) (before after : TreeValue) →
+    RaisesOnce old new before after → (new ≡ old) ⊎ (length new.shifts ≡ length old.shifts + 1)
+raised_once old new before after (inl is) = inl is.0
+raised_once old new before after (inr more) = inr more
+
+-- after a try was taken, and followed
+pub less_to_do : (old middle new : SearchValue) → middle.shifts ≡ old.shifts →
+    length middle.waiting + 1 ≡ length old.waiting →
+    (new ≡ middle) ⊎ (length new.shifts ≡ length middle.shifts + 1) →
+    length new.shifts < 2 ^ 63 → length new.waiting < 2 ^ 66 → to_do new < to_do old
+less_to_do old middle new same fewer (inl is) few short =
+    subst (λ (search : SearchValue). to_do search < to_do old) (sym is)
+    (subst (λ (shifts : List Shift). (2 ^ 63 - length shifts) * 2 ^ 66 + length middle.waiting < to_do old)
+    (sym same)
+    (less_for_less (length old.shifts) (length old.waiting) (length middle.waiting)
+    (omega (arith, fewer))))
+less_to_do old middle new same fewer (inr more) few short =
+    less_for_more (length old.shifts) (length new.shifts) (length old.waiting) (length new.waiting)
+    (omega (arith, more, ap (λ (shifts : List Shift). length shifts) same)) few short

@@ -17,7 +17,7 @@ use Rattle.tree_insert.specs.Best.{IsAtLeast}
 use Rattle.tree_insert.specs.Trees.{count_outs, IsRisen, CountsOuts, Keeps}
 use Rattle.tree_insert.specs.Laws.{NoRiseNoStep}
 use Rattle.tree_insert.specs.Waiting.{SearchValue, Gains, Takes, source_of, target_of}
-use Rattle.tree_insert.specs.UnderWay.{IsSupported, AreSupported, IsOpen, AreOpen, IsServed, IsServedFrom, AreServed, Leaves, Rises, IsCounted}
+use Rattle.tree_insert.specs.UnderWay.{IsSupported, AreSupported, IsOpen, AreOpen, IsServed, IsServedFrom, AreServed, Leaves, Rises, IsCounted, RaisesOnce}
 use Rattle.tree_insert.proofs.Bests.{weaker}
 use Rattle.tree_insert.proofs.Members.{contains_cases, contains_none}
 use Rattle.tree_insert.proofs.Nodes.{value_reached, node_reached, raises_apart, raises_or_reached, put_here, put_node_cases, put_rises, put_reached, put_carries, put_carried}
@@ -348,3 +348,19 @@ no_rise_no_step store old new start steps counts none = by counts.nodes counts.r
         steps ≤ start + count_outs store nodes → steps ≤ start
     by [] risen few = omega (arith, few)
     by (id ∷ nodes) risen few = absurd (none id (All-head (IsRisen old new) id nodes risen))
+
+-- each put so far is reported, also after one try more
+pub puts_more : (old middle new : SearchValue) (first before after : TreeValue) →
+    middle.shifts ≡ old.shifts → RaisesOnce middle new before after →
+    after.puts ≤ before.puts + 1 → before.puts ≤ first.puts + length old.shifts →
+    after.puts ≤ first.puts + length new.shifts
+puts_more old middle new first before after same (inl is) few puts =
+    omega (
+      arith,
+      is.1,
+      puts,
+      ap (λ (search : SearchValue). length search.shifts) is.0,
+      ap (λ (shifts : List Shift). length shifts) same,
+    )
+puts_more old middle new first before after same (inr more) few puts =
+    omega (arith, few, puts, more, ap (λ (shifts : List Shift). length shifts) same)

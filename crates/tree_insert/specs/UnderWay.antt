@@ -168,3 +168,8 @@ pub record IsCounted (store : Edges) (first tree : TreeValue) (nodes : List Node
   pub risen : All (IsRisen first tree) nodes
   pub firm : AreFirm tree level nodes
   pub few : steps ≤ start + count_outs store nodes
+
+-- nothing was raised, and no try more waits; or one place more is reported
+abbrev pub RaisesOnce : SearchValue → SearchValue → TreeValue → TreeValue → Type 0
+RaisesOnce old new before after =
+    ((new ≡ old) × (after.puts ≡ before.puts)) ⊎ (length new.shifts ≡ length old.shifts + 1)

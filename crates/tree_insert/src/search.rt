@@ -1,6 +1,6 @@
 //! The tries of a search, the greatest value first.
 
-ghost use Rattle.std.specs.Prelude.{◌≡◌, ◌^◌, ◌-◌, ◌≤◌, [], Contains, IfNone, IfSome, OnErr, OnOk};
+ghost use Rattle.std.specs.Prelude.{◌≡◌, ◌^◌, ◌+◌, ◌-◌, ◌≤◌, ◌<◌, [], length, Contains, IfNone, IfSome, OnErr, OnOk};
 ghost use Rattle.tree_insert.specs.declared.waiting.Waiting.{Waiting};
 ghost use Rattle.tree_insert.specs.Waiting.{Gains, Takes, with_shift};
 ghost use Rattle.std.specs.Prelude.{IsPermutation, IsSorted};
@@ -103,6 +103,15 @@ impl Search {
         Ok(())
     }
 
+    /// The lists are no longer than memory has room for. This is for contracts alone, and does
+    /// nothing.
+    pub(crate) fn fits(&self)
+        ensures waiting { length self.now.waiting < 2 ^ 66 }
+        ensures shifts { length self.now.shifts < 2 ^ 63 }
+    {
+        let _ = &self.stack;
+    }
+
     /// Lets a try wait whose value isn't above the level.
     pub(crate) fn push(&mut self, waiting: Waiting) -> Result<(), Memory>
         requires { waiting.value ≤ self.old.level }
@@ -123,6 +132,8 @@ impl Search {
         ensures none { IfNone result
             ((each : Waiting) → Contains self.old.waiting each → ⊥) }
         ensures shifts { self.new.shifts ≡ self.old.shifts }
+        ensures fewer { IfSome result (λ taken.
+            length self.new.waiting + 1 ≡ length self.old.waiting) }
     {
         if let Some(next) = self.stack.pop() {
             return Some(next);

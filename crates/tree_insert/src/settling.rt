@@ -9,6 +9,7 @@ ghost use Rattle.tree_insert.specs.Trees.{CountsOuts, IsRisen};
 ghost use Rattle.tree_insert.specs.Waiting.{Gains, target_of};
 ghost use Rattle.tree_insert.specs.UnderWay.{AreFirm, AreServed, CanBegin, IsCounted, IsReady};
 ghost use Rattle.tree_insert.specs.UnderWay.{IsServedFrom, IsTaken, IsUnderWay, Leaves, Rises};
+ghost use Rattle.tree_insert.specs.UnderWay.{RaisesOnce};
 
 use crate::offers::{is_below, offer_out};
 use crate::search::Search;
@@ -64,6 +65,7 @@ fn follow<L: Ledger>(
     requires puts { tree.old.puts < 2 ^ 127 }
     ensures level { search.new.level ≡ search.old.level }
     ensures puts { tree.new.puts ≤ tree.old.puts + 1 }
+    ensures raises { OnOk result (RaisesOnce search.old search.new tree.old tree.new) }
     ensures ready { (first : TreeValue) →
         IsReady (value_of store.now) dfa.now first tree.old search.old.waiting →
         IsReady (value_of store.now) dfa.now first tree.new search.new.waiting }
@@ -93,7 +95,8 @@ fn follow<L: Ledger>(
 
 /// Takes the tries that wait, the greatest value first, until none is left.
 ///
-/// A place is raised once at most: a try that is taken later has no greater value.
+/// A place is raised once at most: a try that is taken later has no greater value. It ends, since
+/// each raise is reported, and there is no memory for endless reports.
 pub(crate) fn settle<L: Ledger>(
     search: &mut Search,
     tree: &mut Tree,
@@ -111,12 +114,9 @@ pub(crate) fn settle<L: Ledger>(
         AreServed (value_of store.now) (step_of dfa.now) tree.old search.old.waiting →
         AreServed (value_of store.now) (step_of dfa.now) tree.new []) }
 {
-    for _turn in 0..u64::MAX {
-        let Some(taken) = search.take() else {
-            return Ok(());
-        };
+    while let Some(taken) = search.take() {
         follow(search, tree, store, dfa, taken, steps)?;
+        search.fits(); // called for its clauses
     }
-    // Memory for as many tries isn't there.
-    Err(Memory)
+    Ok(())
 }

@@ -1,4 +1,4 @@
-use Rattle.std.proofs.Common.{◌≡◌, List, [], ◌∷◌, ◌++◌, Option, Ok, Some, ◌≤◌, ◌+◌, length, refl, sym, ap, subst, ◌∙◌, arith}
+use Rattle.std.proofs.Common.{◌≡◌, List, inl, inr, length-append, [], ◌∷◌, ◌++◌, Option, Ok, Some, ◌≤◌, ◌+◌, length, refl, sym, ap, subst, ◌∙◌, arith}
 use Rattle.std.proofs.lemmas.Result.{on_ok_weaker}
 use Rattle.edge_store.specs.Edges.{value_of, outs_of}
 use Rattle.dfa_table.specs.DfaValue.{step_of}
@@ -11,6 +11,7 @@ use Rattle.delta_tree.specs.Nodes as nodes
 use Rattle.delta_tree.specs.Changes.{AreShifts, HasAsMuch, Lifts, put_node, shift_ids}
 use Rattle.tree_insert.specs.Waiting.{Gains, SearchValue, target_of, try_of, with_shift}
 use Rattle.tree_insert.specs.UnderWay.{AreFirm, AreOpen, AreServed, IsCounted, IsOpen, IsReady, IsServedFrom, IsUnderWay, Leaves}
+use Rattle.rpq_base.proofs.Outcomes.{on_ok}
 use Rattle.tree_insert.proofs.Nodes.{put_here, value_reached}
 use Rattle.tree_insert.proofs.Shifts.{ids_push, shifts_more}
 use Rattle.delta_tree.proofs.Trees.{put_keeps}
@@ -107,6 +108,10 @@ returns-in_default-clause-served g c served =
     c.args.taken c.args.search.now.waiting served
     (value_reached c.args.tree.now (target_of c.args.taken) has.0 c.args.taken.value has.1 has.2))
 
+pub returns-in_default-clause-raises : goal.returns-in_default-clause-raises
+returns-in_default-clause-raises g c =
+    inl (refl, ap (λ (tree : TreeValue). tree.puts) (same g c).same)
+
 pub returns-in_err-shift-clause-ready : goal.returns-in_err-shift-clause-ready
 returns-in_err-shift-clause-ready g c first ready =
     subst (λ tree. IsReady (value_of c.args.store.now) c.args.dfa.now first tree
@@ -158,6 +163,17 @@ returns-clause-counted g c first start rises counted =
     (subst (λ (shift : Shift). c.offer_outs.new.steps ≤ c.args.steps.now + length
     (outs_of c.args.store.now shift.id.vertex)) (lifted g at).shift
     c.offer_outs.ensures.counted))))
+
+pub returns-clause-raises : goal.returns-clause-raises
+returns-clause-raises g c =
+    let at = (goal.at.returns-clause-raises g c).In-Some in
+    let gains = gained g c at (lifted g at).shift in
+    on_ok c.offer_outs.result
+    (inr (omega (
+      arith,
+      ap (λ (shifts : List Shift). length shifts) gains.shifts,
+      length-append c.args.search.now.shifts (told g at ∷ []),
+    )))
 
 pub returns-clause-shifts : goal.returns-clause-shifts
 returns-clause-shifts g c =

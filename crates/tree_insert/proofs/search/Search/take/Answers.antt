@@ -1,7 +1,7 @@
-use Rattle.std.proofs.Common.{◌∙◌, subst, append-nil}
+use Rattle.std.proofs.Common.{◌≡◌, ◌+◌, ◌++◌, ◌∙◌, length, subst, append-nil}
 use Rattle.std.specs.BinaryHeap.{heap_items}
-use Rattle.tree_insert.specs.Waiting.{Takes}
-use Rattle.tree_insert.proofs.Tries.{search_of, takes_stack, takes_heap}
+use Rattle.tree_insert.specs.Waiting.{SearchValue, Takes}
+use Rattle.tree_insert.proofs.Tries.{search_of, takes_stack, takes_heap, fewer_on_stack, fewer_in_heap}
 use Rattle.tree_insert.proofs.search.Search.take.Goals as goal
 
 pub returns-in-Some-clause-some : goal.returns-in-Some-clause-some
@@ -24,3 +24,21 @@ returns-clause-some c =
     (heap_items c.pop-2.new.self) c.self.inside.level c.self.inside.shifts.items
     c.in_ok-next.next (c.in_default.ensures.items ∙ append-nil c.pop.new.self.items)
     c.in_ok-next.ensures.permutation c.self.invariant.later)
+
+pub returns-in-Some-clause-fewer : goal.returns-in-Some-clause-fewer
+returns-in-Some-clause-fewer c =
+    subst (λ (old : SearchValue).
+    length (c.pop.new.self.items ++ heap_items c.self.inside.later) + 1 ≡ length old.waiting)
+    c.self.view_is
+    (fewer_on_stack c.self.inside.stack.items c.pop.new.self.items (heap_items c.self.inside.later)
+    c.in-Some.next c.in-Some.ensures.items)
+
+pub returns-clause-fewer : goal.returns-clause-fewer
+returns-clause-fewer c =
+    subst (λ (old : SearchValue).
+    length (c.pop.new.self.items ++ heap_items c.pop-2.new.self) + 1 ≡ length old.waiting)
+    c.self.view_is
+    (fewer_in_heap c.self.inside.stack.items c.pop.new.self.items (heap_items c.self.inside.later)
+    (heap_items c.pop-2.new.self) c.in_ok-next.next
+    (c.in_default.ensures.items ∙ append-nil c.pop.new.self.items)
+    c.in_ok-next.ensures.permutation)
