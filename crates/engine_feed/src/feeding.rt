@@ -1,6 +1,6 @@
 //! Entries that an engine is fed, as they stand or with their inverses.
 
-ghost use Rattle.std.specs.Prelude.{◌≡◌, ◌+◌, ◌*◌, ◌≤◌, ◌^◌, List, length, map, IfOk, true};
+ghost use Rattle.std.specs.Prelude.{◌≡◌, ◌+◌, ◌*◌, ◌≤◌, ◌^◌, List, length, map, IfOk, true, false};
 ghost use Rattle.rpq_base.specs.declared.data.Entry.{Entry as EntryTaken};
 ghost use Rattle.path_engine.specs.Engine.{StandsFor};
 ghost use Rattle.path_engine.specs.Feeding.{FeedsFront};
@@ -8,7 +8,7 @@ ghost use Rattle.two_way.specs.Doubled.{doubled};
 ghost use Rattle.two_way.specs.TwoWay.{walked};
 ghost use Rattle.engine_feed.specs.Feeding.{FeedsEntries};
 
-use path_engine::Engine;
+use path_engine::{Engine, FeedFault};
 use rpq_base::{Entry, Event, Memory};
 use rpq_io::{Context, Gate};
 use std::thread::Threads;
@@ -66,13 +66,15 @@ fn feed_both_ways<R: Threads + Sync, G: Gate>(
     net_each(context.alloc, entries, &lists)
 }
 
-/// The events of each of the entries that the engine is fed. The only error is [`Memory`].
+/// The events of each of the entries that the engine is fed, which isn't spent. The only error is
+/// [`Memory`].
 fn feed<R: Threads + Sync, G: Gate>(
     engine: &mut Engine,
     context: &Context<'_, R, G>,
     entries: &[Entry],
     workers: u32,
 ) -> Result<Vec<Vec<Event>>, Memory>
+    requires unspent { engine.old.spent ≡ false }
     requires short { engine.old.position + length entries.now ≤ 2 ^ 30 }
     requires some { 1 ≤ workers }
     requires few { workers ≤ 64 }
@@ -83,6 +85,7 @@ fn feed<R: Threads + Sync, G: Gate>(
     let fed = engine.feed_front(context.rt, entries, workers, context.gate);
     match fed {
         Ok(lists) => Ok(lists),
-        Err(_) => Err(Memory),
+        Err(FeedFault::Memory(memory)) => Err(memory),
+        Err(FeedFault::Spent) => unreachable!(),
     }
 }

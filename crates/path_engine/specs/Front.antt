@@ -1,7 +1,7 @@
 -- How the entries of a front are answered. No public contract cites this file.
 use Rattle.std.specs.Prelude.{◌≡◌, ℕ, zero, suc, ◌+◌, ◌^◌, ◌<◌, ◌≤◌}
 use Rattle.std.specs.Prelude.{List, [], ◌∷◌, ◌++◌, length, map, slice_index_or}
-use Rattle.std.specs.Prelude.{All, IfSome, Option, Some, None}
+use Rattle.std.specs.Prelude.{All, Option, Some, None, Ok, IfOk}
 use Rattle.std.specs.Global.{Global}
 use Rattle.std.specs.declared.vec.Vec.{Vec}
 use Rattle.std.specs.List.{AllZip}
@@ -92,10 +92,10 @@ AreReady more queries names start shares = (offset : ℕ) (query : CompiledValue
     HasHistoryFor more query names (slice_index_or shares offset d).index
 
 -- the query with this number took the entries into the index of the share, and these are the events
--- of each, where the share has some
+-- of each, unless memory ran out
 abbrev pub HasFed : List (List ℕ) → List Entry → ℕ → CompiledValue → Share → Share → Type 0
 HasFed names entries number query old new =
-    IfSome new.owns (λ owns. HasAnsweredAll names entries number query old.index new.index
+    IfOk new.owns (λ owns. HasAnsweredAll names entries number query old.index new.index
     (map (λ own. own.items) owns.items))
 
 -- so did each of the queries from this place on
@@ -112,5 +112,5 @@ HaveFed queries names entries start olds news =
 abbrev pub AreGathered : List (List Event) → List Share → List (List Event) → Type 0
 AreGathered before [] events = events ≡ before
 AreGathered before (share ∷ shares) events =
-    (owns : Vec (Vec Event Global) Global) × (share.owns ≡ Some owns)
+    (owns : Vec (Vec Event Global) Global) × (share.owns ≡ Ok owns)
     × AreGathered (joined before (map (λ own. own.items) owns.items)) shares events

@@ -1,7 +1,7 @@
 //! The engine.
 
-ghost use Rattle.std.specs.Prelude.{◌≡◌, ◌≤◌, ◌<◌, ◌+◌, ◌^◌, ◌↔◌, [], List, true, false};
-ghost use Rattle.std.specs.Prelude.{length, map, Err, IfOk, OnErr, OnOk, Some, slice_get};
+ghost use Rattle.std.specs.Prelude.{◌≡◌, ◌≢◌, ◌≤◌, ◌<◌, ◌+◌, ◌^◌, ◌↔◌, [], List, true, false};
+ghost use Rattle.std.specs.Prelude.{length, map, Err, IfOk, IfErr, OnErr, OnOk, Some, slice_get};
 ghost use Rattle.std.specs.List.{AllZip};
 ghost use Rattle.rpq_base.specs.declared.data.Entry.{Entry as EntryTaken};
 ghost use Rattle.rpq_model.specs.Query.{path_query};
@@ -128,7 +128,8 @@ impl Engine {
         ensures feeds { IfOk result (λ events.
             Feeds self.old entry.now self.new events.items) }
         ensures queries { self.new.queries ≡ self.old.queries }
-        ensures memory { result ≡ Err WhyNot.Memory → Spends self.old self.new }
+        ensures memory { IfErr result (λ fault. fault ≢ WhyNot.Spent
+            → Spends self.old self.new) }
         ensures spent { (result ≡ Err WhyNot.Spent) ↔ (self.old.spent ≡ true) }
         ensures unchanged { result ≡ Err WhyNot.Spent → self.new ≡ self.old }
     {
@@ -151,7 +152,8 @@ impl Engine {
         ensures feeds { IfOk result (λ events.
             Feeds self.old entry.now self.new events.items) }
         ensures queries { self.new.queries ≡ self.old.queries }
-        ensures memory { result ≡ Err WhyNot.Memory → Spends self.old self.new }
+        ensures memory { IfErr result (λ fault. fault ≢ WhyNot.Spent
+            → Spends self.old self.new) }
         ensures spent { (result ≡ Err WhyNot.Spent) ↔ (self.old.spent ≡ true) }
         ensures unchanged { result ≡ Err WhyNot.Spent → self.new ≡ self.old }
     {
@@ -202,7 +204,8 @@ impl Engine {
         ensures feeds { IfOk result (λ events. FeedsFront self.old entries.now self.new
             (map (λ own. own.items) events.items)) }
         ensures queries { self.new.queries ≡ self.old.queries }
-        ensures memory { result ≡ Err WhyNot.Memory → Spends self.old self.new }
+        ensures memory { IfErr result (λ fault. fault ≢ WhyNot.Spent
+            → Spends self.old self.new) }
         ensures spent { (result ≡ Err WhyNot.Spent) ↔ (self.old.spent ≡ true) }
         ensures unchanged { result ≡ Err WhyNot.Spent → self.new ≡ self.old }
     {
@@ -225,7 +228,8 @@ impl Engine {
         ensures feeds { IfOk result (λ events. FeedsFront self.old entries.now self.new
             (map (λ own. own.items) events.items)) }
         ensures queries { self.new.queries ≡ self.old.queries }
-        ensures memory { result ≡ Err WhyNot.Memory → Spends self.old self.new }
+        ensures memory { IfErr result (λ fault. fault ≢ WhyNot.Spent
+            → Spends self.old self.new) }
         ensures spent { (result ≡ Err WhyNot.Spent) ↔ (self.old.spent ≡ true) }
         ensures unchanged { result ≡ Err WhyNot.Spent → self.new ≡ self.old }
     {
@@ -284,10 +288,10 @@ impl Engine {
         let position = self.position;
         match self.evaluate(rt, entries, workers, gate) {
             Ok(()) => Ok(()),
-            Err(Memory) => {
+            Err(memory) => {
                 self.position = position;
                 self.spent = true;
-                Err(Memory)
+                Err(memory)
             }
         }
     }

@@ -9,15 +9,15 @@ use rpq_base::Memory;
 #[derive(Clone, Copy, Debug, PartialEq, Eq)]
 pub enum FeedFault {
     /// Memory ran out, and the engine is spent.
-    Memory,
+    Memory(Memory),
     /// The engine was spent before, and wasn't rebuilt since.
     Spent,
 }
 
 impl From<Memory> for FeedFault {
-    ghost from_gives = { λ _ fault. fault ≡ FeedFault.Memory };
+    ghost from_gives = { λ memory fault. fault ≡ FeedFault.Memory memory };
 
-    fn from(_: Memory) -> Self {
-        Self::Memory
+    fn from(memory: Memory) -> Self {
+        Self::Memory(memory)
     }
 }

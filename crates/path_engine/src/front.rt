@@ -21,12 +21,12 @@ use std::mem::replace;
 use std::thread;
 use std::thread::Threads;
 
-/// What a query has of a front: its index, and the events of each entry once it took them. It has
-/// none where memory ran out.
+/// What a query has of a front: its index, and the events of each entry that it took, or the error
+/// where memory ran out.
 #[derive(Drop)]
 pub struct Share {
     pub index: Index,
-    pub owns: Option<Vec<Vec<Event>>>,
+    pub owns: Result<Vec<Vec<Event>>, Memory>,
 }
 
 /// Answers the entries for each query, and gives the events of each entry, those of the first query
@@ -63,7 +63,8 @@ fn shares_of(alloc: Global, indexes: Vec<Index>) -> Result<Vec<Share>, Memory>
 {
     let mut shares = Vec::with_capacity(alloc, indexes.len())?;
     for index in indexes {
-        shares.push(Share { index, owns: None })?;
+        let owns = Ok(Vec::new(alloc));
+        shares.push(Share { index, owns })?;
     }
     Ok(shares)
 }
@@ -185,7 +186,7 @@ fn feed_one<R: Threads + Sync, G: Gate>(
         AreEndsFor names.now query.now.dfa entry.tuple.act own) entries.now ends.now }
     ensures { HasFed names.now entries.now number query.now share.old share.new }
 {
-    share.owns = answer_all(crew, query, number, &mut share.index, names, ends, entries).ok();
+    share.owns = answer_all(crew, query, number, &mut share.index, names, ends, entries);
 }
 
 /// Answers the entries for a query, under its number, and gives the events of each.
@@ -230,11 +231,8 @@ fn gather(
     let mut events = Vec::new(alloc);
     for share in shares {
         let Share { index, owns } = share;
-        let Some(owns) = owns else {
-            return Err(Memory);
-        };
         indexes.push(index)?;
-        append_each(&mut events, owns)?;
+        append_each(&mut events, owns?)?;
     }
     Ok(events)
 }

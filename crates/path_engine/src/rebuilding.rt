@@ -1,9 +1,12 @@
 //! The entries that an engine is rebuilt from.
 
-ghost use Rattle.std.specs.Prelude.{◌≡◌, ◌≤◌, ◌^◌, [], length, OnOk};
+ghost use Rattle.std.specs.Prelude.{◌≡◌, ◌+◌, ◌≤◌, ◌^◌, List, [], false, length, OnOk};
+ghost use Rattle.rpq_base.specs.declared.data.Event.{Event as Happening};
 ghost use Rattle.path_engine.specs.Engine.{StandsFor};
+ghost use Rattle.path_engine.specs.Feeding.{FeedsFront};
 
 use crate::engine::Engine;
+use crate::fault::FeedFault;
 use rpq_base::{Entry, Memory};
 use rpq_io::Gate;
 use std::thread::Threads;
@@ -28,9 +31,31 @@ pub(crate) fn feed_all<R: Threads + Sync, G: Gate>(
     ensures queries { engine.new.queries ≡ engine.old.queries }
 {
     for front in entries.chunks(FRONT) {
-        let Ok(_) = engine.feed_front(rt, front, workers, gate) else {
-            return Err(Memory);
-        };
+        feed_next(engine, rt, front, workers, gate)?;
     }
     Ok(())
+}
+
+/// Feeds some entries to an engine that isn't spent, and drops the events that they bring. The only
+/// error is [`Memory`].
+fn feed_next<R: Threads + Sync, G: Gate>(
+    engine: &mut Engine,
+    rt: &R,
+    front: &[Entry],
+    workers: u32,
+    gate: &G,
+) -> Result<(), Memory>
+    requires unspent { engine.old.spent ≡ false }
+    requires short { engine.old.position + length front.now ≤ 2 ^ 30 }
+    requires some { 1 ≤ workers }
+    requires few { workers ≤ 64 }
+    ensures feeds { OnOk result
+        ((events : List (List Happening)) × FeedsFront engine.old front.now engine.new events) }
+    ensures queries { engine.new.queries ≡ engine.old.queries }
+{
+    match engine.feed_front(rt, front, workers, gate) {
+        Ok(_) => Ok(()),
+        Err(FeedFault::Memory(memory)) => Err(memory),
+        Err(FeedFault::Spent) => unreachable!(),
+    }
 }

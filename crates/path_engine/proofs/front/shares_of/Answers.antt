@@ -1,4 +1,4 @@
-use Rattle.std.proofs.Common.{◌≡◌, ◌+◌, ◌++◌, ◌∷◌, [], List, length, map, None}
+use Rattle.std.proofs.Common.{◌≡◌, ◌+◌, ◌++◌, ◌∷◌, [], List, length, map, Ok}
 use Rattle.std.proofs.Common.{sym, ap, ◌∙◌, append_assoc, arith}
 use Rattle.std.proofs.lemmas.List.{map-append, append-nil}
 use Rattle.path_engine.specs.declared.index.Index.{Index}
@@ -28,7 +28,7 @@ loop-index-preserved c =
       omega (arith, was.2, steps.1, ap (λ (xs : List Index). length xs) steps.0),
       ap (λ (all : List Share). map index_of all ++ rest) c.in_ok-push.ensures.items
           ∙ (ap (λ (all : List Index). all ++ rest)
-          (map-append index_of shares (record { index = index; owns = None } ∷ []))
+          (map-append index_of shares (record { index = index; owns = Ok c.new-owns.result } ∷ []))
           ∙ (append_assoc (map index_of shares) (index ∷ []) rest
           ∙ (ap (λ (all : List Index). map index_of shares ++ all) (sym steps.0) ∙ was.3))),
     )

@@ -1,7 +1,6 @@
 use Rattle.std.proofs.Common.{rules, ◌∙◌}
 use Rattle.std.specs.Slice.Iter.{chunks_rest}
 use Rattle.path_engine.proofs.Anew.{all_fed, front_fits, more_fed, none_fed}
-use Rattle.path_engine.proofs.Fronts.{items_of}
 use Rattle.path_engine.proofs.rebuilding.feed_all.Goals as goal
 
 pub loop-front-init : goal.loop-front-init
@@ -12,26 +11,15 @@ loop-front-init g c = (
   none_fed c.args.entries.now c.args.engine.now _ c.requires.starts (search rules),
 )
 
-pub feed_front-requires-clause-short : goal.feed_front-requires-clause-short
-feed_front-requires-clause-short g c = λ lifetimes within.
+pub feed_next-requires-clause-short : goal.feed_next-requires-clause-short
+feed_next-requires-clause-short g c = λ lifetimes within.
     front_fits c.args.engine.now.queries c.args.entries.now c.loop-front.engine
     (chunks_rest c.loop-front.front-iterator) c.in-Some.front.now (chunks_rest c.next.new.self)
     c.loop-front.invariant.3 c.in-Some.ensures.steps.1.0 c.requires.short
 
-pub returns-in_default-clause-queries : goal.returns-in_default-clause-queries
-returns-in_default-clause-queries g c =
-    c.feed_front.ensures.queries ∙ c.loop-front.invariant.3.queries_kept
-
-pub loop-front-preserved-in-Ok : goal.loop-front-preserved-in-Ok
-loop-front-preserved-in-Ok g c = (
-  search rules,
-  tt,
-  c.in-Some.ensures.steps.0 ∙ c.loop-front.invariant.2,
-  more_fed c.args.engine.now.queries c.args.entries.now c.loop-front.engine
-      c.feed_front.new.self (chunks_rest c.loop-front.front-iterator) c.in-Some.front.now
-      (chunks_rest c.next.new.self) (items_of c.in-Ok.field-0.items) c.loop-front.invariant.3
-      c.in-Some.ensures.steps.1.0 c.in-Ok.ensures.feeds c.feed_front.ensures.queries,
-)
+pub returns-in_err-feed_next-clause-queries : goal.returns-in_err-feed_next-clause-queries
+returns-in_err-feed_next-clause-queries g c =
+    c.feed_next.ensures.queries ∙ c.loop-front.invariant.3.queries_kept
 
 pub loop-front-preserved : goal.loop-front-preserved
 loop-front-preserved g c = (
@@ -39,9 +27,9 @@ loop-front-preserved g c = (
   tt,
   c.in-Some.ensures.steps.0 ∙ c.loop-front.invariant.2,
   more_fed c.args.engine.now.queries c.args.entries.now c.loop-front.engine
-      c.feed_front.new.self (chunks_rest c.loop-front.front-iterator) c.in-Some.front.now
-      (chunks_rest c.next.new.self) (items_of c.in-Ok.field-0.items) c.loop-front.invariant.3
-      c.in-Some.ensures.steps.1.0 c.in-Ok.ensures.feeds c.feed_front.ensures.queries,
+      c.feed_next.new.self (chunks_rest c.loop-front.front-iterator) c.in-Some.front.now
+      (chunks_rest c.next.new.self) c.in_ok-feed_next.ensures.feeds.0 c.loop-front.invariant.3
+      c.in-Some.ensures.steps.1.0 c.in_ok-feed_next.ensures.feeds.1 c.feed_next.ensures.queries,
 )
 
 pub returns-clause-stands : goal.returns-clause-stands
