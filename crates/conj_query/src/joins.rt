@@ -23,16 +23,16 @@ use std::sync::Arc;
 #[derive(Clone, Copy, Debug, PartialEq, Eq)]
 pub enum JoinFault {
     /// Memory ran out. The conjunctions are spent then.
-    Memory,
+    Memory(Memory),
     /// Memory ran out before.
     Spent,
 }
 
 impl From<Memory> for JoinFault {
-    ghost from_gives = { λ _ fault. fault ≡ JoinFault.Memory };
+    ghost from_gives = { λ memory fault. fault ≡ JoinFault.Memory memory };
 
-    fn from(_: Memory) -> Self {
-        Self::Memory
+    fn from(memory: Memory) -> Self {
+        Self::Memory(memory)
     }
 }
 

@@ -193,10 +193,10 @@ impl PairSet {
             Contains self.new other ↔ Contains self.old other) }
     {
         let set = set_both(&mut self.sources, &mut self.targets, pair, added);
-        if let Err(Memory) = set {
+        if let Err(memory) = set {
             self.sources = Rows::new(self.alloc, self.hash);
             self.targets = Rows::new(self.alloc, self.hash);
-            return Err(Memory);
+            return Err(memory);
         }
         Ok(())
     }

@@ -16,9 +16,9 @@ pub fn circle_of(alloc: Global, standing: &mut Vec<Box<dyn Standing>>) -> Result
 {
     match Circle::new(alloc, mem::replace(standing, Vec::new(alloc))) {
         Ok(circle) => Ok(circle),
-        Err((objects, Memory)) => {
+        Err((objects, memory)) => {
             *standing = objects;
-            Err(Memory)
+            Err(memory)
         }
     }
 }

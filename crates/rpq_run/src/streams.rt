@@ -81,9 +81,9 @@ pub fn run_streams<R: Threads + Wait + RandomSource + Sync, G: Gate, F: Files, P
     let circle = circle_of(context.alloc, standing)?;
     let outcome = match run_threads(context, task, events, circle) {
         Ok(outcome) => outcome,
-        Err((circle, Memory)) => {
+        Err((circle, memory)) => {
             let _none = put_back(standing, circle);
-            return Err(Memory);
+            return Err(memory);
         }
     };
     let written = write_own(context.alloc, &mut own, &outcome, &definitions);

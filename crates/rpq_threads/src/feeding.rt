@@ -191,7 +191,7 @@ fn publish_answers<R: Wait>(
     let view = evaluator.engine.view()?;
     match history.publish(rt, pass, view) {
         Ok(()) => Ok(()),
-        Err(PublishFault::Memory) => Err(Memory),
+        Err(PublishFault::Memory(memory)) => Err(memory),
         Err(PublishFault::Behind(_)) => unreachable!(),
     }
 }

@@ -32,7 +32,7 @@ fn lines_of(alloc: Global, joins: &mut Joins, events: &[Event]) -> Result<Vec<u8
 {
     match joins.apply(events) {
         Ok(changes) => join_text(alloc, &changes, joins.defs()),
-        Err(JoinFault::Memory) => Err(Memory),
+        Err(JoinFault::Memory(memory)) => Err(memory),
         Err(JoinFault::Spent) => unreachable!(),
     }
 }

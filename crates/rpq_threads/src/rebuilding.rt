@@ -33,11 +33,12 @@ pub fn find_events<R: Threads + Wait + Sync, G: Gate>(
         evaluator.new entries.now (map (λ own. own.items) found.items)) }
     ensures keeps { OnlyFeeds evaluator.old evaluator.new }
 {
-    if let Ok(found) = feed(shared, evaluator, entries) {
-        return Ok(found);
-    }
+    let memory = match feed(shared, evaluator, entries) {
+        Ok(found) => return Ok(found),
+        Err(memory) => memory,
+    };
     if evaluator.rebuilt {
-        return Err(Memory);
+        return Err(memory);
     }
     evaluator.rebuilt = true;
     rebuild(shared, pass, evaluator)?;
