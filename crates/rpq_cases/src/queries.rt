@@ -6,9 +6,9 @@ ghost use Rattle.rpq_base.specs.declared.data.TheConstants.{MAX_TIME};
 use crate::expressions::read;
 use anyhow::ensure;
 use case_lines::{Fields, Output, entries_of, put_events, put_pair};
-use rpq_base::{Act, Edge, Entry, MAX_TIME, Name, Pair, copy_all};
+use rpq_base::{Act, Edge, Entry, Event, MAX_TIME, Memory, Name, Pair, copy_all};
 use rpq_model::{
-    Ended, Mode, QueryDef, Window, changes, clock, live_entries, plain_answers, plain_rows,
+    Ended, Live, Mode, QueryDef, Window, changes, clock, live_entries, plain_answers, plain_rows,
 };
 use std::alloc::Global;
 
@@ -37,14 +37,55 @@ pub fn query_of(alloc: Global, fields: &mut Fields) -> anyhow::Result<QueryDef> 
     })
 }
 
-/// The answers of a query after each tuple.
-pub fn answer_answers(alloc: Global, out: &mut Output, mut fields: Fields) -> anyhow::Result<()> {
-    let query = query_of(alloc, &mut fields)?.copy(alloc)?;
-    let entries = copy_all(alloc, &entries_of(alloc, fields.rest())?)?;
+/// A query, and the entries that it is asked about.
+#[derive(Drop)]
+struct Asked {
+    query: QueryDef,
+    entries: Vec<Entry>,
+}
+
+/// The query of the next four fields, and the entries of the rest.
+fn asked_by(alloc: Global, mut fields: Fields) -> anyhow::Result<Asked> {
+    let query = query_of(alloc, &mut fields)?;
+    let entries = entries_of(alloc, fields.rest())?;
+    Ok(Asked { query, entries })
+}
+
+/// A copy of both.
+fn copied(alloc: Global, asked: &Asked) -> Result<Asked, Memory> {
+    let query = asked.query.copy(alloc)?;
+    let entries = copy_all(alloc, &asked.entries)?;
+    Ok(Asked { query, entries })
+}
+
+/// The answers of a query after each tuple, by copies of both.
+pub fn answer_answers(alloc: Global, out: &mut Output, fields: Fields) -> anyhow::Result<()> {
+    let asked = asked_by(alloc, fields)?;
+    let copy = copied(alloc, &asked)?;
+    put_answers(alloc, out, &copy.query, &copy.entries)
+}
+
+fn put_answers(
+    alloc: Global,
+    out: &mut Output,
+    query: &QueryDef,
+    entries: &[Entry],
+) -> anyhow::Result<()> {
     for count in 1..=entries.len() {
-        put_pairs(out, &plain_answers(alloc, &query, &entries[..count])?)?;
+        put_answers_over(alloc, out, query, &entries[..count])?;
     }
     Ok(())
+}
+
+/// Puts the answers over all of the entries.
+fn put_answers_over(
+    alloc: Global,
+    out: &mut Output,
+    query: &QueryDef,
+    entries: &[Entry],
+) -> anyhow::Result<()> {
+    let pairs = plain_answers(alloc, query, entries)?;
+    put_pairs(out, &pairs)
 }
 
 fn put_pairs(out: &mut Output, pairs: &[Pair]) -> anyhow::Result<()> {
@@ -56,13 +97,32 @@ fn put_pairs(out: &mut Output, pairs: &[Pair]) -> anyhow::Result<()> {
 }
 
 /// The answers of a query with their ends, after each tuple.
-pub fn answer_rows(alloc: Global, out: &mut Output, mut fields: Fields) -> anyhow::Result<()> {
-    let query = query_of(alloc, &mut fields)?;
-    let entries = entries_of(alloc, fields.rest())?;
+pub fn answer_rows(alloc: Global, out: &mut Output, fields: Fields) -> anyhow::Result<()> {
+    let asked = asked_by(alloc, fields)?;
+    put_rows(alloc, out, &asked.query, &asked.entries)
+}
+
+fn put_rows(
+    alloc: Global,
+    out: &mut Output,
+    query: &QueryDef,
+    entries: &[Entry],
+) -> anyhow::Result<()> {
     for count in 1..=entries.len() {
-        put_ended(out, &plain_rows(alloc, &query, &entries[..count])?)?;
+        put_rows_over(alloc, out, query, &entries[..count])?;
     }
     Ok(())
+}
+
+/// Puts the answers over all of the entries with their ends.
+fn put_rows_over(
+    alloc: Global,
+    out: &mut Output,
+    query: &QueryDef,
+    entries: &[Entry],
+) -> anyhow::Result<()> {
+    let rows = plain_rows(alloc, query, entries)?;
+    put_ended(out, &rows)
 }
 
 fn put_ended(out: &mut Output, rows: &[Ended]) -> anyhow::Result<()> {
@@ -76,15 +136,39 @@ fn put_ended(out: &mut Output, rows: &[Ended]) -> anyhow::Result<()> {
 }
 
 /// What each tuple changes of the answers of a query.
-pub fn answer_events(alloc: Global, out: &mut Output, mut fields: Fields) -> anyhow::Result<()> {
-    let query = query_of(alloc, &mut fields)?;
-    let entries = entries_of(alloc, fields.rest())?;
+pub fn answer_events(alloc: Global, out: &mut Output, fields: Fields) -> anyhow::Result<()> {
+    let asked = asked_by(alloc, fields)?;
+    put_all_events(alloc, out, &asked.query, &asked.entries)
+}
+
+fn put_all_events(
+    alloc: Global,
+    out: &mut Output,
+    query: &QueryDef,
+    entries: &[Entry],
+) -> anyhow::Result<()> {
     for count in 0..entries.len() {
-        let old = plain_answers(alloc, &query, &entries[..count])?;
-        let new = plain_answers(alloc, &query, &entries[..count + 1])?;
-        put_events(out, &copy_all(alloc, &changes(alloc, 7, &old, &new)?)?)?;
+        let events = events_between(alloc, query, &entries[..count], &entries[..count + 1])?;
+        put_copies(alloc, out, &events)?;
     }
     Ok(())
+}
+
+/// What leads from the answers over some entries to those over others.
+fn events_between(
+    alloc: Global,
+    query: &QueryDef,
+    before: &[Entry],
+    after: &[Entry],
+) -> Result<Vec<Event>, Memory> {
+    let old = plain_answers(alloc, query, before)?;
+    let new = plain_answers(alloc, query, after)?;
+    changes(alloc, 7, &old, &new)
+}
+
+fn put_copies(alloc: Global, out: &mut Output, events: &[Event]) -> anyhow::Result<()> {
+    let copies = copy_all(alloc, events)?;
+    put_events(out, &copies)
 }
 
 /// The entries that are live at a clock.
@@ -92,11 +176,17 @@ pub fn answer_live(alloc: Global, out: &mut Output, mut fields: Fields) -> anyho
     let window = window_of(&mut fields)?;
     let now = fields.number();
     let entries = entries_of(alloc, fields.rest())?;
-    for live in &live_entries(alloc, window, now, &entries)? {
+    let live = live_entries(alloc, window, now, &entries)?;
+    put_live(out, &live)
+}
+
+/// Puts the place of each entry, and its edge.
+fn put_live(out: &mut Output, live: &[Live]) -> anyhow::Result<()> {
+    for each in live {
         out.put(" ")?;
-        out.put_shown(&live.place)?;
+        out.put_shown(&each.place)?;
         out.put(":")?;
-        put_act(out, live.entry)?;
+        put_act(out, each.entry)?;
     }
     Ok(())
 }
@@ -120,5 +210,6 @@ fn put_edge(out: &mut Output, edge: &Edge) -> anyhow::Result<()> {
 
 /// The clock of a history.
 pub fn answer_clock(alloc: Global, out: &mut Output, fields: Fields) -> anyhow::Result<()> {
-    out.put_shown(&clock(&entries_of(alloc, fields.rest())?))
+    let entries = entries_of(alloc, fields.rest())?;
+    out.put_shown(&clock(&entries))
 }

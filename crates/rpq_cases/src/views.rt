@@ -3,45 +3,73 @@
 ghost use Rattle.std.specs.Prelude.{◌<◌, length};
 
 use crate::queries::query_of;
+use crate::texts::name_of;
 use answer_rows::Target;
 use answer_view::{View, plain_view};
 use anyhow::ensure;
-use case_lines::{Fields, Output, decoded, entries_of};
-use rpq_base::{Entry, Name};
+use case_lines::{Fields, Output, entries_of};
+use rpq_base::{Entry, Pair};
 use rpq_model::QueryDef;
 use std::alloc::Global;
+use std::slice::from_ref;
+use std::sync::Arc;
 
 /// What the view of a query answers about a pair after each tuple.
 pub fn answer_view(alloc: Global, out: &mut Output, mut fields: Fields) -> anyhow::Result<()> {
-    let mut queries = Vec::new(alloc);
-    queries.push(query_of(alloc, &mut fields)?)?;
-    let from = Name::new(alloc, &decoded(alloc, fields.next())?)?;
-    let to = Name::new(alloc, &decoded(alloc, fields.next())?)?;
+    let query = query_of(alloc, &mut fields)?;
+    put_views_of(alloc, out, from_ref(&query), fields)
+}
+
+/// Puts what the views of the query answer that a request asks in the rest of its fields.
+fn put_views_of(
+    alloc: Global,
+    out: &mut Output,
+    query: &[QueryDef],
+    mut fields: Fields,
+) -> anyhow::Result<()> {
+    let pair = pair_of(alloc, &mut fields)?;
     let entries = entries_of(alloc, fields.rest())?;
+    put_views(alloc, out, query, &entries, &pair)
+}
+
+/// The pair of the next two fields.
+fn pair_of(alloc: Global, fields: &mut Fields) -> anyhow::Result<Pair> {
+    let from = name_of(alloc, fields.next())?;
+    let to = name_of(alloc, fields.next())?;
+    Ok(Pair { from, to })
+}
+
+fn put_views(
+    alloc: Global,
+    out: &mut Output,
+    query: &[QueryDef],
+    entries: &[Entry],
+    pair: &Pair,
+) -> anyhow::Result<()> {
     for count in 1..=entries.len() {
-        put_view(alloc, out, &queries, &entries[..count], (&from, &to))?;
+        let view = view_over(alloc, query, &entries[..count])?;
+        put_view(out, &*view, pair)?;
     }
     Ok(())
 }
 
-/// Puts what the view over the entries answers about a pair.
-fn put_view(
-    alloc: Global,
-    out: &mut Output,
-    queries: &[QueryDef],
-    entries: &[Entry],
-    pair: (&Name, &Name),
-) -> anyhow::Result<()> {
-    ensure!(queries.len() == 1, "not one query");
+/// The view of one query over the entries. It promises nothing, since what it answers is compared
+/// from outside.
+fn view_over(alloc: Global, query: &[QueryDef], entries: &[Entry]) -> anyhow::Result<Arc<View>> {
+    ensure!(query.len() == 1, "not one query");
     ensure!(entries.len() < 1 << 30, "too many tuples");
-    let view = plain_view(alloc, queries, entries)?;
+    Ok(plain_view(alloc, query, entries)?)
+}
+
+/// Puts what the view answers about a pair.
+fn put_view(out: &mut Output, view: &View, pair: &Pair) -> anyhow::Result<()> {
     ensure!(view.queries() > 0, "no query");
-    put_pair(out, &*view, pair.0, pair.1)?;
-    put_targets(out, view.row(0, pair.0).unwrap_or(&[]))
+    put_pair(out, view, pair)?;
+    put_targets(out, view.row(0, &pair.from).unwrap_or(&[]))
 }
 
 /// Puts the position, the number of answers, and whether the pair is one up to when.
-fn put_pair(out: &mut Output, view: &View, from: &Name, to: &Name) -> anyhow::Result<()>
+fn put_pair(out: &mut Output, view: &View, pair: &Pair) -> anyhow::Result<()>
     requires { 0 < length view.now.rows }
 {
     out.put(" ")?;
@@ -49,8 +77,12 @@ fn put_pair(out: &mut Output, view: &View, from: &Name, to: &Name) -> anyhow::Re
     out.put(" ")?;
     out.put_shown(&view.count(0))?;
     out.put(" ")?;
-    out.put_sign(view.holds(0, from, to))?;
-    match view.until(0, from, to) {
+    out.put_sign(view.holds(0, &pair.from, &pair.to))?;
+    put_until(out, view.until(0, &pair.from, &pair.to))
+}
+
+fn put_until(out: &mut Output, until: Option<u64>) -> anyhow::Result<()> {
+    match until {
         Some(until) => out.put_shown(&until),
         None => out.put("-"),
     }
