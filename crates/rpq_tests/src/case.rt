@@ -1,11 +1,12 @@
 //! A case: what a run over files and sinks in memory is given, and what it is to answer.
 
-use rpq_io::{Gate, MemoryFiles, MemorySink, OpenGate};
-use rpq_run::run;
+use rpq_io::{Files, Gate, MemoryFiles, MemorySink, OpenGate};
+use rpq_run::{Report, run};
+use standing::Standing;
 use std::alloc::Global;
+use std::process::Abort;
 use std::random::RandomSource;
 use std::sync::Wait;
-use std::test::Fail;
 use std::thread::Threads;
 
 /// A query for two labels in sequence, with a wide window.
@@ -59,77 +60,133 @@ pub fn path<'a>() -> Case<'a> {
     }
 }
 
+/// What a run in memory is given: its words, the files, the sinks of the events and the errors, and
+/// the objects that are told of the events.
+#[derive(Drop)]
+pub struct Given {
+    pub words: Vec<String>,
+    pub files: MemoryFiles,
+    pub events: MemorySink,
+    pub errors: MemorySink,
+    pub standing: Vec<Box<dyn Standing>>,
+}
+
+/// What the tests look at of a run's report: its status, how many entries its history has, and the
+/// objects that left.
+#[derive(Drop)]
+pub struct Outcome {
+    pub status: u8,
+    pub entries: usize,
+    pub left: Vec<Box<dyn Standing>>,
+}
+
+/// The outcome of a run behind this gate. It promises nothing, so that no test carries along what
+/// `run` promises.
+pub fn outcome_of<R: Threads + Wait + RandomSource + Sync, G: Gate>(
+    rt: &R,
+    alloc: Global,
+    given: &mut Given,
+    gate: &G,
+) -> Outcome {
+    looked_at(run(
+        rt,
+        alloc,
+        &given.words,
+        &mut given.files,
+        &mut given.events,
+        &mut given.errors,
+        &mut given.standing,
+        gate,
+    ))
+}
+
+/// What the tests look at of this report.
+fn looked_at<F: Files>(report: Report<F>) -> Outcome {
+    Outcome {
+        status: report.status,
+        entries: report.history.len(),
+        left: report.left,
+    }
+}
+
 /// Whether the runs of all the cases answer what they are to.
-pub fn all_hold<R: Threads + Wait + RandomSource + Sync>(
+pub fn all_hold<R: Threads + Wait + RandomSource + Sync + Abort>(
     rt: &R,
     alloc: Global,
     cases: &[Case],
-) -> Result<bool, Fail> {
+) -> bool {
     for case in cases {
-        if !holds(rt, alloc, case)? {
-            return Ok(false);
+        if !holds_behind(rt, alloc, case, &OpenGate) {
+            return false;
         }
     }
-    Ok(true)
-}
-
-/// Whether the run of the case answers what it is to.
-pub fn holds<R: Threads + Wait + RandomSource + Sync>(
-    rt: &R,
-    alloc: Global,
-    case: &Case,
-) -> Result<bool, Fail> {
-    holds_behind(rt, alloc, case, &OpenGate)
+    true
 }
 
 /// Whether the run of the case, whose workers pass this gate, answers what it is to.
-pub fn holds_behind<R: Threads + Wait + RandomSource + Sync, G: Gate>(
+pub fn holds_behind<R: Threads + Wait + RandomSource + Sync + Abort, G: Gate>(
     rt: &R,
     alloc: Global,
     case: &Case,
     gate: &G,
-) -> Result<bool, Fail> {
-    let words = words_of(alloc, case.words)?;
-    let mut files = files_of(alloc, case)?;
-    let mut events = sink(alloc, case.room, case.write_piece, case.failing_writes)?;
-    let mut errors = sink(alloc, 4096, 4096, case.failing_error_writes)?;
-    let report = run(
-        rt,
-        alloc,
-        &words,
-        &mut files,
-        &mut events,
-        &mut errors,
-        &mut Vec::new(alloc),
-        gate,
-    );
-    let written = events.bytes() == case.events.as_bytes();
-    let told = errors.bytes() == case.errors.as_bytes();
-    Ok(report.status == case.status && written && told)
+) -> bool {
+    let mut given = Given {
+        words: words_of(rt, alloc, case.words),
+        files: files_of(rt, alloc, case),
+        events: sink_of(rt, alloc, case.room, case.write_piece, case.failing_writes),
+        errors: sink_of(rt, alloc, 4096, 4096, case.failing_error_writes),
+        standing: Vec::new(alloc),
+    };
+    let outcome = outcome_of(rt, alloc, &mut given, gate);
+    outcome.status == case.status
+        && has_written(&given.events, case.events)
+        && has_written(&given.errors, case.errors)
 }
 
-/// A sink in memory.
-fn sink(alloc: Global, room: usize, piece: usize, failing: &[u64]) -> Result<MemorySink, Fail> {
-    Ok(MemorySink::new(alloc, room, piece.max(1), failing)?)
+/// Whether this text is what went out on the sink.
+pub fn has_written(sink: &MemorySink, text: &str) -> bool {
+    sink.bytes() == text.as_bytes()
+}
+
+/// A sink in memory with this much room, which takes at most a piece in a write; the writes with
+/// these numbers fail.
+pub fn sink_of(
+    rt: &impl Abort,
+    alloc: Global,
+    room: usize,
+    piece: usize,
+    failing: &[u64],
+) -> MemorySink {
+    MemorySink::new(alloc, room, piece.max(1), failing).expect(rt, "memory")
 }
 
 /// The program's name, and these words after it.
-pub fn words_of(alloc: Global, rest: &[&str]) -> Result<Vec<String>, Fail> {
+pub fn words_of(rt: &impl Abort, alloc: Global, rest: &[&str]) -> Vec<String> {
     let mut words = Vec::new(alloc);
-    words.push(String::from_str(alloc, "rpq")?)?;
+    add_word(rt, alloc, &mut words, "rpq");
     for word in rest {
-        words.push(String::from_str(alloc, word)?)?;
+        add_word(rt, alloc, &mut words, word);
     }
-    Ok(words)
+    words
+}
+
+/// Adds one word more.
+fn add_word(rt: &impl Abort, alloc: Global, words: &mut Vec<String>, word: &str) {
+    let word = String::from_str(alloc, word).expect(rt, "memory");
+    words.push(word).expect(rt, "memory");
 }
 
 /// The two files of the case.
-fn files_of(alloc: Global, case: &Case) -> Result<MemoryFiles, Fail> {
+fn files_of(rt: &impl Abort, alloc: Global, case: &Case) -> MemoryFiles {
     let piece = case.read_piece.max(1);
-    let mut files = MemoryFiles::new(alloc, 0, 1, &[], case.failing_openings)?;
+    let mut files = MemoryFiles::new(alloc, 0, 1, &[], case.failing_openings).expect(rt, "memory");
     let queries = case.queries.as_bytes();
-    files.add("q", queries, piece, case.failing_query_reads)?;
+    files
+        .add("q", queries, piece, case.failing_query_reads)
+        .expect(rt, "memory");
     let stream = case.stream.as_bytes();
-    files.add("s", stream, piece, case.failing_stream_reads)?;
-    Ok(files)
+    files
+        .add("s", stream, piece, case.failing_stream_reads)
+        .expect(rt, "memory");
+    files
 }

@@ -1,7 +1,6 @@
 //! Faults of the files and the sinks, in runs over streams, in checks and where a run is refused.
 
 use crate::case::{Case, all_hold, path};
-use std::test::Fail;
 
 /// What is written before the second block.
 const FIRST_BLOCK: &str = "@1 1 1 x a y +\n";
@@ -17,7 +16,7 @@ const VERDICTS: &str = "p arbitrary states 3 no () a b\n\
     s arbitrary states 3 no a c ()\n";
 
 #[test]
-fn faults_of_the_files(rt: HostRuntime) -> Result<(), Fail> {
+fn faults_of_the_files(rt: HostRuntime) {
     let failed = Case {
         status: 5,
         events: "",
@@ -67,12 +66,11 @@ fn faults_of_the_files(rt: HostRuntime) -> Result<(), Fail> {
             ..failed
         },
     ];
-    assert!(rt; all_hold(&rt, rt.alloc(), &cases)?);
-    Ok(())
+    assert!(rt; all_hold(&rt, rt.alloc(), &cases));
 }
 
 #[test]
-fn faults_of_the_sinks(rt: HostRuntime) -> Result<(), Fail> {
+fn faults_of_the_sinks(rt: HostRuntime) {
     let slow = Case {
         write_piece: 10,
         ..path()
@@ -127,12 +125,11 @@ fn faults_of_the_sinks(rt: HostRuntime) -> Result<(), Fail> {
             ..path()
         },
     ];
-    assert!(rt; all_hold(&rt, rt.alloc(), &cases)?);
-    Ok(())
+    assert!(rt; all_hold(&rt, rt.alloc(), &cases));
 }
 
 #[test]
-fn faults_of_a_check(rt: HostRuntime) -> Result<(), Fail> {
+fn faults_of_a_check(rt: HostRuntime) {
     // No stream is opened: its opening would fail.
     let check = Case {
         words: &["--check", "q"],
@@ -175,12 +172,11 @@ fn faults_of_a_check(rt: HostRuntime) -> Result<(), Fail> {
             ..failed
         },
     ];
-    assert!(rt; all_hold(&rt, rt.alloc(), &cases)?);
-    Ok(())
+    assert!(rt; all_hold(&rt, rt.alloc(), &cases));
 }
 
 #[test]
-fn faults_of_a_refusal(rt: HostRuntime) -> Result<(), Fail> {
+fn faults_of_a_refusal(rt: HostRuntime) {
     // A fault of the errors changes no status. The stream isn't opened: its opening would fail.
     let refused = Case {
         failing_openings: &[2],
@@ -209,6 +205,5 @@ fn faults_of_a_refusal(rt: HostRuntime) -> Result<(), Fail> {
             ..refused
         },
     ];
-    assert!(rt; all_hold(&rt, rt.alloc(), &cases)?);
-    Ok(())
+    assert!(rt; all_hold(&rt, rt.alloc(), &cases));
 }

@@ -1,14 +1,13 @@
 //! Runs with objects of the test's own, which leave or run out of memory while they are told.
 
-use crate::case::words_of;
+use crate::case::{Given, outcome_of, sink_of, words_of};
 use rpq_base::{Event, Memory};
 use rpq_io::{MemoryFiles, MemorySink, OpenGate};
-use rpq_run::run;
 use standing::{Roll, Standing, Stay};
 use std::alloc::Global;
+use std::process::Abort;
 use std::random::RandomSource;
 use std::sync::Wait;
-use std::test::Fail;
 use std::thread::Threads;
 
 /// A query for all paths of one label.
@@ -83,7 +82,7 @@ impl Standing for Short {
 
 /// What a run is to answer: its status, how many objects stayed and left, what the one object says,
 /// and how many blocks were written.
-#[derive(Drop)]
+#[derive(Clone, Copy)]
 struct Wanted<'a> {
     status: u8,
     stayed: usize,
@@ -92,52 +91,85 @@ struct Wanted<'a> {
     blocks: usize,
 }
 
+/// The files `q` and `s`, with [`PATHS`] and [`CYCLE`].
+fn files_of(rt: &impl Abort, alloc: Global) -> MemoryFiles {
+    let mut files = MemoryFiles::new(alloc, 0, 1, &[], &[]).expect(rt, "memory");
+    files
+        .add("q", PATHS.as_bytes(), 64, &[])
+        .expect(rt, "memory");
+    files
+        .add("s", CYCLE.as_bytes(), 64, &[])
+        .expect(rt, "memory");
+    files
+}
+
+/// Whether all these objects say this.
+fn all_say(objects: &[Box<dyn Standing>], wanted: &[u8]) -> bool {
+    for object in objects {
+        if !says(object, wanted) {
+            return false;
+        }
+    }
+    true
+}
+
+/// Whether the object says this.
+fn says(object: &Box<dyn Standing>, wanted: &[u8]) -> bool {
+    match object.say() {
+        Ok(said) => said.as_slice() == wanted,
+        Err(Memory) => false,
+    }
+}
+
+/// How many blocks went out on the sink.
+fn blocks(events: &MemorySink) -> usize {
+    events.bytes().iter().filter(|byte| **byte == b'@').count()
+}
+
 /// Whether the run of [`PATHS`] over [`CYCLE`] with this object, of which the write of the events
 /// with this number fails, answers what it is to.
-fn ends_so<R: Threads + Wait + RandomSource + Sync>(
+fn ends_so<R: Threads + Wait + RandomSource + Sync + Abort>(
     rt: &R,
     alloc: Global,
     object: Box<dyn Standing>,
     failing_write: u64,
     wanted: &Wanted,
-) -> Result<bool, Fail> {
-    let words = words_of(alloc, &["q", "s"])?;
-    let mut files = MemoryFiles::new(alloc, 0, 1, &[], &[])?;
-    files.add("q", PATHS.as_bytes(), 64, &[])?;
-    files.add("s", CYCLE.as_bytes(), 64, &[])?;
-    let mut events = MemorySink::new(alloc, 4096, 4096, &[failing_write])?;
-    let mut errors = MemorySink::new(alloc, 4096, 64, &[])?;
-    let mut standing = Vec::new(alloc);
-    standing.push(object)?;
-    let report = run(
-        rt,
-        alloc,
-        &words,
-        &mut files,
-        &mut events,
-        &mut errors,
-        &mut standing,
-        &OpenGate,
-    );
-    let mut says_so = true;
-    for one in standing.iter().chain(&report.left) {
-        says_so = says_so && one.say()?.as_slice() == wanted.says;
-    }
-    let blocks = events.bytes().iter().filter(|byte| **byte == b'@').count();
-    Ok(
-        says_so
-            && report.status == wanted.status
-            && standing.len() == wanted.stayed
-            && report.left.len() == wanted.left
-            && blocks == wanted.blocks,
-    )
+) -> bool {
+    let mut given = Given {
+        words: words_of(rt, alloc, &["q", "s"]),
+        files: files_of(rt, alloc),
+        events: sink_of(rt, alloc, 4096, 4096, &[failing_write]),
+        errors: sink_of(rt, alloc, 4096, 64, &[]),
+        standing: list_of(rt, alloc, object),
+    };
+    let outcome = outcome_of(rt, alloc, &mut given, &OpenGate);
+    outcome.status == wanted.status
+        && given.standing.len() == wanted.stayed
+        && outcome.left.len() == wanted.left
+        && blocks(&given.events) == wanted.blocks
+        && all_say(&given.standing, wanted.says)
+        && all_say(&outcome.left, wanted.says)
+}
+
+/// A list of this one object.
+fn list_of(rt: &impl Abort, alloc: Global, object: Box<dyn Standing>) -> Vec<Box<dyn Standing>> {
+    let mut objects = Vec::new(alloc);
+    objects.push(object).expect(rt, "memory");
+    objects
+}
+
+/// A roll of the events of the first query.
+fn roll(rt: &impl Abort, alloc: Global) -> Roll {
+    let mut wanted = Vec::new(alloc);
+    wanted.push(0).expect(rt, "memory");
+    Roll::new(alloc, wanted)
 }
 
 #[test]
-fn an_object_that_left_before_a_failed_write(rt: HostRuntime) -> Result<(), Fail> {
+fn an_object_that_left_before_a_failed_write(rt: HostRuntime) {
     let alloc = rt.alloc();
     let object = Leaving {
-        roll: Roll::new(alloc, (0..1).collect(alloc)?),
+        roll: roll(&rt, alloc),
         calls: 0,
         is_gone: false,
     };
@@ -148,15 +180,15 @@ fn an_object_that_left_before_a_failed_write(rt: HostRuntime) -> Result<(), Fail
         says: b"roll 2 0",
         blocks: 2,
     };
-    assert!(rt; ends_so(&rt, alloc, Box::new(alloc, object)?, 3, &wanted)?);
-    Ok(())
+    let object = Box::new(alloc, object).expect(&rt, "memory");
+    assert!(rt; ends_so(&rt, alloc, object, 3, &wanted));
 }
 
 #[test]
-fn an_object_without_memory_for_an_event(rt: HostRuntime) -> Result<(), Fail> {
+fn an_object_without_memory_for_an_event(rt: HostRuntime) {
     let alloc = rt.alloc();
     let object = Short {
-        roll: Roll::new(alloc, (0..1).collect(alloc)?),
+        roll: roll(&rt, alloc),
         calls: 0,
     };
     let wanted = Wanted {
@@ -166,6 +198,6 @@ fn an_object_without_memory_for_an_event(rt: HostRuntime) -> Result<(), Fail> {
         says: b"roll 2 0",
         blocks: 2,
     };
-    assert!(rt; ends_so(&rt, alloc, Box::new(alloc, object)?, 0, &wanted)?);
-    Ok(())
+    let object = Box::new(alloc, object).expect(&rt, "memory");
+    assert!(rt; ends_so(&rt, alloc, object, 0, &wanted));
 }

@@ -1,15 +1,14 @@
 //! Runs over several streams: all at the same time, and each with an end of its own.
 
-use crate::case::words_of;
-use rpq_io::{Gate, MemoryFiles, MemorySink, OpenGate, Who};
-use rpq_run::run;
+use crate::case::{Given, has_written, outcome_of, sink_of, words_of};
+use rpq_io::{Gate, MemoryFiles, OpenGate, Who};
 use std::alloc::Global;
 use std::hint::spin_loop;
+use std::process::Abort;
 use std::random::RandomSource;
 use std::sync::Wait;
 use std::sync::atomic::AtomicU64;
 use std::sync::atomic::Ordering::SeqCst;
-use std::test::Fail;
 use std::thread::Threads;
 
 /// For how many turns a stream waits for the other.
@@ -55,41 +54,54 @@ struct Case<'a> {
     entries: Option<usize>,
 }
 
+/// The four files of the case.
+fn files_of(rt: &impl Abort, alloc: Global, case: &Case) -> MemoryFiles {
+    let queries = b"query q window 9 slide 3 arbitrary: a\n";
+    let [first, second, third] = case.streams;
+    let mut files = MemoryFiles::new(alloc, 0, 1, &[], &[]).expect(rt, "memory");
+    files.add("q", queries, 64, &[]).expect(rt, "memory");
+    files
+        .add("s", first.as_bytes(), 64, &[])
+        .expect(rt, "memory");
+    files
+        .add("t", second.as_bytes(), 4, case.failing_reads)
+        .expect(rt, "memory");
+    files
+        .add("u", third.as_bytes(), 1, &[])
+        .expect(rt, "memory");
+    files
+}
+
 /// Whether the run of the case answers what it is to, behind this gate.
-fn holds<R: Threads + Wait + RandomSource + Sync, G: Gate>(
+fn holds<R: Threads + Wait + RandomSource + Sync + Abort, G: Gate>(
     rt: &R,
     alloc: Global,
     case: &Case,
     gate: &G,
-) -> Result<bool, Fail> {
-    let words = words_of(alloc, case.words)?;
-    let mut files = MemoryFiles::new(alloc, 0, 1, &[], &[])?;
-    files.add("q", b"query q window 9 slide 3 arbitrary: a\n", 64, &[])?;
-    files.add("s", case.streams[0].as_bytes(), 64, &[])?;
-    files.add("t", case.streams[1].as_bytes(), 4, case.failing_reads)?;
-    files.add("u", case.streams[2].as_bytes(), 1, &[])?;
-    let mut events = MemorySink::new(alloc, 4096, 64, case.failing_writes)?;
-    let mut errors = MemorySink::new(alloc, 4096, 64, &[])?;
-    let report = run(
-        rt,
-        alloc,
-        &words,
-        &mut files,
-        &mut events,
-        &mut errors,
-        &mut Vec::new(alloc),
-        gate,
-    );
-    let told = errors.bytes() == case.errors.as_bytes();
-    let as_many = match case.entries {
-        Some(entries) => report.history.len() == entries,
-        None => true,
+) -> bool {
+    let mut given = Given {
+        words: words_of(rt, alloc, case.words),
+        files: files_of(rt, alloc, case),
+        events: sink_of(rt, alloc, 4096, 64, case.failing_writes),
+        errors: sink_of(rt, alloc, 4096, 64, &[]),
+        standing: Vec::new(alloc),
     };
-    Ok(report.status == case.status && told && as_many)
+    let outcome = outcome_of(rt, alloc, &mut given, gate);
+    outcome.status == case.status
+        && has_written(&given.errors, case.errors)
+        && has_as_many(outcome.entries, case.entries)
+}
+
+/// Whether there are as many entries as are wanted, if a number is wanted.
+fn has_as_many(entries: usize, wanted: Option<usize>) -> bool {
+    match wanted {
+        Some(wanted) => entries == wanted,
+        None => true,
+    }
 }
 
 #[test]
-fn two_streams_at_the_same_time(rt: HostRuntime) -> Result<(), Fail> {
+fn two_streams_at_the_same_time(rt: HostRuntime) {
     let gate = MeetingGate {
         come: AtomicU64::new(0),
         alone: AtomicU64::new(0),
@@ -103,14 +115,12 @@ fn two_streams_at_the_same_time(rt: HostRuntime) -> Result<(), Fail> {
         errors: "",
         entries: Some(5),
     };
-    assert!(rt; holds(&rt, rt.alloc(), &case, &gate)?);
+    assert!(rt; holds(&rt, rt.alloc(), &case, &gate));
     assert!(rt; gate.alone.load(SeqCst) == 0);
-    Ok(())
 }
 
 #[test]
-fn each_stream_has_its_own_end(rt: HostRuntime) -> Result<(), Fail> {
-    let alloc = rt.alloc();
+fn each_stream_has_its_own_end(rt: HostRuntime) {
     // One has a faulty line, of one a read fails, and one is read to its end.
     let faults = Case {
         words: &["q", "s", "t", "u"],
@@ -132,13 +142,12 @@ fn each_stream_has_its_own_end(rt: HostRuntime) -> Result<(), Fail> {
         entries: Some(2),
         ..faults
     };
-    assert!(rt; holds(&rt, alloc, &faults, &OpenGate)?);
-    assert!(rt; holds(&rt, alloc, &full, &OpenGate)?);
-    Ok(())
+    assert!(rt; holds(&rt, rt.alloc(), &faults, &OpenGate));
+    assert!(rt; holds(&rt, rt.alloc(), &full, &OpenGate));
 }
 
 #[test]
-fn a_failed_write_while_streams_go_on(rt: HostRuntime) -> Result<(), Fail> {
+fn a_failed_write_while_streams_go_on(rt: HostRuntime) {
     // The streams end as they may: each at its end, or closed.
     let first = Case {
         words: &["q", "s", "t", "u"],
@@ -157,7 +166,6 @@ fn a_failed_write_while_streams_go_on(rt: HostRuntime) -> Result<(), Fail> {
         failing_writes: &[5],
         ..first
     };
-    assert!(rt; holds(&rt, rt.alloc(), &first, &OpenGate)?);
-    assert!(rt; holds(&rt, rt.alloc(), &later, &OpenGate)?);
-    Ok(())
+    assert!(rt; holds(&rt, rt.alloc(), &first, &OpenGate));
+    assert!(rt; holds(&rt, rt.alloc(), &later, &OpenGate));
 }

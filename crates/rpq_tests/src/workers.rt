@@ -4,11 +4,11 @@ use crate::case::{Case, holds_behind, path};
 use rpq_io::{Gate, OpenGate, Who};
 use std::alloc::Global;
 use std::hint::spin_loop;
+use std::process::Abort;
 use std::random::RandomSource;
 use std::sync::Wait;
 use std::sync::atomic::AtomicU64;
 use std::sync::atomic::Ordering::SeqCst;
-use std::test::Fail;
 use std::thread::Threads;
 
 /// For how many turns a worker waits for another.
@@ -96,26 +96,25 @@ fn two_workers<'a>() -> Case<'a> {
 
 /// Whether the run of the case answers what it is to behind a gate by which a change is shared from
 /// so many trees on, and whether a worker was found waiting in it is as wanted.
-fn holds_and_meets<R: Threads + Wait + RandomSource + Sync>(
+fn holds_and_meets<R: Threads + Wait + RandomSource + Sync + Abort>(
     rt: &R,
     alloc: Global,
     case: &Case,
     least: usize,
     wanted: bool,
-) -> Result<bool, Fail> {
+) -> bool {
     let gate = MeetingGate::new(least);
-    let holds = holds_behind(rt, alloc, case, &gate)?;
+    let holds = holds_behind(rt, alloc, case, &gate);
     let meets = gate.met.load(SeqCst) > 0;
-    Ok(holds && meets == wanted)
+    holds && meets == wanted
 }
 
 #[test]
-fn two_workers_at_the_same_time(rt: HostRuntime) -> Result<(), Fail> {
+fn two_workers_at_the_same_time(rt: HostRuntime) {
     let alloc = rt.alloc();
-    assert!(rt; holds_and_meets(&rt, alloc, &one_worker(), 1, false)?);
-    assert!(rt; holds_and_meets(&rt, alloc, &two_workers(), 1, true)?);
+    assert!(rt; holds_and_meets(&rt, alloc, &one_worker(), 1, false));
+    assert!(rt; holds_and_meets(&rt, alloc, &two_workers(), 1, true));
     // few trees aren't shared by the gate of the program
     let least = OpenGate.trees_per_worker();
-    assert!(rt; holds_and_meets(&rt, alloc, &two_workers(), least, false)?);
-    Ok(())
+    assert!(rt; holds_and_meets(&rt, alloc, &two_workers(), least, false));
 }
