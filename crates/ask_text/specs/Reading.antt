@@ -2,12 +2,11 @@
 -- feed and their carriage return.
 use Rattle.std.specs.Prelude.{ℕ, bytes_eq, codes, if◌then◌else◌}
 use Rattle.std.specs.Prelude.{List, [], ◌∷◌, Option, Some, None, Result, Ok, Err}
-use Rattle.std.specs.List.{position}
 use Rattle.text_parts.specs.Numbers.{number_within}
 use Rattle.rpq_base.specs.Names.{is_name}
 use Rattle.rpq_base.specs.declared.data.TheConstants.{MAX_TIME}
 use Rattle.rpq_base.specs.declared.data.Pair.{Pair as PairOf}
-use Rattle.rpq_model.specs.Query.{Query}
+use Rattle.rpq_model.specs.Query.{Query, place_named}
 use Rattle.answer_rows.specs.Answers.{pair}
 use Rattle.ask_text.specs.declared.ask.Ask.{Ask}
 use Rattle.ask_text.specs.declared.ask.Ask.TheVariants.{Answers, From, Pair, Count, Wait, Until}
@@ -28,7 +27,7 @@ found_or kind (Some x) = Ok x
 -- the number of the query with this name, from 0
 unfoldable pub query_named : List Query → List ℕ → Result ℕ AskKind
 query_named queries name =
-    found_or UnknownQuery (position (λ query. bytes_eq query.name name) queries)
+    found_or UnknownQuery (place_named queries name)
 
 -- the vertex that a field names
 unfoldable pub vertex_of : List ℕ → Result (List ℕ) AskKind

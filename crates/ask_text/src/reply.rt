@@ -1,8 +1,8 @@
 //! Replies.
 
-ghost use Rattle.std.specs.Prelude.{◌≡◌, ◌<◌, ◌≤◌, ◌++◌, map, length, flat_map, decimal, codes};
-ghost use Rattle.std.specs.Prelude.{is_some, take, List, IfOk, OnOk};
-ghost use Rattle.answer_rows.specs.Answers.{pairs, row_of, until_of, pair};
+ghost use Rattle.std.specs.Prelude.{◌≡◌, ◌<◌, ◌++◌, length, flat_map, decimal};
+ghost use Rattle.std.specs.Prelude.{take, List, IfOk, OnOk};
+ghost use Rattle.answer_rows.specs.Answers.{pairs, row_of, pair};
 ghost use Rattle.answer_rows.specs.Listing.{listed};
 ghost use Rattle.answer_view.specs.View.{rows_at, IsViewOf};
 ghost use Rattle.rpq_base.specs.declared.data.Entry.{Entry as EntryOf};

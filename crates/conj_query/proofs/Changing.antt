@@ -1,33 +1,13 @@
 -- The pairs of queries, changed event by event.
-use Rattle.std.proofs.Common.{◌≡◌, ℕ, ◌<◌, Bool, true, not, List, [], length, get_or, set, take, filter, refl, sym, ap, subst, ◌∙◌, ⊎_elim, arith}
+use Rattle.std.proofs.Common.{◌≡◌, ℕ, ◌<◌, true, List, [], length, get_or, set, take, sym, ap, subst, ◌∙◌, ⊎_elim, arith}
 use Rattle.std.specs.Prelude.{◌↔◌, Contains}
-use Rattle.std.proofs.lemmas.Bool.{both_ways, cases_eq, not-true, false_from_ne_true}
+use Rattle.std.proofs.lemmas.Bool.{cases_eq}
 use Rattle.std.proofs.lemmas.List.{length-take, get_or-take, get_or_default, get_or-set_same, get_or-set_other}
-use Rattle.rpq_base.proofs.Equality.{pairs as pair_test}
-use Rattle.rpq_base.proofs.Members.{HasOneMore, kept_members}
-use Rattle.rpq_base.specs.Same.{same_pair}
+use Rattle.rpq_base.proofs.Members.{HasOneMore}
 use Rattle.rpq_base.specs.declared.data.Pair.{Pair}
 use Rattle.rpq_base.specs.declared.data.Event.{Event}
 use Rattle.conj_query.specs.Changed.{IsPut}
 use Rattle.conj_query.specs.State.{family, ArePut, AreApart}
-
--- the pairs other than this one
-abbrev pub is_other : Pair → Pair → Bool
-is_other pair each = not (same_pair each pair)
-
-pub taken_out : (old : List Pair) (pair : Pair) → Contains (filter (is_other pair) old) pair → ⊥
-taken_out old pair member =
-    let both = (kept_members old (is_other pair) pair).0 member in
-    both_ways (same_pair pair pair) (not-true (same_pair pair pair) both.1) ((pair_test pair pair).1 refl)
-
-pub others_left : (old : List Pair) (pair other : Pair) → (pair ≡ other → ⊥) → Contains (filter (is_other pair) old) other ↔ Contains old other
-others_left old pair other apart = (
-  (λ member. ((kept_members old (is_other pair) other).0 member).0),
-  (λ member. (kept_members old (is_other pair) other).1 (
-    member,
-    ap not (false_from_ne_true (same_pair other pair) (λ e. apart (sym ((pair_test other pair).0 e)))),
-  )),
-)
 
 -- the pairs of one query are changed
 pub put_at : (sets : List (List Pair)) (old new : List Pair) (event : Event) → event.query < length sets → old ≡ get_or sets event.query old →
@@ -48,13 +28,6 @@ put_at sets old new event below found own others =
           (sym (get_or-set_other sets event.query query new [] (λ e. differ (sym e)))) ((λ member. member), (λ member. member)))
           (cases_eq event.query query);
     }
-
--- nothing is changed by no events
-pub none_put : (sets : List (List Pair)) → ArePut sets sets []
-none_put sets = record {
-  told = λ event member. absurd (omega (arith, member.1));
-  others = λ query pair none. ((λ member. member), (λ member. member));
-}
 
 -- one event more
 pub put_more : (first old new : List (List Pair)) (before after : List Event) (one : Event) → HasOneMore before one after →

@@ -1,12 +1,12 @@
--- Names where nothing is open, and where all is.
+-- Names where nothing is open.
 use Rattle.std.proofs.Common.{◌≡◌, ℕ, zero, suc, ◌<◌, List, [], ◌∷◌, ◌++◌, ◌+◌, length, Bor, take, get_or, Option, Some, None, refl, sym, ap, subst, ◌∙◌, ⊎_elim, arith}
-use Rattle.std.specs.Prelude.{◌↔◌, slice_get, All, Contains}
+use Rattle.std.specs.Prelude.{◌↔◌, slice_get, Contains}
 use Rattle.std.specs.Option.{option_to_list}
 use Rattle.std.proofs.lemmas.List.{take_more}
 use Rattle.std.proofs.lemmas.List.Elements.{Contains-push, Contains-push_cases, Contains-append_left}
 use Rattle.rpq_base.proofs.Members.{HasOneMore}
 use Rattle.std.specs.List.{filter_map}
-use Rattle.std.proofs.lemmas.Option.{same_Some, slice_get_within, get_or_from_slice_get}
+use Rattle.std.proofs.lemmas.Option.{same_Some, slice_get_within}
 use Rattle.conj_query.specs.Partial.{Bound, Agrees, Covers, IsFull, Takes, AreMet, ClosesAll, IsThrough, atoms_at}
 use Rattle.conj_query.specs.Sound.{Mentions}
 use Rattle.rpq_base.specs.declared.data.Pair.{Pair}
@@ -50,20 +50,6 @@ full_agrees (Some name ∷ bound) full =
         slice_get (name ∷ names_of bound) number ≡ Some known
     by_place zero known there rest = same_Some (Some name) (Some known) there
     by_place (suc number) known there rest = rest.same number known there
-
--- all open
-pub open_agrees : (bound : Bound) (names : List (List ℕ)) → All (λ name. name ≡ None) bound → Agrees bound names ↔ (length names ≡ length bound)
-open_agrees bound names all = (
-  (λ agree. agree.as_many),
-  (λ many. record { as_many = many; same = λ number known there. absurd (none_bound number known there) }),
-)
-  where
-    none_bound : (number : ℕ) (known : List ℕ) → slice_get bound number ≡ Some (Some known) → ⊥
-    none_bound number known there =
-        let none = all number (Some known) (slice_get_within bound number (Some known) there) in
-        let some = get_or_from_slice_get bound number (Some known) (Some known) there in
-        let both : None ≡ Some known = sym none ∙ some in
-        cc
 
 -- one name more
 names_push : (bound : Bound) (name : Option (List ℕ)) → names_of (bound ++ name ∷ []) ≡ names_of bound ++ option_to_list name

@@ -1,36 +1,12 @@
 -- What an atom adds, pair by pair.
-use Rattle.std.proofs.Common.{◌≡◌, ℕ, Bool, true, false, List, [], ◌∷◌, ◌++◌, get_or, refl, sym, subst, ◌∙◌, ◌⊎◌, inl, inr, ⊎_elim}
-use Rattle.std.specs.Prelude.{◌↔◌, Contains, if◌then◌else◌}
-use Rattle.std.proofs.lemmas.Bool.{false≢true}
-use Rattle.std.proofs.lemmas.List.Elements.{Contains-push, Contains-push_cases, Contains-append_left}
+use Rattle.std.proofs.Common.{◌≡◌, ℕ, List, [], get_or, sym, subst, ◌∙◌, ◌⊎◌, inl, inr, ⊎_elim}
+use Rattle.std.specs.Prelude.{◌↔◌, Contains}
 use Rattle.rpq_base.proofs.Members.{HasOneMore}
 use Rattle.rpq_base.specs.declared.data.Pair.{Pair}
 use Rattle.conj_query.specs.declared.data.JoinAtom.{JoinAtom}
 use Rattle.conj_query.specs.Joins.{IsPairOf}
 use Rattle.conj_query.specs.Partial.{Bound, Agrees, Covers, Closes, ClosesAll, IsMetBy, AreMet}
 use Rattle.conj_query.specs.Sound.{Mentions}
-
--- one pair more fits or not
-pub fit_more : (test : Bool) (before found after more : List Pair) (one : Pair) (Fit : Pair → Type 0) → HasOneMore before one after →
-    (test ≡ true) ↔ Fit one → more ≡ (if test then found ++ one ∷ [] else found) →
-    ((pair : Pair) → Contains found pair ↔ (Contains before pair × Fit pair)) → (pair : Pair) → Contains more pair ↔ (Contains after pair × Fit pair)
-fit_more true before found after more one Fit step fits is so_far pair = subst (λ (list : List Pair). Contains list pair ↔ (Contains after pair × Fit pair)) (sym is) (
-  (λ member. ⊎_elim
-      (λ there. let both = (so_far pair).0 there in (step.still pair both.0, both.1))
-      (λ here. subst (λ (each : Pair). Contains after each × Fit each) here (step.here, fits.0 refl))
-      (Contains-push_cases found one pair member)),
-  (λ both. ⊎_elim
-      (λ there. Contains-append_left found (one ∷ []) pair ((so_far pair).1 (there, both.1)))
-      (λ here. subst (λ (each : Pair). Contains (found ++ one ∷ []) each) here (Contains-push found one))
-      (step.cases pair both.0)),
-)
-fit_more false before found after more one Fit step fits is so_far pair = subst (λ (list : List Pair). Contains list pair ↔ (Contains after pair × Fit pair)) (sym is) (
-  (λ there. let both = (so_far pair).0 there in (step.still pair both.0, both.1)),
-  (λ both. ⊎_elim
-      (λ there. (so_far pair).1 (there, both.1))
-      (λ here. absurd (false≢true (fits.1 (subst Fit (sym here) both.1))))
-      (step.cases pair both.0)),
-)
 
 -- one pair more is taken
 pub met_more : (before after : List Pair) (one : Pair) (names : List (List ℕ)) (atom : JoinAtom) (Old Mid New Agree : Type 0) → HasOneMore before one after →

@@ -90,15 +90,6 @@ takes_from before after vertex other row replaces left from to = by (compared ve
           (λ both. both.0),
         )
 
--- nothing was in an empty row
-pub none_left : (before after : Rows) (vertex other : List ℕ) → row_of before vertex ≡ [] →
-    Replaces before after vertex [] → TakesFrom before after vertex other
-none_left before after vertex other is replaces =
-    takes_from before after vertex other [] replaces (λ each. (
-      (λ member. absurd (none_in each member)),
-      (λ both. absurd (none_in each (subst (λ (list : List (List ℕ)). Contains list each) is both.0))),
-    ))
-
 -- both as one
 pub set_by_adding : (before after : Rows) (vertex other : List ℕ) → IsDistinct same_name (keys_of after) →
     AddsTo before after vertex other → Sets before after vertex other true
@@ -151,13 +142,6 @@ sides_set sources targets new_sources new_targets from to added sides here there
         ))
     by source target (equal one e) (differ two f) = apart source target (λ both. two both.1)
     by source target (differ one e) two = apart source target (λ both. one both.0)
-
-pub no_sides : AreSides [] []
-unfolding IsDistinct
-no_sides = record {
-  apart = tt;
-  turned = λ from to. ((λ member. absurd (none_in from member)), (λ member. absurd (none_in to member)));
-}
 
 -- ---- the pairs of rows
 

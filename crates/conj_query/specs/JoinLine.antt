@@ -5,7 +5,7 @@ use Rattle.std.specs.Prelude.{if◌then◌else◌}
 use Rattle.std.specs.List.{position, list_any, list_all}
 use Rattle.rpq_base.specs.Names.{is_name}
 use Rattle.rpq_base.specs.Same.{same_name}
-use Rattle.rpq_model.specs.Query.{Query}
+use Rattle.rpq_model.specs.Query.{Query, place_named}
 use Rattle.conj_query.specs.declared.data.Term.{Term}
 use Rattle.conj_query.specs.declared.data.Term.TheVariants.{Variable, Vertex}
 use Rattle.conj_query.specs.declared.data.JoinAtom.{JoinAtom}
@@ -99,11 +99,11 @@ found_or kind (Some x) = Ok x
 
 unfoldable pub query_named : List Query → List ℕ → Result ℕ JoinsKind
 query_named queries name =
-    found_or UnknownQuery (position (λ query. bytes_eq query.name name) queries)
+    found_or UnknownQuery (place_named queries name)
 
 -- the query of the atom is known
 abbrev pub is_known_query : List Query → AtomText → Bool
-is_known_query queries atom = is_some (position (λ query. bytes_eq query.name atom.query) queries)
+is_known_query queries atom = is_some (place_named queries atom.query)
 
 -- the field is a name
 unfoldable pub named : List ℕ → Result (List ℕ) JoinsKind

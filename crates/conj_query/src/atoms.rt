@@ -1,7 +1,7 @@
 //! The atoms of a line, with their queries and their variables.
 
 ghost use Rattle.std.specs.Prelude.{◌≡◌, ◌≢◌, ◌<◌, ◌≤◌, ◌+◌, ◌*◌, length, IfOk, IfErr, IfSome};
-ghost use Rattle.std.specs.Prelude.{bytes_eq, is_some};
+ghost use Rattle.std.specs.Prelude.{is_some};
 ghost use Rattle.std.specs.List.{list_all, position};
 ghost use Rattle.rpq_base.specs.Same.{same_name};
 ghost use Rattle.conj_query.specs.JoinLine.{named, query_named, is_known_query, numbered};
@@ -12,7 +12,7 @@ use crate::data::{JoinAtom, Term};
 use crate::fault::JoinsKind;
 use crate::line::{AtomText, variable_name};
 use rpq_base::{Memory, Name, NameFault};
-use rpq_model::QueryDef;
+use rpq_model::{QueryDef, place_named};
 use std::alloc::Global;
 use std::marker::Model;
 
@@ -31,23 +31,13 @@ impl Model for AtomsRead {
     ghost view = { λ read. record { atoms = read.atoms.items; seen = read.seen.items } };
 }
 
-/// The place of the query with this name.
-fn place_of(queries: &[QueryDef], name: &[u8]) -> Option<usize>
-    ensures exact { result ≡ position (λ query. bytes_eq query.name name.now) queries.now }
-    ensures within { IfSome result (λ place. place < length queries.now) }
-{
-    queries
-        .iter()
-        .position(|query| query.name.as_bytes() == name)
-}
-
 /// The number of the query with this name.
 #[tactic(auto, unfolding(crate::specs::JoinLine::query_named))]
 fn find_query(queries: &[QueryDef], name: &[u8]) -> Result<u32, JoinsKind>
     requires { length queries.now ≤ 64 }
     ensures { result ≡ query_named queries.now name.now }
 {
-    match place_of(queries, name) {
+    match place_named(queries, name) {
         Some(place) => Ok(place as u32),
         None => Err(JoinsKind::UnknownQuery),
     }
@@ -57,7 +47,7 @@ fn find_query(queries: &[QueryDef], name: &[u8]) -> Result<u32, JoinsKind>
 fn is_known_query(queries: &[QueryDef], text: &AtomText) -> bool
     ensures { result ≡ is_known_query queries.now text.now }
 {
-    place_of(queries, text.query).is_some()
+    place_named(queries, text.query).is_some()
 }
 
 /// The name that a field is.

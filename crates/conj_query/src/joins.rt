@@ -12,8 +12,7 @@ use crate::data::JoinDef;
 use crate::event::{JoinEvent, put_in_order};
 use crate::found::add_found;
 use crate::pairs::PairSet;
-use crate::vertex_hash::VertexHash;
-use rpq_base::{Event, Memory};
+use rpq_base::{Event, KeyedHash, Memory};
 use std::alloc::Global;
 use std::marker::Model;
 use std::random::RandomSource;
@@ -63,7 +62,7 @@ impl Model for Joins {
 }
 
 /// So many sets without pairs.
-fn no_pairs(alloc: Global, hash: VertexHash, queries: u32) -> Result<Vec<PairSet>, Memory>
+fn no_pairs(alloc: Global, hash: KeyedHash, queries: u32) -> Result<Vec<PairSet>, Memory>
     ensures many { IfOk result (λ sets. length sets.items ≡ queries) }
     ensures blank { IfOk result (λ sets. All (λ pairs. pairs ≡ []) sets.items) }
 {
@@ -112,7 +111,7 @@ impl Joins {
         ensures blank { IfOk result (λ joins. All (λ pairs. pairs ≡ []) joins.pairs) }
         ensures fresh { IfOk result (λ joins. joins.spent ≡ false) }
     {
-        let sets = no_pairs(alloc, VertexHash::new(rt), queries)?;
+        let sets = no_pairs(alloc, KeyedHash::new(rt), queries)?;
         Ok(Joins {
             alloc,
             defs,

@@ -41,7 +41,6 @@ mod text;
 mod through;
 mod touched;
 mod vertex;
-mod vertex_hash;
 mod vertex_set;
 
 pub use binding::Binding;

@@ -7,8 +7,7 @@ ghost use Rattle.conj_query.specs.Partial.{Fits};
 
 use crate::rows::Rows;
 use crate::vertex::Vertex;
-use crate::vertex_hash::VertexHash;
-use rpq_base::{Memory, Name, Pair};
+use rpq_base::{KeyedHash, Memory, Name, Pair};
 use std::alloc::Global;
 use std::marker::Model;
 
@@ -34,7 +33,7 @@ impl<'a> Model for Ends<'a> {
 #[derive(Drop)]
 pub(crate) struct PairSet {
     alloc: Global,
-    hash: VertexHash,
+    hash: KeyedHash,
     /// The targets of each source.
     sources: Rows,
     /// The sources of each target.
@@ -117,7 +116,7 @@ fn set_both(sources: &mut Rows, targets: &mut Rows, pair: &Pair, added: bool) ->
 
 impl PairSet {
     /// No pairs.
-    pub(crate) fn new(alloc: Global, hash: VertexHash) -> PairSet
+    pub(crate) fn new(alloc: Global, hash: KeyedHash) -> PairSet
         ensures { result ≡ [] }
     {
         PairSet {

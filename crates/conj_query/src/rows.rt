@@ -8,10 +8,9 @@ ghost use Rattle.rpq_base.specs.Same.{same_name};
 ghost use Rattle.conj_query.specs.Pairs.{Rows as RowsValue, row_of, AddsTo, TakesFrom, Sets};
 
 use crate::vertex::Vertex;
-use crate::vertex_hash::VertexHash;
 use crate::vertex_set::VertexSet;
 use indexmap::IndexMap;
-use rpq_base::{Memory, Name};
+use rpq_base::{KeyedHash, Memory, Name};
 use std::alloc::Global;
 use std::marker::Model;
 
@@ -21,7 +20,7 @@ use std::marker::Model;
 #[derive(Drop)]
 pub(crate) struct Rows {
     alloc: Global,
-    rows: IndexMap<Vertex, VertexSet, VertexHash>,
+    rows: IndexMap<Vertex, VertexSet, KeyedHash>,
 }
 
 impl Model for Rows {
@@ -39,7 +38,7 @@ impl Model for Rows {
 
 impl Rows {
     /// No rows.
-    pub(crate) fn new(alloc: Global, hash: VertexHash) -> Rows
+    pub(crate) fn new(alloc: Global, hash: KeyedHash) -> Rows
         ensures { result ≡ [] }
     {
         Rows {

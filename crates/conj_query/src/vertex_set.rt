@@ -4,9 +4,8 @@ ghost use Rattle.std.specs.Prelude.{◌≡◌, ◌↔◌, ◌⊎◌, [], ℕ, Li
 ghost use Rattle.rpq_base.specs.Same.{same_name};
 
 use crate::vertex::Vertex;
-use crate::vertex_hash::VertexHash;
 use indexmap::IndexSet;
-use rpq_base::{Memory, Name};
+use rpq_base::{KeyedHash, Memory, Name};
 use std::alloc::Global;
 use std::marker::Model;
 
@@ -20,7 +19,7 @@ const FEW: usize = 8;
 #[derive(Drop)]
 pub(crate) struct VertexSet {
     few: Vec<Vertex>,
-    many: Option<Box<IndexSet<Vertex, VertexHash>>>,
+    many: Option<Box<IndexSet<Vertex, KeyedHash>>>,
 }
 
 impl Model for VertexSet {
@@ -78,7 +77,7 @@ fn differs(name: &Name, vertex: &Vertex) -> bool
 }
 
 /// Puts the vertex to those that are found by their hashes.
-fn insert(many: &mut IndexSet<Vertex, VertexHash>, name: &Name) -> Result<(), Memory>
+fn insert(many: &mut IndexSet<Vertex, KeyedHash>, name: &Name) -> Result<(), Memory>
     ensures { OnOk result ((other : List ℕ) → Contains many.new.keys other
         ↔ (Contains many.old.keys other ⊎ (name.now ≡ other))) }
 {
@@ -89,9 +88,9 @@ fn insert(many: &mut IndexSet<Vertex, VertexHash>, name: &Name) -> Result<(), Me
 /// These vertices, found by their hashes.
 fn hashed(
     alloc: Global,
-    hash: VertexHash,
+    hash: KeyedHash,
     few: &[Vertex],
-) -> Result<IndexSet<Vertex, VertexHash>, Memory>
+) -> Result<IndexSet<Vertex, KeyedHash>, Memory>
     ensures { IfOk result (λ many. (other : List ℕ) →
         Contains many.keys other ↔ Contains few.now other) }
 {
@@ -141,7 +140,7 @@ impl VertexSet {
     }
 
     /// Puts the vertex in.
-    pub(crate) fn add(&mut self, alloc: Global, hash: VertexHash, name: &Name) -> Result<(), Memory>
+    pub(crate) fn add(&mut self, alloc: Global, hash: KeyedHash, name: &Name) -> Result<(), Memory>
         ensures { OnOk result ((other : List ℕ) → Contains self.new other
             ↔ (Contains self.old other ⊎ (name.now ≡ other))) }
     {

@@ -1,5 +1,5 @@
 -- Roots that are settled one after another.
-use Rattle.std.proofs.Common.{◌≡◌, ◌≢◌, ℕ, ◌+◌, ◌<◌, Bool, true, false, cond, List, [], ◌∷◌, ◌++◌, length, take, drop, get_or, filter, Option, Some, None, refl, sym, ap, subst, ◌∙◌, inl, ⊎_elim, Contains, arith, append-nil}
+use Rattle.std.proofs.Common.{◌≡◌, ◌≢◌, ℕ, ◌+◌, ◌<◌, Bool, true, false, cond, List, [], ◌∷◌, ◌++◌, length, take, drop, get_or, filter, Option, Some, None, sym, ap, subst, ◌∙◌, inl, ⊎_elim, Contains, arith}
 use Rattle.std.specs.Prelude.{AllPairs, flat_map, option_map}
 use Rattle.std.specs.Option.{unwrap_or}
 use Rattle.std.specs.Ordering.{nat_cmp}
@@ -28,12 +28,6 @@ use Rattle.delta_forest.proofs.Holding.{member_one, one_member}
 
 -- ---- what stays
 
-left_itself : (index : Index) (root : ℕ) → IsLeft index index root
-left_itself index root = record {
-  held = λ id. ((λ holds. holds), (λ holds. holds));
-  due = refl;
-}
-
 left_on : (old now new : Index) (root : ℕ) → IsLeft old now root → IsLeft now new root →
     IsLeft old new root
 left_on old now new root first second = record {
@@ -45,36 +39,6 @@ left_on old now new root first second = record {
 }
 
 -- ---- one root
-
-pub settled_nothing : (change : Change) (index : Index) → AreApart index.sources →
-    AreSettled change index index []
-settled_nothing change index apart = record {
-  apart = apart;
-  kept = λ root source found some. found;
-  only = λ root source found. found;
-  some = λ root source listed found. absurd (none_in root listed);
-  same = λ root unlisted. refl;
-  followed = λ root source listed found. absurd (none_in root listed);
-  absent = λ root none. left_itself index root;
-  left = λ root unlisted. left_itself index root;
-}
-
-pub settled_absent : (change : Change) (index : Index) (root : ℕ) → AreApart index.sources →
-    source_in index.sources root ≡ None → AreSettled change index index (root ∷ [])
-settled_absent change index root apart none = record {
-  apart = apart;
-  kept = λ each source found some. found;
-  only = λ each source found. found;
-  some = λ each source listed found. absurd (none-some source
-      (sym none ∙ (ap (λ (at : ℕ). source_in index.sources at) (one_member root each listed)
-      ∙ found)));
-  same = λ each unlisted. refl;
-  followed = λ each source listed found. absurd (none-some source
-      (sym none ∙ (ap (λ (at : ℕ). source_in index.sources at) (one_member root each listed)
-      ∙ found)));
-  absent = λ each gone. left_itself index each;
-  left = λ each unlisted. left_itself index each;
-}
 
 module _ (change : Change) (old new : Index) (root : ℕ) (source : SourceValue)
     (found : source_in old.sources root ≡ Some source) (tree : IsTree source.tree)
@@ -254,10 +218,6 @@ next_apart roots place root sorted within is member =
 
 -- ---- what was found
 
-pub found_nothing : (sources : List SourceValue) (found : Findings) → found.touched.items ≡ [] →
-    found.log.items ≡ [] → AreFound sources [] found
-found_nothing sources found touched log = record { touched = touched; log = log }
-
 pub found_more : (sources now : List SourceValue) (roots : List ℕ) (place root : ℕ)
     (old new : Findings) → AreFound sources (take place roots) old → FindsAt now old new root →
     source_in now root ≡ source_in sources root → place < length roots →
@@ -292,16 +252,4 @@ finds_at_source sources old new source root found more = record {
   log = more.log ∙ ap (λ (one : Option SourceValue).
       old.log.items ++ unwrap_or (option_map log_of one) [])
       (sym found);
-}
-
-pub finds_nothing : (sources : List SourceValue) (found : Findings) (root : ℕ) →
-    source_in sources root ≡ None → FindsAt sources found found root
-finds_nothing sources found root none = record {
-  touched = sym (append-nil found.touched.items) ∙ ap (λ (one : Option SourceValue).
-      found.touched.items ++ cond (unwrap_or (option_map (λ (each : SourceValue). each.touched) one)
-      false) (root ∷ []) [])
-      (sym none);
-  log = sym (append-nil found.log.items) ∙ ap (λ (one : Option SourceValue).
-      found.log.items ++ unwrap_or (option_map log_of one) [])
-      (sym none);
 }

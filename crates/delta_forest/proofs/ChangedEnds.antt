@@ -5,8 +5,8 @@ use Rattle.std.specs.Option.{unwrap_or}
 use Rattle.std.proofs.lemmas.List.Kept.{AllPairs-from_increasing}
 use Rattle.std.proofs.lemmas.Map.Keys.{IsStrictlyIncreasing-from_sorted}
 use Rattle.rpq_base.proofs.Members.{none_in}
-use Rattle.edge_store.specs.Edges.{Edges, value_of as value_in}
-use Rattle.dfa_table.specs.DfaValue.{DfaValue, step_of}
+use Rattle.edge_store.specs.Edges.{Edges}
+use Rattle.dfa_table.specs.DfaValue.{DfaValue}
 use Rattle.source_tree.specs.declared.change.Change.{Change}
 use Rattle.source_tree.specs.declared.change.EndChange.{EndChange}
 use Rattle.source_tree.specs.Ends.{SourceValue, end_change, end_in}

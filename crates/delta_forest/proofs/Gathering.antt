@@ -3,11 +3,10 @@ use Rattle.std.proofs.Common.{◌≡◌, ◌≢◌, ℕ, ◌+◌, ◌<◌, ◌�
 use Rattle.std.specs.Prelude.{◌↔◌, IsSome, is_some, option_map}
 use Rattle.std.specs.Option.{option_or}
 use Rattle.std.specs.List.{IsDistinct, list_any}
-use Rattle.std.proofs.lemmas.Bool.{cases_eq, eq-eqb, ne_eqb, true≢false, false≢true}
+use Rattle.std.proofs.lemmas.Bool.{cases_eq, eq-eqb, ne_eqb, true≢false}
 use Rattle.std.proofs.lemmas.Cmp.{nat_eq_equiv}
 use Rattle.std.proofs.lemmas.Option.{none-some, same_Some}
 use Rattle.std.proofs.lemmas.List.{map-append}
-use Rattle.std.proofs.lemmas.List.Elements.{Contains-append_left, Contains-push, Contains-push_cases}
 use Rattle.std.proofs.lemmas.List.Folds.{find-append}
 use Rattle.std.proofs.lemmas.Map.Keys.{IsDistinct-push, sorted_from_strictly_increasing}
 use Rattle.rpq_base.proofs.Members.{HasOneMore, none_in}
@@ -23,28 +22,11 @@ use Rattle.source_index.specs.Dues.{DuesValue}
 use Rattle.source_index.specs.Holders.{HoldersValue, Holds, roots_at}
 use Rattle.source_table.specs.Sources.{AreApart, roots_of, source_in}
 use Rattle.delta_forest.specs.Keeping.{IsKept}
-use Rattle.delta_forest.specs.Candidates.{Adds, AddsSource, AreCandidates, AreInOrder, AreRaised, AreTaken, IsBareAt, IsHeldBySome, IsRaisedAt, IsRemovedAt, StartsBy}
+use Rattle.delta_forest.specs.Candidates.{Adds, AddsSource, AreCandidates, AreInOrder, AreRaised, AreTaken, IsBareAt, IsHeldBySome, IsRaisedAt, IsRemovedAt}
 use Rattle.delta_forest.specs.declared.index.Index.{Index}
 use Rattle.delta_forest.proofs.Sources.{found_or_not, found_root, some_found}
 
 -- ---- lists that gain roots
-
-pub adds_one : (roots : List ℕ) (root : ℕ) (kind : ℕ → Type 0) →
-    ((each : ℕ) → kind each ↔ (each ≡ root)) → Adds roots (roots ++ root ∷ []) kind
-adds_one roots root kind is = λ each. (
-  (λ member. ⊎_elim (λ before. inl before) (λ (here : root ≡ each). inr ((is each).1 (sym here)))
-      (Contains-push_cases roots root each member)),
-  (λ either. ⊎_elim (λ before. Contains-append_left roots (root ∷ []) each before)
-      (λ here. subst (Contains (roots ++ root ∷ [])) (sym ((is each).0 here))
-      (Contains-push roots root)) either),
-)
-
-pub adds_none : (roots : List ℕ) (kind : ℕ → Type 0) → ((each : ℕ) → kind each → ⊥) →
-    Adds roots roots kind
-adds_none roots kind none = λ each. (
-  (λ member. inl member),
-  (λ either. ⊎_elim (λ before. before) (λ here. absurd (none each here)) either),
-)
 
 pub adds_both : (old now new : List ℕ) (first second kind : ℕ → Type 0) → Adds old now first →
     Adds now new second → ((root : ℕ) → (first root ⊎ second root) ↔ kind root) →
@@ -144,11 +126,6 @@ pub none_unless_some : {A B : Type 0} (view : A → B) (found : Option A) (other
 none_unless_some view None other is same = sym same
 none_unless_some view (Some x) other is same = absurd (true≢false is)
 
-pub some_if_some : {A B : Type 0} (view : A → B) (found : Option A) (other : Option B) →
-    is_some found ≡ true → option_map view found ≡ other → IsSome other
-some_if_some view None other is same = absurd (false≢true is)
-some_if_some view (Some x) other is same = ap is_some (sym same)
-
 pub source_added : (old new : List SourceValue) (root : ℕ) (source : SourceValue) →
     AreApart old → source_in old root ≡ None → new ≡ old ++ source ∷ [] → IsBareAt root source →
     AddsSource old new root
@@ -191,44 +168,6 @@ source_added old new root source apart none is bare = record {
         source_in new each ≡ cond (source.tree.root == each) (Some source) None
     at_end each gone = in_new each ∙ ap (λ (one : Option SourceValue).
         option_or one (cond (source.tree.root == each) (Some source) None)) gone
-
-pub source_there : (old : List SourceValue) (root : ℕ) → AreApart old →
-    IsSome (source_in old root) → AddsSource old old root
-source_there old root apart some = record {
-  apart = apart;
-  stays = λ each source found. found;
-  only = λ each source found. inl found;
-  there = some;
-}
-
-pub starts_then : (old new : List SourceValue) (step : ℕ → ℕ → Option ℕ) (edge : EdgeId)
-    (before : List ℕ) → IsSome (step 0 edge.label) → AddsSource old new edge.from →
-    StartsBy old new step edge before (before ++ edge.from ∷ [])
-starts_then old new step edge before starts adds = record {
-  apart = λ apart. adds.apart;
-  stays = adds.stays;
-  only = λ each source found. ⊎_elim
-      (λ (was : source_in old each ≡ Some source). inl was)
-      (λ (new_one : (each ≡ edge.from) × (source_in old edge.from ≡ None)
-      × IsBareAt edge.from source).
-      inr (new_one.0, new_one.1, new_one.2, starts))
-      (adds.only each source found);
-  there = λ some. adds.there;
-  adds = adds_one before edge.from (λ root. IsSome (step 0 edge.label) × (root ≡ edge.from))
-      (λ each. ((λ both. both.1), (λ here. (starts, here))));
-}
-
-pub starts_else : (old : List SourceValue) (step : ℕ → ℕ → Option ℕ) (edge : EdgeId)
-    (before : List ℕ) → (IsSome (step 0 edge.label) → ⊥) →
-    StartsBy old old step edge before before
-starts_else old step edge before none = record {
-  apart = λ apart. apart;
-  stays = λ each source found. found;
-  only = λ each source found. inl found;
-  there = λ some. absurd (none some);
-  adds = adds_none before (λ root. IsSome (step 0 edge.label) × (root ≡ edge.from))
-      (λ each both. none both.0);
-}
 
 -- ---- candidates
 

@@ -75,13 +75,6 @@ held_dropped old new id root drops = record {
   );
 }
 
-pub holds_none : (old : HoldersValue) (root : ℕ) (held : Bool) → HoldsAnew old old root held []
-holds_none old root held = record {
-  listed = λ id member. absurd (none_in id member);
-  unlisted = λ id none. ((λ holds. holds), (λ holds. holds));
-  others = λ id each differ. ((λ holds. holds), (λ holds. holds));
-}
-
 pub holds_more : (old now new : HoldersValue) (root : ℕ) (held : Bool)
     (done more : List NodeId) (id : NodeId) → HoldsAnew old now root held done →
     HoldsAnew now new root held (id ∷ []) → HasOneMore done id more →

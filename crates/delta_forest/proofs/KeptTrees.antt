@@ -1,7 +1,7 @@
 -- What a change leaves as it is in the trees of a forest.
 use Rattle.std.proofs.Common.{◌≡◌, ℕ, ◌≤◌, Bool, List, Some, sym, subst, ◌∙◌, ⊎_elim, Contains, arith}
 use Rattle.std.proofs.lemmas.Option.{same_Some}
-use Rattle.edge_store.specs.Edges.{Edges, value_of as value_in}
+use Rattle.edge_store.specs.Edges.{Edges}
 use Rattle.dfa_table.specs.DfaValue.{DfaValue, step_of}
 use Rattle.delta_tree.specs.Nodes.{TreeValue}
 use Rattle.source_tree.specs.declared.change.Change.{Change}

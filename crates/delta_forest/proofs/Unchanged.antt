@@ -1,19 +1,17 @@
 -- A forest after a change that leaves all values of the store as they are.
-use Rattle.std.proofs.Common.{◌≡◌, ◌≢◌, ℕ, ◌+◌, ◌≤◌, Bool, true, false, cond, List, [], Option, Some, None, refl, sym, ap, subst, ◌∙◌, Contains, arith}
-use Rattle.std.specs.Prelude.{All}
-use Rattle.std.specs.Ordering.{nat_cmp}
+use Rattle.std.proofs.Common.{◌≡◌, ℕ, ◌+◌, Bool, false, cond, List, [], Option, Some, None, refl, sym, ap, subst, ◌∙◌, arith}
 use Rattle.std.specs.List.Sorted.{IsStrictlySortedBy}
 use Rattle.std.proofs.lemmas.Option.{same_Some}
 use Rattle.std.proofs.lemmas.List.Elements.{All-contains}
 use Rattle.rpq_base.proofs.Members.{none_in}
 use Rattle.edge_store.specs.declared.edge.EdgeId.{EdgeId}
-use Rattle.edge_store.specs.Edges.{Edges, HasSameValues, Updates, same_edge, value_of as value_in}
+use Rattle.edge_store.specs.Edges.{Edges, HasSameValues, value_of as value_in}
 use Rattle.dfa_table.specs.DfaValue.{DfaValue, step_of}
 use Rattle.delta_tree.specs.declared.node.NodeId.{NodeId}
 use Rattle.delta_tree.specs.declared.node.Node.{Node}
 use Rattle.delta_tree.specs.Nodes.{TreeValue, node_of}
 use Rattle.delta_tree.specs.Paths.{IsBelow}
-use Rattle.delta_tree.proofs.Ids.{same_edge_is, same_edge_itself}
+use Rattle.delta_tree.proofs.Ids.{same_edge_itself}
 use Rattle.tree_insert.specs.Best.{IsAtLeast}
 use Rattle.tree_insert.specs.Trees.{IsOptimal}
 use Rattle.source_tree.specs.declared.change.Change.{Change}
@@ -28,17 +26,6 @@ use Rattle.delta_forest.specs.declared.index.Index.{Index}
 use Rattle.delta_forest.proofs.Ends.{ends_are_one}
 use Rattle.delta_forest.proofs.Indexed.{indexed}
 use Rattle.delta_forest.proofs.Sources.{tree_source}
-
--- a store in which an edge gets the value that it had
-pub same_values : (old new : Edges) (edge : EdgeId) (value : Option ℕ) →
-    value_in old edge ≡ value → Updates old new edge value → HasSameValues old new
-same_values old new edge value was updates each =
-    updates each ∙ by (same_edge edge each) refl
-  where
-    by : (b : Bool) → same_edge edge each ≡ b →
-        cond b value (value_in old each) ≡ value_in old each
-    by true same = sym was ∙ ap (value_in old) (same_edge_is edge each same)
-    by false differ = refl
 
 -- no path of a node has an edge without a value
 none_below : (values : EdgeId → Option ℕ) (step : ℕ → ℕ → Option ℕ) (tree : TreeValue)

@@ -1,6 +1,6 @@
 //! The roots whose trees a change may touch.
 
-ghost use Rattle.std.specs.Prelude.{◌≡◌, ◌↔◌, ℕ, [], List, Contains, IsSome, IsTrue, OnOk, Some};
+ghost use Rattle.std.specs.Prelude.{◌≡◌, ◌↔◌, ℕ, [], Contains, IsSome, IsTrue, OnOk, Some};
 ghost use Rattle.edge_store.specs.Edges.{Edges};
 ghost use Rattle.dfa_table.specs.DfaValue.{step_of};
 ghost use Rattle.delta_forest.specs.Keeping.{IsKept};

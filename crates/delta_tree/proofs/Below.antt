@@ -180,14 +180,6 @@ pub record AreFoundBelow (tree : TreeValue) (edge : EdgeId) (ranks : List Rank) 
   pub complete : (id : NodeId) → IsBelow tree edge id → IsAmongFirst ranks count id →
       Contains ids id
 
--- none at first
-pub found_none : (tree : TreeValue) (edge : EdgeId) (ranks : List Rank) →
-    AreFoundBelow tree edge ranks 0 []
-found_none tree edge ranks = record {
-  sound = λ id (k, within, is). absurd (omega (arith, within));
-  complete = λ id below (k, first, each, is, at). absurd (omega (arith, first));
-}
-
 -- a node that hangs by the edge, or below one that is below it, is below it
 hangs_is_below : (tree : TreeValue) (edge : EdgeId) (ids : List NodeId) (id : NodeId) →
     IsTree tree →

@@ -83,12 +83,6 @@ pub value_is : (found : Option Node) (node : Node) (value : ℕ) → found ≡ S
 value_is found node value is has =
     some_is_one node.value value (sym (ap (option_map (λ (each : Node). each.value)) is) ∙ has)
 
--- where no value is found there is no node
-pub no_value_no_node : (found : Option Node) →
-    option_map (λ (each : Node). each.value) found ≡ None → found ≡ None
-no_value_no_node None is = refl
-no_value_no_node (Some node) is = absurd (none_or_some node.value (sym is))
-
 pub value_has_node : (found : Option Node) (value : ℕ) →
     option_map (λ (each : Node). each.value) found ≡ Some value →
     (node : Node) × (found ≡ Some node)

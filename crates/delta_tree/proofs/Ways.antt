@@ -133,10 +133,6 @@ pub record GoesUp (tree : TreeValue) (from at : NodeId) (edges : List EdgeId) : 
   pub place : IsPlace tree at
   pub rest : (up : List EdgeId) → LeadsUp tree at up → LeadsUp tree from (edges ++ up)
 
--- a walk begins where it is
-pub goes_nowhere : (tree : TreeValue) (id : NodeId) → IsPlace tree id → GoesUp tree id id []
-goes_nowhere tree id place = record { place = place; rest = λ up leads. leads }
-
 -- and goes on by the parent of the node
 pub goes_on : (tree : TreeValue) (from at : NodeId) (edges : List EdgeId) (node : Node) →
     IsTree tree → GoesUp tree from at edges →

@@ -1,6 +1,6 @@
 //! The construction of the position automaton.
 
-ghost use Rattle.std.specs.Prelude.{◌≡◌, ℕ, ◌+◌, ◌^◌, ◌<◌, ◌≤◌, ◌≢◌, ◌↔◌, ◌||◌, ◌&&◌, ◌++◌, List, [], length, map, Contains, IfOk, OnOk};
+ghost use Rattle.std.specs.Prelude.{◌≡◌, ℕ, ◌+◌, ◌^◌, ◌<◌, ◌≤◌, ◌≢◌, ◌↔◌, ◌||◌, ◌&&◌, ◌++◌, List, [], length, map, IfOk, OnOk};
 ghost use Rattle.rpq_base.specs.declared.data.Label.{Label};
 ghost use Rattle.path_syntax.specs.Expression.{expression};
 ghost use Rattle.path_syntax.specs.Language.{In};

@@ -1,4 +1,3 @@
-mod OneStep
 mod Rows
 pub mod Numbering
 pub mod Order

@@ -18,46 +18,10 @@ use Rattle.dfa_table.proofs.Order.{order_joined, greatest_joined}
 
 -- ---- growing
 
--- nothing was added
-pub grows_none : (graph : GraphValue) (limit front : ℕ) (nodes : List ℕ) → length nodes ≤ limit → AllPairs ◌≢◌ nodes →
-    Grows graph limit front nodes nodes
-grows_none graph limit front nodes few apart = record {
-  longer = omega arith;
-  few = few;
-  same = λ place below. refl;
-  next = λ place above below. absurd (omega arith);
-  apart = apart;
-}
-
 -- a list of distinct nodes with a new one at its end
 apart_more : (nodes : List ℕ) (node : ℕ) → AllPairs ◌≢◌ nodes → (Contains nodes node → ⊥) → AllPairs ◌≢◌ (nodes ++ node ∷ [])
 apart_more nodes node apart new =
     all_pairs_push ◌≢◌ nodes node apart (λ place d below same. new (place, below, get_or_default nodes place node d below ∙ same))
-
--- a new node was added
-grows_by_one : (graph : GraphValue) (limit front node : ℕ) (nodes : List ℕ) → IsNext graph front node → AllPairs ◌≢◌ nodes →
-    (Contains nodes node → ⊥) → length nodes < limit → Grows graph limit front nodes (nodes ++ node ∷ [])
-grows_by_one graph limit front node nodes next apart new few =
-    let longer = length_push nodes node in record {
-      longer = omega arith;
-      few = omega arith;
-      same = λ place below. get_or_append_left nodes (node ∷ []) 0 place below;
-      next = λ place above below.
-          let end : length nodes ≡ place = omega arith in
-          subst (IsNext graph front) (sym (get_or_push nodes node 0 place end)) next;
-      apart = apart_more nodes node apart new;
-    }
-
--- the list stayed, or a new node was added
-pub grows_at_most_one : (graph : GraphValue) (limit front node : ℕ) (nodes after : List ℕ) → IsNext graph front node → length nodes ≤ limit →
-    AllPairs ◌≢◌ nodes → (after ≡ nodes) ⊎ ((after ≡ nodes ++ node ∷ []) × (length nodes < limit) × (Contains nodes node → ⊥)) →
-    Grows graph limit front nodes after
-grows_at_most_one graph limit front node nodes after next few apart either =
-    let P : List ℕ → Type 0 = λ all. Grows graph limit front nodes all in
-    ⊎_elim
-    (λ same. subst P (sym same) (grows_none graph limit front nodes few apart))
-    (λ more. subst P (sym more.0) (grows_by_one graph limit front node nodes next apart more.2 more.1))
-    either
 
 -- and again
 pub grows_twice : (graph : GraphValue) (limit front : ℕ) (first second third : List ℕ) → Grows graph limit front first second →
@@ -91,10 +55,6 @@ row_kept graph front width row before after longer kept right = record {
   even = right.even;
   steps = λ label below. step_kept (get_or row label None) graph front label before after longer kept (right.steps label below);
 }
-
--- a row without labels
-pub row_none : (graph : GraphValue) (nodes : List ℕ) (front : ℕ) → IsRow graph nodes front 0 []
-row_none graph nodes front = record { even = refl; steps = λ label below. absurd (omega arith) }
 
 -- a row with one step more
 pub row_more : (graph : GraphValue) (nodes : List ℕ) (front width : ℕ) (row after : List (Option ℕ)) (step : Option ℕ) →

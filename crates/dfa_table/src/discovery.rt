@@ -1,6 +1,6 @@
 //! The walk that numbers the nodes of a graph in the order in which it discovers them.
 
-ghost use Rattle.std.specs.Prelude.{◌≡◌, ℕ, ◌+◌, ◌<◌, ◌≤◌, ◌∷◌, ◌++◌, ◌⊎◌, ◌≢◌, [], length, map, max, Contains};
+ghost use Rattle.std.specs.Prelude.{◌≡◌, ◌≢◌, ℕ, ◌+◌, ◌<◌, ◌≤◌, ◌∷◌, ◌++◌, ◌⊎◌, [], length, map, max, Contains};
 ghost use Rattle.std.specs.Prelude.{Some, IfOk, IfSome, IfNone, OnOk};
 ghost use Rattle.dfa_table.specs.Order.{IsInOrder, greatest_of};
 ghost use Rattle.dfa_table.specs.Discovery.{GraphValue, IsDeterminate, IsReached, node_at, IsNumberOf, IsStep, IsRow};

@@ -23,11 +23,6 @@ lookup_both test (entry ∷ few) more = by (test entry.0) (lookup_both test few 
     by true rest = refl
     by false rest = rest
 
--- what isn't found in both is found in neither
-none_of : (one other : Option ℕ) → either one other ≡ None → (one ≡ None) × (other ≡ None)
-none_of None other none = (refl, none)
-none_of (Some value) other none = absurd cc
-
 -- where the list has none, a change of the map changes the whole
 pub more_changed : (few more after : List (HalfEdge × ℕ)) (half : HalfEdge) (value : Option ℕ) → lookup (same_half half) few ≡ None →
     ((other : HalfEdge) → lookup (same_half other) after ≡ cond (same_half half other) value (lookup (same_half other) more)) →

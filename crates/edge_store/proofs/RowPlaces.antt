@@ -1,5 +1,5 @@
 -- Entries of a row by their places.
-use Rattle.std.proofs.Common.{◌≡◌, ◌<◌, ◌≤◌, ◌-◌, ℕ, zero, suc, Bool, true, false, cond, not, nat_lt, List, [], ◌∷◌, ◌++◌, length, get_or, slice_get, slice_set, position, Option, None, Some, is_some, Contains, Result, Ok, Err, IsOk, OnErr, refl, sym, ap, ap₂, subst, ◌∙◌, true≢false, append_assoc, arith, IsPermutation, ◌⊎◌, inl, inr}
+use Rattle.std.proofs.Common.{◌≡◌, ◌<◌, ◌≤◌, ◌-◌, ℕ, zero, suc, Bool, true, false, cond, nat_lt, List, [], ◌∷◌, ◌++◌, length, get_or, slice_get, slice_set, position, Option, None, Some, is_some, Contains, Result, Ok, Err, IsOk, OnErr, refl, sym, ap, ap₂, subst, ◌∙◌, true≢false, append_assoc, arith, IsPermutation, ◌⊎◌, inl, inr}
 use Rattle.std.specs.List.{IsDistinct, AllByRecursion, position_or_len, swap_remove}
 use Rattle.std.specs.Map.{keys_of, lookup}
 use Rattle.std.proofs.lemmas.Bool.{lt-ltb, ltb-true, ltb-false}
@@ -239,11 +239,6 @@ pub taken_in : {T E : Type 0} (result : Result T E) (found : Option ℕ) (room :
     OnErr result (found ≡ None) → (0 < room → IsOk result) → IsOk result
 taken_in result found room (inl there) absent succeeds = there_is_ok result found there absent
 taken_in result found room (inr some) absent succeeds = succeeds some
-
--- what isn't there
-pub none_from_not : {X : Type 0} (found : Option X) → ((x : X) → found ≡ Some x → ⊥) → found ≡ None
-none_from_not None not = refl
-none_from_not (Some x) not = absurd (not x refl)
 
 pub none_from_test : (found : Option ℕ) → is_some found ≡ false → found ≡ None
 none_from_test None test = refl

@@ -6,7 +6,7 @@ use Rattle.std.specs.Map.{lookup, keys_of}
 use Rattle.std.proofs.lemmas.Map.Views.{Contains-from_lookup, lookup-from_Contains}
 use Rattle.edge_store.specs.declared.edge.EdgeId.{EdgeId}
 use Rattle.edge_store.specs.declared.edge.HalfEdge.{HalfEdge}
-use Rattle.edge_store.specs.Edges.{Edges, row, value_of, same_half, same_edge, out_half, in_half, ending, Updates, HasSameValues, GivesOuts, GivesIns, above, Expires}
+use Rattle.edge_store.specs.Edges.{Edges, row, value_of, same_half, same_edge, out_half, in_half, ending, Updates, GivesOuts, GivesIns, above, Expires}
 use Rattle.edge_store.specs.Rows.{Writes, HasSameRows, Agree, sides}
 use Rattle.edge_store.proofs.Halves.{turned, same_half_is, same_edge_is, same_half_laws}
 
@@ -33,27 +33,6 @@ writes_same old rows new vertex half value same writes each other =
 pub updates_after : (outs outs' ins ins' : List (List (HalfEdge × ℕ))) (edge : EdgeId) (value : Option ℕ) →
     Writes outs outs' edge.from (out_half edge) value → Updates (sides outs ins) (sides outs' ins') edge value
 updates_after outs outs' ins ins' edge value writes each = writes each.from (out_half each)
-
--- a value that is there already
-pub updates_none : (store : Edges) (edge : EdgeId) (value : Option ℕ) → value_of store edge ≡ value → Updates store store edge value
-updates_none store edge value is each = by (same_edge edge each) refl
-  where
-    by : (b : Bool) → same_edge edge each ≡ b → value_of store each ≡ cond b value (value_of store each)
-    by true same = ap (value_of store) (sym (same_edge_is edge each same)) ∙ is
-    by false apart = refl
-
--- ---- rows that are the same
-
-pub same_values : (outs outs' ins ins' : List (List (HalfEdge × ℕ))) → HasSameRows outs outs' →
-    HasSameValues (sides outs ins) (sides outs' ins')
-same_values outs outs' ins ins' same each = ap (lookup (same_half (out_half each))) (same each.from)
-
-pub agree_same : (outs outs' ins ins' : List (List (HalfEdge × ℕ))) → Agree outs ins → HasSameRows outs outs' → HasSameRows ins ins' →
-    Agree outs' ins'
-agree_same outs outs' ins ins' agree outs_same ins_same each =
-    ap (lookup (same_half (in_half each))) (ins_same each.to)
-    ∙ agree each
-    ∙ sym (ap (lookup (same_half (out_half each))) (outs_same each.from))
 
 -- ---- walks
 

@@ -1,6 +1,6 @@
 //! A store of edges with values.
 
-ghost use Rattle.std.specs.Prelude.{◌≡◌, ℕ, ◌+◌, ◌<◌, length, IfOk, OnErr, OnOk, None, Some, slice_get};
+ghost use Rattle.std.specs.Prelude.{◌≡◌, ◌+◌, ◌<◌, length, IfOk, OnErr, OnOk, None, Some, slice_get};
 ghost use Rattle.edge_store.specs.Edges.{IsEmpty, HasSameValues, Updates, Expires, GivesOuts, GivesIns};
 ghost use Rattle.edge_store.specs.Edges.{value_of, raised, above, outs_of, ins_of, out_entry, in_entry};
 ghost use Rattle.edge_store.specs.Edges.{out_half, in_half};

@@ -1,8 +1,7 @@
 -- The pairs that are added for the changes in a list.
-use Rattle.std.proofs.Common.{◌≡◌, ℕ, true, false, List, get_or, [], ◌∷◌, ◌++◌, Some, sym, ap, subst, ◌∙◌, inl, inr, ⊎_elim}
+use Rattle.std.proofs.Common.{◌≡◌, ℕ, true, List, get_or, [], ◌∷◌, ◌++◌, Some, sym, ap, subst, ◌∙◌, inl, inr, ⊎_elim}
 use Rattle.std.specs.Prelude.{◌↔◌, Contains}
 use Rattle.std.specs.List.Sorted.{IsStrictlySortedBy}
-use Rattle.std.proofs.lemmas.Bool.{both_ways}
 use Rattle.std.proofs.lemmas.List.{map_push}
 use Rattle.std.proofs.lemmas.List.Elements.{All-nil, All-push}
 use Rattle.std.proofs.lemmas.List.Quantifiers.{position-Some}
@@ -81,22 +80,6 @@ given_more mode outcome names before each after old found more new one from to g
           (one.cases given.each given.member))
           either)),
     )
-
--- one that gives none adds none
-pub given_same : (mode : Mode) (outcome : Outcome) (names : List (List ℕ)) (before : List EndChange) (each : EndChange) (after : List EndChange)
-    (old found : List Pair) →
-    HasOneMore before each after → gives_event mode outcome each ≡ false →
-    Adds old found (IsGiven mode outcome names before) → Adds old found (IsGiven mode outcome names after)
-given_same mode outcome names before each after old found one none so_far pair = (
-  (λ member. ⊎_elim (λ was. inl was) (λ given. inr (still_given mode outcome names before each after pair one given)) ((so_far pair).0 member)),
-  (λ either. ⊎_elim
-      (λ was. (so_far pair).1 (inl was))
-      (λ given. ⊎_elim
-      (λ earlier. (so_far pair).1 (inr (record { each = given.each; member = earlier; from = given.from; to = given.to; gives = given.gives })))
-      (λ same. absurd (both_ways (gives_event mode outcome each) none (ap (gives_event mode outcome) same ∙ given.gives)))
-      (one.cases given.each given.member))
-      either),
-)
 
 -- ---- lists of numbered pairs
 

@@ -9,7 +9,7 @@ ghost use Rattle.rpq_base.specs.Order.{pair_cmp};
 ghost use Rattle.end_events.specs.Changes.{AreNamed, counts};
 ghost use Rattle.end_events.specs.declared.pairs.Outcome.TheVariants.{Gained, Lost};
 ghost use Rattle.end_events.specs.Order.{is_ranked, numbered_cmp, pair_rank};
-ghost use Rattle.end_events.specs.Pairs.{gives_event, is_gain, is_loss, pair_at, pairs_at};
+ghost use Rattle.end_events.specs.Pairs.{gives_event, is_gain, is_loss, pairs_at};
 ghost use Rattle.end_events.specs.Pairs.{AreGiven, AreNumbered, Gathers, IsNumbered};
 
 use name_table::Names;

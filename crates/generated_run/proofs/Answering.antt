@@ -173,37 +173,3 @@ pub goes_nowhere : (history : List Entry) (evaluator : Evaluator) (circle : Circ
     IsReady history evaluator → GoesOn history history evaluator evaluator circle circle
 goes_nowhere history evaluator circle ready =
     record { queries = refl; two_way = refl; ready = ready; heard = λ objects was. was }
-
-module _ (before between : List Entry) (old mid : Evaluator) (first middle : CircleValue)
-    (was : GoesOn before between old mid first middle) where
-  same : definitions mid.engine ≡ definitions old.engine
-  same = ap (map (λ (each : CompiledValue). each.def)) was.queries
-
-  -- what was heard so far, as the next part is to know it
-  heard_by : (objects : List ObjectValue) →
-      HaveHeardAll old.two_way (definitions old.engine) before objects old.totals first →
-      HaveHeardAll mid.two_way (definitions mid.engine) between objects mid.totals middle
-  heard_by objects heard =
-      subst (λ (taken : Bool). HaveHeardAll taken (definitions mid.engine) between objects
-      mid.totals middle) (sym was.two_way)
-      (subst (λ (queries : List Query). HaveHeardAll old.two_way queries between objects
-      mid.totals middle) (sym same) (was.heard objects heard))
-
-  pub goes_further : (after : List Entry) (new : Evaluator) (last : CircleValue) →
-      GoesOn between after mid new middle last → GoesOn before after old new first last
-  goes_further after new last more = record {
-    queries = more.queries ∙ was.queries;
-    two_way = more.two_way ∙ was.two_way;
-    ready = more.ready;
-    heard = λ objects heard. subst (λ (taken : Bool). HaveHeardAll taken
-        (definitions old.engine) after objects new.totals last) was.two_way
-        (subst (λ (queries : List Query). HaveHeardAll mid.two_way queries after objects
-        new.totals last) same (more.heard objects (heard_by objects heard)));
-  }
-
-  pub stops_further : (after : List Entry) (last : CircleValue) →
-      Stops between after mid middle last → Stops before after old first last
-  stops_further after last stop objects heard =
-      subst (λ (taken : Bool). AreTold taken (definitions old.engine) after objects ⊥ last)
-      was.two_way (subst (λ (queries : List Query). AreTold mid.two_way queries after objects ⊥
-      last) same (stop objects (heard_by objects heard)))

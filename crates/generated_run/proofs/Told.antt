@@ -57,12 +57,6 @@ module _ (found : List (Vec Event)) (i : ℕ) (own : Vec Event) (below : i < len
 
 -- ---- the objects
 
--- no event
-pub tells_none : (circle : CircleValue) → TellsOn [] ⊤ circle circle
-tells_none circle objects before stood =
-    subst (λ (events : List Event). HaveStood objects events ⊤ circle.members circle.left)
-    (sym (append-nil before)) stood
-
 module _ (first next : List Event) (old between new : CircleValue)
     (so_far : TellsOn first ⊤ old between) where
   -- some events, and then those that are told next
@@ -93,14 +87,6 @@ additions-append first later = sum_by-append _ first later
 pub retractions-append : (first later : List Event) →
     retractions (first ++ later) ≡ retractions first + retractions later
 retractions-append first later = sum_by-append _ first later
-
--- nothing is counted
-pub counts_none : (totals : TotalsValue) → HasCounted 0 [] totals totals
-counts_none totals = record {
-  entries = omega arith;
-  added = omega arith;
-  retracted = omega arith;
-}
 
 -- some entries are counted, and then one
 pub counts_more : (count : ℕ) (first next : List Event) (old between new : TotalsValue) →

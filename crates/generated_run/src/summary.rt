@@ -1,6 +1,6 @@
 //! The text of the summary.
 
-ghost use Rattle.std.specs.Prelude.{◌≡◌, ◌≤◌, ◌<◌, ◌++◌, length, map, codes, IfOk, OnOk};
+ghost use Rattle.std.specs.Prelude.{◌≡◌, ◌≤◌, ◌<◌, ◌++◌, length, map, IfOk, OnOk};
 ghost use Rattle.standing.specs.Circles.{as_seen};
 ghost use Rattle.generated_run.specs.Generates.{said_by};
 ghost use Rattle.generated_run.specs.Summary.{number_line, query_line, query_lines, said_lines};

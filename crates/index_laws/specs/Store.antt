@@ -1,6 +1,6 @@
 -- The store of a history: its edges with live entries, each with the greatest deadline of these.
 -- That an edge has the greatest one is this project's own rule.
-use Rattle.std.specs.Prelude.{◌≡◌, ℕ, List, [], ◌∷◌, ◌++◌, Contains, Option}
+use Rattle.std.specs.Prelude.{ℕ, List, [], ◌∷◌, ◌++◌, Contains, Option}
 use Rattle.rpq_base.specs.declared.data.Edge.{Edge}
 use Rattle.rpq_base.specs.declared.data.Entry.{Entry}
 use Rattle.rpq_model.specs.Window.{WindowValue, Placed, Inserts, clock, live_entries}

@@ -1,5 +1,5 @@
--- Classes: what the table of pairs says of them, and that a walk finds each once.
-use Rattle.std.proofs.Common.{◌≡◌, ◌≢◌, ℕ, zero, suc, ◌<◌, ◌≤◌, Bool, true, false, List, ◌∷◌, length, get_or, Option, Some, None, eqb, refl, sym, ap, ◌∙◌, ⊎_elim, arith}
+-- Classes: a walk over them finds each once, and never too many.
+use Rattle.std.proofs.Common.{◌≡◌, ◌≢◌, ℕ, zero, suc, ◌<◌, ◌≤◌, true, false, List, ◌∷◌, length, get_or, Option, Some, None, eqb, refl, sym, ap, ◌∙◌, ⊎_elim, arith}
 use Rattle.std.specs.Prelude.{All}
 use Rattle.std.specs.List.{AllPairs, IsDistinct}
 use Rattle.std.proofs.lemmas.Bool.{false≢true, cases_order, ne_eqb, eqb-true}
@@ -7,58 +7,10 @@ use Rattle.std.proofs.lemmas.List.Elements.{All-cons, All-contains, All-get_or}
 use Rattle.std.proofs.lemmas.Map.Keys.{IsDistinct-from_apart}
 use Rattle.std.proofs.lemmas.Map.Steps.{length-le_from_distinct_below}
 use Rattle.std.proofs.lemmas.Map.Views.{Contains-from_any}
-use Rattle.std.proofs.lemmas.Option.{none-some, same_Some}
-use Rattle.rpq_base.specs.declared.data.Label.{Label}
 use Rattle.dfa_table.specs.DfaValue.{DfaValue, IsDfa}
 use Rattle.dfa_table.specs.Discovery.{IsDeterminate, IsReached, FromFirst, FromNode, HasTooMany}
-use Rattle.dfa_table.specs.Runs.{accepts_from, ReachesFinal}
-use Rattle.state_pairs.specs.Pairs.{accepts_at, IsExtraWord, HasExtraWord}
-use Rattle.minimal_dfa.specs.Classes.{AcceptSame, AreTold, StandsFor, LeadsToClass, class_graph}
-
--- ---- what the table says
-
-by_tests : (a b : Bool) → (b ≡ true → a ≡ false → ⊥) → (a ≡ true → b ≡ false → ⊥) → a ≡ b
-by_tests true true one two = refl
-by_tests true false one two = absurd (two refl refl)
-by_tests false true one two = absurd (one refl refl)
-by_tests false false one two = refl
-
-extra : (dfa : DfaValue) (first second : ℕ) (word : List Label) → 0 < first → accepts_from dfa second word ≡ true → accepts_from dfa first word ≡ false →
-    IsExtraWord dfa (Some first) second word
-extra dfa first second word above inside outside = record {
-  inside = inside;
-  outside = outside;
-  counts = λ start empty. let same = same_Some first 0 start in omega (arith, same, above);
-}
-
--- without a word that one alone accepts both accept the same
-pub same_words : (dfa : DfaValue) (first second : ℕ) → 0 < first → 0 < second → (HasExtraWord dfa (Some first) second → ⊥) →
-    (HasExtraWord dfa (Some second) first → ⊥) → AcceptSame dfa first (Some second)
-same_words dfa first second above_first above_second none back word =
-    by_tests (accepts_from dfa first word) (accepts_from dfa second word)
-    (λ inside outside. none (word, extra dfa first second word above_first inside outside))
-    (λ inside outside. back (word, extra dfa second first word above_second inside outside))
-
-pub told_by_second : (dfa : DfaValue) (first second : ℕ) → HasExtraWord dfa (Some first) second → AreTold dfa first (Some second)
-told_by_second dfa first second has = (has.0, λ same. false≢true (sym has.1.outside ∙ (same ∙ has.1.inside)))
-
-pub told_by_first : (dfa : DfaValue) (first second : ℕ) → HasExtraWord dfa (Some second) first → AreTold dfa first (Some second)
-told_by_first dfa first second has = (has.0, λ same. false≢true (sym has.1.outside ∙ (sym same ∙ has.1.inside)))
-
--- a state beside which none has no word accepts none
-pub accepts_none : (dfa : DfaValue) (state : ℕ) → (HasExtraWord dfa None state → ⊥) → (word : List Label) → accepts_at dfa (Some state) word ≡ false
-accepts_none dfa state none word =
-    by_tests (accepts_at dfa (Some state) word) false
-    (λ one two. false≢true one)
-    (λ inside outside. none (word, record { inside = inside; outside = refl; counts = λ start empty. none-some 0 start }))
-
-pub accepts_some : (dfa : DfaValue) (state class : ℕ) → HasExtraWord dfa None state → StandsFor dfa (Some state) class → LeadsToClass dfa (Some state) (Some class)
-accepts_some dfa state class has stands = (stands, (has.0, stands.same has.0 ∙ has.1.inside))
-
--- the state itself stands for its class where no smaller one does
-pub stands_itself : (dfa : DfaValue) (state : ℕ) → 0 < state → state < length dfa.rows →
-    ((other : ℕ) → 0 < other → other < state → AreTold dfa other (Some state)) → StandsFor dfa (Some state) state
-stands_itself dfa state above below told = record { above = above; below = below; same = λ word. refl; least = told }
+use Rattle.dfa_table.specs.Runs.{ReachesFinal}
+use Rattle.minimal_dfa.specs.Classes.{AreTold, StandsFor, LeadsToClass, class_graph}
 
 -- ---- one class for each step
 

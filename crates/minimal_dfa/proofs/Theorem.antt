@@ -1,6 +1,6 @@
 -- The automaton of the classes is a least one.
 use Rattle.std.proofs.Common.{◌≡◌, ℕ, zero, suc, ◌+◌, ◌^◌, ◌<◌, Bool, false, List, [], length, get_or, Option, Some, None, sym, ap, ◌∙◌, subst, ⊎_elim, arith}
-use Rattle.std.specs.Prelude.{◌↔◌, All}
+use Rattle.std.specs.Prelude.{◌↔◌}
 use Rattle.std.specs.List.Sorted.{IsStrictlySortedBy}
 use Rattle.std.proofs.lemmas.Bool.{cases_lt}
 use Rattle.std.proofs.lemmas.List.{get_or_past}
@@ -74,11 +74,6 @@ pub table_is_quotient : (dfa : DfaValue) (nodes : List ℕ) (labels : List Label
     AreRows (class_graph dfa) 512 0 nodes rows (length nodes) → labels ≡ dfa.labels → AreFinals dfa nodes finals →
     IsQuotient dfa nodes (record { labels = labels; rows = rows; finals = finals })
 table_is_quotient dfa nodes labels rows finals are same each = record { labels = same; are = are; finals = each }
-
--- the nodes are states
-pub nodes_below : (dfa : DfaValue) (nodes : List ℕ) → All (IsReached (class_graph dfa) 0) nodes → All (λ node. node < length dfa.rows) nodes
-nodes_below dfa nodes reached = λ place d within.
-    (reached_is_class dfa 0 (get_or nodes place d) (All-get_or (IsReached (class_graph dfa) 0) nodes place d within reached)).1.below
 
 -- ---- words
 

@@ -1,6 +1,6 @@
 //! Numbers in an order, and the places at which they stand in it.
 
-ghost use Rattle.std.specs.Prelude.{◌≡◌, ◌<◌, ◌≤◌, ◌^◌, ℕ, length, IfOk, OnOk, slice_index};
+ghost use Rattle.std.specs.Prelude.{◌<◌, ◌≤◌, ◌^◌, ℕ, length, IfOk, slice_index};
 ghost use Rattle.name_table.specs.Ranks.{AreApart, ArePlaces, CountsUp, HasAll, Inverts, Puts};
 
 use rpq_base::Memory;

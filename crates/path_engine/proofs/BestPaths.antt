@@ -1,17 +1,15 @@
 -- Paths that show answers, from the paths of a forest.
 use Rattle.std.proofs.Common.{◌≡◌, ◌≢◌, ◌==◌, ℕ, ◌+◌, ◌<◌, ◌≤◌, Bool, true, false, not, cond, List, [], ◌∷◌, ◌++◌, length, get_or, take}
 use Rattle.std.proofs.Common.{Option, Some, None, Vec, Global, refl, sym, ap, subst, ◌∙◌, ⊎_elim, true≢false, arith}
-use Rattle.std.specs.Prelude.{All, IfNone, IfSome, nat_lt, option_map}
+use Rattle.std.specs.Prelude.{IfNone, IfSome, nat_lt, option_map}
 use Rattle.std.proofs.lemmas.Bool.{cases_order, eqb-true, ltb-false, ltb-true}
 use Rattle.std.proofs.lemmas.List.{get_or_past, take_more}
-use Rattle.std.proofs.lemmas.List.Elements.{All-weaker}
 use Rattle.std.proofs.lemmas.Option.{none-some, same_Some, slice_get-get_or}
 use Rattle.std.proofs.lemmas.Slice.Zip.{all_zipped_more}
 use Rattle.rpq_base.specs.declared.data.Edge.{Edge}
 use Rattle.rpq_base.specs.declared.data.Entry.{Entry}
 use Rattle.rpq_base.specs.declared.data.Label.{Label}
 use Rattle.rpq_base.specs.declared.data.Pair.{Pair}
-use Rattle.rpq_base.proofs.Places.{label_got_at_place}
 use Rattle.dfa_table.specs.DfaValue.{DfaValue, IsDfa, is_final, place_of}
 use Rattle.dfa_table.proofs.Places.{labels_have_places}
 use Rattle.rpq_model.specs.declared.mode.Mode.{Mode}
@@ -22,8 +20,7 @@ use Rattle.name_table.specs.Names.{number_of}
 use Rattle.edge_store.specs.declared.edge.EdgeId.{EdgeId}
 use Rattle.edge_store.specs.Edges.{value_of}
 use Rattle.delta_tree.specs.Laws.{IsWalk}
-use Rattle.tree_insert.specs.Best.{IsAtLeast, IsLeast}
-use Rattle.tree_insert.proofs.Bests.{value_of as value_reached}
+use Rattle.tree_insert.specs.Best.{IsLeast}
 use Rattle.delta_forest.specs.Forest.{ForestValue, IsEnd, IsFinalValue, kept}
 use Rattle.delta_forest.specs.Laws.{KeptIsBest}
 use Rattle.delta_forest.specs.Paths.{IsBestPath}
@@ -35,7 +32,7 @@ use Rattle.index_laws.specs.Numbered.{AreNumbersOf, HasNumbers}
 use Rattle.query_file.specs.Compiled.{CompiledValue, IsCompiled}
 use Rattle.path_engine.specs.declared.index.Index.{Index}
 use Rattle.path_engine.specs.Engine.{IsIndexFor}
-use Rattle.path_engine.specs.Paths.{AddsEdge, AreKnown, HaveEdges, IsBestBelow, IsBestState, IsEndPath}
+use Rattle.path_engine.specs.Paths.{AddsEdge, IsBestBelow, IsBestState}
 use Rattle.path_engine.specs.Paths.{ShowsEnd, ShowsPair, better, final_value}
 use Rattle.path_engine.proofs.Rows.{numbers_apart}
 use Rattle.path_engine.proofs.Stepping.{is_index}
@@ -215,27 +212,6 @@ module _ (forest : ForestValue) (root vertex : ℕ) where
 
 -- ---- edges of numbers
 
--- numbers of an edge are known
-known_of : (names : List (List ℕ)) (dfa : DfaValue) (edge : Edge) (id : EdgeId) →
-    HasNumbers names dfa edge id → AreKnown names dfa id
-known_of names dfa edge id has = record {
-  from = below names edge.from id.from has.from;
-  label = (label_got_at_place dfa.labels edge.label id.label has.label).0;
-  to = below names edge.to id.to has.to;
-}
-
-pub all_known : (names : List (List ℕ)) (forest : ForestValue) (root vertex state : ℕ)
-    (ids : List EdgeId) → HaveEdges names forest → IsBestPath forest root vertex state ids →
-    All (AreKnown names forest.dfa) ids
-all_known names forest root vertex state ids have is =
-    All-weaker (λ (id : EdgeId). IsAtLeast is.value (value_of forest.store id))
-    (AreKnown names forest.dfa)
-    (λ id reached.
-    let there = value_reached (value_of forest.store id) is.value reached in
-    let found = have id there.0 there.1 in
-    known_of names forest.dfa found.0 id found.1)
-    ids is.least.least
-
 -- a copy of the label at a place has this place as its number
 pub label_placed : (dfa : DfaValue) (labels : List Label) (number : ℕ) (label copy : Label) →
     IsDfa dfa → labels ≡ dfa.labels → number < length dfa.labels →
@@ -258,25 +234,6 @@ named_more names dfa ids place d old new inside so_far adds =
     (subst (HaveNumbers names dfa (old ++ adds.0 ∷ [])) (sym (take_more ids place d inside))
     (all_zipped_more (HasNumbers names dfa) old (take place ids) adds.0 (get_or ids place d) so_far
     adds.2))
-
--- ---- the path to the end of a vertex
-
-module _ (forest : ForestValue) (root vertex state : ℕ)
-    (best : IsBestState forest root vertex state) where
-  -- there is one
-  pub some_path : kept forest root vertex state ≡ None → ⊥
-  some_path none = none-some best.until (sym none ∙ best.kept_is)
-
-  pub end_path : (names : List (List ℕ)) (ids : List EdgeId) (path : List Edge) →
-      IsBestPath forest root vertex state ids → HaveNumbers names forest.dfa path ids →
-      IsEndPath names forest root vertex path
-  end_path names ids path is numbers = record {
-    state = state;
-    best = best;
-    ids = ids;
-    numbers = numbers;
-    is_path = is;
-  }
 
 -- ---- what is shown
 

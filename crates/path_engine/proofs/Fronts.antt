@@ -1,5 +1,5 @@
 -- A front of entries, answered for each query.
-use Rattle.std.proofs.Common.{◌≡◌, ℕ, zero, suc, ◌+◌, ◌*◌, ◌<◌, ◌≤◌, ◌^◌, false, List, [], ◌∷◌, ◌++◌, length, map, get_or, take, drop, max}
+use Rattle.std.proofs.Common.{◌≡◌, ℕ, zero, suc, ◌+◌, ◌*◌, ◌<◌, ◌≤◌, ◌^◌, false, List, [], ◌∷◌, ◌++◌, length, map, get_or, take}
 use Rattle.std.proofs.Common.{set, refl, sym, ap, ap₂, subst, ◌∙◌, append_assoc, arith, length-append, length-take-le, Option, Some, None}
 use Rattle.std.specs.List.{All, AllZip}
 use Rattle.std.specs.Prelude.{IfSome, OnOk, Result, Ok, Err}
@@ -23,8 +23,8 @@ use Rattle.path_engine.specs.declared.index.Index.{Index}
 use Rattle.path_engine.specs.declared.ends.Ends.{Ends}
 use Rattle.path_engine.specs.declared.front.Share.{Share}
 use Rattle.path_engine.specs.Engine.{EngineValue, IsIndexFor, StandsFor, definitions}
-use Rattle.path_engine.specs.Answering.{AreEndsFor, AreEndsOf, HasAnswered, HasHistory, HaveAnswered}
-use Rattle.path_engine.specs.Front.{AreFirstEnds, AreAllFirstEnds, AreAllEndsFor}
+use Rattle.path_engine.specs.Answering.{AreEndsFor, HasAnswered, HasHistory}
+use Rattle.path_engine.specs.Front.{AreFirstEnds, AreAllFirstEnds}
 use Rattle.path_engine.specs.Front.{AreGathered, AreReady, HasAnsweredAll, HasFed, HasHistoryFor}
 use Rattle.path_engine.specs.Front.{HaveAnsweredAll, HaveFed, joined, put_at}
 use Rattle.path_engine.specs.Feeding.{FeedsFront}

@@ -1,6 +1,6 @@
 //! The index of a query.
 
-ghost use Rattle.std.specs.Prelude.{◌≡◌, [], length, IfOk};
+ghost use Rattle.std.specs.Prelude.{[], IfOk};
 ghost use Rattle.std.specs.List.{AllZip};
 ghost use Rattle.path_engine.specs.Engine.{IsIndexFor};
 

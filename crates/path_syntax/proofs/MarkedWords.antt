@@ -42,10 +42,6 @@ cut first second label word j = cut_at first second label word j.front j.rest j.
 at_front : (first second : Language) (word : List Label) → first [] → second word → IsJoined first second word
 at_front first second word left right = record { front = []; rest = word; split = refl; left = left; right = right }
 
-within : (first second : Language) (label : Label) (word : List Label) → IsJoined (λ w. first (label ∷ w)) second word → IsJoined first second (label ∷ word)
-within first second label word j =
-    record { front = label ∷ j.front; rest = j.rest; split = ap (λ (w : List Label). label ∷ w) j.split; left = j.left; right = j.right }
-
 -- where the words may end
 pub may_end_is : (e : Expression) (marks : List Bool) → IsTrue (may_end e marks) ↔ GoesOn e marks []
 may_end_is (Atom label) marks = (λ test. (test, refl), λ h. h.0)

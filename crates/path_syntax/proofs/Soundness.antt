@@ -78,9 +78,6 @@ pub record IsState (inverses : Bool) (text : List ℕ) (state : StateValue) : Ty
   pub frame : IsFrame inverses inside state.frame
   pub mode : IsMode inverses last state.mode
 
-blanks_append : (first second : List ℕ) → AreBlanks first → AreBlanks second → AreBlanks (first ++ second)
-blanks_append first second a b = list_all-append is_blank first second ∙ and_from _ _ a b
-
 pub all_push : (p : ℕ → Bool) (xs : List ℕ) (x : ℕ) → list_all p xs ≡ true → p x ≡ true → list_all p (xs ++ x ∷ []) ≡ true
 all_push p xs x a b = list_all-append p xs (x ∷ []) ∙ and_from _ _ a (and_from _ _ b refl)
 

@@ -1,6 +1,6 @@
 //! Expressions over labels.
 
-ghost use Rattle.std.specs.Prelude.{◌≡◌, IfOk, OnOk};
+ghost use Rattle.std.specs.Prelude.{◌≡◌, IfOk};
 ghost use Rattle.path_syntax.specs.Expression.{expression};
 
 use rpq_base::{Copied, Label, Memory};

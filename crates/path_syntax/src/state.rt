@@ -1,6 +1,6 @@
 //! Where the reader of an expression stands, and the step that a byte makes.
 
-ghost use Rattle.std.specs.Prelude.{◌≡◌, ◌≢◌, List, [], ◌∷◌, ◌++◌, None, Some, IfOk};
+ghost use Rattle.std.specs.Prelude.{◌≡◌, ◌≢◌, [], ◌∷◌, ◌++◌, None, Some, IfOk};
 ghost use Rattle.std.specs.Prelude.{option_map, false};
 ghost use Rattle.rpq_base.specs.Names.{IsName};
 ghost use Rattle.path_syntax.specs.Expression.{expression, Atom};

@@ -1,5 +1,5 @@
 -- Rows that are looked through for those that no window holds.
-use Rattle.std.proofs.Common.{◌≡◌, ℕ, Bool, true, false, List, [], ◌∷◌, length, Option, Some, None, cond, refl, ap, ◌∙◌, arith, filter}
+use Rattle.std.proofs.Common.{◌≡◌, ℕ, Bool, true, false, List, Option, Some, None, cond, refl, ap, ◌∙◌, filter}
 use Rattle.std.specs.Prelude.{if◌then◌else◌}
 use Rattle.std.specs.List.{IsDistinct}
 use Rattle.std.specs.Map.{lookup, keys_of}
@@ -29,8 +29,3 @@ pub past_forgotten : (now : ℕ) (rows kept : List (Edge × List Mark)) → IsDi
 past_forgotten now rows kept apart is edge =
     ap (lookup (same_edge edge)) is
     ∙ (lookup-filter-values edges_equivalence (lasts now) edge rows apart ∙ kept_is now (lookup (same_edge edge) rows))
-
--- of no rows none is left
-pub none_forgotten : (now : ℕ) (rows kept : List (Edge × List Mark)) → length rows ≡ 0 → kept ≡ rows → LeavesOut now rows kept
-none_forgotten now [] kept none is edge = ap (lookup (same_edge edge)) is
-none_forgotten now (row ∷ rows) kept none is edge = absurd (omega (arith, none))

@@ -21,13 +21,6 @@ use Rattle.path_witness.proofs.Enough.{same}
 abbrev pub HasNone : List Live → ℕ → Type 0
 HasNone live place = (each : Placed) → Contains (map placed_entry live) each → each.place ≡ place → ⊥
 
-pub none_at_first : (live : List Live) (place : ℕ) → HasNone (take 0 live) place
-none_at_first live place each member is = none_in each (subst (λ (some : List Live). Contains (map placed_entry some) each) (take_none live) member)
-  where
-    take_none : (some : List Live) → take 0 some ≡ []
-    take_none [] = refl
-    take_none (first ∷ some) = refl
-
 pub none_more : (live : List Live) (index : ℕ) (one : Live) (place : ℕ) → index < length live → one ≡ get_or live index one → (one.place ≡ place → ⊥) →
     HasNone (take index live) place → HasNone (take (index + 1) live) place
 none_more live index one place below is differs none each member at = ⊎_elim
@@ -53,13 +46,6 @@ pub element_given : {X Y : Type 0} (give : X → Y) (elements : List X) (index :
     Contains (map give elements) (give one)
 element_given give elements index one below is = given give elements index one (slice_get-get_or elements index one below ∙ ap Some (sym is))
 
-pub found_at : (live : List Live) (index : ℕ) (one : Live) (place position : ℕ) → index < length live → one ≡ get_or live index one → one.place ≡ place →
-    position ≡ place + 1 → IsAt (map placed_entry live) position (placed_entry one)
-found_at live index one place position below is at position_is = record {
-  seen = given placed_entry live index one (slice_get-get_or live index one below ∙ ap Some (sym is));
-  position_is = omega (arith, at, position_is);
-}
-
 -- ---- all of them
 
 -- an element that is there is the same whatever would stand in its place
@@ -67,16 +53,6 @@ pub any_default : (elements : List ℕ) (index default other : ℕ) → index < 
 any_default elements index default other below =
     same_Some (get_or elements index default) (get_or elements index other)
     (sym (slice_get-get_or elements index default below) ∙ slice_get-get_or elements index other below)
-
-pub path_at_first : (live : List Placed) (positions : List ℕ) (path : List Placed) → path ≡ [] → IsPathAt live (take 0 positions) path
-path_at_first live positions path none = subst (IsPathAt live (take 0 positions)) (sym none) (record {
-  seen = All-nil (Contains live);
-  positions_are = sym (take_none positions);
-})
-  where
-    take_none : (some : List ℕ) → take 0 some ≡ []
-    take_none [] = refl
-    take_none (first ∷ some) = refl
 
 pub path_more : (live : List Placed) (positions : List ℕ) (index position : ℕ) (path more : List Placed) (one : Placed) → index < length positions →
     position ≡ get_or positions index position → IsAt live position one → more ≡ path ++ one ∷ [] → IsPathAt live (take index positions) path →
@@ -88,10 +64,6 @@ path_more live positions index position path more one below is at pushed so_far 
           ∙ ((λ i. so_far.positions_are i ++ at.position_is i ∷ [])
           ∙ (ap (λ (each : ℕ). take index positions ++ each ∷ []) is ∙ sym (take_more positions index position below)));
     })
-
-pub all_found : (live : List Placed) (positions : List ℕ) (index : ℕ) (path : List Placed) → length positions ≤ index → IsPathAt live (take index positions) path →
-    IsPathAt live positions path
-all_found live positions index path all so_far = subst (λ (some : List ℕ). IsPathAt live some path) (take_all index positions all) so_far
 
 -- where one is missing, there is no path
 has_position : (path : List Placed) (index position : ℕ) → slice_get (map position_of path) index ≡ Some position →

@@ -15,14 +15,6 @@ pub record AreFirst (queries : List Query) (position : ℕ) (tuple : TupleValue)
   pub each : (number : ℕ) (query : Query) → number < count → slice_get queries number ≡ Some query →
       (mark : Mark) × (slice_get marks number ≡ Some mark) × IsRaised query.window position tuple (mark_at number before) mark
 
--- none at first
-pub none_first : (queries : List Query) (position : ℕ) (tuple : TupleValue) (before : Option (List Mark)) (marks : List Mark) → marks ≡ [] →
-    AreFirst queries position tuple before 0 marks
-none_first queries position tuple before marks none = record {
-  counted = ap length none;
-  each = λ number query below there. absurd (omega (arith, below));
-}
-
 -- one more query
 pub one_more_first : (queries : List Query) (position : ℕ) (tuple : TupleValue) (before : Option (List Mark)) (count : ℕ) (marks more : List Mark) (one : Query) (mark : Mark) →
     AreFirst queries position tuple before count marks → count < length queries → one ≡ get_or queries count one →

@@ -26,12 +26,6 @@ pub record IsLeastSoFar (window : WindowValue) (path : List Placed) (until : ℕ
   pub from : (each : Placed) (deadline : ℕ) → Contains path each → IsTupleDeadline window each.entry.tuple deadline → until ≤ deadline
   pub met_is : IsTrue met ↔ ((each : Placed) × Contains path each × IsTupleDeadline window each.entry.tuple until)
 
-pub least_at_first : (window : WindowValue) (path : List Placed) (until : ℕ) → path ≡ [] → IsLeastSoFar window path until false
-least_at_first window path until none = subst (λ (some : List Placed). IsLeastSoFar window some until false) (sym none) (record {
-  from = λ each deadline member is. absurd (none_in each member);
-  met_is = (λ e. absurd (false≢true e), λ found. absurd (none_in found.0 found.1));
-})
-
 pub least_more : (window : WindowValue) (before : List Placed) (one : Placed) (after : List Placed) (until deadline : ℕ) (met more : Bool) →
     HasOneMore before one after → IsTupleDeadline window one.entry.tuple deadline → until ≤ deadline → more ≡ (met || (deadline == until)) →
     IsLeastSoFar window before until met → IsLeastSoFar window after until more

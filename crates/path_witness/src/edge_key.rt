@@ -5,45 +5,8 @@ ghost use Rattle.path_witness.specs.Keys.{edge_input};
 
 use indexmap::Equivalent;
 use rpq_base::Edge;
-use std::hash::{BuildHasher, DefaultHasher, Hash, Hasher, RandomState};
+use std::hash::{Hash, Hasher};
 use std::marker::Model;
-use std::random::RandomSource;
-
-/// A hash of edges with random keys, so that a stranger who chooses the names can't choose many
-/// that fall together.
-///
-/// Where the system gives no random bytes, it is std's hash without keys: all answers are the same,
-/// and look-ups are as fast but for names that were chosen to be slow.
-#[derive(Clone, Copy)]
-pub(crate) struct EdgeHash {
-    keyed: Option<RandomState>,
-}
-
-impl EdgeHash {
-    /// A hash with keys from the system.
-    pub(crate) fn new<R: RandomSource>(rt: &R) -> EdgeHash {
-        EdgeHash {
-            keyed: RandomState::new(rt).ok(),
-        }
-    }
-}
-
-impl BuildHasher for EdgeHash {
-    ghost use Rattle.std.specs.Hash.DefaultHasher.{initial};
-    ghost use Rattle.std.specs.Option.{option_map_or};
-    ghost use Rattle.std.specs.RandomState.{initial_hasher};
-
-    type Hasher = DefaultHasher;
-
-    ghost build_hasher = { λ hash. option_map_or initial_hasher hash.keyed initial };
-
-    fn build_hasher(&self) -> DefaultHasher {
-        match &self.keyed {
-            Some(state) => state.build_hasher(),
-            None => DefaultHasher::new(),
-        }
-    }
-}
 
 /// Feeds the parts of an edge to a hasher, with a byte between them that no name has.
 fn feed<H: Hasher>(edge: &Edge, state: &mut H)

@@ -1,19 +1,18 @@
 //! The marks of each edge.
 
 ghost use Rattle.std.specs.Prelude.{◌≡◌, List, None, Some, IfOk, OnOk, OnErr, slice_get};
-ghost use Rattle.std.specs.List.{list_any};
 ghost use Rattle.std.specs.Map.{lookup};
-ghost use Rattle.std.specs.Option.{option_map, option_and_then};
+ghost use Rattle.std.specs.Option.{option_map};
 ghost use Rattle.rpq_base.specs.Same.{same_edge};
 ghost use Rattle.path_witness.specs.declared.mark.Mark.{Mark as MarkMade};
 ghost use Rattle.path_witness.specs.Marks.{kept_mark};
 ghost use Rattle.path_witness.specs.Taking.{AreRaised, GivesMarks, LeavesOut, lasts};
 
-use crate::edge_key::{EdgeHash, KeptEdge, Sought};
+use crate::edge_key::{KeptEdge, Sought};
 use crate::mark::{Mark, raised};
 use due_queue::room_to_keep;
 use indexmap::IndexMap;
-use rpq_base::{Copied, Edge, Memory, Tuple};
+use rpq_base::{Copied, Edge, KeyedHash, Memory, Tuple};
 use rpq_model::QueryDef;
 use std::alloc::Global;
 use std::marker::Model;
@@ -34,7 +33,7 @@ impl Model for EdgeMarks {
 }
 
 /// The marks of each edge of which an entry may be live.
-pub(crate) type Rows = IndexMap<KeptEdge, EdgeMarks, EdgeHash>;
+pub(crate) type Rows = IndexMap<KeptEdge, EdgeMarks, KeyedHash>;
 
 impl EdgeMarks {
     /// The mark for the query with this number.

@@ -1,13 +1,12 @@
 //! Marks of entries.
 
 ghost use Rattle.std.specs.Prelude.{◌≡◌};
-ghost use Rattle.rpq_base.specs.OwnEnds.{own_end};
 ghost use Rattle.rpq_model.specs.WindowLaws.{IsTupleDeadline};
 ghost use Rattle.path_witness.specs.Marks.{mark_above};
 ghost use Rattle.path_witness.specs.Taking.{IsRaised};
 
-use rpq_base::{Act, Tuple};
-use rpq_model::Window;
+use rpq_base::Tuple;
+use rpq_model::{Window, own_end};
 use window_clock::WindowClock;
 
 /// The position of an entry in its history, from 1, and its deadline: the clock at which it leaves
@@ -16,16 +15,6 @@ use window_clock::WindowClock;
 pub struct Mark {
     pub position: u64,
     pub deadline: u64,
-}
-
-/// The end of its own that an act gives the edge which it inserts, if it gives one.
-fn own_end(act: &Act) -> Option<u64>
-    ensures { result ≡ own_end act.now }
-{
-    match act {
-        Act::Insert { until, .. } => *until,
-        Act::Delete(_) | Act::Tick => None,
-    }
 }
 
 /// The deadline in the window of the insert that this tuple is.

@@ -7,11 +7,10 @@ ghost use Rattle.path_witness.specs.Found.{IsFound};
 ghost use Rattle.path_witness.specs.Marks.{StandsFor};
 ghost use Rattle.path_witness.specs.Taking.{TakeOne};
 
-use crate::edge_key::EdgeHash;
 use crate::edge_marks::{Rows, forget, kept_mark, raise, remove};
 use crate::mark::{Mark, mark_above};
 use indexmap::IndexMap;
-use rpq_base::{Act, Edge, Entry, Memory};
+use rpq_base::{Act, Edge, Entry, KeyedHash, Memory};
 use rpq_model::QueryDef;
 use std::alloc::Global;
 use std::marker::Model;
@@ -75,7 +74,7 @@ impl Marks {
             queries,
             taken: 0,
             clock: 0,
-            rows: IndexMap::with_hasher(alloc, EdgeHash::new(rt)),
+            rows: IndexMap::with_hasher(alloc, KeyedHash::new(rt)),
             until_look: LEAST_BETWEEN,
         })
     }

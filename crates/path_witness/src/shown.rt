@@ -5,14 +5,14 @@ ghost use Rattle.std.specs.List.{list_any};
 ghost use Rattle.rpq_model.specs.Ends.{IsUntil};
 ghost use Rattle.rpq_model.specs.Live.{placed_entry};
 ghost use Rattle.rpq_model.specs.Query.{path_query};
-ghost use Rattle.rpq_model.specs.Window.{Placed, inserted_edges};
-ghost use Rattle.path_witness.specs.PathTests.{edges_of, IsPathAt, IsAt, HasNoPathAt, is_row_of};
+ghost use Rattle.rpq_model.specs.Window.{Placed};
+ghost use Rattle.path_witness.specs.PathTests.{IsPathAt, IsAt, HasNoPathAt, is_row_of};
 ghost use Rattle.path_witness.specs.Shows.{IsLeastDeadline, Shows};
 
 use crate::mark::tuple_deadline;
 use crate::path_test::fits;
-use rpq_base::{Act, Edge, Entry, Memory, Pair};
-use rpq_model::{Ended, Live, QueryDef, Window, clock, live_entries, plain_rows};
+use rpq_base::{Entry, Memory, Pair};
+use rpq_model::{Ended, Live, QueryDef, Window, clock, inserted_edges, live_entries, plain_rows};
 use std::alloc::Global;
 use std::marker::Model;
 
@@ -74,21 +74,6 @@ fn path_at<'a>(
     Ok(Some(path))
 }
 
-/// The edges that live entries insert, in their order.
-fn edges_of<'a>(alloc: Global, path: &[Live<'a>]) -> Result<Vec<&'a Edge>, Memory>
-    ensures { IfOk result (λ edges.
-        edges_of edges.items ≡ inserted_edges (map placed_entry path.now)) }
-{
-    let mut edges = Vec::new(alloc);
-    for each in path {
-        let entry = each.entry;
-        if let Act::Insert { edge, .. } = &entry.tuple.act {
-            edges.push(edge)?;
-        }
-    }
-    Ok(edges)
-}
-
 /// Whether this is the least of the deadlines of the entries.
 fn is_least<'a>(window: Window, path: &[Live<'a>], until: u64) -> bool
     ensures { IsTrue result ↔ IsLeastDeadline window (map placed_entry path.now) until }
@@ -147,7 +132,7 @@ pub fn is_shown(
     let Some(path) = path_at(alloc, &live, &shown.positions)? else {
         return Ok(false);
     };
-    let edges = edges_of(alloc, &path)?;
+    let edges = inserted_edges(alloc, &path)?;
     let is_path = fits(alloc, query, pair, &edges)?;
     let is_least = is_least(query.window, &path, shown.until);
     let ends = ends_at(alloc, query, entries, pair, shown.until)?;

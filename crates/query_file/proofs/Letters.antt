@@ -1,11 +1,11 @@
 -- A letter within quotes is its bytes in UTF-8, behind a backslash where it is a quote or a backslash.
 use Rattle.std.proofs.Common.{◌≡◌, ℕ, ◌<◌, ◌≤◌, Bool, true, false, cond, ◌||◌, ◌==◌, List, [], ◌∷◌, ◌++◌, inl, inr, All, length, get_or, refl, sym, ap, subst, ◌∙◌, arith}
 use Rattle.std.specs.Prelude.{encode_utf8}
-use Rattle.std.proofs.lemmas.Bool.{cases_lt, eqb-true, or_cases}
+use Rattle.std.proofs.lemmas.Bool.{cases_lt, eqb-true}
 use Rattle.std.proofs.lemmas.List.{append-nil}
 use Rattle.std.proofs.lemmas.List.Concat.{flat_map-append}
 use Rattle.std.proofs.lemmas.List.Elements.{All-head, All-tail, All-from_get_or}
-use Rattle.std.proofs.lemmas.Str.{encode_ascii, inside_one}
+use Rattle.std.proofs.lemmas.Str.{inside_one}
 use Rattle.path_syntax.specs.Grammar.{escaped, quoted}
 
 -- a quote or a backslash
@@ -45,18 +45,6 @@ no_sign_inside letter none place below = elim (cases_lt (get_or (encode_utf8 let
 pub letter_kept : (letter : ℕ) → is_sign letter ≡ false → quoted (encode_utf8 letter) ≡ encode_utf8 letter
 letter_kept letter none =
     kept (encode_utf8 letter) (All-from_get_or IsNoSign (encode_utf8 letter) 0 (no_sign_inside letter none))
-
-sign_is_low : (letter : ℕ) → is_sign letter ≡ true → letter < 128
-sign_is_low letter is = elim (or_cases (letter == 34) (letter == 92) is) [
-  | inl quote ↦ let same = eqb-true letter 34 quote in omega (arith, same)
-  | inr backslash ↦ let same = eqb-true letter 92 backslash in omega (arith, same)
-]
-
--- a quote or a backslash
-pub letter_escaped : (letter : ℕ) → is_sign letter ≡ true → quoted (encode_utf8 letter) ≡ 92 ∷ encode_utf8 letter
-letter_escaped letter is =
-    let one = encode_ascii letter (sign_is_low letter is) in
-    ap quoted one ∙ (ap (λ t. cond t (92 ∷ letter ∷ []) (letter ∷ []) ++ []) is ∙ ap (λ (bytes : List ℕ). 92 ∷ bytes) (sym one))
 
 -- the letters of a text, one after another
 pub next_letter : (letter : ℕ) (rest : List ℕ) → quoted (encode_utf8 letter ++ rest) ≡ quoted (encode_utf8 letter) ++ quoted rest

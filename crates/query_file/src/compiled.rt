@@ -1,8 +1,12 @@
 //! Queries with their automata and verdicts.
 
+ghost use Rattle.std.specs.Prelude.{◌≡◌, map, IfOk};
+
 use containment_test::Verdict;
 use dfa_table::Dfa;
+use rpq_base::Memory;
 use rpq_model::QueryDef;
+use std::alloc::Global;
 use std::marker::Model;
 
 /// A query; its automaton, which is the least one that accepts the nonempty words of its
@@ -36,4 +40,15 @@ impl Model for Compiled {
       dfa = compiled.dfa;
       verdict = compiled.verdict;
     }) };
+}
+
+/// Copies of the definitions of the queries, in their order. The only error is [`Memory`].
+pub fn copied_definitions(alloc: Global, queries: &[Compiled]) -> Result<Vec<QueryDef>, Memory>
+    ensures { IfOk result (λ copies. copies.items ≡ map (λ query. query.def) queries.now) }
+{
+    let mut copies = Vec::with_capacity(alloc, queries.len())?;
+    for query in queries {
+        copies.push(query.def.copy(alloc)?)?;
+    }
+    Ok(copies)
 }

@@ -26,7 +26,7 @@ mod query;
 mod read;
 mod word_text;
 
-pub use compiled::Compiled;
+pub use compiled::{Compiled, copied_definitions};
 pub use fault::{QueryFault, QueryKind};
 pub use laws::{
     faults_in_order, line_examples, one_first_field, one_outcome, one_two_way_outcome,

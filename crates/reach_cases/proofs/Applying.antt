@@ -1,5 +1,5 @@
 -- The events of one query, and pairs over no entry.
-use Rattle.std.proofs.Common.{◌≡◌, ℕ, zero, suc, List, [], ◌∷◌, ◌++◌, length, refl, sym, ap, subst, arith, append-nil}
+use Rattle.std.proofs.Common.{◌≡◌, ℕ, zero, suc, List, [], ◌∷◌, length, refl, sym, ap, subst, arith, append-nil}
 use Rattle.std.specs.Prelude.{◌↔◌, All, Contains, Some, slice_get}
 use Rattle.std.proofs.lemmas.List.Elements.{All-head}
 use Rattle.rpq_base.specs.declared.data.Entry.{Entry}

@@ -1,7 +1,6 @@
 //! Bindings of joins over one query, entry by entry.
 
 ghost use Rattle.std.specs.Prelude.{◌≡◌, [], ◌∷◌, length, OnOk};
-ghost use Rattle.conj_query.specs.Leading.{HoldAnswers};
 ghost use Rattle.conj_query.specs.State.{MayCome, ArePut};
 
 use crate::queries::queries_of;

@@ -1,6 +1,5 @@
 //! Queries over entries.
 
-ghost use Rattle.std.specs.Prelude.{◌≤◌};
 ghost use Rattle.rpq_base.specs.declared.data.TheConstants.{MAX_TIME};
 
 use crate::expressions::read;

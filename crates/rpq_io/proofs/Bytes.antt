@@ -1,9 +1,8 @@
 -- Bytes given and written piece by piece.
 use Rattle.std.proofs.Common.{◌≡◌, ◌≢◌, ℕ, ◌+◌, ◌<◌, ◌≤◌, ◌-◌, List, [], ◌++◌, length, take, drop}
 use Rattle.std.proofs.Common.{Option, Some, None, refl, sym, ap, ◌∙◌, append_assoc, take_all}
-use Rattle.std.proofs.Common.{take-append-drop, length-append, length-drop, length-take-le}
-use Rattle.std.proofs.Common.{drop-drop, arith, IfSome, append-nil, subst}
-use Rattle.std.proofs.lemmas.List.{take-append-le}
+use Rattle.std.proofs.Common.{length-append, length-drop}
+use Rattle.std.proofs.Common.{arith, IfSome, append-nil, subst}
 use Rattle.std.proofs.Math.Seq.{take-add}
 use Rattle.std.specs.Io.KnownBytes.{prepend_known, append_known}
 use Rattle.rpq_io.specs.Takes.{TakesAtMost}
@@ -87,21 +86,3 @@ takes_more limit before now after so_far piece first second few = (
     taken = first ∙ ap (prepend_known so_far) second ∙ prepend_known-prepend after so_far piece;
   },
 )
-
--- the bytes from a place on are those that a read copied to the front of a buffer, and then the
--- bytes after them
-pub taken_piece : (from count : ℕ) (bytes copied others : List ℕ)
-    → copied ≡ take count (take (length bytes - from) (drop from bytes))
-    → count ≤ length bytes - from
-    → drop from bytes ≡ take count (copied ++ others) ++ drop (from + count) bytes
-taken_piece from count bytes copied others is_copied within =
-    let piece : copied ≡ take count (drop from bytes) =
-    is_copied ∙ ap (take count) (slice_to_end from bytes) in
-    let whole : length copied ≡ count =
-    ap length piece ∙ length-take-le count (drop from bytes)
-    (omega (arith, length-drop from bytes)) in
-    let front : take count (copied ++ others) ≡ copied =
-    take-append-le count copied others (omega arith) ∙ take_all count copied (omega arith) in
-    sym (ap (λ part. part ++ drop (from + count) bytes) (front ∙ piece)
-    ∙ ap (λ rest. take count (drop from bytes) ++ rest) (sym (drop-drop count from bytes))
-    ∙ take-append-drop count (drop from bytes))

@@ -56,14 +56,3 @@ counts_noted fault name before after failed noted = record {
   quiet = λ none. absurd (none failed);
   others = λ other differs. ap (times other) noted ∙ times-others other name before differs;
 }
-
--- an opening that didn't fail counts nothing
-pub counts_same : (fault : Type 0) (name : List ℕ) (before after : List (List ℕ)) → (fault → ⊥)
-    → after ≡ before
-    → CountsOpening fault name (λ any. times any before) (λ any. times any after)
-counts_same fault name before after fine same = record {
-  never_fall = λ any. omega (arith, ap (times any) same);
-  rose = λ failed. absurd (fine failed);
-  quiet = λ _ any. ap (times any) same;
-  others = λ other _. ap (times other) same;
-}

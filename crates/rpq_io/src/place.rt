@@ -1,7 +1,5 @@
 //! Where the host's sinks write.
 
-ghost use Rattle.std.specs.Prelude.{◌≡◌};
-
 use std::io;
 use std::io::Write;
 use std::rt::{Stderr, Stdout};

@@ -208,14 +208,6 @@ reached_at_last pairs vertices all pair = (
 
 -- ---- the targets, one by one
 
--- no target before the first pair
-pub target_none : (found : List (List ℕ)) → found ≡ [] → (vertex : List ℕ) →
-    Contains found vertex ↔ Contains (targets []) vertex
-target_none found empty vertex = (
-  (λ member. subst (λ (all : List (List ℕ)). Contains all vertex) empty member),
-  (λ member. subst (λ (all : List (List ℕ)). Contains all vertex) (sym empty) member),
-)
-
 -- one pair more
 pub target_more : (before : List (List ℕ)) (one : List ℕ) (after found more : List (List ℕ)) →
     HasOneMore before one after → more ≡ insert_key name_cmp found one →

@@ -3,7 +3,7 @@ use Rattle.std.proofs.Common.{◌≡◌, ℕ, zero, suc, ◌+◌, ◌<◌, ◌�
 use Rattle.std.proofs.Common.{[], ◌∷◌, ◌++◌, length, get_or, take, drop, map, Ordering, refl, sym}
 use Rattle.std.proofs.Common.{ap, subst, ◌∙◌, ◌⊎◌, inl, inr, ⊎_elim, append_assoc, arith}
 use Rattle.std.specs.Prelude.{◌↔◌, IsTrue, Contains, if◌then◌else◌}
-use Rattle.std.specs.Ordering.{is_lt, ordering_reverse}
+use Rattle.std.specs.Ordering.{is_lt}
 use Rattle.std.specs.declared.cmp.Ordering.TheVariants.{Less, Equal, Greater}
 use Rattle.std.specs.List.{list_any, prefix_len}
 use Rattle.std.specs.List.Sorted.{IsStrictlySortedBy}
@@ -44,9 +44,6 @@ not_itself pair other less is =
     let tied = tied_itself pair_cmp_total other in
     let less_2 = ap (λ (each : Pair). pair_cmp each other) (sym is) ∙ less in
     absurd (cc (tied, less_2))
-
-turned : (pair other : Pair) → pair_cmp pair other ≡ Greater → pair_cmp other pair ≡ Less
-turned pair other greater = pair_cmp_total.antisymm other pair ∙ ap ordering_reverse greater
 
 -- ---- sorted lists
 

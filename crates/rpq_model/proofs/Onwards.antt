@@ -389,13 +389,6 @@ pub record IsSimplyAlongOne (firsts edges : List Edge) (language : List Label �
   pub along : IsSimplyAlong edges language edge pair
 
 module _ (edges : List Edge) (language : List Label → Type 0) where
-  pub simply_none : (found : List Pair) → found ≡ [] → (pair : Pair) →
-      Contains found pair ↔ IsSimplyAlongOne [] edges language pair
-  simply_none found empty pair = (
-    (λ member. let none = subst (λ (all : List Pair). Contains all pair) empty member in absurd (omega (arith, none.1))),
-    (λ one. let none = one.member in absurd (omega (arith, none.1))),
-  )
-
   pub simply_more : (before : List Edge) (edge : Edge) (after : List Edge)
       (found more : List Pair) →
       HasOneMore before edge after →
@@ -411,14 +404,6 @@ module _ (edges : List Edge) (language : List Label → Type 0) where
         (λ there. inl ((members pair).1 (record { edge = one.edge; member = there; along = one.along })))
         (λ is. inr (subst (λ (each : Edge). IsSimplyAlong edges language each pair) (sym is) one.along))
         (one_more.cases one.edge one.member))),
-  )
-
-  -- an edge that comes back to where it begins gives no pair
-  pub simply_back : (edge : Edge) (before : List Pair) → edge.to ≡ edge.from → (pair : Pair) →
-      Contains before pair ↔ (Contains before pair ⊎ IsSimplyAlong edges language edge pair)
-  simply_back edge before back pair = (
-    (λ member. inl member),
-    (λ either. ⊎_elim (λ was. was) (λ along. absurd (along.0 back)) either),
   )
 
   -- another gives what is along it

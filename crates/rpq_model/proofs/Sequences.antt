@@ -16,24 +16,10 @@ use Rattle.rpq_model.proofs.Paths.{word_on, path_on, cut, some_word, front_path,
 
 -- ---- empty words
 
--- two lists that are empty together are empty
-both_empty : (first second : List Label) → first ++ second ≡ [] → (first ≡ []) × (second ≡ [])
-both_empty [] second e = (refl, e)
-both_empty (label ∷ first) second e = cc
-
 -- a list is empty or not
 empty_or_some : (word : List Label) → (word ≡ []) ⊎ (word ≢ [])
 empty_or_some [] = inl refl
 empty_or_some (label ∷ word) = inr (λ e. cc)
-
--- the empty word is one then the other where it is both
-pub empty_sequence : (left right : List Label → Type 0) → IsOneThenOther left right [] ↔ (left [] × right [])
-empty_sequence left right = (
-  (λ joined.
-      let parts = both_empty joined.front joined.rest (sym joined.split) in
-      (subst left parts.0 joined.left, subst right parts.1 joined.right)),
-  (λ both. record { front = []; rest = []; split = refl; left = both.0; right = both.1 }),
-)
 
 -- the empty word is repeated
 pub empty_repeated : (language : List Label → Type 0) → IsRepeated language []

@@ -1,5 +1,6 @@
 -- Query definitions, as contracts see them, and the path queries that they mean.
-use Rattle.std.specs.Prelude.{ℕ, List}
+use Rattle.std.specs.Prelude.{ℕ, List, Option, bytes_eq}
+use Rattle.std.specs.List.{position}
 use Rattle.rpq_base.specs.declared.data.Label.{Label}
 use Rattle.path_syntax.specs.Expression.{Expression}
 use Rattle.path_syntax.specs.Language.{In}
@@ -21,3 +22,7 @@ language_of query word = In query.expr word
 -- the path query that a definition means
 abbrev pub path_query : Query → PathQuery
 path_query query = record { language = language_of query; mode = query.mode; window = query.window }
+
+-- the place of the first query with this name, from 0
+abbrev pub place_named : List Query → List ℕ → Option ℕ
+place_named queries name = position (λ query. bytes_eq query.name name) queries

@@ -42,16 +42,16 @@ pub use event_laws::{
     held_is_answers, held_step,
 };
 pub use events::changes;
-pub use live::{Live, live_entries};
+pub use live::{Live, inserted_edges, live_entries};
 pub use mode::Mode;
 pub use own_end_laws::{
     early_end_never_lives, end_beyond_the_window, inserts_have_deadlines, later_deadline_decides,
     live_below_its_end, tick_at_the_end,
 };
 pub use plain::plain_answers;
-pub use query::QueryDef;
+pub use query::{QueryDef, place_named};
 pub use rows::{Ended, plain_rows};
-pub use window::{Window, clock};
+pub use window::{Window, clock, own_end};
 pub use window_laws::{
     delete_takes_all_before, edges_by_places, last_insert_is_seen, later_sees_less,
     live_below_deadline, live_by_places, live_in_order, one_entry_more, times_have_deadlines,

@@ -83,10 +83,10 @@ pub fn live_entries<'a>(
     Ok(live)
 }
 
-/// The edges that live entries insert, in their order.
-fn inserted_edges<'a>(alloc: Global, live: &[Live<'a>]) -> Result<Vec<&'a Edge>, Memory>
+/// The edges that live entries insert, in their order. The only error is [`Memory`].
+pub fn inserted_edges<'a>(alloc: Global, live: &[Live<'a>]) -> Result<Vec<&'a Edge>, Memory>
     ensures { IfOk result (λ edges.
-        values edges.items ≡ inserted_edges (map placed_entry live.now)) }
+        map (λ edge. edge.now) edges.items ≡ inserted_edges (map placed_entry live.now)) }
 {
     let mut edges = Vec::new(alloc);
     for each in live {

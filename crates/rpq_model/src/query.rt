@@ -1,6 +1,7 @@
 //! Query definitions.
 
-ghost use Rattle.std.specs.Prelude.{◌≡◌, IfOk};
+ghost use Rattle.std.specs.Prelude.{◌≡◌, ◌<◌, length, IfOk, IfSome};
+ghost use Rattle.rpq_model.specs.Query.{place_named};
 
 use crate::mode::Mode;
 use crate::window::Window;
@@ -56,4 +57,14 @@ impl QueryDef {
             expr: self.expr.copy(alloc)?,
         })
     }
+}
+
+/// The place of the query with this name, from 0: of the first one, where more have it.
+pub fn place_named(queries: &[QueryDef], name: &[u8]) -> Option<usize>
+    ensures exact { result ≡ place_named queries.now name.now }
+    ensures within { IfSome result (λ place. place < length queries.now) }
+{
+    queries
+        .iter()
+        .position(|query| query.name.as_bytes() == name)
 }

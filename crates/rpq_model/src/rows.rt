@@ -3,7 +3,6 @@
 ghost use Rattle.std.specs.Prelude.{◌≡◌, map, IfOk, OnOk};
 ghost use Rattle.std.specs.BTreeMap.{IsOrdered};
 ghost use Rattle.rpq_base.specs.Order.{pair_cmp};
-ghost use Rattle.rpq_base.specs.OwnEnds.{own_end};
 ghost use Rattle.rpq_model.specs.Ends.{AreEndedAnswers};
 ghost use Rattle.rpq_model.specs.Lasting.{AreDeadlines, GivesEnd, row_of};
 ghost use Rattle.rpq_model.specs.Query.{path_query};
@@ -11,8 +10,8 @@ ghost use Rattle.rpq_model.specs.Query.{path_query};
 use crate::live::live_entries;
 use crate::plain::answers_at;
 use crate::query::QueryDef;
-use crate::window::{Window, clock, deadline_of};
-use rpq_base::{Act, Entry, Memory, Pair};
+use crate::window::{Window, clock, deadline_of, own_end};
+use rpq_base::{Entry, Memory, Pair};
 use std::alloc::Global;
 use std::collections::{BTreeMap, BTreeSet};
 
@@ -21,16 +20,6 @@ use std::collections::{BTreeMap, BTreeSet};
 pub struct Ended {
     pub pair: Pair,
     pub until: u64,
-}
-
-/// The end of its own that an act gives the edge which it inserts, if it gives one.
-fn own_end(act: &Act) -> Option<u64>
-    ensures { result ≡ own_end act.now }
-{
-    match act {
-        Act::Insert { until, .. } => *until,
-        Act::Delete(_) | Act::Tick => None,
-    }
 }
 
 /// The deadlines of the entries that are live at a clock, rising, each once.

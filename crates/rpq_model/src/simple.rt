@@ -1,6 +1,6 @@
 //! The pairs that simple paths join, by going through the simple paths themselves.
 
-ghost use Rattle.std.specs.Prelude.{◌≡◌, ◌&&◌, ◌∷◌, ◌↔◌, ◌⊎◌, List, [], not, IfOk, OnOk, Contains};
+ghost use Rattle.std.specs.Prelude.{◌≡◌, ◌&&◌, not, IfOk, OnOk, Contains};
 ghost use Rattle.std.specs.List.{list_any};
 ghost use Rattle.rpq_base.specs.Same.{same_name};
 ghost use Rattle.rpq_base.specs.declared.data.Edge.{Edge};

@@ -1,11 +1,12 @@
 //! Windows, and the clock of a history.
 
 ghost use Rattle.std.specs.Prelude.{◌≡◌, ◌≤◌};
+ghost use Rattle.rpq_base.specs.OwnEnds.{own_end};
 ghost use Rattle.rpq_base.specs.declared.data.TheConstants.{MAX_TIME};
 ghost use Rattle.rpq_model.specs.Window.{clock, is_in_window, is_seen};
 ghost use Rattle.rpq_model.specs.WindowLaws.{IsDeadline, IsDeadlineOf};
 
-use rpq_base::{Entry, MAX_TIME};
+use rpq_base::{Act, Entry, MAX_TIME};
 use std::marker::Model;
 
 /// The window of a query: its size, and its slide, at whose multiples it moves. Both are from 1 to
@@ -41,6 +42,16 @@ pub fn clock(history: &[Entry]) -> u64
         latest = latest.max(entry.tuple.time);
     }
     latest
+}
+
+/// The end of its own that an act gives the edge which it inserts, if it gives one.
+pub fn own_end(act: &Act) -> Option<u64>
+    ensures { result ≡ own_end act.now }
+{
+    match act {
+        Act::Insert { until, .. } => *until,
+        Act::Delete(_) | Act::Tick => None,
+    }
 }
 
 /// Whether an edge of this time is in the window at this clock.

@@ -1,18 +1,18 @@
 -- Lines that are written one after another.
-use Rattle.std.proofs.Common.{◌≡◌, ℕ, ◌+◌, ◌<◌, ◌≤◌, List, [], ◌∷◌, ◌++◌, length}
+use Rattle.std.proofs.Common.{◌≡◌, ℕ, ◌+◌, ◌<◌, List, [], ◌∷◌, ◌++◌, length}
 use Rattle.std.proofs.Common.{Result, Ok, Err, take, drop, get_or, Option, refl, ap, sym, subst}
 use Rattle.std.proofs.Common.{◌∙◌, append_assoc, arith}
 use Rattle.std.specs.List.{flat_map}
 use Rattle.std.specs.Prelude.{IsErr}
 use Rattle.std.specs.Io.KnownBytes.{append_known}
-use Rattle.std.proofs.lemmas.List.{append-nil, take-append-drop, take_more, drop_more, drop_all}
+use Rattle.std.proofs.lemmas.List.{append-nil, take-append-drop, take_more, drop_more}
 use Rattle.std.proofs.lemmas.List.Concat.{flat_map-append}
 use Rattle.rpq_io.specs.Counts.{Rose, CountsFault}
 use Rattle.stream_tuples.specs.declared.ends.StreamEnd.{StreamEnd}
 use Rattle.rpq_text.specs.ErrorLines.{end_line, end_lines}
 use Rattle.rpq_threads.specs.Written.{GrewByPrefix}
 use Rattle.rpq_run.specs.Written.{Tells, TellsLines}
-use Rattle.rpq_io.proofs.Bytes.{append_known-nil, append_known-append}
+use Rattle.rpq_io.proofs.Bytes.{append_known-append}
 
 abbrev pub Is : List ℕ → List ℕ → Type 0
 Is text all = all ≡ text
@@ -127,9 +127,6 @@ pub record HasToldEnds (ends : List StreamEnd) (place : ℕ) (before now : Optio
   pub cut : done ++ end_lines (place + 1) (drop place ends) ≡ end_lines 1 ends
   pub written : now ≡ append_known before done
 
-pub no_ends : (ends : List StreamEnd) (before : Option (List ℕ)) → HasToldEnds ends 0 before before
-no_ends ends before = record { done = []; cut = refl; written = sym (append_known-nil before) }
-
 -- the lines from one end on
 pub ends_from : (ends : List StreamEnd) (place : ℕ) (end : StreamEnd) → place < length ends
     → end ≡ get_or ends place end
@@ -149,12 +146,6 @@ ends_more ends place end before now next inside is told written = record {
   written = written ∙ (ap (λ (w : Option (List ℕ)). append_known w (end_line (place + 1) end)) told.written
       ∙ append_known-append before told.done (end_line (place + 1) end));
 }
-
-pub ends_all : (ends : List StreamEnd) (place : ℕ) (before now : Option (List ℕ))
-    → length ends ≤ place → HasToldEnds ends place before now → now ≡ append_known before (end_lines 1 ends)
-ends_all ends place before now all told =
-    told.written ∙ ap (append_known before) (sym (append-nil told.done)
-    ∙ (ap (λ (es : List StreamEnd). told.done ++ end_lines (place + 1) es) (sym (drop_all place ends all)) ∙ told.cut))
 
 -- one of the pieces
 pub split_at : {X : Type 0} (f : X → List ℕ) (xs : List X) (i : ℕ) (d : X) → i < length xs

@@ -1,13 +1,12 @@
 -- Sessions that are written one after another.
-use Rattle.std.proofs.Common.{◌≡◌, ℕ, zero, suc, ◌+◌, ◌<◌, ◌≤◌, List, [], ◌∷◌, ◌++◌, length, drop, get_or, Option}
-use Rattle.std.proofs.Common.{Result, Ok, Err, refl, ap, sym, ◌∙◌, append_assoc, arith}
+use Rattle.std.proofs.Common.{◌≡◌, ℕ, zero, suc, ◌+◌, ◌<◌, List, [], ◌∷◌, ◌++◌, length, drop, get_or, Option}
+use Rattle.std.proofs.Common.{Result, Err, refl, ap, sym, ◌∙◌, append_assoc, arith}
 use Rattle.std.specs.Prelude.{map}
 use Rattle.std.specs.Io.KnownBytes.{append_known}
-use Rattle.std.proofs.lemmas.List.{append-nil, drop_more, drop_all, length-map}
+use Rattle.std.proofs.lemmas.List.{drop_more, length-map}
 use Rattle.ask_text.specs.Answered.{AnsweredValue}
 use Rattle.ask_text.specs.Replies.{session_text, sessions_text, replies}
-use Rattle.rpq_io.proofs.Bytes.{append_known-nil, append_known-append}
-use Rattle.rpq_io.proofs.Counting.{counts_none}
+use Rattle.rpq_io.proofs.Bytes.{append_known-append}
 use Rattle.rpq_run.specs.declared.fault.TextFault.{TextFault}
 use Rattle.rpq_run.specs.declared.fault.TextFault.TheVariants.{Write}
 use Rattle.rpq_run.specs.Parts.{WritesPart}
@@ -19,9 +18,6 @@ pub record HasReplied (told : List (List (List ℕ))) (place : ℕ) (before now 
   pub done : List ℕ
   pub cut : done ++ sessions_text (place + 1) (drop place told) ≡ replies told
   pub written : now ≡ append_known before done
-
-pub none_replied : (told : List (List (List ℕ))) (before : Option (List ℕ)) → HasReplied told 0 before before
-none_replied told before = record { done = []; cut = refl; written = sym (append_known-nil before) }
 
 -- the replies of the session at a place
 pub told_at : {X : Type 0} (own : X → List AnsweredValue) (sessions : List X) (place : ℕ) (session : X)
@@ -59,13 +55,6 @@ replied_more told texts place before now next here has written = record {
   written = written ∙ (ap (λ (w : Option (List ℕ)). append_known w (session_text (place + 1) texts)) has.written
       ∙ append_known-append before has.done (session_text (place + 1) texts));
 }
-
--- all of them
-pub replied_all : (told : List (List (List ℕ))) (place : ℕ) (before now : Option (List ℕ))
-    → length told ≤ place → HasReplied told place before now → now ≡ append_known before (replies told)
-replied_all told place before now all has =
-    has.written ∙ ap (append_known before) (sym (append-nil has.done)
-    ∙ (ap (λ (ts : List (List (List ℕ))). has.done ++ sessions_text (place + 1) ts) (sym (drop_all place told all)) ∙ has.cut))
 
 module _ {Sink : Type 0} {written : Sink → Option (List ℕ)} {faults : Sink → ℕ} {old between new : Sink} where
   -- one of some texts fails, after those before it
@@ -105,15 +94,3 @@ module _ {Sink : Type 0} {written : Sink → Option (List ℕ)} {faults : Sink �
           → written new ≡ append_known (written old) (done ++ front)
       onward front grew = grew ∙ (ap (λ (w : Option (List ℕ)). append_known w front) so_far
           ∙ append_known-append (written old) done front)
-
--- all texts are written
-pub part_whole : {Sink : Type 0} {written : Sink → Option (List ℕ)} {faults : Sink → ℕ} {old new : Sink}
-    {text : List ℕ} (done : Unit {0}) → written new ≡ append_known (written old) text
-    → faults new ≡ faults old → WritesPart written faults text old new (Ok done)
-part_whole {written = written} {faults = faults} {old = old} {new = new} {text = text} done whole quiet = record {
-  whole = λ ok. whole;
-  write = λ failed. absurd (cc failed);
-  memory = λ short. absurd (cc short);
-  counted = counts_none (◌≡◌ {A = Result (Unit {0}) TextFault} (Ok done) (Err Write)) (faults old) (faults new)
-      (λ failed. cc failed) quiet;
-}

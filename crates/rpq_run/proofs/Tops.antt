@@ -1,7 +1,7 @@
 -- What the top call hands on, and what it says of it.
 use Rattle.std.proofs.Common.{◌≡◌, ℕ, Bool, true, false, List, [], length, Option, Some, None, sym}
 use Rattle.std.proofs.Common.{ap, subst, ◌∙◌, arith, refl}
-use Rattle.std.specs.Prelude.{IfSome, IsSomeAnd, MatchBool, MatchOption, is_some}
+use Rattle.std.specs.Prelude.{IfSome, MatchBool, MatchOption, is_some}
 use Rattle.std.specs.List.{All}
 use Rattle.std.proofs.lemmas.List.{length-map}
 use Rattle.rpq_io.specs.Reader.{ReaderState}
@@ -47,12 +47,6 @@ match_none (Some n) P Q is p = absurd (cc is)
 pub match_some : (number : Option ℕ) (n : ℕ) (P : Type 0) (Q : ℕ → Type 0) → number ≡ Some n → Q n
     → MatchOption number P Q
 match_some number n P Q is q = subst (λ (m : Option ℕ). MatchOption m P Q) (sym is) q
-
--- a run begins by the settings of its words
-pub begun_by : (words : Option Settings) (given : Settings) (P : Settings → Type 0)
-    → words ≡ Some given
-    → P given → IsSomeAnd words P
-begun_by words given P are holds = subst (λ (w : Option Settings). IsSomeAnd w P) (sym are) holds
 
 -- what holds of the settings of words
 pub for_given : (words : Option Settings) (given : Settings) (P : Settings → Type 0)

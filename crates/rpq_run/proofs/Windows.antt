@@ -3,13 +3,13 @@ use Rattle.std.proofs.Common.{◌≡◌, ◌≢◌, ℕ, suc, true, false, List,
 use Rattle.std.proofs.Common.{Some, None, Result, Ok, Err, refl, ap, sym, subst, ◌∙◌, arith, inl, inr, ◌⊎◌}
 use Rattle.std.proofs.Common.{append-nil, append_assoc, ◌+◌, ◌<◌, ◌≤◌, drop, get_or}
 use Rattle.std.proofs.Common.{length-append}
-use Rattle.std.proofs.lemmas.List.{drop_more, drop_all, length-map, map-append}
+use Rattle.std.proofs.lemmas.List.{drop_more, length-map, map-append}
 use Rattle.std.specs.Prelude.{IfSome, IsOk, is_some}
 use Rattle.std.specs.Io.KnownBytes.{append_known}
 use Rattle.text_parts.specs.Lines.{line_feed}
 use Rattle.rpq_base.specs.TupleValue.{TupleValue}
 use Rattle.rpq_io.specs.Files.{IsNewSink}
-use Rattle.rpq_io.proofs.Bytes.{append_known-nil, append_known-append}
+use Rattle.rpq_io.proofs.Bytes.{append_known-append}
 use Rattle.tuple_text.specs.Written.{written}
 use Rattle.stream_tuples.specs.History.{IsPrefix, IsProperPrefix}
 use Rattle.saved_window.specs.SavedText.{saved_text}
@@ -132,9 +132,6 @@ pub record HasWritten (tuples : List TupleValue) (place : ℕ) (before now : Opt
   pub cut : done ++ saved_text (drop place tuples) ≡ saved_text tuples
   pub written : now ≡ append_known before done
 
-pub none_written_yet : (tuples : List TupleValue) (before : Option (List ℕ)) → HasWritten tuples 0 before before
-none_written_yet tuples before = record { done = []; cut = refl; written = sym (append_known-nil before) }
-
 -- the lines from a place on
 pub lines_from : (tuples : List TupleValue) (place : ℕ) (tuple : TupleValue) → place < length tuples
     → tuple ≡ get_or tuples place tuple
@@ -154,13 +151,6 @@ written_more tuples place tuple before now next inside is has grew = record {
   written = grew ∙ (ap (λ (w : Option (List ℕ)). append_known w (written_line tuple)) has.written
       ∙ append_known-append before has.done (written_line tuple));
 }
-
--- all of them
-pub written_all : (tuples : List TupleValue) (place : ℕ) (before now : Option (List ℕ)) → length tuples ≤ place
-    → HasWritten tuples place before now → now ≡ append_known before (saved_text tuples)
-written_all tuples place before now all has =
-    has.written ∙ ap (append_known before) (sym (append-nil has.done)
-    ∙ (ap (λ (ts : List TupleValue). has.done ++ saved_text ts) (sym (drop_all place tuples all)) ∙ has.cut))
 
 -- ---- the sources
 

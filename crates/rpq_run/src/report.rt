@@ -20,6 +20,7 @@ use stream_tuples::StreamEnd;
 /// | 6 | a write of the events, the replies or the saved window failed, or one of the last two files couldn't be opened |
 /// | 7 | the history is full, or a file has too many bytes |
 /// | 8 | memory ran out |
+/// | 10 | the joins file has a fault |
 ///
 /// After the start it is the first of 8, 6, 7, 5 and 4 that arose, else 0. The numbers have names
 /// in [`status`](crate::status).
@@ -33,8 +34,8 @@ pub struct Report<F: Files> {
     /// How each stream ended, in order; generated tuples are one stream. Where the run didn't
     /// begin, or is a check, there is none.
     pub streams: Vec<StreamEnd>,
-    /// The source of each stream, as the run leaves it; where a read of the queries file or the
-    /// asks file failed, that file's source.
+    /// The source of each stream, as the run leaves it; where a read of the queries file, the joins
+    /// file or the asks file failed, that file's source.
     pub sources: Vec<F::Source>,
     /// The source of the saved window with which the run began, if there is one, as the run leaves
     /// it.

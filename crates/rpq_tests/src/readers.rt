@@ -1,8 +1,6 @@
 //! A reader beside a stream and the engine: it is answered before the next line is there, and while
 //! a worker on trees is at work.
 
-ghost use Rattle.std.specs.Prelude.{◌≡◌};
-
 use crate::case::words_of;
 use rpq_io::{Files, Gate, HostSink, HostSource, OpenFault, Who};
 use rpq_run::{Report, run};
@@ -85,7 +83,7 @@ struct WatchedFiles<'a> {
 }
 
 impl<'a> Files for WatchedFiles<'a> {
-    ghost use Rattle.std.specs.Prelude.{[], None, map, string_bytes};
+    ghost use Rattle.std.specs.Prelude.{None, map, string_bytes};
 
     type Source = HostSource<Watching<'a>>;
 

@@ -1,6 +1,6 @@
 -- The changes of bindings that the entries of a history bring, and those of its first entries.
-use Rattle.std.proofs.Common.{◌≡◌, ℕ, zero, suc, ◌<◌, Bool, false, List, [], ◌∷◌, ◌++◌, length, map}
-use Rattle.std.proofs.Common.{take, Some, slice_get, refl, ap₂, subst}
+use Rattle.std.proofs.Common.{◌≡◌, ℕ, zero, suc, Bool, false, List, [], ◌∷◌, ◌++◌, map}
+use Rattle.std.proofs.Common.{take, refl, ap₂, subst}
 use Rattle.conj_query.specs.declared.event.JoinEvent.{JoinEvent}
 use Rattle.conj_query.specs.Histories.{AreJoinEventsFrom, AreJoinEventsOn, JoinsHoldBindings}
 use Rattle.conj_query.specs.Joins.{JoinValue}

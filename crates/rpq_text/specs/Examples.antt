@@ -1,6 +1,5 @@
 -- Some lines as they are written.
 use Rattle.std.specs.Prelude.{◌≡◌, ℕ, Bool, true, false, List, [], ◌∷◌, ◌++◌, None, codes}
-use Rattle.path_witness.specs.Shows.{Shown}
 use Rattle.rpq_base.specs.declared.data.Act.TheVariants.{Insert}
 use Rattle.rpq_base.specs.declared.data.Entry.{Entry}
 use Rattle.rpq_base.specs.declared.data.Event.{Event}

@@ -62,12 +62,6 @@ use Rattle.rpq_threads.proofs.Starting.{terms_of}
 
 -- ---- all passes are back, in their order
 
-stream_passes : {S : Type 0} → List (Streamed S) → List Each
-stream_passes streamed = map (λ d. d.pass) streamed
-
-reply_passes : List Replied → List Each
-reply_passes replied = map (λ (r : Replied). r.pass) replied
-
 module _ {S : Type 0} (left : S → Option (List ℕ)) (faults : S → ℕ) (history : HistoryValue) where
   streamed_order : (from : ℕ) (readers : List (ReaderState S)) (streamed : List (Streamed S)) →
       HaveStreamed left faults history from readers streamed →

@@ -2,7 +2,6 @@
 use Rattle.std.proofs.Common.{◌≡◌, ◌≢◌, ℕ, List, [], ◌∷◌, ◌++◌, Option, refl, ap, sym, subst}
 use Rattle.std.proofs.Common.{◌∙◌, append_assoc}
 use Rattle.std.specs.Io.KnownBytes.{append_known}
-use Rattle.std.proofs.lemmas.List.{append-nil}
 use Rattle.rpq_base.specs.declared.data.Entry.{Entry}
 use Rattle.rpq_io.specs.Writes.{WritesProperPrefix}
 use Rattle.rpq_io.proofs.Bytes.{append_known-nil, append_known-append}
@@ -19,25 +18,6 @@ pub begins : (options : OptionsValue) (queries : List Query) (before : Option (L
     Grew (IsText options queries []) before before
 begins options queries before =
     record { text = []; of_kind = no_text options queries; written = sym (append_known-nil before) }
-
-module _ (IsText : List ℕ → Type 0) (before after : Option (List ℕ)) where
-  -- what is whole is a prefix
-  pub whole_is_prefix : Grew IsText before after → GrewByPrefix IsText before after
-  whole_is_prefix whole = record {
-    front = whole.text;
-    rest = [];
-    of_kind = subst IsText (sym (append-nil whole.text)) whole.of_kind;
-    written = whole.written;
-  }
-
-  -- a proper prefix is a prefix
-  pub proper_is_prefix : GrewByProperPrefix IsText before after → GrewByPrefix IsText before after
-  proper_is_prefix proper = record {
-    front = proper.front;
-    rest = proper.rest;
-    of_kind = proper.of_kind;
-    written = proper.written;
-  }
 
 module _ (IsText IsNext : List ℕ → Type 0) (next : List ℕ) (before between after : Option (List ℕ))
     (goes_on : (text : List ℕ) → IsText text → IsNext (text ++ next))

@@ -41,6 +41,5 @@ mod serving;
 mod steps;
 mod task;
 
-pub use definitions::copied_definitions;
 pub use run::run_threads;
 pub use task::{Outcome, Task};

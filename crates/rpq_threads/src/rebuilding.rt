@@ -1,6 +1,6 @@
 //! The events of entries, by an engine that is rebuilt where memory runs out for the first time.
 
-ghost use Rattle.std.specs.Prelude.{◌≡◌, ◌<◌, ◌≤◌, ◌+◌, ◌^◌, ◌++◌, List, length, map};
+ghost use Rattle.std.specs.Prelude.{◌≡◌, ◌<◌, ◌≤◌, ◌+◌, ◌^◌, List, length, map};
 ghost use Rattle.std.specs.Prelude.{IfOk, OnOk, OnErr};
 ghost use Rattle.rpq_base.specs.declared.data.Entry.{Entry as EntryTaken};
 ghost use Rattle.rpq_words.specs.Modes.{IsWithin};

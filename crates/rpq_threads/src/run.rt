@@ -4,12 +4,13 @@ ghost use Rattle.std.specs.Prelude.{◌≡◌, [], IfOk, IfErr, OnErr};
 ghost use Rattle.rpq_threads.specs.Runs.{IsTask, Holds};
 ghost use Rattle.rpq_threads.specs.Served.{IsBegun};
 
-use crate::definitions::{copied_definitions, windows_move};
+use crate::definitions::windows_move;
 use crate::evaluator::Evaluator;
 use crate::room::{Gathered, Room};
 use crate::serving::{Job, Served, serve};
 use crate::task::{Outcome, Task};
 use history_model::{fronts_are_legal, legal_is_sound};
+use query_file::copied_definitions;
 use rpq_base::Memory;
 use rpq_io::{Context, Gate, Sink, Source};
 use rpq_model::QueryDef;

@@ -1,6 +1,6 @@
 //! What the command found in the words.
 
-ghost use Rattle.std.specs.Prelude.{◌≡◌, codes, map, option_map, unwrap_or, []};
+ghost use Rattle.std.specs.Prelude.{◌≡◌, map, option_map, unwrap_or, []};
 ghost use Rattle.clap.specs.Walk.{all_of, first_of, rows_of};
 ghost use Rattle.clap.specs.Matches.{found_of};
 ghost use Rattle.rpq_words.specs.Settings.{has_flag};

@@ -8,13 +8,11 @@ use Rattle.rpq_io.specs.Reader.{ReaderState}
 use Rattle.rpq_base.specs.declared.data.Tuple.{Tuple}
 use Rattle.rpq_base.specs.declared.data.Entry.{Entry}
 use Rattle.turn_lock.specs.Passes.{PassValue}
-use Rattle.history_model.specs.declared.line.Call.{Call}
-use Rattle.history_model.specs.declared.line.CallAct.TheVariants.{Append, EndStream}
 use Rattle.history_model.specs.declared.line.Line.{Line}
-use Rattle.history_model.specs.Lines.{append_line, end_line, entries, IsStream, HasEnded}
+use Rattle.history_model.specs.Lines.{append_line, end_line, entries, HasEnded}
 use Rattle.history_model.specs.World.{Terms}
-use Rattle.stream_history.specs.History.{HistoryValue, IsOpenPass, HasSeen, HasAdded}
-use Rattle.stream_history.proofs.Pushes.{entries_push, called, called_before}
+use Rattle.stream_history.specs.History.{HistoryValue, HasAdded}
+use Rattle.stream_history.proofs.Pushes.{entries_push, called}
 use Rattle.history_model.specs.declared.line.Why.{Why}
 use Rattle.stream_tuples.specs.declared.ends.StreamEnd.{StreamEnd}
 use Rattle.stream_tuples.specs.declared.ends.StreamEnd.TheVariants.{Full, Closed}
@@ -40,40 +38,6 @@ tuples_ended lines stream =
     ap (map (λ (entry : Entry). entry.tuple)) (entries_push lines (end_line stream))
     ∙ (map-append (λ (entry : Entry). entry.tuple) (entries lines) (entries (end_line stream ∷ []))
     ∙ append-nil (tuples_of lines))
-
-module _ (history : HistoryValue) (before after : PassValue Line Terms)
-    (was : IsOpenPass history before) where
-  -- after a call that adds nothing the stream is open
-  pub open_seen : HasSeen history before after → IsOpenPass history after
-  open_seen seen = record {
-    is = seen.is;
-    is_stream = subst (IsStream history.terms.streams) (sym seen.number) was.is_stream;
-    goes_on = λ ended. was.goes_on
-        (subst (λ (number : ℕ). HasEnded before.mine number) seen.number
-        (subst (λ (lines : List Line). HasEnded lines after.number) seen.mine ended));
-  }
-
-  -- and after an append
-  pub open_added : (tuple : Tuple) →
-      HasAdded history before (append_line before.number tuple) after → IsOpenPass history after
-  open_added tuple added = record {
-    is = added.is;
-    is_stream = subst (IsStream history.terms.streams) (sym added.number) was.is_stream;
-    goes_on = λ ended.
-        let call : Call = record { by = before.number; act = EndStream } in
-        was.goes_on (called_before before.mine (append_line before.number tuple) call
-        (λ same. no_append_ends before.number same)
-        (subst
-        (λ (number : ℕ). HasEnded (before.mine ++ append_line before.number tuple ∷ []) number)
-        added.number
-        (subst (λ (lines : List Line). HasEnded lines after.number) added.mine ended)));
-  }
-    where
-      no_append_ends : (by : ℕ) →
-          ◌≡◌ {A = Call} (record { by = by; act = Append }) (record { by = by; act = EndStream }) →
-          ⊥
-      no_append_ends by same =
-          let acts : Append ≡ EndStream = ap (λ (call : Call). call.act) same in cc
 
 -- tuples that one more follows are a proper prefix
 proper_from : (tuples : List Tuple) (tuple : Tuple) (all : List Tuple) →

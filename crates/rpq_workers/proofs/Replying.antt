@@ -12,7 +12,7 @@ use Rattle.history_model.specs.declared.line.Line.{Line}
 use Rattle.history_model.specs.Lines.{entries, published}
 use Rattle.history_model.specs.World.{Terms}
 use Rattle.stream_history.specs.Journal.{ShowsFront}
-use Rattle.stream_history.specs.History.{HistoryValue, HasSeen}
+use Rattle.stream_history.specs.History.{HistoryValue}
 use Rattle.ask_text.specs.declared.ask.Ask.{Ask}
 use Rattle.ask_text.specs.Answered.{AnsweredValue}
 use Rattle.ask_text.specs.Ranges.{ended_at}
@@ -105,19 +105,6 @@ replied_more history from sessions more session replied after one pass split wer
     (subst (λ (p : PassValue Line Terms). HasReplied history p session one.pass
     one.answers.items one.memory) new did) in
     rw (split, ends) all
-
--- what was seen by a call, and before it
-pub seen_then : (history : HistoryValue) (first middle after : PassValue Line Terms) →
-    middle.number ≡ first.number → StartsWith middle.seen first.seen → middle.mine ≡ first.mine →
-    HasSeen history middle after → HasSeen history first after
-seen_then history first middle after number starts mine seen = record {
-  is = seen.is;
-  number = seen.number ∙ number;
-  seen = starts_then after.seen middle.seen first.seen seen.seen starts;
-  legal = seen.legal;
-  plain = seen.plain;
-  mine = seen.mine ∙ mine;
-}
 
 -- a view has a row for each query
 pub as_many_rows : (history : HistoryValue) (lines : List Line) (view : ViewValue) →

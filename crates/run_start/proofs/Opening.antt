@@ -369,11 +369,6 @@ pub join_nothing : (file : Option (List ℕ)) → join_known (Some []) file ≡ 
 join_nothing None = refl
 join_nothing (Some bytes) = refl
 
--- and so the streams of a run without a saved window are what their files hold
-pub alone_contents : (files : List (Option (List ℕ))) → with_first (Some []) files ≡ files
-alone_contents [] = refl
-alone_contents (file ∷ files) = ap (λ (f : Option (List ℕ)). f ∷ files) (join_nothing file)
-
 -- a list of one name
 pub one_name : (names : List (List ℕ)) (name : List ℕ) → length names ≡ 1 → slice_get names 0 ≡ Some name
     → names ≡ name ∷ []

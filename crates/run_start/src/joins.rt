@@ -11,11 +11,10 @@ ghost use Rattle.run_start.specs.Files.{ForJoins, HasQueries};
 ghost use Rattle.run_start.specs.Ready.{IsReadWhole, fault_of};
 ghost use Rattle.run_start.specs.Steps.{IsFaultOfJoins, IsRefusal, UsesMore};
 
-use crate::definitions::copied_definitions;
 use crate::refusal::{Refusal, without_source};
 use crate::whole::whole_file;
 use conj_query::{JoinDef, JoinsFault, JoinsKind, read_joins};
-use query_file::Compiled;
+use query_file::{Compiled, copied_definitions};
 use rpq_base::Memory;
 use rpq_io::Files;
 use rpq_text::{StartFault, Which};

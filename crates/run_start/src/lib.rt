@@ -9,7 +9,6 @@
 //! nothing is read of a stream.
 #![tactic(auto)]
 
-mod definitions;
 mod joins;
 mod limits;
 mod queries;

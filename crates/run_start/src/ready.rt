@@ -92,8 +92,8 @@ fn reads_none(chosen: &Chosen) -> bool
     chosen.check || chosen.generate.is_some()
 }
 
-/// Reads the joins file and the asks file, and opens the streams and the sinks, in a run with these queries, which are
-/// those of its queries file.
+/// Reads the joins file and the asks file, and opens the streams and the sinks, in a run with these
+/// queries, which are those of its queries file.
 fn begin_reading<F: Files>(
     alloc: Global,
     files: &mut F,

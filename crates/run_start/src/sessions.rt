@@ -12,11 +12,10 @@ ghost use Rattle.run_start.specs.Given.{understood_names};
 ghost use Rattle.run_start.specs.Ready.{IsReadWhole, fault_of};
 ghost use Rattle.run_start.specs.Steps.{IsFaultOfAsks, IsRefusal, UsesMore};
 
-use crate::definitions::copied_definitions;
 use crate::refusal::{Refusal, without_source};
 use crate::whole::whole_file;
 use ask_text::{AskFault, AskKind, Session, read_asks};
-use query_file::Compiled;
+use query_file::{Compiled, copied_definitions};
 use rpq_io::Files;
 use rpq_text::{StartFault, Which};
 use rpq_words::Chosen;

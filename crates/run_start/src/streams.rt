@@ -1,6 +1,6 @@
 //! The streams are opened, and the saved window before them.
 
-ghost use Rattle.std.specs.Prelude.{◌≡◌, ◌≤◌, ◌++◌, [], false, true, length, map, is_some};
+ghost use Rattle.std.specs.Prelude.{◌≡◌, ◌≤◌, ◌++◌, [], false, length, map, is_some};
 ghost use Rattle.std.specs.Prelude.{Some, option_to_list, IfOk, IfErr, IfSome};
 ghost use Rattle.rpq_io.specs.Files.{IsNewSource};
 ghost use Rattle.rpq_words.specs.Modes.{AreSettings};

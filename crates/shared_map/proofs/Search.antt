@@ -16,9 +16,6 @@ use Rattle.shared_map.specs.Chunks.{IsAbove, IsBelow}
 use Rattle.shared_map.proofs.Entries.{insert_past, insert_before, remove_past, nothing_removed, set_past, look_past, nothing_found, misses_above, misses_below}
 use Rattle.shared_map.proofs.Order.{above_all}
 
-abbrev key_of : {K V : Type 0} → K × V → K
-key_of entry = entry.0
-
 -- in strict order no entry is below the one before it
 none_falls : {K V : Type 0} {cmp : K → K → Ordering} → IsTotalOrder cmp → (entries : List (K × V)) →
     IsStrictlySortedBy cmp (keys_of entries) →

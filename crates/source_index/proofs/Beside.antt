@@ -43,10 +43,6 @@ rising_head : (first : ℕ) (rest : List ℕ) → IsRising (first ∷ rest) → 
 rising_head first rest rising j within =
     rising 0 (suc j) 0 (omega arith) (omega (arith, within))
 
--- no numbers rise
-pub none_rising : IsRising []
-none_rising i j d below within = absurd (omega (arith, within))
-
 -- a number that was put where it belongs
 all_above : (first state : ℕ) (rest : List ℕ) (place : ℕ) → first < state →
     All (λ (each : ℕ). first < each) rest →

@@ -75,14 +75,6 @@ apart_from (first ∷ rest) root each apart (zero, within, is) =
 apart_from (first ∷ rest) root each apart (suc place, within, is) =
     apart_from rest root each apart.1 (place, omega (arith, within), is)
 
--- a root that isn't there
-pub drops_absent : (roots : List ℕ) (root : ℕ) → (Contains roots root → ⊥) →
-    DropsRoot roots roots root
-drops_absent roots root absent each = (
-  (λ there. (there, (λ is. absent (subst (Contains roots) is there)))),
-  (λ both. both.0),
-)
-
 -- the others are left
 pub distinct_left : (roots left : List ℕ) (root : ℕ) → IsPermutation roots (root ∷ left) →
     IsDistinct nat_eq roots → IsDistinct nat_eq left

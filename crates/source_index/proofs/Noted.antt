@@ -1,5 +1,5 @@
 -- Roots that are noted with their numbers.
-use Rattle.std.proofs.Common.{◌≡◌, ℕ, inl, inr, Bool, true, false, cond, List, [], ◌∷◌, Option, None, Some, Contains, IsPermutation, filter, nat_eq, refl, sym, ap, subst, ◌∙◌, true≢false}
+use Rattle.std.proofs.Common.{◌≡◌, ℕ, inl, inr, Bool, true, false, cond, List, ◌∷◌, Option, None, Some, Contains, IsPermutation, filter, nat_eq, refl, sym, ap, subst, ◌∙◌, true≢false}
 use Rattle.std.specs.Cmp.{nat_eq_equiv}
 use Rattle.std.specs.Option.{option_eq}
 use Rattle.std.proofs.lemmas.Map.Views.{exact_unsigned_eq}
@@ -96,7 +96,3 @@ present_retained numbers old kept new is moved each there =
         found ≡ Some number
     of_test None number passed = absurd cc
     of_test (Some other) number passed = ap (λ n. Some n) (exact_unsigned_eq other number passed)
-
--- no number is noted where there is none
-pub none_noted : (queue : List (Due ℕ)) → AreNoted [] queue
-none_noted queue root number is = absurd (none_or_some number is)

@@ -1,5 +1,5 @@
 -- The roots of a place, and of all places, after a change.
-use Rattle.std.proofs.Common.{◌≡◌, ◌⊎◌, inl, inr, ◌↔◌, ◌==◌, ℕ, eq-eqb, ne_eqb, eqb-true, Bool, true, false, cond, List, [], Option, None, Some, Result, Ok, Err, Contains, nat_eq, refl, sym, ap, subst, ◌∙◌, true≢false, arith}
+use Rattle.std.proofs.Common.{◌≡◌, ◌⊎◌, inl, inr, ◌↔◌, ◌==◌, ℕ, eq-eqb, ne_eqb, eqb-true, Bool, true, false, cond, List, [], Option, None, Some, Result, Ok, Err, Contains, nat_eq, refl, sym, ap, subst, ◌∙◌, true≢false}
 use Rattle.std.specs.Cmp.{nat_eq_equiv}
 use Rattle.std.specs.Prelude.{OnOk, OnErr}
 use Rattle.std.specs.List.{list_any}
@@ -23,10 +23,6 @@ on_err (Ok x) then so = tt
 on_err (Err e) then so = then so
 
 -- ---- the roots of one place
-
--- nothing is in a list without elements
-nothing_there : (each : ℕ) → Contains [] each → ⊥
-nothing_there each (place, within, is) = omega (arith, within)
 
 -- a root that a set has is in its list
 is_there : (keys : List ℕ) (each : ℕ) → list_any (nat_eq each) keys ≡ true → Contains keys each
@@ -202,18 +198,6 @@ drops_holder old new id root places sets drops place each = by (id.vertex == pla
           )),
           (λ both. subst (λ l. Contains l each) (sym now) both.0),
         )
-
--- no root is held at the place
-pub drops_none : (old : HoldersValue) (id : NodeId) (root : ℕ) → roots_at old id ≡ [] →
-    DropsHolder old old id root
-drops_none old id root none place each = (
-  (λ held. (
-    held,
-    (λ gone. nothing_there each
-        (subst (λ l. Contains l each) (ap (roots_at old) gone.0 ∙ none) held)),
-  )),
-  (λ both. both.0),
-)
 
 -- the vertex has the roots that it had
 pub same_at : (old new : HoldersValue) (vertex : ℕ) (places : Option RootsByState) →

@@ -46,7 +46,3 @@ AddsAt old new state root = (each other : ℕ) → Contains (roots_in new each) 
 abbrev pub DropsAt : RootsByState → RootsByState → ℕ → ℕ → Type 0
 DropsAt old new state root = (each other : ℕ) → Contains (roots_in new each) other
     ↔ (Contains (roots_in old each) other × ((each ≡ state) × (other ≡ root) → ⊥))
-
--- each state has the roots that it had
-abbrev pub HasSame : RootsByState → RootsByState → Type 0
-HasSame old new = (each : ℕ) → roots_in new each ≡ roots_in old each

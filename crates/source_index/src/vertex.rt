@@ -1,6 +1,6 @@
 //! The roots at the places of one vertex.
 
-ghost use Rattle.std.specs.Prelude.{◌≡◌, ◌≢◌, ◌↔◌, ◌<◌, ◌≤◌, ℕ, List, [], ◌∷◌, length, insert, remove, nat_eq, slice_get, slice_set, slice_index_or, vec_len, vec_capacity, Some, Contains, IsTrue, IfOk, IfErr, OnOk, OnErr};
+ghost use Rattle.std.specs.Prelude.{◌≡◌, ◌≢◌, ◌↔◌, ◌<◌, ◌≤◌, ℕ, [], length, insert, remove, nat_eq, slice_get, Some, Contains, IsTrue, IfOk, IfErr, OnOk, OnErr};
 ghost use Rattle.std.specs.List.{IsDistinct};
 ghost use Rattle.source_index.specs.VertexKept.{Inserts, are_several, many_of, states_of};
 ghost use Rattle.source_index.specs.Roots.{AddsRoot, DropsRoot};

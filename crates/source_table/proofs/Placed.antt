@@ -124,10 +124,6 @@ are_apart roots places placed = IsDistinct-from_apart nat_eq roots (λ i j d les
         ))
     by i j d less below false apart = refl
 
--- no source has no place
-pub none_placed : ArePlaced [] []
-none_placed root place = ((λ is. absurd (none_or_some place is)), (λ is. absurd (none_or_some root is)))
-
 -- ---- one source more
 
 pub placed_more : (sources : List SourceValue) (places more : List ℕ) (source : SourceValue) →

@@ -1,10 +1,9 @@
 -- Sources of which the chosen ones tried to take a change.
 use Rattle.std.proofs.Common.{◌≡◌, ◌≢◌, ◌<◌, ◌+◌, ◌⊎◌, inl, inr, ℕ, true, false, List, [], ◌∷◌, length, get_or, take, filter_map, Option, None, Some, Result, Ok, Err, slice_get, nat_eq, Contains, All, refl, sym, ap, subst, ◌∙◌, true≢false, arith}
 use Rattle.std.specs.Cmp.{nat_eq_equiv}
-use Rattle.std.specs.Prelude.{OnOk, OnErr, set}
-use Rattle.rpq_base.specs.declared.memory.Memory.{Memory}
+use Rattle.std.specs.Prelude.{OnOk}
 use Rattle.std.specs.List.{IsDistinct}
-use Rattle.std.proofs.lemmas.List.{take_more, get_or-take, get_or_default, length-take-le, get_or-set_same, get_or-set_other}
+use Rattle.std.proofs.lemmas.List.{take_more, get_or-take, get_or_default, length-take-le}
 use Rattle.std.proofs.lemmas.List.Elements.{All-contains, Contains-append_left, Contains-get_or, Contains-push, Contains-push_cases}
 use Rattle.std.proofs.lemmas.Map.Keys.{apart_from_distinct}
 use Rattle.std.proofs.lemmas.Option.{get_or_from_slice_get, slice_get-get_or, slice_get_within}
@@ -12,12 +11,12 @@ use Rattle.source_tree.specs.declared.change.Change.{Change}
 use Rattle.source_tree.specs.Ends.{SourceValue}
 use Rattle.source_tree.specs.Product.{ProductValue}
 use Rattle.source_tree.specs.Taking.{HasTaken, IsReady}
-use Rattle.source_table.specs.Parts.{AreSound, Tries, TriesIf, TriesOne}
+use Rattle.source_table.specs.Parts.{AreSound, Tries, TriesIf}
 use Rattle.source_table.specs.Places.{ArePlaced, place_of}
 use Rattle.source_table.specs.Sources.{AreReady, HaveTaken, roots_of, source_in}
-use Rattle.source_table.proofs.Lists.{by_order, same_lists, some_is_one}
+use Rattle.source_table.proofs.Lists.{same_lists, some_is_one}
 use Rattle.source_table.proofs.Placed.{root_of, root_at, source_at, stands_at, placed_at, at_place, no_place, no_source, within}
-use Rattle.source_table.proofs.Chosen.{chosen_from, chosen_has, nothing_there}
+use Rattle.source_table.proofs.Chosen.{chosen_from, chosen_has}
 
 -- ---- one place more of the chosen ones
 
@@ -64,15 +63,6 @@ next_new chosen k d below once (j, within, is) =
         ∙ nat_eq_equiv.refl place
 
 module _ (change : Change) (product : ProductValue) where
-  -- before the first
-  pub none_tried : (place : ℕ) (source : SourceValue) →
-      TriesIf (Contains [] place) change product source source
-  none_tried place source = record {
-    root = refl;
-    taken = λ there. absurd (nothing_there place there);
-    other = λ _. refl;
-  }
-
   -- before its turn it is as it was
   pub untouched : (chosen : List ℕ) (k d place : ℕ) (before now : SourceValue) →
       k < length chosen → IsDistinct nat_eq chosen → get_or chosen k d ≡ place →
@@ -106,59 +96,6 @@ module _ (change : Change) (product : ProductValue) where
         (next_there chosen k d below)))
         ∙ so.other (λ there. never (still chosen k d place below there));
   }
-
-  -- a source that stands elsewhere
-  pub elsewhere : (chosen : Type 0) (source : SourceValue) → (chosen → ⊥) →
-      TriesIf chosen change product source source
-  elsewhere chosen source apart = record {
-    root = refl;
-    taken = λ is. absurd (apart is);
-    other = λ _. refl;
-  }
-
-  -- the one at its place
-  pub one_tried : (chosen : Type 0) (result : Result (Unit {0}) Memory)
-      (before after : SourceValue) → chosen →
-      after.tree.root ≡ before.tree.root →
-      OnOk result (HasTaken change product before after) →
-      OnErr result (after.broken ≡ true) →
-      TriesIf chosen change product before after
-  one_tried chosen (Ok done) before after is root taken broken = record {
-    root = root;
-    taken = λ _ _. taken;
-    other = λ never. absurd (never is);
-  }
-  one_tried chosen (Err fault) before after is root taken broken = record {
-    root = root;
-    taken = λ _ sound. absurd (true≢false (sym broken ∙ sound));
-    other = λ never. absurd (never is);
-  }
-
-  -- a part in which one was tried
-  pub part_tried : (place start offset : ℕ) (old : List SourceValue) (after : SourceValue) →
-      place ≡ start + offset → offset < length old →
-      ((d : SourceValue) → TriesIf (place ≡ start + offset) change product
-      (get_or old offset d) after) →
-      TriesOne place start change product old (set old offset after)
-  part_tried place start offset old after is within tried other d below =
-      elim (by_order other offset) [
-        | inl less ↦ apart (λ same. omega (arith, less, same))
-        | inr rest ↦ elim rest [
-          | inl same ↦
-              subst (λ n. TriesIf (place ≡ start + n) change product (get_or old n d)
-              (get_or (set old offset after) n d)) (sym same)
-              (subst (TriesIf (place ≡ start + offset) change product
-              (get_or old offset d)) (sym (get_or-set_same old offset after d within)) (tried d))
-          | inr more ↦ apart (λ same. omega (arith, more, same))
-        ]
-      ]
-    where
-      apart : (other ≢ offset) → TriesIf (place ≡ start + other) change product
-          (get_or old other d) (get_or (set old offset after) other d)
-      apart distinct = subst (TriesIf (place ≡ start + other) change product
-          (get_or old other d)) (sym (get_or-set_other old offset other after d distinct))
-          (elsewhere (place ≡ start + other) (get_or old other d)
-          (λ at. distinct (omega (arith, at, is))))
 
   -- ---- all sources
 

@@ -18,7 +18,7 @@ use Rattle.delta_tree.specs.Nodes.{TreeValue, node_of, same_node}
 use Rattle.delta_tree.specs.Changes.{AreBelow, AreDue, AreShifts, Expires, IsSameBeside, IsShift, shift_ids}
 use Rattle.delta_tree.proofs.Ids.{same_node_laws, some_is_one}
 use Rattle.delta_tree.proofs.Trees.{living_some}
-use Rattle.tree_insert.specs.Trees.{IsLater, Keeps}
+use Rattle.tree_insert.specs.Trees.{Keeps}
 use Rattle.tree_insert.proofs.Expiry.{expiry_keeps_optimal}
 use Rattle.tree_delete.specs.Removal.{KeepsApart}
 use Rattle.source_tree.specs.Product.{ProductValue, IsOptimalOn, steps_of, values_of}
@@ -53,14 +53,6 @@ removed product old new edge items (Ok shifts) optimal keeps below are =
 removed product old new edge items (Err fault) optimal keeps below are = below
 
 -- ---- an expiry
-
--- the same root and puts
-pub same_is_later : (old new : TreeValue) → IsSameBeside old new → IsLater old new
-same_is_later old new beside = record {
-  root = beside.root;
-  puts = omega (arith, beside.puts);
-  few = omega (arith, beside.puts);
-}
 
 module _ (old new : TreeValue) (now : ℕ) (gone : Expires old new now) where
   -- a node that is left stood there

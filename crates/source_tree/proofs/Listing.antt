@@ -44,13 +44,6 @@ pub record IsListing (finals : List ℕ) (tree : TreeValue) (walked : List NodeI
       value_of tree id ≡ Some value →
       Contains reached (record { vertex = id.vertex; value = value })
 
-pub listing_starts : (finals : List ℕ) (tree : TreeValue) → IsListing finals tree [] []
-listing_starts finals tree = record {
-  only = λ each there. absurd (contains_none each there);
-  fits = λ each there. absurd (contains_none each there);
-  there = λ id there. absurd (contains_none id there);
-}
-
 -- one place more of the walk
 pub walked_more : (ids : List NodeId) (k : ℕ) (id : NodeId) → slice_get ids k ≡ Some id →
     take (k + 1) ids ≡ take k ids ++ id ∷ []

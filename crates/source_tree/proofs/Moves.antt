@@ -1,8 +1,7 @@
 -- The places where nodes came or went, by the shifts.
-use Rattle.std.proofs.Common.{◌≡◌, ◌≢◌, ◌⊎◌, inl, inr, ℕ, suc, arith, Bool, true, false, not, ◌==◌, List, [], ◌∷◌, ◌++◌, get_or, length, Option, None, Some, option_map, refl, sym, ap, subst, ◌∙◌, Contains, true≢false}
+use Rattle.std.proofs.Common.{◌≡◌, ◌≢◌, ◌⊎◌, inl, inr, ℕ, suc, arith, Bool, true, false, not, ◌==◌, List, [], ◌∷◌, get_or, length, Option, None, Some, option_map, refl, sym, ap, subst, ◌∙◌, Contains, true≢false}
 use Rattle.std.specs.Prelude.{All, filter, is_some, cond}
 use Rattle.std.proofs.lemmas.Bool.{eqb-true, false_from_ne_true}
-use Rattle.std.proofs.lemmas.List.{append_assoc}
 use Rattle.std.proofs.lemmas.List.Elements.{All-contains, Contains-get_or, filter_passes}
 use Rattle.edge_store.specs.declared.edge.EdgeId.{EdgeId}
 use Rattle.delta_tree.specs.declared.node.NodeId.{NodeId}
@@ -23,24 +22,6 @@ use Rattle.source_tree.proofs.Shifts.{HasShift, has_shift, is_listed, same_value
 
 abbrev is_move : Shift → Bool
 is_move shift = moves shift.before shift.after
-
--- one shift more
-pub moved_more : (ids : List NodeId) (shift : Shift) (left : List Shift) (all : List NodeId) →
-    is_move shift ≡ true → ids ++ moved_ids (shift ∷ left) ≡ all →
-    (ids ++ shift.id ∷ []) ++ moved_ids left ≡ all
-moved_more ids shift left all is so_far =
-    append_assoc ids (shift.id ∷ []) (moved_ids left)
-    ∙ ap (λ (b : Bool). ids ++ shift_ids (cond b (shift ∷ filter is_move left)
-    (filter is_move left))) (sym is)
-    ∙ so_far
-
-pub moved_same : (ids : List NodeId) (shift : Shift) (left : List Shift) (all : List NodeId) →
-    is_move shift ≡ false → ids ++ moved_ids (shift ∷ left) ≡ all →
-    ids ++ moved_ids left ≡ all
-moved_same ids shift left all is so_far =
-    ap (λ (b : Bool). ids ++ shift_ids (cond b (shift ∷ filter is_move left)
-    (filter is_move left))) (sym is)
-    ∙ so_far
 
 -- ---- its members
 

@@ -112,16 +112,6 @@ module _ (root state : ℕ) (old new : TreeValue) where
   abbrev finals : List ℕ
   finals = state ∷ []
 
-  pub one_starts : (shifts : List Shift) → AreShifts old new shifts →
-      TellsOne root state old new shifts []
-  one_starts shifts are = record {
-    telling = telling_starts root (end_in finals old) (end_in finals new) (WaitsAt state shifts)
-        (λ vertex apart. ap (λ (value : Option ℕ). later value None)
-        (same_value old new shifts are (node_id vertex state) apart));
-    values = are.values;
-    once = are.once;
-  }
-
   pub one_ends : (log : List EndChange) → TellsOne root state old new [] log →
       AreEndChanges root (end_in finals old) (end_in finals new) log
   one_ends log tells = telling_ends root (end_in finals old) (end_in finals new)

@@ -1,6 +1,6 @@
 //! The ends of the vertices, and the log of their changes.
 
-ghost use Rattle.std.specs.Prelude.{◌≡◌, ◌≢◌, ◌↔◌, ◌<◌, ◌≤◌, ℕ, ◌∷◌, [], length, slice_index_or, take, All, Contains, IsTrue, OnOk};
+ghost use Rattle.std.specs.Prelude.{◌≡◌, ◌≢◌, ◌↔◌, ◌<◌, ◌≤◌, ◌∷◌, [], length, slice_index_or, take, All, IsTrue, OnOk};
 ghost use Rattle.delta_tree.specs.Nodes.{TreeValue, value_of};
 ghost use Rattle.delta_tree.specs.Changes.{AreShifts};
 ghost use Rattle.delta_tree.specs.declared.node.Shift.{Shift};

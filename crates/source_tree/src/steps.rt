@@ -1,6 +1,6 @@
 //! What each change does to the tree.
 
-ghost use Rattle.std.specs.Prelude.{◌≡◌, ◌^◌, ◌<◌, ℕ, All, IfOk, OnOk};
+ghost use Rattle.std.specs.Prelude.{◌^◌, ◌<◌, ℕ, All, IfOk, OnOk};
 ghost use Rattle.delta_tree.specs.Changes.{AreBelow, AreShifts, shift_ids};
 ghost use Rattle.tree_insert.specs.Trees.{IsLater, IsRisen, Keeps, WasOptimal};
 ghost use Rattle.tree_delete.specs.Removal.{KeepsApart, WasOptimalWith};

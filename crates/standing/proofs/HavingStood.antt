@@ -254,10 +254,6 @@ begun {S} seen given circle members left =
     subst₂ (λ (staying gone : List S). HaveStood (map seen given) [] ⊤ (map seen staying) (map seen gone)) (sym members) (sym left)
     (none_told (map seen given) ⊤)
 
--- objects that were told of none of these events
-pub none_of_these_told : (objects : List ObjectValue) (events : List Event) → HaveStood objects events ⊥ objects []
-none_of_these_told objects events = stood_longer objects [] events ⊤ objects [] (none_told objects ⊤)
-
 -- ---- objects that are gone
 
 none_gone_at : (objects : List ObjectValue) (place : ℕ) (P : ObjectValue → Type 0) (new : ObjectValue) →

@@ -108,17 +108,3 @@ wanted_one wanted event is = rw is refl
 
 pub unwanted_one : (wanted : List ℕ) (event : Event) → wants wanted event.query ≡ false → wanted_events wanted (event ∷ []) ≡ []
 unwanted_one wanted event is = rw is refl
-
--- an event that isn't wanted
-pub heard_unwanted : (event : Event) (object : ObjectValue) → wants object.wanted event.query ≡ false → HasHeard (event ∷ []) object object
-heard_unwanted event object is = record {
-  told = subst (λ (list : List Event). IsTold list object object) (sym (unwanted_one object.wanted event is)) (told_nothing object);
-  untold = λ _. refl;
-}
-
--- an event that is wanted
-pub heard_wanted : (event : Event) (old new : ObjectValue) → wants old.wanted event.query ≡ true → IsTold (event ∷ []) old new → HasHeard (event ∷ []) old new
-heard_wanted event old new is told = record {
-  told = subst (λ (list : List Event). IsTold list old new) (sym (wanted_one old.wanted event is)) told;
-  untold = λ none. absurd (some_isnt_none event (sym (wanted_one old.wanted event is) ∙ none));
-}

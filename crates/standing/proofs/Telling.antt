@@ -1,5 +1,5 @@
 -- A circle while it is told of an event, member by member.
-use Rattle.std.proofs.Common.{◌≡◌, ℕ, suc, ◌+◌, ◌<◌, ◌≤◌, Bool, true, false, not, List, [], ◌∷◌, ◌++◌, length, get_or, set, take, drop, map, remove, filter, refl, sym, ap, ap₂, subst, subst₂, ◌∙◌, append_assoc, append-nil, arith}
+use Rattle.std.proofs.Common.{◌≡◌, ℕ, suc, ◌+◌, ◌<◌, Bool, true, false, not, List, [], ◌∷◌, ◌++◌, length, get_or, set, take, drop, map, remove, filter, refl, sym, ap, ap₂, subst, subst₂, ◌∙◌, append_assoc, append-nil, arith}
 use Rattle.std.specs.List.{AllZip}
 use Rattle.std.proofs.lemmas.List.{set_at, get_or_at, take_at, drop_at, map-set, get_or-map, length_push, length-append, length-map, set-get_or, get_or-set_same, map-append, map_push, take-map, drop-map, take-set, drop-set-lt}
 use Rattle.std.proofs.lemmas.List.Elements.{filter-append}
@@ -7,7 +7,7 @@ use Rattle.rpq_base.specs.declared.data.Event.{Event}
 use Rattle.standing.specs.Objects.{ObjectValue}
 use Rattle.standing.specs.Told.{HasHeard}
 use Rattle.standing.proofs.Zips.{zip-append}
-use Rattle.standing.specs.Circles.{CircleValue, circle_value, leaves, stays, TellsAllBut, Tells, TellsSome, TellsEach}
+use Rattle.standing.specs.Circles.{CircleValue, circle_value, leaves, stays, Tells, TellsSome, TellsEach}
 
 -- the members before this place have heard the event, and no other has
 pub record SoFar (event : Event) (old now : CircleValue) (place : ℕ) : Type 0 where
@@ -46,26 +46,6 @@ some_told event old now place far = (
     gone = far.gone;
   },
 )
-
--- behind so many there is nothing
-none_behind : {X : Type 0} (front rest : List X) → length (front ++ rest) ≤ length front → rest ≡ []
-none_behind front [] past = refl
-none_behind front (x ∷ rest) past = absurd (omega (arith, past, length-append front (x ∷ rest)))
-
-pub all_told : (event : Event) (old now : CircleValue) (place : ℕ) → length now.members ≤ place → SoFar event old now place → Tells event old now
-all_told event old now place past far =
-    let telling : TellsAllBut far.untold event old now = record {
-      first = far.first;
-      told = far.told;
-      split = far.split;
-      heard = far.heard;
-      stayed = far.stayed;
-      gone = far.gone;
-    } in
-    let none : far.untold ≡ [] = none_behind (filter (stays event) far.told) far.untold
-    (subst (λ (count : ℕ). length (filter (stays event) far.told ++ far.untold) ≤ count) (sym far.reached)
-    (subst (λ (members : List ObjectValue). length members ≤ place) far.stayed past)) in
-    subst (λ (untold : List ObjectValue). TellsAllBut untold event old now) none telling
 
 -- ---- several events
 

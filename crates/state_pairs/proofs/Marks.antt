@@ -16,16 +16,6 @@ either : (o : Option ℕ) → Either o
 either None = inl refl
 either (Some level) = inr (level, refl)
 
--- nothing is marked
-pub none_marked : (P : ℕ → Type 0) (level : ℕ) (levels : List (Option ℕ)) (found : List ℕ) → ((node : ℕ) → P node → ⊥) → Marks P level levels levels found found
-none_marked P level levels found none = record {
-  as_many = refl;
-  kept = λ node old is. is;
-  meant = λ node p is. absurd (none node p);
-  new = λ node now is there. absurd (none-some now (sym is ∙ there));
-  listed = λ node. ((λ there. inl there), (λ either. ⊎_elim (λ there. there) (λ both. absurd (none-some level (sym both.0 ∙ both.1))) either));
-}
-
 -- what is meant, in other words
 pub marked_as : (P Q : ℕ → Type 0) (level : ℕ) (before after : List (Option ℕ)) (found more : List ℕ) → ((node : ℕ) → P node ↔ Q node) → Marks P level before after found more → Marks Q level before after found more
 marked_as P Q level before after found more same marks = record {

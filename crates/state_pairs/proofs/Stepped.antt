@@ -1,28 +1,11 @@
 -- The nodes that have a step to a node, label by label and node by node.
-use Rattle.std.proofs.Common.{◌≡◌, ℕ, zero, suc, ◌+◌, ◌<◌, List, [], ◌∷◌, ◌++◌, set, length, Some, None, refl, sym, ap, ◌∙◌, subst, ⊎_elim, inl, inr, arith, ◌⊎◌, Contains}
+use Rattle.std.proofs.Common.{◌≡◌, ℕ, ◌+◌, ◌<◌, List, [], set, length, Some, None, refl, sym, ap, ◌∙◌, subst, ⊎_elim, inl, inr, arith, ◌⊎◌, Contains}
 use Rattle.std.specs.Prelude.{◌↔◌}
 use Rattle.std.proofs.lemmas.Bool.{cases_eq}
-use Rattle.std.proofs.lemmas.List.{length_push, length-set, get_or-set_same, get_or-set_other}
+use Rattle.std.proofs.lemmas.List.{length-set, get_or-set_same, get_or-set_other}
 use Rattle.std.proofs.lemmas.Option.{none-some, same_Some}
 use Rattle.state_pairs.specs.Goals.{GoalGraph}
-use Rattle.state_pairs.specs.Sources.{sources_at, AreEmpty, HasStep, AddsSource, AddsSteps, AreSources}
-
--- an empty list has no nodes
-pub none_in : (nodes : List ℕ) (node : ℕ) → nodes ≡ [] → Contains nodes node → ⊥
-none_in [] node is has = absurd (omega (arith, has.1))
-none_in (first ∷ nodes) node is has = cc
-
-empty_push : (lists : List (List ℕ)) (target : ℕ) → sources_at lists target ≡ [] → sources_at (lists ++ [] ∷ []) target ≡ []
-empty_push [] zero is = refl
-empty_push [] (suc target) is = refl
-empty_push (list ∷ lists) zero is = is
-empty_push (list ∷ lists) (suc target) is = empty_push lists target is
-
-pub empty_more : (count : ℕ) (lists : List (List ℕ)) → AreEmpty count lists → AreEmpty (count + 1) (lists ++ [] ∷ [])
-empty_more count lists are = record {
-  as_many = length_push lists [] ∙ ap (λ (n : ℕ). n + 1) are.as_many;
-  each = λ target. empty_push lists target (are.each target);
-}
+use Rattle.state_pairs.specs.Sources.{sources_at, HasStep, AddsSource, AddsSteps, AreSources}
 
 -- the list of one target gets the node
 pub adds_at : (lists : List (List ℕ)) (target node : ℕ) (more : List ℕ) → target < length lists →
@@ -50,12 +33,6 @@ adds_at lists target node more below adds = record {
 }
 
 -- ---- label by label
-
-pub steps_begin : (graph : GoalGraph) (node : ℕ) (lists : List (List ℕ)) → AddsSteps graph node 0 lists lists
-steps_begin graph node lists = record {
-  as_many = refl;
-  each = λ target source. ((λ there. inl there), (λ which. ⊎_elim (λ there. there) (λ both. absurd (omega (arith, both.1.1))) which));
-}
 
 pub steps_more : (graph : GoalGraph) (node label next : ℕ) (before middle after : List (List ℕ)) → AddsSteps graph node label before middle → graph.leads node label ≡ Some next →
     AddsSource next node middle after → AddsSteps graph node (label + 1) before after
@@ -99,12 +76,6 @@ steps_none graph node label before after adds leads = record {
 }
 
 -- ---- node by node
-
-pub sources_begin : (graph : GoalGraph) (lists : List (List ℕ)) → AreEmpty graph.node_count lists → AreSources graph 0 lists
-sources_begin graph lists are = record {
-  as_many = are.as_many;
-  each = λ target source. ((λ there. absurd (none_in (sources_at lists target) source (are.each target) there)), (λ both. absurd (omega (arith, both.0))));
-}
 
 pub sources_more : (graph : GoalGraph) (node : ℕ) (before after : List (List ℕ)) → AreSources graph node before → AddsSteps graph node graph.label_count before after →
     AreSources graph (node + 1) after

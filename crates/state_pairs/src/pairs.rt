@@ -1,7 +1,6 @@
 //! The pairs of states of an automaton, and the words that tell them apart.
 
 ghost use Rattle.std.specs.Prelude.{◌≡◌, ◌<◌, ◌≤◌, ◌↔◌, length, IsTrue, IfOk, IfSome};
-ghost use Rattle.dfa_table.specs.DfaValue.{step_of};
 ghost use Rattle.state_pairs.specs.PairGraph.{pair_of, step_or_none};
 ghost use Rattle.state_pairs.specs.Pairs.{HasExtraWord, IsLeastExtra};
 

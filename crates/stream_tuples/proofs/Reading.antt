@@ -7,7 +7,7 @@ use Rattle.std.specs.Io.KnownBytes.{prepend_known}
 use Rattle.std.proofs.lemmas.Bool.{le-leb}
 use Rattle.std.proofs.lemmas.List.{append-nil, nil_from_length}
 use Rattle.std.proofs.lemmas.Option.{IfSome_then}
-use Rattle.std.proofs.lemmas.List.Elements.{All-nil, All-push}
+use Rattle.std.proofs.lemmas.List.Elements.{All-push}
 use Rattle.text_parts.specs.Lines.{IsLine, line_length, text_of, without_return}
 use Rattle.text_parts.specs.EndedLines.{ended_lines}
 use Rattle.text_parts.proofs.LineEnds.{without_return_shorter}
@@ -26,23 +26,10 @@ use Rattle.stream_tuples.specs.Limits.{line_limit, byte_limit}
 use Rattle.stream_tuples.specs.StreamText.{StreamTuples, tuples_with, tuples_before, numbered, line_gives}
 use Rattle.stream_tuples.specs.StreamText.{tuples_of_lines, tuples_from}
 use Rattle.stream_tuples.specs.History.{IsPrefix, AreTaken, AreTuplesOfEnd}
-use Rattle.stream_tuples.specs.Progress.{IsStreamReader, IsNew, passed, HasReadLines, HasReadAll, HasRead}
+use Rattle.stream_tuples.specs.Progress.{IsStreamReader, passed, HasReadLines, HasReadAll, HasRead}
 use Rattle.stream_tuples.proofs.StreamTexts.{first_gives, no_lines, tuples_after, faulty_first}
 use Rattle.stream_tuples.proofs.StreamTexts.{faulty_last, good_last, nothing_left, long_first}
 use Rattle.stream_tuples.proofs.StreamTexts.{long_stream}
-
--- a new reader gave no line
-pub new_reader : {S : Type 0} (left : S → Option (List ℕ)) (reader : ReaderState S) → IsNew reader
-    → HasRead left (left reader.source) [] reader
-new_reader left reader is = inl (record {
-  lines = [];
-  whole = All-nil IsLine;
-  came = sym (prepend_known-nil (left reader.source))
-      ∙ ap (λ h. prepend_known h (left reader.source)) (sym is.no_bytes);
-  read = λ more end. refl;
-  counted = is.no_line;
-  measured = omega (arith, is.none_taken, ap length is.no_bytes);
-})
 
 -- tuples before no others
 before_none : (tuples : List Tuple) (end : StreamEnd)

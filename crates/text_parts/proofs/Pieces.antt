@@ -86,11 +86,6 @@ open_many (line ∷ lines) rest whole =
 pub text_push : (lines : List (List ℕ)) (line : List ℕ) → text_of (lines ++ line ∷ []) ≡ text_of lines ++ (line ++ 10 ∷ [])
 text_push lines line = flat_map-append (λ l. l ++ 10 ∷ []) lines (line ∷ []) ∙ ap (λ t. text_of lines ++ t) (append-nil (line ++ 10 ∷ []))
 
--- as many lines have at least as many bytes with their line feeds
-pub lines_are_bytes : (lines : List (List ℕ)) → length lines ≤ length (text_of lines)
-lines_are_bytes [] = omega arith
-lines_are_bytes (line ∷ lines) = omega (arith, lines_are_bytes lines, length-append (line ++ 10 ∷ []) (text_of lines), length-append line (10 ∷ []))
-
 -- ---- they are the text
 
 -- a text of one line that is still open

@@ -346,12 +346,6 @@ removal_elsewhere_keeps_optimal before after step tree edge is optimal removed n
 
 -- ---- trees and stores
 
--- a tree without nodes has no path
-pub bare_ways : (values : EdgeId → Option ℕ) (step : ℕ → ℕ → Option ℕ) (tree : TreeValue) →
-    ((id : NodeId) → node_of tree id ≡ None) → HasOwnWays values step tree
-bare_ways values step tree none id node path there leads =
-    absurd (none-some node (sym (none id) ∙ there))
-
 pub removals_are_removals : RemovalsAreRemovals
 removals_are_removals old new edge updates = record {
   gone = updates edge ∙ ap (λ (b : Bool). cond b None (store.value_of old edge))

@@ -1,7 +1,6 @@
 -- The nodes below an edge, found from one another.
 use Rattle.std.proofs.Common.{◌≡◌, ℕ, zero, suc, ◌≤◌, ◌<◌, ◌+◌, ⊎_elim, Bool, true, false, ◌&&◌, cond, List, [], ◌∷◌, ◌++◌, append_assoc, length, map, take, drop, slice_get, slice_index_or, Option, Some, None, refl, sym, ap, ap₂, subst, ◌∙◌, eq-eqb, arith, Contains}
 use Rattle.std.specs.Prelude.{All, is_some, IsSome}
-use Rattle.std.specs.Bool.{IsTrue}
 use Rattle.std.specs.List.{AllByRecursion, IsDistinct}
 use Rattle.std.specs.Map.{keys_of}
 use Rattle.std.proofs.lemmas.Bool.{cases_eq, true≢false}
@@ -301,20 +300,6 @@ hangs_so found parent edge node is above by_edge =
     ∙ ap₂ (λ a b. a && b)
     (ap (λ (e : EdgeId). same_edge e edge) by_edge ∙ same_edge_itself edge)
     (ap (λ (p : NodeId). same_node p parent) above ∙ same_node_laws.refl parent)
-
--- what a look-up of it answers
-pub hangs_test : (test : Bool) (tree : TreeValue) (parent : NodeId) (edge : EdgeId) (id : NodeId) →
-    (IsTrue test → HangsBelow tree parent edge id) →
-    (HangsBelow tree parent edge id → IsTrue test) →
-    hangs (node_of tree id) parent edge ≡ test
-hangs_test true tree parent edge id is so =
-    let (node, there, above, by_edge) = is refl in
-    hangs_so (node_of tree id) parent edge node there above by_edge
-hangs_test false tree parent edge id is so = by (hangs (node_of tree id) parent edge) refl
-  where
-    by : (b : Bool) → hangs (node_of tree id) parent edge ≡ b → b ≡ false
-    by true passes = absurd (true≢false (sym (so (hangs_is (node_of tree id) parent edge passes))))
-    by false passes = refl
 
 module _ (step : ℕ → ℕ → Option ℕ) (tree : TreeValue) where
   child_hangs : (from : NodeId) (edge : EdgeId) (id : NodeId) →

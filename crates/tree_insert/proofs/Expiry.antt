@@ -4,7 +4,7 @@ use Rattle.std.proofs.lemmas.Bool.{lt-ltb, ltb-true}
 use Rattle.std.proofs.lemmas.Option.{none-some}
 use Rattle.std.proofs.lemmas.List.Elements.{All-weaker}
 use Rattle.edge_store.specs.declared.edge.EdgeId.{EdgeId}
-use Rattle.edge_store.specs.Edges.{Edges, above, raised, same_edge, Updates}
+use Rattle.edge_store.specs.Edges.{Edges, above, raised, same_edge}
 use Rattle.edge_store.specs.Edges as store
 use Rattle.delta_tree.specs.declared.node.NodeId.{NodeId}
 use Rattle.delta_tree.specs.declared.node.Node.{Node}
@@ -14,7 +14,7 @@ use Rattle.delta_tree.specs.Changes.{Expires}
 use Rattle.tree_insert.specs.Best.{IsAtLeast, IsWay}
 use Rattle.tree_insert.specs.Trees.{IsOptimal}
 use Rattle.tree_insert.specs.Laws.{ExpiryKeepsOptimal, BareIsOptimal, RaisesAreRaises}
-use Rattle.tree_insert.proofs.Bests.{weaker, at_least, below_some, greatest_from, greatest_is, greatest_reached}
+use Rattle.tree_insert.proofs.Bests.{greatest_from, greatest_is, greatest_reached}
 use Rattle.tree_insert.proofs.Bests as bests
 use Rattle.tree_insert.proofs.Nodes.{value_is, node_is, node_reached, value_reached}
 use Rattle.delta_tree.proofs.Ids.{same_edge_is, same_edge_itself}

@@ -63,11 +63,6 @@ raises_or_reached tree id number = by (node_of tree id) refl
         (λ (reached : number ≤ there.value). inr (value_reached tree id there number is reached))
         (cases_lt there.value number)
 
-pub raises_unless_reached : (tree : TreeValue) (id : NodeId) (number : ℕ) →
-    (IsAtLeast number (value_of tree id) → ⊥) → Raises tree id number
-raises_unless_reached tree id number none =
-    ⊎_elim (λ raises. raises) (λ there. absurd (none there)) (raises_or_reached tree id number)
-
 pub carries_found : (tree : TreeValue) (id : NodeId) (found : Option ℕ) → found ≡ value_of tree id →
     IfSome found (λ value. Carries tree id value)
 carries_found tree id None is = tt

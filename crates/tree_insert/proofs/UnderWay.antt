@@ -33,14 +33,6 @@ gains_kind old new kind other gains same = record {
   shifts = gains.shifts;
 }
 
-pub gains_none : (search : SearchValue) (kind : Waiting → Type 0) → Gains search search kind
-gains_none search kind = record {
-  kept = λ each there. there;
-  only = λ each there. inl there;
-  level = refl;
-  shifts = refl;
-}
-
 pub gains_twice : (old middle new : SearchValue) (kind : Waiting → Type 0) → Gains old middle kind →
     Gains middle new kind → Gains old new kind
 gains_twice old middle new kind first second = record {

@@ -6,7 +6,7 @@ ghost use Rattle.edge_store.specs.Edges.{outs_of, value_of};
 ghost use Rattle.delta_tree.specs.Nodes.{TreeValue};
 ghost use Rattle.delta_tree.specs.Changes.{AreShifts, shift_ids};
 ghost use Rattle.tree_insert.specs.Trees.{CountsOuts, IsRisen};
-ghost use Rattle.tree_insert.specs.Waiting.{Gains, target_of};
+ghost use Rattle.tree_insert.specs.Waiting.{Gains};
 ghost use Rattle.tree_insert.specs.UnderWay.{AreFirm, AreServed, CanBegin, IsCounted, IsReady};
 ghost use Rattle.tree_insert.specs.UnderWay.{IsServedFrom, IsTaken, IsUnderWay, Leaves, Rises};
 ghost use Rattle.tree_insert.specs.UnderWay.{RaisesOnce};

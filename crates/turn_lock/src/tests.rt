@@ -1,8 +1,8 @@
 //! Two threads that write into a book in turn, and one that looks.
-ghost use Rattle.std.specs.Prelude.{◌≡◌, ◌≤◌, [], true, Some, IfSome, length};
+ghost use Rattle.std.specs.Prelude.{◌≡◌, ◌≤◌, true, Some, IfSome, length};
 ghost use Rattle.std.specs.Thread.{IsSync};
 ghost use Rattle.turn_lock.specs.Lines.{Adds};
-ghost use Rattle.turn_lock.specs.Passes.{newcomer, newcomers, IsAtRest, AreAll};
+ghost use Rattle.turn_lock.specs.Passes.{newcomer, newcomers, IsAtRest};
 
 use crate::{Kept, Pass, Turns};
 use std::alloc::Global;

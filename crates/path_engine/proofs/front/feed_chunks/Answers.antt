@@ -1,6 +1,6 @@
-use Rattle.std.proofs.Common.{◌≡◌, ◌+◌, List, length, get_or, sym, ap, subst, ◌∙◌, arith}
+use Rattle.std.proofs.Common.{◌≡◌, ◌+◌, get_or, sym, subst, arith}
 use Rattle.path_engine.specs.declared.front.Share.{Share}
-use Rattle.path_engine.specs.Front.{HasFed, HasHistoryFor}
+use Rattle.path_engine.specs.Front.{HasFed}
 use Rattle.path_engine.proofs.front.feed_chunks.Goals as goal
 
 pub returns : goal.returns

@@ -1,10 +1,10 @@
-use Rattle.std.proofs.Common.{◌≡◌, ◌+◌, ◌++◌, ◌∷◌, [], List, length, map, Vec, Global, refl}
+use Rattle.std.proofs.Common.{◌+◌, ◌++◌, ◌∷◌, [], List, length, map, Vec, Global, refl}
 use Rattle.std.proofs.Common.{sym, ap, subst, ◌∙◌, append_assoc, arith}
 use Rattle.std.proofs.lemmas.List.{append-nil}
 use Rattle.rpq_base.specs.declared.data.Event.{Event}
 use Rattle.path_engine.specs.declared.index.Index.{Index}
 use Rattle.path_engine.specs.declared.front.Share.{Share}
-use Rattle.path_engine.specs.Front.{AreGathered, joined}
+use Rattle.path_engine.specs.Front.{AreGathered}
 use Rattle.path_engine.proofs.Fronts.{index_of, items_of, nothing_left}
 use Rattle.path_engine.proofs.front.gather.Goals as goal
 

@@ -1,11 +1,5 @@
-use Rattle.std.proofs.Common.{rules, ◌≡◌, ◌+◌, [], ◌∷◌, List, length, take, sym, ap, subst, ◌∙◌}
-use Rattle.rpq_base.specs.declared.data.Entry.{Entry}
-use Rattle.rpq_base.specs.declared.data.Pair.{Pair}
-use Rattle.rpq_base.specs.declared.data.Event.{Event}
-use Rattle.rpq_model.specs.Answers.{AreAnswers}
+use Rattle.std.proofs.Common.{rules, ◌≡◌, ◌+◌, [], ◌∷◌, length, take, sym, subst, ◌∙◌}
 use Rattle.rpq_model.specs.Events.{changes}
-use Rattle.rpq_model.specs.Query.{path_query}
-use Rattle.conj_query.specs.Leading.{HoldAnswers, LeadOn}
 use Rattle.conj_query.specs.State.{MayCome, ArePut}
 use Rattle.reach_cases.proofs.Applying.{one_query, none_yet, nothing_in}
 use Rattle.reach_cases.proofs.bindings.apply_each.Goals as goal

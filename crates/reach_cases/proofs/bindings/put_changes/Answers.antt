@@ -1,4 +1,4 @@
-use Rattle.std.proofs.Common.{◌≡◌, ◌<◌, List, length, sym, subst}
+use Rattle.std.proofs.Common.{◌<◌, List, length, sym, subst}
 use Rattle.std.specs.Prelude.{All, Contains}
 use Rattle.std.proofs.lemmas.List.Elements.{All-weaker, All-contains_itself}
 use Rattle.std.proofs.lemmas.Option.{slice_get_within}

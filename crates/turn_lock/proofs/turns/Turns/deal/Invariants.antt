@@ -1,4 +1,4 @@
-use Rattle.std.proofs.Common.{◌≡◌, ◌+◌, ◌≤◌, [], Some}
+use Rattle.std.proofs.Common.{◌≡◌, ◌+◌, [], Some}
 use Rattle.std.specs.Vec.{vec_len, vec_capacity}
 use Rattle.turn_lock.specs.Passes.{newcomers}
 use Rattle.turn_lock.specs.Turn.{fresh}
