@@ -6,7 +6,7 @@ ghost use Rattle.source_table.specs.Parts.{AreSound, CanTry, CanTryOne, Tries, T
 ghost use Rattle.source_table.specs.Places.{place_of};
 
 use crate::places::Places;
-use rpq_base::Memory;
+use rpq_base::{Memory, Workers};
 use rpq_io::{Context, Gate, Who};
 use source_tree::{Change, ProductGraph, SourceTree};
 use std::thread;
@@ -81,15 +81,13 @@ fn change_part(
 }
 
 /// The size of the chunks for so many workers, which is no greater than it must be.
-pub(crate) fn chunk_size(len: usize, workers: u32) -> usize
-    requires some { 0 < len }
-    requires worker { 1 ≤ workers }
-    requires few { workers ≤ 64 }
+pub(crate) fn chunk_size(len: usize, workers: Workers) -> usize
+    requires { 0 < len }
     ensures some { 0 < result }
     ensures covers { len ≤ 64 * result }
     ensures least { result * workers < len + workers }
 {
-    len.div_ceil(workers as usize)
+    len.div_ceil(workers.number() as usize)
 }
 
 /// Makes the chosen sources take a change, in chunks of this size, each by a worker that passes the

@@ -1,6 +1,6 @@
 //! The table of sources.
 
-ghost use Rattle.std.specs.Prelude.{◌≡◌, ◌≤◌, ◌∷◌, ◌++◌, [], option_map, OnOk, OnErr, None};
+ghost use Rattle.std.specs.Prelude.{◌≡◌, ◌∷◌, ◌++◌, [], option_map, OnOk, OnErr, None};
 ghost use Rattle.std.specs.Ordering.{nat_cmp};
 ghost use Rattle.std.specs.List.Sorted.{IsStrictlySortedBy};
 ghost use Rattle.source_tree.specs.Ends.{SourceValue};
@@ -9,7 +9,7 @@ ghost use Rattle.source_table.specs.Sources.{AreApart, AreReady, GivesSource, Ha
 use crate::part::{change_all, check, choose, chunk_size};
 use crate::places::Places;
 use due_queue::give_back;
-use rpq_base::Memory;
+use rpq_base::{Memory, Workers};
 use rpq_io::{Context, Gate};
 use source_tree::{Change, ProductGraph, SourceTree};
 use std::alloc::Global;
@@ -123,13 +123,11 @@ impl SourceTable {
     pub fn change_each<R: Threads + Sync, G: Gate>(
         &mut self,
         context: &Context<'_, R, G>,
-        workers: u32,
+        workers: Workers,
         roots: &[u32],
         product: &ProductGraph<'_>,
         change: Change,
     ) -> Result<(), Memory>
-        requires some { 1 ≤ workers }
-        requires few { workers ≤ 64 }
         requires sorted { IsStrictlySortedBy nat_cmp roots.now }
         requires ready { AreReady change product.now roots.now self.old }
         ensures taken { OnOk result (HaveTaken change product.now roots.now self.old self.new) }
