@@ -12,7 +12,7 @@ use crate::index::State;
 use crate::settling::settle_all;
 use dfa_table::Dfa;
 use edge_store::{EdgeStore, Raised};
-use rpq_base::Memory;
+use rpq_base::{Memory, Workers};
 use rpq_io::{Context, Gate};
 use source_tree::{Change, ProductGraph};
 use std::thread::Threads;
@@ -50,13 +50,10 @@ fn change_store(store: &mut EdgeStore, change: Change) -> Result<bool, Memory>
 
 /// The number of workers that take a change with so many candidates: one, and a further one for
 /// each [`trees_per_worker`](Gate::trees_per_worker) of them, while there are any.
-fn workers_for<G: Gate>(gate: &G, candidates: usize, workers: u32) -> u32
-    requires { 1 ≤ workers }
-    ensures some { 1 ≤ result }
-    ensures few { result ≤ workers }
+fn workers_for<G: Gate>(gate: &G, candidates: usize, workers: Workers) -> Workers
+    ensures { result ≤ workers }
 {
-    let further = candidates / gate.trees_per_worker().max(1);
-    further.min(workers as usize - 1) as u32 + 1
+    Workers::with_further(candidates / gate.trees_per_worker().max(1), workers)
 }
 
 /// The store takes the change, and then the trees that it may touch, by at most so many workers. A
@@ -68,10 +65,8 @@ pub(crate) fn advance<R: Threads + Sync, G: Gate>(
     finals: &[u32],
     state: &mut State,
     change: Change,
-    workers: u32,
+    workers: Workers,
 ) -> Result<(), Memory>
-    requires some { 1 ≤ workers }
-    requires few { workers ≤ 64 }
     requires finals { AreFinals dfa.now finals.now }
     requires calls { state.old.calls < 2 ^ 60 }
     requires kept { IsKept dfa.now state.old.store state.old.calls state.old.index }

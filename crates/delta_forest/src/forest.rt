@@ -1,6 +1,6 @@
 //! The forest.
 
-ghost use Rattle.std.specs.Prelude.{◌≡◌, ◌↔◌, ◌^◌, ◌<◌, ◌≤◌, [], true, false, length, None};
+ghost use Rattle.std.specs.Prelude.{◌≡◌, ◌↔◌, ◌^◌, ◌<◌, [], true, false, length, None};
 ghost use Rattle.std.specs.Prelude.{IfOk, IfSome, IsTrue, OnErr, OnOk};
 ghost use Rattle.edge_store.specs.Edges.{IsEmpty};
 ghost use Rattle.delta_forest.specs.Forest.{IsIndexed, kept};
@@ -15,7 +15,7 @@ use crate::advancing::advance;
 use crate::index::{Findings, Index, State};
 use dfa_table::Dfa;
 use edge_store::{EdgeId, EdgeStore};
-use rpq_base::Memory;
+use rpq_base::{Memory, Workers};
 use rpq_io::{Context, Gate};
 use source_index::{Dues, Holders};
 use source_table::SourceTable;
@@ -149,11 +149,9 @@ impl Forest {
         &mut self,
         context: &Context<'_, R, G>,
         change: Change,
-        workers: u32,
+        workers: Workers,
     ) -> Result<(), Memory>
         requires unbroken { self.old.broken ≡ false }
-        requires some { 1 ≤ workers }
-        requires few { workers ≤ 64 }
         requires calls { self.old.calls < 2 ^ 60 }
         ensures applied { OnOk result (Applies change self.old self.new) }
         ensures dfa { self.new.dfa ≡ self.old.dfa }

@@ -9,7 +9,7 @@ ghost use Rattle.two_way.specs.TwoWay.{walked};
 ghost use Rattle.engine_feed.specs.Feeding.{FeedsEntries};
 
 use path_engine::{Engine, FeedFault};
-use rpq_base::{Entry, Event, Memory};
+use rpq_base::{Entry, Event, Memory, Workers};
 use rpq_io::{Context, Gate};
 use std::thread::Threads;
 use two_way::{all_net_are_two_way, doubled, events_are_differences, net_each};
@@ -25,12 +25,10 @@ pub fn feed_entries<R: Threads + Sync, G: Gate>(
     context: &Context<'_, R, G>,
     two_way: bool,
     entries: &[Entry],
-    workers: u32,
+    workers: Workers,
 ) -> Result<Vec<Vec<Event>>, Memory>
     requires stands { (history : List EntryTaken) × StandsFor engine.old (walked two_way history)
         × (length history + length entries.now ≤ 2 ^ 29) }
-    requires some { 1 ≤ workers }
-    requires few { workers ≤ 64 }
     ensures feeds { IfOk result (λ lists. FeedsEntries two_way engine.old entries.now engine.new
         (map (λ own. own.items) lists.items)) }
     ensures queries { engine.new.queries ≡ engine.old.queries }
@@ -48,12 +46,10 @@ fn feed_both_ways<R: Threads + Sync, G: Gate>(
     engine: &mut Engine,
     context: &Context<'_, R, G>,
     entries: &[Entry],
-    workers: u32,
+    workers: Workers,
 ) -> Result<Vec<Vec<Event>>, Memory>
     requires stands { (history : List EntryTaken) × StandsFor engine.old (doubled history) }
     requires short { engine.old.position + 2 * length entries.now ≤ 2 ^ 30 }
-    requires some { 1 ≤ workers }
-    requires few { workers ≤ 64 }
     ensures feeds { IfOk result (λ lists. FeedsEntries true engine.old entries.now engine.new
         (map (λ own. own.items) lists.items)) }
     ensures queries { engine.new.queries ≡ engine.old.queries }
@@ -72,12 +68,10 @@ fn feed<R: Threads + Sync, G: Gate>(
     engine: &mut Engine,
     context: &Context<'_, R, G>,
     entries: &[Entry],
-    workers: u32,
+    workers: Workers,
 ) -> Result<Vec<Vec<Event>>, Memory>
     requires unspent { engine.old.spent ≡ false }
     requires short { engine.old.position + length entries.now ≤ 2 ^ 30 }
-    requires some { 1 ≤ workers }
-    requires few { workers ≤ 64 }
     ensures feeds { IfOk result (λ lists. FeedsFront engine.old entries.now engine.new
         (map (λ own. own.items) lists.items)) }
     ensures queries { engine.new.queries ≡ engine.old.queries }

@@ -93,8 +93,8 @@ module _ (old new : Evaluator) (entries : List Entry) (found : List (List Event)
 
   -- its events were told, and counted
   module _ (queries : new.engine.queries ≡ old.engine.queries)
-      (two_way : new.two_way ≡ old.two_way) (workers : new.workers ≡ old.workers)
-      (tells : TellsOn (all_of found) ⊤ first last) (count : ℕ) (as_many : count ≡ length entries)
+      (two_way : new.two_way ≡ old.two_way) (tells : TellsOn (all_of found) ⊤ first last)
+      (count : ℕ) (as_many : count ≡ length entries)
       (counts : HasCounted count (all_of found) old.totals new.totals) where
     same_definitions : definitions new.engine ≡ definitions old.engine
     same_definitions = ap (map (λ (each : CompiledValue). each.def)) queries
@@ -103,8 +103,6 @@ module _ (old new : Evaluator) (entries : List Entry) (found : List (List Event)
     then_ready = record {
       accepted = All-same IsAccepted (definitions new.engine) (definitions old.engine)
           same_definitions ready.accepted;
-      some_workers = omega (arith, workers, ready.some_workers);
-      few_workers = omega (arith, workers, ready.few_workers);
       stands = subst (λ (taken : Bool). StandsFor new.engine (walked taken (history ++ entries)))
           (sym two_way) (fed.stands history ready.stands);
       entries = omega (

@@ -85,16 +85,13 @@ module _ (task : Generation) (given : IsGeneration task) (evaluator : Evaluator)
   same : definitions evaluator.engine ≡ queries_of task
   same = ap (map (λ (each : CompiledValue). each.def)) queries
 
-  pub ready_first : evaluator.workers ≡ task.workers → StandsFor evaluator.engine [] →
-      IsReady (generated_history made) evaluator
-  ready_first workers stands =
+  pub ready_first : StandsFor evaluator.engine [] → IsReady (generated_history made) evaluator
+  ready_first stands =
       subst (λ (n : ℕ). IsReady (generated_history n) evaluator) (sym none)
       (record {
         accepted = All-same IsAccepted (definitions evaluator.engine) (queries_of task) same
             (All-map IsAccepted (λ (each : CompiledValue). each.def) task.queries.items
             given.accepted);
-        some_workers = omega (arith, workers, given.some_workers);
-        few_workers = omega (arith, workers, given.few_workers);
         stands = stands_first evaluator.two_way evaluator.engine stands;
         entries = ap (λ (counted : TotalsValue). counted.entries) totals;
       })

@@ -17,14 +17,11 @@ use Rattle.generated_run.specs.Summary.{all_of, IsSummary}
 abbrev pub queries_of : Generation → List Query
 queries_of task = map (λ each. each.def) task.queries.items
 
--- what a run is given: from 1 to 64 queries, all accepted; from 1 to 64 workers; and at most a
--- million tuples
+-- what a run is given: from 1 to 64 queries, all accepted; and at most a million tuples
 pub record IsGeneration (task : Generation) : Type 0 where
   pub some : 1 ≤ length task.queries.items
   pub few : length task.queries.items ≤ 64
   pub accepted : All (λ each. IsAccepted each.def) task.queries.items
-  pub some_workers : 1 ≤ task.workers
-  pub few_workers : task.workers ≤ 64
   pub count : task.count ≤ 1000000
 
 -- the objects were told of the events of the history, of queries that may take edges backwards or

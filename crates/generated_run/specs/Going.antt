@@ -1,5 +1,5 @@
 -- How a run goes on from front to front. Only private contracts cite this file.
-use Rattle.std.specs.Prelude.{◌≡◌, ◌≤◌, ⊤, Bool, List, ◌++◌, length, All}
+use Rattle.std.specs.Prelude.{◌≡◌, ⊤, Bool, List, ◌++◌, length, All}
 use Rattle.rpq_base.specs.declared.data.Entry.{Entry}
 use Rattle.rpq_base.specs.declared.data.Event.{Event}
 use Rattle.rpq_model.specs.Query.{Query}
@@ -22,12 +22,10 @@ TellsOn events whole old new =
     HaveStood objects before ⊤ old.members old.left →
     HaveStood objects (before ++ events) whole new.members new.left
 
--- the engine, of accepted queries, with from 1 to 64 workers, stands for what the queries are
--- evaluated over, of the history, whose entries it counted
+-- the engine, of accepted queries, stands for what the queries are evaluated over, of the history,
+-- whose entries it counted
 pub record IsReady (history : List Entry) (evaluator : Evaluator) : Type 0 where
   pub accepted : All IsAccepted (definitions evaluator.engine)
-  pub some_workers : 1 ≤ evaluator.workers
-  pub few_workers : evaluator.workers ≤ 64
   pub stands : StandsFor evaluator.engine (walked evaluator.two_way history)
   pub entries : evaluator.totals.entries ≡ length history
 

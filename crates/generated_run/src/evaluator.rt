@@ -13,7 +13,7 @@ use containment_laws::accepted_queries_have_events;
 use engine_feed::feed_entries;
 use path_engine::Engine;
 use query_file::Compiled;
-use rpq_base::{Entry, Memory};
+use rpq_base::{Entry, Memory, Workers};
 use rpq_io::{Context, Gate};
 use standing::{Circle, Standing};
 use std::random::RandomSource;
@@ -26,7 +26,7 @@ pub struct Evaluator {
     /// Whether the queries may take edges backwards. Then the engine is fed each entry with its
     /// inverse.
     pub two_way: bool,
-    pub workers: u32,
+    pub workers: Workers,
     pub totals: Totals,
 }
 
@@ -37,7 +37,7 @@ impl Evaluator {
         context: &Context<'_, R, G>,
         queries: Vec<Compiled>,
         two_way: bool,
-        workers: u32,
+        workers: Workers,
     ) -> Result<Evaluator, Memory>
         requires some { 1 ≤ length queries.items }
         requires few { length queries.items ≤ 64 }

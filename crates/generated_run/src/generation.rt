@@ -1,7 +1,7 @@
 //! What a run over generated tuples is given, and what it gives.
 
 use query_file::Compiled;
-use rpq_base::Entry;
+use rpq_base::{Entry, Workers};
 use standing::Circle;
 
 /// What a run over generated tuples is given.
@@ -12,7 +12,7 @@ pub struct Generation {
     /// Whether the queries may take edges backwards.
     pub two_way: bool,
     /// How many workers the engine has.
-    pub workers: u32,
+    pub workers: Workers,
     /// How many entries the history may have.
     pub limit: u64,
     /// How many tuples are wanted.

@@ -24,7 +24,7 @@ use end_events::events_between;
 use index_laws::{index_keeps_bests, index_tells_answers, stores_follow};
 use name_table::Names;
 use query_file::Compiled;
-use rpq_base::{Act, Edge, Entry, Event, Memory};
+use rpq_base::{Act, Edge, Entry, Event, Memory, Workers};
 use rpq_io::{Context, Gate};
 use rpq_model::Mode;
 use std::alloc::Global;
@@ -36,7 +36,7 @@ use window_clock::WindowClock;
 #[derive(Drop)]
 pub(crate) struct Crew<'a, R, G> {
     pub context: &'a Context<'a, R, G>,
-    pub workers: u32,
+    pub workers: Workers,
 }
 
 /// Answers the entry for each query, and gives the events of the first, then those of the next.
@@ -50,8 +50,6 @@ pub(crate) fn answer_each<R: Threads + Sync, G: Gate>(
 ) -> Result<Vec<Event>, Memory>
     requires few { length queries.now ≤ 64 }
     requires as_many { length queries.now ≡ length indexes.old }
-    requires some { 1 ≤ crew.now.workers }
-    requires few_workers { crew.now.workers ≤ 64 }
     requires indexes { AllZip (λ query index. HasHistory query names.now index)
         queries.now indexes.old }
     requires ends { All (λ query. AreEndsFor names.now query.dfa entry.now.tuple.act ends)
@@ -89,8 +87,6 @@ pub(crate) fn answer<R: Threads + Sync, G: Gate>(
     ends: Option<Ends>,
     entry: &Entry,
 ) -> Result<Vec<Event>, Memory>
-    requires some { 1 ≤ crew.now.workers }
-    requires few { crew.now.workers ≤ 64 }
     requires index { HasHistory query.now names.now index.old }
     requires ends { AreEndsFor names.now query.now.dfa entry.now.tuple.act ends }
     ensures { IfOk result (λ events. HasAnswered names.now entry.now number query.now index.old
@@ -150,8 +146,6 @@ fn step<R: Threads + Sync, G: Gate>(
     ends: Option<Ends>,
     entry: &Entry,
 ) -> Result<Logs, Memory>
-    requires some { 1 ≤ crew.now.workers }
-    requires few { crew.now.workers ≤ 64 }
     requires unbroken { index.old.forest.broken ≡ false }
     requires calls { index.old.forest.calls < 2 ^ 40 }
     ensures { IfOk result (λ logs. (names : List (List ℕ)) →
@@ -189,8 +183,6 @@ fn apply<R: Threads + Sync, G: Gate>(
     stale: &mut Stale,
     change: Change,
 ) -> Result<(), Memory>
-    requires some { 1 ≤ crew.now.workers }
-    requires few { crew.now.workers ≤ 64 }
     requires unbroken { forest.old.broken ≡ false }
     requires calls { forest.old.calls < 2 ^ 60 }
     ensures applied { OnOk result (HasApplied change forest.old forest.new forest.new.log) }

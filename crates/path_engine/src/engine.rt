@@ -26,7 +26,7 @@ use delta_forest::{Forest, kept_is_best};
 use index_laws::{index_keeps_bests, stores_follow};
 use name_table::Names;
 use query_file::Compiled;
-use rpq_base::{Edge, Entry, Event, Memory, Name};
+use rpq_base::{Edge, Entry, Event, Memory, Name, Workers};
 use rpq_io::{Context, Gate};
 use std::alloc::Global;
 use std::marker::Model;
@@ -119,12 +119,10 @@ impl Engine {
         &mut self,
         rt: &R,
         entry: &Entry,
-        workers: u32,
+        workers: Workers,
         gate: &G,
     ) -> Result<Vec<Event>, FeedFault>
         requires short { self.old.position < 2 ^ 30 }
-        requires some { 1 ≤ workers }
-        requires few { workers ≤ 64 }
         ensures feeds { IfOk result (λ events.
             Feeds self.old entry.now self.new events.items) }
         ensures queries { self.new.queries ≡ self.old.queries }
@@ -143,12 +141,10 @@ impl Engine {
         &mut self,
         rt: &R,
         entry: &Entry,
-        workers: u32,
+        workers: Workers,
         gate: &G,
     ) -> Result<Vec<Event>, FeedFault>
         requires short { self.old.position < 2 ^ 30 }
-        requires some { 1 ≤ workers }
-        requires few { workers ≤ 64 }
         ensures feeds { IfOk result (λ events.
             Feeds self.old entry.now self.new events.items) }
         ensures queries { self.new.queries ≡ self.old.queries }
@@ -195,12 +191,10 @@ impl Engine {
         &mut self,
         rt: &R,
         entries: &[Entry],
-        workers: u32,
+        workers: Workers,
         gate: &G,
     ) -> Result<Vec<Vec<Event>>, FeedFault>
         requires short { self.old.position + length entries.now ≤ 2 ^ 30 }
-        requires some { 1 ≤ workers }
-        requires few { workers ≤ 64 }
         ensures feeds { IfOk result (λ events. FeedsFront self.old entries.now self.new
             (map (λ own. own.items) events.items)) }
         ensures queries { self.new.queries ≡ self.old.queries }
@@ -219,12 +213,10 @@ impl Engine {
         &mut self,
         rt: &R,
         entries: &[Entry],
-        workers: u32,
+        workers: Workers,
         gate: &G,
     ) -> Result<Vec<Vec<Event>>, FeedFault>
         requires short { self.old.position + length entries.now ≤ 2 ^ 30 }
-        requires some { 1 ≤ workers }
-        requires few { workers ≤ 64 }
         ensures feeds { IfOk result (λ events. FeedsFront self.old entries.now self.new
             (map (λ own. own.items) events.items)) }
         ensures queries { self.new.queries ≡ self.old.queries }
@@ -275,12 +267,10 @@ impl Engine {
         &mut self,
         rt: &R,
         entries: &[Entry],
-        workers: u32,
+        workers: Workers,
         gate: &G,
     ) -> Result<(), Memory>
         requires short { length entries.now ≤ 2 ^ 30 }
-        requires some { 1 ≤ workers }
-        requires few { workers ≤ 64 }
         ensures stands { OnOk result (StandsFor self.new entries.now) }
         ensures queries { self.new.queries ≡ self.old.queries }
         ensures memory { OnErr result (Spends self.old self.new) }
@@ -301,12 +291,10 @@ impl Engine {
         &mut self,
         rt: &R,
         entries: &[Entry],
-        workers: u32,
+        workers: Workers,
         gate: &G,
     ) -> Result<(), Memory>
         requires short { length entries.now ≤ 2 ^ 30 }
-        requires some { 1 ≤ workers }
-        requires few { workers ≤ 64 }
         ensures stands { OnOk result (StandsFor self.new entries.now) }
         ensures queries { self.new.queries ≡ self.old.queries }
     {

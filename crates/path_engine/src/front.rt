@@ -14,7 +14,7 @@ use crate::ends::Ends;
 use crate::index::Index;
 use name_table::Names;
 use query_file::Compiled;
-use rpq_base::{Entry, Event, Memory};
+use rpq_base::{Entry, Event, Memory, Workers};
 use rpq_io::{Context, Gate, Who};
 use std::alloc::Global;
 use std::mem::replace;
@@ -41,8 +41,6 @@ pub(crate) fn answer_front<R: Threads + Sync, G: Gate>(
 ) -> Result<Vec<Vec<Event>>, Memory>
     requires some_queries { 1 ≤ length queries.now }
     requires few { length queries.now ≤ 64 }
-    requires some { 1 ≤ crew.now.workers }
-    requires few_workers { crew.now.workers ≤ 64 }
     requires indexes { AllZip (λ query index.
         HasHistoryFor (length entries.now) query names.now index) queries.now indexes.old.items }
     requires ends { AreAllEndsFor names.now queries.now entries.now ends.now }
@@ -81,14 +79,12 @@ fn feed_shares<R: Threads + Sync, G: Gate>(
 )
     requires few { length queries.now ≤ 64 }
     requires within { length shares.old ≤ length queries.now }
-    requires some { 1 ≤ crew.now.workers }
-    requires few_workers { crew.now.workers ≤ 64 }
     requires ready { AreReady (length entries.now) queries.now names.now 0 shares.old }
     requires ends { AreAllEndsFor names.now queries.now entries.now ends.now }
     ensures { HaveFed queries.now names.now entries.now 0 shares.old shares.new }
 {
-    if crew.workers > 1 && shares.len() > 1 && entries.len() > 1 {
-        let size = shares.len().div_ceil(crew.workers as usize);
+    if crew.workers.number() > 1 && shares.len() > 1 && entries.len() > 1 {
+        let size = shares.len().div_ceil(crew.workers.number() as usize);
         feed_chunks(crew.context, size, queries, shares, names, ends, entries);
     } else {
         feed_part(crew, queries, 0, shares, names, ends, entries);
@@ -128,7 +124,7 @@ fn feed_chunks<R: Threads + Sync, G: Gate>(
             context.gate.pass(Who::Queries(worker_of(start, size)));
             let alone = Crew {
                 context,
-                workers: 1,
+                workers: Workers::one(),
             };
             feed_part(&alone, queries, start, part, names, ends, entries);
         },
@@ -156,8 +152,6 @@ fn feed_part<R: Threads + Sync, G: Gate>(
 )
     requires few { length queries.now ≤ 64 }
     requires within { start + length part.old ≤ length queries.now }
-    requires some { 1 ≤ crew.now.workers }
-    requires few_workers { crew.now.workers ≤ 64 }
     requires ready { AreReady (length entries.now) queries.now names.now start part.old }
     requires ends { AreAllEndsFor names.now queries.now entries.now ends.now }
     ensures { HaveFed queries.now names.now entries.now start part.old part.new }
@@ -179,8 +173,6 @@ fn feed_one<R: Threads + Sync, G: Gate>(
     ends: &[Option<Ends>],
     entries: &[Entry],
 )
-    requires some { 1 ≤ crew.now.workers }
-    requires few { crew.now.workers ≤ 64 }
     requires index { HasHistoryFor (length entries.now) query.now names.now share.old.index }
     requires ends { AllZip (λ (entry : EntryTaken) own.
         AreEndsFor names.now query.now.dfa entry.tuple.act own) entries.now ends.now }
@@ -199,8 +191,6 @@ fn answer_all<R: Threads + Sync, G: Gate>(
     ends: &[Option<Ends>],
     entries: &[Entry],
 ) -> Result<Vec<Vec<Event>>, Memory>
-    requires some { 1 ≤ crew.now.workers }
-    requires few { crew.now.workers ≤ 64 }
     requires index { HasHistoryFor (length entries.now) query.now names.now index.old }
     requires ends { AllZip (λ (entry : EntryTaken) own.
         AreEndsFor names.now query.now.dfa entry.tuple.act own) entries.now ends.now }

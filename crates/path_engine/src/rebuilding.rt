@@ -7,7 +7,7 @@ ghost use Rattle.path_engine.specs.Feeding.{FeedsFront};
 
 use crate::engine::Engine;
 use crate::fault::FeedFault;
-use rpq_base::{Entry, Memory};
+use rpq_base::{Entry, Memory, Workers};
 use rpq_io::Gate;
 use std::thread::Threads;
 
@@ -20,13 +20,11 @@ pub(crate) fn feed_all<R: Threads + Sync, G: Gate>(
     engine: &mut Engine,
     rt: &R,
     entries: &[Entry],
-    workers: u32,
+    workers: Workers,
     gate: &G,
 ) -> Result<(), Memory>
     requires starts { StandsFor engine.old [] }
     requires short { length entries.now ≤ 2 ^ 30 }
-    requires some { 1 ≤ workers }
-    requires few { workers ≤ 64 }
     ensures stands { OnOk result (StandsFor engine.new entries.now) }
     ensures queries { engine.new.queries ≡ engine.old.queries }
 {
@@ -42,13 +40,11 @@ fn feed_next<R: Threads + Sync, G: Gate>(
     engine: &mut Engine,
     rt: &R,
     front: &[Entry],
-    workers: u32,
+    workers: Workers,
     gate: &G,
 ) -> Result<(), Memory>
     requires unspent { engine.old.spent ≡ false }
     requires short { engine.old.position + length front.now ≤ 2 ^ 30 }
-    requires some { 1 ≤ workers }
-    requires few { workers ≤ 64 }
     ensures feeds { OnOk result
         ((events : List (List Happening)) × FeedsFront engine.old front.now engine.new events) }
     ensures queries { engine.new.queries ≡ engine.old.queries }

@@ -3,12 +3,12 @@
 ghost use Rattle.std.specs.Prelude.{[]};
 ghost use Rattle.path_engine.specs.Engine.{StandsFor};
 
-use anyhow::ensure;
+use anyhow::{anyhow, ensure};
 use case_lines::{Fields, Output, decoded, entries_of, put_events};
 use engine_feed::feed_entries;
 use path_engine::Engine;
 use query_file::read_two_way_queries;
-use rpq_base::Entry;
+use rpq_base::{Entry, Workers};
 use rpq_io::{Context, OpenGate};
 use std::alloc::Global;
 use std::random::RandomSource;
@@ -46,7 +46,10 @@ fn put_feed<R: Threads + Sync>(
         alloc,
         gate: &OpenGate,
     };
-    for events in &feed_entries(engine, &context, true, entries, 2)? {
+    let Some(workers) = Workers::new(2) else {
+        return Err(anyhow!("no workers"));
+    };
+    for events in &feed_entries(engine, &context, true, entries, workers)? {
         put_events(out, events)?;
     }
     Ok(())

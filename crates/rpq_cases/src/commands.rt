@@ -28,7 +28,7 @@ fn put_settings(out: &mut Output, chosen: &Chosen) -> anyhow::Result<()> {
 
 /// Puts the numbers and what was said yes or no to.
 fn put_choices(out: &mut Output, chosen: &Chosen) -> anyhow::Result<()> {
-    out.put_shown(&chosen.workers)?;
+    out.put_shown(&chosen.workers.number())?;
     out.put(" ")?;
     out.put_shown(&chosen.history)?;
     out.put(" ")?;

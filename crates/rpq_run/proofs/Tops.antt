@@ -170,7 +170,6 @@ module _ {S K : Type 0} (left : S → Option (List ℕ)) (faults : S → ℕ)
           accepted = all.accepted;
           compiled = all.compiled;
         };
-        workers = subst (λ n. IsWithin 64 n) (sym of.workers_are) settings.workers;
         streams = (omega (arith, many, mode.some), omega (arith, many, mode.few));
         fresh = subst (AreNewReaders left faults)
             (sym {A = List (ReaderState (TwoSources S))} of.readers_are)

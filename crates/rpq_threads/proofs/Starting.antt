@@ -81,17 +81,15 @@ module _ {S : Type 0} (left : S → Option (List ℕ)) (faults : S → ℕ) (tas
 
   -- the engine begins at the first position
   pub begun_fed : (evaluator : Evaluator) → evaluator.engine.queries ≡ task.queries.items →
-      evaluator.workers ≡ task.workers → evaluator.options ≡ task.options →
+      evaluator.options ≡ task.options →
       history.readers ≡ length task.sessions.items →
       All Moves (definitions_of task.queries.items) → StandsOver evaluator [] →
       MarksOver evaluator [] → JoinsOver evaluator [] →
       IsFed history evaluator (new_pass history 0)
-  begun_fed evaluator queries workers options readers move stands marks joins =
+  begun_fed evaluator queries options readers move stands marks joins =
       let two_way = ap (λ (o : OptionsValue). o.two_way) options in
       let paths = ap (λ (o : OptionsValue). o.paths) options in
-      first_fed history evaluator (omega (arith, workers, given.workers.0))
-      (omega (arith, workers, given.workers.1))
-      (ap definitions_of queries ∙ sym same_queries)
+      first_fed history evaluator (ap definitions_of queries ∙ sym same_queries)
       (subst (λ (o : OptionsValue). CanRun o history.terms.queries) (sym options)
       (begun_can_run move))
       (λ is. readers ∙ ap (λ (sessions : List (List Ask)). length sessions)

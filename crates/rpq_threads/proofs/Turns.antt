@@ -63,7 +63,6 @@ module _ (history : HistoryValue) (evaluator : Evaluator) (before after : Each)
   pub keeps_up_then : IsFeedingPass history after → KeepsUp history evaluator after
   keeps_up_then feeds = record {
     feeds = feeds;
-    workers = was.workers;
     queries = was.queries;
     accepted = was.accepted;
     unread = was.unread;
@@ -105,7 +104,6 @@ keeps_up_viewed history old engine pass queries stands was =
     ap (map (λ (each : CompiledValue). each.def)) queries in
     record {
       feeds = was.feeds;
-      workers = was.workers;
       queries = same ∙ was.queries;
       accepted = was.accepted;
       unread = was.unread;
@@ -174,14 +172,13 @@ module _ (history : HistoryValue) (evaluator : Evaluator) (pass : Each)
 
 -- at the start nothing is answered
 pub first_fed : (history : HistoryValue) (evaluator : Evaluator) →
-    1 ≤ evaluator.workers → evaluator.workers ≤ 64 →
     definitions evaluator.engine ≡ history.terms.queries →
     CanRun evaluator.options history.terms.queries →
     (evaluator.options.two_way ≡ true → history.readers ≡ 0) →
     (evaluator.options.paths ≡ true → evaluator.options.two_way ≡ false) →
     history.terms.cap ≤ 536870912 → StandsOver evaluator [] → MarksOver evaluator [] →
     JoinsOver evaluator [] → IsFed history evaluator (new_pass history 0)
-first_fed history evaluator some few queries accepted unread forwards small stands marks joins =
+first_fed history evaluator queries accepted unread forwards small stands marks joins =
     let none : evaluator.position ≡ 0 = stands.counted in
     record {
       keeps_up = record {
@@ -189,7 +186,6 @@ first_fed history evaluator some few queries accepted unread forwards small stan
           is = record { is = new_is history 0; number = refl };
           goes_on = λ shut. none_in (record { by = 0; act = Shut shut.0 }) shut.1;
         };
-        workers = (some, few);
         queries = queries;
         accepted = accepted;
         unread = unread;
@@ -252,10 +248,6 @@ module _ (history : HistoryValue) (old : Evaluator) (pass : Each) (was : IsFed h
           ap (λ (options : OptionsValue). options.paths) did.setup.options in
           record {
             feeds = kept.feeds;
-            workers = (
-              omega (arith, did.setup.workers, kept.workers.0),
-              omega (arith, did.setup.workers, kept.workers.1),
-            );
             queries = ap (map (λ (each : CompiledValue). each.def)) did.setup.queries
                 ∙ kept.queries;
             accepted = subst (λ (options : OptionsValue). CanRun options history.terms.queries)

@@ -10,7 +10,6 @@ use Rattle.rpq_base.specs.Plain.{IsPlain}
 use Rattle.rpq_model.specs.Query.{Query}
 use Rattle.two_way.specs.TwoWay.{walked, AreAllWalkedEvents, AreAllWalkedEventsFrom}
 use Rattle.path_engine.specs.Engine.{StandsFor, definitions}
-use Rattle.rpq_words.specs.Modes.{IsWithin}
 use Rattle.rpq_text.specs.Steps.{OptionsValue, StepValue, AreStepsFrom, CanRun, events_of}
 use Rattle.rpq_text.specs.Text.{block, blocks_from, IsText}
 use Rattle.standing.specs.Objects.{ObjectValue}
@@ -181,14 +180,12 @@ pub record Stops (options : OptionsValue) (queries : List Query) (first all : Li
 abbrev pub answered : Evaluator → PassValue Line Terms → List Entry
 answered evaluator pass = take evaluator.position (entries pass.seen)
 
--- the pass is the engine's, and the engine, which has from 1 to 64 workers and the queries of the
--- history, with which a run can be, stands for the first entries that the pass has seen, and so do
--- the marks and the conjunctions; where edges may be taken backwards, nobody reads along, and no
--- paths are told
+-- the pass is the engine's, and the engine, which has the queries of the history, with which a run
+-- can be, stands for the first entries that the pass has seen, and so do the marks and the
+-- conjunctions; where edges may be taken backwards, nobody reads along, and no paths are told
 pub record KeepsUp (history : HistoryValue) (evaluator : Evaluator) (pass : PassValue Line Terms)
     : Type 0 where
   pub feeds : IsFeedingPass history pass
-  pub workers : IsWithin 64 evaluator.workers
   pub queries : definitions evaluator.engine ≡ history.terms.queries
   pub accepted : CanRun evaluator.options history.terms.queries
   pub unread : evaluator.options.two_way ≡ true → history.readers ≡ 0

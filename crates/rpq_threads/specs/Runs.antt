@@ -31,14 +31,13 @@ use Rattle.rpq_threads.specs.Understood.{AreUnderstood}
 use Rattle.rpq_threads.specs.Written.{Grew, GrewByPrefix, GrewByProperPrefix}
 use Rattle.rpq_threads.specs.Told.{TellsObjects}
 
--- what is given to the threads of a run: queries, understood; from 1 to 64 workers; new readers of
--- from 1 to 64 streams; at most 64 sessions about the queries; how many entries the history may
--- have; and at most 32 conjunctions over the queries. Where edges may be taken backwards, nobody
--- asks, and no paths are told
+-- what is given to the threads of a run: queries, understood; new readers of from 1 to 64 streams;
+-- at most 64 sessions about the queries; how many entries the history may have; and at most 32
+-- conjunctions over the queries. Where edges may be taken backwards, nobody asks, and no paths are
+-- told
 pub record IsTask {S : Type 0} (left : S → Option (List ℕ)) (faults : S → ℕ) (task : Task S)
     : Type 0 where
   pub understood : AreUnderstood task.queries.items
-  pub workers : IsWithin 64 task.workers
   pub streams : IsWithin 64 (length task.readers.items)
   pub fresh : All (IsNewReader left faults) task.readers.items
   pub few : length task.sessions.items ≤ 64

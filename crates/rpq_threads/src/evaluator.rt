@@ -13,7 +13,7 @@ use conj_query::Joins;
 use path_engine::Engine;
 use path_witness::Marks;
 use query_file::Compiled;
-use rpq_base::Memory;
+use rpq_base::{Memory, Workers};
 use rpq_model::QueryDef;
 use rpq_text::Options;
 use std::alloc::Global;
@@ -36,7 +36,7 @@ pub struct Evaluator {
     /// The conjunctions with the answers of their queries, where there are any.
     pub joins: Option<Joins>,
     pub position: u64,
-    pub workers: u32,
+    pub workers: Workers,
     pub block: Vec<u8>,
     /// Whether the engine was rebuilt in this run.
     pub rebuilt: bool,
@@ -51,7 +51,7 @@ impl Evaluator {
         queries: Vec<Compiled>,
         definitions: &Arc<Vec<QueryDef>>,
         options: Options,
-        workers: u32,
+        workers: Workers,
     ) -> Result<Evaluator, Memory>
         requires understood { AreUnderstood queries.items }
         requires definitions { definitions.now.value.items ≡ definitions_of queries.items }

@@ -3,7 +3,6 @@
 ghost use Rattle.std.specs.Prelude.{◌≡◌, ◌<◌, ◌≤◌, ◌+◌, ◌^◌, List, length, map};
 ghost use Rattle.std.specs.Prelude.{IfOk, OnOk, OnErr};
 ghost use Rattle.rpq_base.specs.declared.data.Entry.{Entry as EntryTaken};
-ghost use Rattle.rpq_words.specs.Modes.{IsWithin};
 ghost use Rattle.rpq_threads.specs.Fed.{IsFed, LooksOn, MayAskTo, OnlyFeeds, StandsOver, Finds};
 ghost use Rattle.rpq_threads.specs.Fed.{answered};
 
@@ -55,7 +54,6 @@ fn rebuild<R: Threads + Wait + Sync, G: Gate>(
     evaluator: &mut Evaluator,
 ) -> Result<(), Memory>
     requires may_ask { MayAskTo shared.now.history.now evaluator.old.position pass.old }
-    requires workers { IsWithin 64 evaluator.old.workers }
     ensures looks_on { LooksOn shared.now.history.now pass.old pass.new }
     ensures stands { OnOk result (StandsOver evaluator.new (answered evaluator.old pass.old)) }
     ensures keeps { OnlyFeeds evaluator.old evaluator.new }
@@ -83,7 +81,6 @@ fn feed_next<R: Threads + Wait + Sync, G: Gate>(
     requires may_ask { MayAskTo shared.now.history.now position pass.old }
     requires stands { StandsOver evaluator.old (answered evaluator.old pass.old) }
     requires behind { evaluator.old.position < position }
-    requires workers { IsWithin 64 evaluator.old.workers }
     ensures looks_on { LooksOn shared.now.history.now pass.old pass.new }
     ensures stands { OnOk result (StandsOver evaluator.new (answered evaluator.new pass.new)) }
     ensures forward { OnOk result ((evaluator.old.position < evaluator.new.position)
@@ -106,7 +103,6 @@ fn feed<R: Threads + Sync, G: Gate>(
 ) -> Result<Vec<Vec<Event>>, Memory>
     requires stands { (history : List EntryTaken) × StandsOver evaluator.old history }
     requires short { evaluator.old.position + length entries.now ≤ 2 ^ 29 }
-    requires workers { IsWithin 64 evaluator.old.workers }
     ensures finds { IfOk result (λ found. (history : List EntryTaken)
         → StandsOver evaluator.old history → Finds history evaluator.new entries.now
         (map (λ own. own.items) found.items)) }

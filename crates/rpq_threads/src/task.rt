@@ -3,7 +3,7 @@
 use ask_text::{Answered, Session};
 use history_model::Why;
 use query_file::Compiled;
-use rpq_base::Entry;
+use rpq_base::{Entry, Workers};
 use rpq_io::{LineReader, Source};
 use rpq_text::Options;
 use standing::Circle;
@@ -17,7 +17,7 @@ pub struct Task<S: Source> {
     /// How the queries are evaluated, and what is told of them.
     pub options: Options,
     /// How many workers the engine has.
-    pub workers: u32,
+    pub workers: Workers,
     /// How many entries the history may have.
     pub limit: u64,
     /// The streams, the first of which has the number 1.

@@ -5,6 +5,7 @@ ghost use Rattle.rpq_words.specs.Settings.{clash, from_clashes, is_same_file, na
 ghost use Rattle.rpq_words.specs.Settings.{paths_clash, reads_none, streams_clash};
 
 use crate::file_word::FileWord;
+use rpq_base::Workers;
 use std::marker::Model;
 
 /// The most streams that one run reads.
@@ -14,7 +15,7 @@ const MAX_STREAMS: usize = 64;
 #[derive(Debug, Drop)]
 pub struct Chosen {
     /// How many workers keep the answers up to date.
-    pub workers: u32,
+    pub workers: Workers,
     /// How many tuples the history holds at most.
     pub history: u64,
     /// Whether the queries are checked, and nothing is run.

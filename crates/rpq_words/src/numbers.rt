@@ -3,12 +3,14 @@
 ghost use Rattle.std.specs.Prelude.{◌≡◌, ◌≤◌, IfSome, option_and_then, option_map};
 ghost use Rattle.rpq_words.specs.Settings.{number_from_one, optional_number};
 
+use rpq_base::{MAX_WORKERS, Workers};
 use text_parts::read_number;
 
 /// The number that the text writes in digits, where it is from 1 to `most`.
 #[tactic(auto, unfolding(crate::specs::Settings::number_from_one))]
 pub(crate) fn number_from_one(text: &str, most: u64) -> Option<u64>
     ensures number { result ≡ number_from_one most text.now }
+    ensures some { IfSome result (λ number. 1 ≤ number) }
     ensures within { IfSome result (λ number. number ≤ most) }
 {
     match read_number(text.as_bytes(), most) {
@@ -21,9 +23,19 @@ pub(crate) fn number_from_one(text: &str, most: u64) -> Option<u64>
 pub(crate) fn needed_number(text: Option<&str>, most: u64) -> Option<u64>
     ensures number { result
         ≡ option_and_then (number_from_one most) (option_map (λ known. known.now) text.entry) }
+    ensures some { IfSome result (λ number. 1 ≤ number) }
     ensures within { IfSome result (λ number. number ≤ most) }
 {
     number_from_one(text?, most)
+}
+
+/// The number of workers, which stands there or has a default.
+pub(crate) fn needed_workers(text: Option<&str>) -> Option<Workers>
+    ensures { result
+        ≡ option_and_then (number_from_one 64) (option_map (λ known. known.now) text.entry) }
+{
+    let number = needed_number(text, MAX_WORKERS as u64)?;
+    Workers::new(number as u32)
 }
 
 /// The number of an option that need not stand there; `None` where it stands there with no number

@@ -12,13 +12,10 @@ use crate::command::command;
 use crate::fault::WordsFault;
 use crate::file_word::{FileWord, file_words, optional_file_word};
 use crate::matches::{all_of, first_of, has_flag};
-use crate::numbers::{needed_number, optional_number};
+use crate::numbers::{needed_number, needed_workers, optional_number};
 use clap::ArgMatches;
 use clap::error::ErrorKind;
 use std::alloc::Global;
-
-/// The most workers.
-const MAX_WORKERS: u64 = 64;
 
 /// The most tuples that a history may hold.
 const MAX_HISTORY: u64 = 2_000_000;
@@ -89,9 +86,7 @@ fn read_choices(alloc: Global, matches: &ArgMatches<'_>) -> Result<Chosen, Words
     ensures refused { result ≡ Err WordsFault.Refused
         → settings_of (rows_of (found_of matches.now)) ≡ None }
 {
-    let workers = needed_number(first_of(matches, "workers"), MAX_WORKERS).ok_or(
-        WordsFault::Refused,
-    )?;
+    let workers = needed_workers(first_of(matches, "workers")).ok_or(WordsFault::Refused)?;
     let history = needed_number(first_of(matches, "history"), MAX_HISTORY).ok_or(
         WordsFault::Refused,
     )?;
@@ -100,7 +95,7 @@ fn read_choices(alloc: Global, matches: &ArgMatches<'_>) -> Result<Chosen, Words
     )?;
     let queries = first_of(matches, "queries").ok_or(WordsFault::Refused)?;
     Ok(Chosen {
-        workers: workers as u32,
+        workers,
         history,
         check: has_flag(matches, "check"),
         generate,

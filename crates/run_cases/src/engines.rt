@@ -1,14 +1,12 @@
 //! The engine.
 
-ghost use Rattle.std.specs.Prelude.{◌≤◌, IfOk};
-
 use answer_rows::{Rows, changes};
 use answer_view::View;
 use anyhow::{anyhow, ensure};
 use case_lines::{Fields, Output, decoded, entries_of, put_events, put_pair};
 use path_engine::Engine;
 use query_file::read_queries;
-use rpq_base::Entry;
+use rpq_base::{Entry, Workers};
 use rpq_io::OpenGate;
 use std::alloc::Global;
 use std::random::RandomSource;
@@ -18,13 +16,12 @@ use std::thread::Threads;
 const MAX_QUERIES: u32 = 64;
 
 /// The number of workers of the next field.
-fn workers_of(fields: &mut Fields) -> anyhow::Result<u32>
-    ensures some { IfOk result (λ workers. 1 ≤ workers) }
-    ensures few { IfOk result (λ workers. workers ≤ 64) }
-{
-    let workers = fields.number();
-    ensure!(workers > 0 && workers <= 64, "no workers");
-    Ok(workers as u32)
+fn workers_of(fields: &mut Fields) -> anyhow::Result<Workers> {
+    let number = fields.number().min(u32::MAX as u64) as u32;
+    match Workers::new(number) {
+        Some(workers) => Ok(workers),
+        None => Err(anyhow!("no workers")),
+    }
 }
 
 /// A new engine for the queries of the next field.
@@ -43,11 +40,8 @@ fn feed_each<R: Threads + Sync>(
     out: &mut Output,
     engine: &mut Engine,
     entries: &[Entry],
-    workers: u32,
-) -> anyhow::Result<()>
-    requires some { 1 ≤ workers }
-    requires few { workers ≤ 64 }
-{
+    workers: Workers,
+) -> anyhow::Result<()> {
     for entry in entries {
         ensure!(engine.position() < 1 << 30, "too many tuples");
         let Ok(events) = engine.feed(rt, entry, workers, &OpenGate) else {
@@ -117,11 +111,8 @@ fn rebuild<R: Threads + Sync>(
     rt: &R,
     engine: &mut Engine,
     entries: &[Entry],
-    workers: u32,
-) -> anyhow::Result<()>
-    requires some { 1 ≤ workers }
-    requires few { workers ≤ 64 }
-{
+    workers: Workers,
+) -> anyhow::Result<()> {
     ensure!(!engine.is_spent(), "spent");
     ensure!(entries.len() < 1 << 30, "too many tuples");
     let _shown = engine.view()?;

@@ -31,7 +31,7 @@ pub answer_all-requires-clause-ready : goal.answer_all-requires-clause-ready
 answer_all-requires-clause-ready g c κs within =
     let was = c.in_ok-evaluator.ensures in
     ready_first c.args.task c.requires.task c.in_ok-evaluator.evaluator was.queries
-    was.two_way was.totals c.args.making.now c.requires.none was.workers was.stands
+    was.two_way was.totals c.args.making.now c.requires.none was.stands
 
 pub returns-in_err-answer_all-clause-part : goal.returns-in_err-answer_all-clause-part
 returns-in_err-answer_all-clause-part g c =

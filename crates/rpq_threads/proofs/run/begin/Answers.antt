@@ -75,8 +75,7 @@ returns g c =
         count = made.count;
         fed = begun_fed g.S.Source.left g.S.Source.faults task c.requires history terms
             evaluator (kept.queries ∙ c.in_ok-evaluator.ensures.queries)
-            c.in_ok-evaluator.ensures.workers c.in_ok-evaluator.ensures.options
-            (made.readers ∙ asking) move
+            c.in_ok-evaluator.ensures.options (made.readers ∙ asking) move
             (record {
               stands = kept.stands (walked c.in_ok-evaluator.evaluator.options.two_way [])
                   c.in_ok-evaluator.ensures.stands.stands;

@@ -66,7 +66,7 @@ returns-clause-ok g c =
     GoesOn history (history ++ entries) old new first last)
     (λ _ tells counts history ready.
     goes_on old new entries (lists_of found) fed first last history ready
-    c.feed_entries.ensures.queries refl refl tells (length found)
+    c.feed_entries.ensures.queries refl tells (length found)
     (as_many_lists old.two_way old.engine engine entries found history ready.stands fed) counts)
     c.tell_front.ensures.told c.tell_front.ensures.counted
 
