@@ -1,4 +1,4 @@
-use Rattle.std.proofs.Common.{◌≡◌, ◌+◌, ◌×◌, ◌⊎◌, inl, inr, List, All, length, ap, sym, subst, ◌∙◌, arith}
+use Rattle.std.proofs.Common.{List, All, length, ap, sym, subst, arith}
 use Rattle.edge_store.specs.Edges.{value_of}
 use Rattle.dfa_table.specs.DfaValue.{step_of}
 use Rattle.delta_tree.specs.declared.node.Shift.{Shift}
