@@ -2,7 +2,7 @@
 
 ghost use Rattle.std.specs.Prelude.{◌≡◌, ◌≤◌, false};
 
-use crate::case::{has_written, sink_of};
+use crate::memory::{has_written, sink_of};
 use rpq_io::{
     AllFault, Files, HostFiles, HostSink, HostSource, LineFault, LineReader, MemoryFiles,
     MemorySink, MemorySource, Place, Sink, Source, put_all, read_all,
@@ -113,8 +113,8 @@ fn reads_a_file(rt: &HostRuntime, name: &str, expected: &[u8]) -> bool {
     }
 }
 
-/// Whether a new run opens this file of the host to write, and not once more, writes these bytes,
-/// and has no other file to read.
+/// Whether a new run opens this file of the host to write, and not once more, and writes these
+/// bytes, so that another run reads them at once; and has no other file to read.
 fn writes_a_file(rt: &HostRuntime, name: &str, bytes: &[u8]) -> bool {
     let mut files = HostFiles::new(rt.alloc(), rt);
     match files.sink(name) {
@@ -122,7 +122,8 @@ fn writes_a_file(rt: &HostRuntime, name: &str, bytes: &[u8]) -> bool {
             let mut sink = sink;
             takes(&mut sink, bytes)
                 && files.sink(name).is_err()
-                && files.source("rpq_no_such_file").is_err()
+                && has_no_source(&mut files, "rpq_no_such_file")
+                && reads_a_file(rt, name, bytes)
         }
         Err(_) => false,
     }
@@ -132,7 +133,6 @@ fn writes_a_file(rt: &HostRuntime, name: &str, bytes: &[u8]) -> bool {
 fn files_of_the_host_are_written_and_read(rt: HostRuntime) {
     let name = "rpq_written_by_a_test";
     assert!(rt; writes_a_file(&rt, name, b"one line\n"));
-    assert!(rt; reads_a_file(&rt, name, b"one line\n"));
     assert!(rt;
         reads_a_file(&rt, name, b"one line\n"),
         "not written anew by reading"

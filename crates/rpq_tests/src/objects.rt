@@ -1,8 +1,8 @@
 //! Runs with objects of the test's own, which leave or run out of memory while they are told.
 
-use crate::case::{Given, outcome_of, sink_of, words_of};
+use crate::memory::{CYCLE, PATHS, given_of, has_written, outcome_of};
 use rpq_base::{Event, Memory};
-use rpq_io::{MemoryFiles, MemorySink, OpenGate};
+use rpq_io::OpenGate;
 use standing::{Roll, Standing, Stay};
 use std::alloc::Global;
 use std::process::Abort;
@@ -10,11 +10,8 @@ use std::random::RandomSource;
 use std::sync::Wait;
 use std::thread::Threads;
 
-/// A query for all paths of one label.
-const PATHS: &str = "query q window 100 slide 10 arbitrary: a+\n";
-
-/// A stream whose four entries bring one, two, three and two events.
-const CYCLE: &str = "1 r a x\n1 x a y\n1 y a x\n1 r a x -\n";
+/// The first two blocks that a run of [`PATHS`] over [`CYCLE`] writes.
+const TWO_BLOCKS: &str = "@1 1 1 r a x +\n+ q r x\n@2 1 1 x a y +\n+ q r y\n+ q x y\n";
 
 /// Keeps what it hears, and leaves at its second event.
 #[derive(Drop)]
@@ -81,26 +78,14 @@ impl Standing for Short {
 }
 
 /// What a run is to answer: its status, how many objects stayed and left, what the one object says,
-/// and how many blocks were written.
+/// and what is written on the events.
 #[derive(Clone, Copy)]
 struct Wanted<'a> {
     status: u8,
     stayed: usize,
     left: usize,
     says: &'a [u8],
-    blocks: usize,
-}
-
-/// The files `q` and `s`, with [`PATHS`] and [`CYCLE`].
-fn files_of(rt: &impl Abort, alloc: Global) -> MemoryFiles {
-    let mut files = MemoryFiles::new(alloc, 0, 1, &[], &[]).expect(rt, "memory");
-    files
-        .add("q", PATHS.as_bytes(), 64, &[])
-        .expect(rt, "memory");
-    files
-        .add("s", CYCLE.as_bytes(), 64, &[])
-        .expect(rt, "memory");
-    files
+    events: &'a str,
 }
 
 /// Whether all these objects say this.
@@ -121,11 +106,6 @@ fn says(object: &Box<dyn Standing>, wanted: &[u8]) -> bool {
     }
 }
 
-/// How many blocks went out on the sink.
-fn blocks(events: &MemorySink) -> usize {
-    events.bytes().iter().filter(|byte| **byte == b'@').count()
-}
-
 /// Whether the run of [`PATHS`] over [`CYCLE`] with this object, of which the write of the events
 /// with this number fails, answers what it is to.
 fn ends_so<R: Threads + Wait + RandomSource + Sync + Abort>(
@@ -135,18 +115,14 @@ fn ends_so<R: Threads + Wait + RandomSource + Sync + Abort>(
     failing_write: u64,
     wanted: &Wanted,
 ) -> bool {
-    let mut given = Given {
-        words: words_of(rt, alloc, &["q", "s"]),
-        files: files_of(rt, alloc),
-        events: sink_of(rt, alloc, 4096, 4096, &[failing_write]),
-        errors: sink_of(rt, alloc, 4096, 64, &[]),
-        standing: list_of(rt, alloc, object),
-    };
+    let texts = [PATHS, CYCLE, ""];
+    let standing = list_of(rt, alloc, object);
+    let mut given = given_of(rt, alloc, &["q", "s"], texts, &[failing_write], standing);
     let outcome = outcome_of(rt, alloc, &mut given, &OpenGate);
     outcome.status == wanted.status
         && given.standing.len() == wanted.stayed
         && outcome.left.len() == wanted.left
-        && blocks(&given.events) == wanted.blocks
+        && has_written(&given.events, wanted.events)
         && all_say(&given.standing, wanted.says)
         && all_say(&outcome.left, wanted.says)
 }
@@ -178,7 +154,7 @@ fn an_object_that_left_before_a_failed_write(rt: HostRuntime) {
         stayed: 0,
         left: 1,
         says: b"roll 2 0",
-        blocks: 2,
+        events: TWO_BLOCKS,
     };
     let object = Box::new(alloc, object).expect(&rt, "memory");
     assert!(rt; ends_so(&rt, alloc, object, 3, &wanted));
@@ -196,7 +172,7 @@ fn an_object_without_memory_for_an_event(rt: HostRuntime) {
         stayed: 1,
         left: 0,
         says: b"roll 2 0",
-        blocks: 2,
+        events: TWO_BLOCKS,
     };
     let object = Box::new(alloc, object).expect(&rt, "memory");
     assert!(rt; ends_so(&rt, alloc, object, 0, &wanted));

@@ -1,7 +1,9 @@
 //! A reader beside a stream and the engine: it is answered before the next line is there, and while
 //! a worker on trees is at work.
 
-use crate::case::words_of;
+ghost use Rattle.std.specs.Prelude.{◌≡◌};
+
+use crate::memory::words_of;
 use rpq_io::{Files, Gate, HostSink, HostSource, OpenFault, Who};
 use rpq_run::{Report, run};
 use std::alloc::Global;
@@ -173,8 +175,8 @@ impl Gate for HoldingGate {
     }
 }
 
-/// Whether the one session of a run over the watched files, behind this gate, is answered so, and the
-/// run is done. It promises nothing, so that no test carries along what `run` promises.
+/// Whether the one session of a run over the watched files, behind this gate, is answered so, and
+/// the run is done. It promises nothing, so that no test carries along what `run` promises.
 fn is_answered<R: Threads + Wait + RandomSource + Sync + Abort, G: Gate>(
     rt: &R,
     alloc: Global,

@@ -1,7 +1,7 @@
-//! Runs over several streams: all at the same time, and each with an end of its own.
+//! Runs over several streams at the same time.
 
-use crate::case::{Given, has_written, outcome_of, sink_of, words_of};
-use rpq_io::{Gate, MemoryFiles, OpenGate, Who};
+use crate::memory::{given_of, has_written, outcome_of};
+use rpq_io::{Gate, Who};
 use std::alloc::Global;
 use std::hint::spin_loop;
 use std::process::Abort;
@@ -40,64 +40,20 @@ impl Gate for MeetingGate {
     fn replied(&self, _session: u32, _position: u64) {}
 }
 
-/// What a run over the files `q`, `s`, `t` and `u` is given, of which the reads of `t` and the writes
-/// of the events with these numbers fail, and its status, its lines on the errors, and how many
-/// entries its history has, unless that is up to the machine.
-#[derive(Clone, Copy)]
-struct Case<'a> {
-    words: &'a [&'a str],
-    streams: [&'a str; 3],
-    failing_reads: &'a [u64],
-    failing_writes: &'a [u64],
-    status: u8,
-    errors: &'a str,
-    entries: Option<usize>,
-}
-
-/// The four files of the case.
-fn files_of(rt: &impl Abort, alloc: Global, case: &Case) -> MemoryFiles {
-    let queries = b"query q window 9 slide 3 arbitrary: a\n";
-    let [first, second, third] = case.streams;
-    let mut files = MemoryFiles::new(alloc, 0, 1, &[], &[]).expect(rt, "memory");
-    files.add("q", queries, 64, &[]).expect(rt, "memory");
-    files
-        .add("s", first.as_bytes(), 64, &[])
-        .expect(rt, "memory");
-    files
-        .add("t", second.as_bytes(), 4, case.failing_reads)
-        .expect(rt, "memory");
-    files
-        .add("u", third.as_bytes(), 1, &[])
-        .expect(rt, "memory");
-    files
-}
-
-/// Whether the run of the case answers what it is to, behind this gate.
-fn holds<R: Threads + Wait + RandomSource + Sync + Abort, G: Gate>(
+/// Whether a run over two streams behind this gate takes all entries of both.
+fn takes_both<R: Threads + Wait + RandomSource + Sync + Abort>(
     rt: &R,
     alloc: Global,
-    case: &Case,
-    gate: &G,
+    gate: &MeetingGate,
 ) -> bool {
-    let mut given = Given {
-        words: words_of(rt, alloc, case.words),
-        files: files_of(rt, alloc, case),
-        events: sink_of(rt, alloc, 4096, 64, case.failing_writes),
-        errors: sink_of(rt, alloc, 4096, 64, &[]),
-        standing: Vec::new(alloc),
-    };
+    let texts = [
+        "query q window 9 slide 3 arbitrary: a\n",
+        "1 x a y\n2 y b z\n3 x a w\n",
+        "4 w b z\n5\n",
+    ];
+    let mut given = given_of(rt, alloc, &["q", "s", "t"], texts, &[], Vec::new(alloc));
     let outcome = outcome_of(rt, alloc, &mut given, gate);
-    outcome.status == case.status
-        && has_written(&given.errors, case.errors)
-        && has_as_many(outcome.entries, case.entries)
-}
-
-/// Whether there are as many entries as are wanted, if a number is wanted.
-fn has_as_many(entries: usize, wanted: Option<usize>) -> bool {
-    match wanted {
-        Some(wanted) => entries == wanted,
-        None => true,
-    }
+    outcome.status == 0 && outcome.entries == 5 && has_written(&given.errors, "")
 }
 
 #[test]
@@ -106,66 +62,6 @@ fn two_streams_at_the_same_time(rt: HostRuntime) {
         come: AtomicU64::new(0),
         alone: AtomicU64::new(0),
     };
-    let case = Case {
-        words: &["q", "s", "t"],
-        streams: ["1 x a y\n2 y b z\n3 x a w\n", "4 w b z\n5\n", ""],
-        failing_reads: &[],
-        failing_writes: &[],
-        status: 0,
-        errors: "",
-        entries: Some(5),
-    };
-    assert!(rt; holds(&rt, rt.alloc(), &case, &gate));
+    assert!(rt; takes_both(&rt, rt.alloc(), &gate));
     assert!(rt; gate.alone.load(SeqCst) == 0);
-}
-
-#[test]
-fn each_stream_has_its_own_end(rt: HostRuntime) {
-    // One has a faulty line, of one a read fails, and one is read to its end.
-    let faults = Case {
-        words: &["q", "s", "t", "u"],
-        streams: ["1\n2 y\n3\n", "4\n5\n6\n", "7\n8 x a y\n"],
-        failing_reads: &[2],
-        failing_writes: &[],
-        status: 5,
-        errors: "rpq: stream 1 line 2: fields 2\nrpq: read failed: stream 2\n",
-        entries: Some(5),
-    };
-    // Each has a further tuple when the history is full.
-    let full = Case {
-        words: &["--history", "2", "q", "s", "t", "u"],
-        streams: ["1\n2\n3\n", "4\n5\n6\n", "7\n8\n9\n"],
-        failing_reads: &[],
-        status: 7,
-        errors: "rpq: stream 1: history full\nrpq: stream 2: history full\n\
-            rpq: stream 3: history full\n",
-        entries: Some(2),
-        ..faults
-    };
-    assert!(rt; holds(&rt, rt.alloc(), &faults, &OpenGate));
-    assert!(rt; holds(&rt, rt.alloc(), &full, &OpenGate));
-}
-
-#[test]
-fn a_failed_write_while_streams_go_on(rt: HostRuntime) {
-    // The streams end as they may: each at its end, or closed.
-    let first = Case {
-        words: &["q", "s", "t", "u"],
-        streams: [
-            "1 x a y\n2 y a z\n3\n",
-            "4\n5 x a w\n6\n",
-            "7\n8 x a y\n9\n",
-        ],
-        failing_reads: &[],
-        failing_writes: &[1],
-        status: 6,
-        errors: "rpq: write failed: events\n",
-        entries: None,
-    };
-    let later = Case {
-        failing_writes: &[5],
-        ..first
-    };
-    assert!(rt; holds(&rt, rt.alloc(), &first, &OpenGate));
-    assert!(rt; holds(&rt, rt.alloc(), &later, &OpenGate));
 }
