@@ -6,11 +6,7 @@ use anyhow::{anyhow, ensure};
 use case_lines::{Fields, Output, decoded, entries_of, put_events, put_pair};
 use path_engine::Engine;
 use query_file::read_queries;
-<<<<<<< HEAD
-use rpq_base::{Entry, Workers};
-=======
-use rpq_base::{Entry, Event};
->>>>>>> a48a816 (Whole runs are asked of one function, which hands out bytes, and engines of another; runs in which a call fails are requests)
+use rpq_base::{Entry, Event, Workers};
 use rpq_io::OpenGate;
 use std::alloc::Global;
 use std::random::RandomSource;
@@ -73,12 +69,9 @@ fn take<R: Threads + Sync>(
     out: &mut Output,
     engine: &mut Engine,
     tuples: &[u8],
-    workers: u32,
+    workers: Workers,
     way: Way,
-) -> anyhow::Result<()>
-    requires some { 1 ≤ workers }
-    requires few { workers ≤ 64 }
-{
+) -> anyhow::Result<()> {
     let entries = entries_of(alloc, tuples)?;
     match way {
         Way::Each => feed_each(rt, out, engine, &entries, workers)?,
@@ -107,11 +100,8 @@ fn events_of<R: Threads + Sync>(
     rt: &R,
     engine: &mut Engine,
     entry: &Entry,
-    workers: u32,
-) -> anyhow::Result<Vec<Event>>
-    requires some { 1 ≤ workers }
-    requires few { workers ≤ 64 }
-{
+    workers: Workers,
+) -> anyhow::Result<Vec<Event>> {
     ensure!(engine.position() < 1 << 30, "too many tuples");
     match engine.feed(rt, entry, workers, &OpenGate) {
         Ok(events) => Ok(events),
@@ -125,11 +115,8 @@ fn feed_front<R: Threads + Sync>(
     out: &mut Output,
     engine: &mut Engine,
     entries: &[Entry],
-    workers: u32,
-) -> anyhow::Result<()>
-    requires some { 1 ≤ workers }
-    requires few { workers ≤ 64 }
-{
+    workers: Workers,
+) -> anyhow::Result<()> {
     for own in &events_of_all(rt, engine, entries, workers)? {
         put_events(out, own)?;
     }
@@ -141,11 +128,8 @@ fn events_of_all<R: Threads + Sync>(
     rt: &R,
     engine: &mut Engine,
     entries: &[Entry],
-    workers: u32,
-) -> anyhow::Result<Vec<Vec<Event>>>
-    requires some { 1 ≤ workers }
-    requires few { workers ≤ 64 }
-{
+    workers: Workers,
+) -> anyhow::Result<Vec<Vec<Event>>> {
     ensure!(engine.position() < 1 << 20, "too many tuples before");
     ensure!(entries.len() < 1 << 20, "too many tuples");
     match engine.feed_front(rt, entries, workers, &OpenGate) {
@@ -162,11 +146,8 @@ fn feed_again<R: Threads + Sync>(
     out: &mut Output,
     engine: &mut Engine,
     entries: &[Entry],
-    workers: u32,
-) -> anyhow::Result<()>
-    requires some { 1 ≤ workers }
-    requires few { workers ≤ 64 }
-{
+    workers: Workers,
+) -> anyhow::Result<()> {
     feed_each(rt, &mut Output::new(alloc), engine, entries, workers)?;
     let (before, last) = entries.split_at(entries.len().saturating_sub(1));
     rebuild(rt, engine, before, workers)?;
@@ -178,17 +159,8 @@ fn rebuild<R: Threads + Sync>(
     rt: &R,
     engine: &mut Engine,
     entries: &[Entry],
-<<<<<<< HEAD
     workers: Workers,
 ) -> anyhow::Result<()> {
-    ensure!(!engine.is_spent(), "spent");
-=======
-    workers: u32,
-) -> anyhow::Result<()>
-    requires some { 1 ≤ workers }
-    requires few { workers ≤ 64 }
-{
->>>>>>> a48a816 (Whole runs are asked of one function, which hands out bytes, and engines of another; runs in which a call fails are requests)
     ensure!(entries.len() < 1 << 30, "too many tuples");
     let _shown = shown(engine)?;
     engine.rebuild(rt, entries, workers, &OpenGate)?;
