@@ -2,7 +2,7 @@
 use Rattle.std.proofs.Common.{◌≡◌, ℕ, zero, suc, ◌+◌, ◌*◌, ◌<◌, ◌≤◌, ◌^◌, false, List, [], ◌∷◌, ◌++◌, length, map, get_or, take}
 use Rattle.std.proofs.Common.{set, refl, sym, ap, ap₂, subst, ◌∙◌, append_assoc, arith, length-append, length-take-le, Option, Some, None}
 use Rattle.std.specs.List.{All, AllZip}
-use Rattle.std.specs.Prelude.{IfSome, OnOk, Result, Ok, Err}
+use Rattle.std.specs.Prelude.{IfOk, OnOk, Result, Ok, Err}
 use Rattle.std.proofs.Common.{⊎_elim, get_or-set_other, get_or-set_same}
 use Rattle.std.proofs.lemmas.Bool.{cases_order}
 use Rattle.std.proofs.Common.{Vec, Global}
@@ -302,11 +302,11 @@ each_more {A} R olds news place new inside here before k d below =
     (⊎_elim (λ less. less) (λ more. absurd (omega (arith, below, more))) other)))
     (cases_order k place)
 
--- where an option is there
-pub if_some_is : {A : Type 0} (P : A → Type 0) (option : Option A) (x : A) → option ≡ Some x →
-    IfSome option P → P x
-if_some_is {A} P option x is given =
-    subst (λ (each : Option A). IfSome each P) {x = option} {y = Some x} is given
+-- where a result is there
+if_ok_is : {A E : Type 0} (P : A → Type 0) (result : Result A E) (x : A) → result ≡ Ok x →
+    IfOk result P → P x
+if_ok_is {A} {E} P result x is given =
+    subst (λ (each : Result A E). IfOk each P) {x = result} {y = Ok x} is given
 
 -- the queries from this number on took the entries into their shares
 abbrev pub Fed : List (List ℕ) → List Entry → ℕ → List CompiledValue → List Share → List Share →
@@ -318,11 +318,11 @@ Fed names entries number queries olds news = (k : ℕ) (query : CompiledValue) (
 fed_first : (names : List (List ℕ)) (entries : List Entry) (number : ℕ) (query : CompiledValue)
     (queries : List CompiledValue) (old new : Share) (olds news : List Share)
     (owns : Vec (Vec Event Global) Global) →
-    Fed names entries number (query ∷ queries) (old ∷ olds) (new ∷ news) → new.owns ≡ Some owns →
+    Fed names entries number (query ∷ queries) (old ∷ olds) (new ∷ news) → new.owns ≡ Ok owns →
     HasAnsweredAll names entries number query old.index new.index (items_of owns.items)
 fed_first names entries number query queries old new olds news owns fed is =
     let here : number + 0 ≡ number = omega arith in
-    if_some_is (λ (each : Vec (Vec Event Global) Global).
+    if_ok_is (λ (each : Vec (Vec Event Global) Global).
     HasAnsweredAll names entries number query old.index new.index (items_of each.items)) new.owns
     owns is
     (subst (λ (at : ℕ). HasFed names entries at query old new) here

@@ -43,8 +43,8 @@ loop-share-preserved c =
           was.4 all
           (subst (λ (shares : List Share). AreGathered events shares all) {x = share ∷ rest} {y = before}
           (sym steps.0) (
-            c.in_ok-owns.owns,
-            c.in_ok-owns.is,
+            c.in_ok-owns.field-0,
+            c.in_ok-owns.was,
             subst (λ (each : List (List Event)). AreGathered each rest all)
                 c.in_ok-append_each.ensures given,
           )),

@@ -28,7 +28,7 @@ loop-index-preserved c =
       omega (arith, was.2, steps.1, ap (λ (xs : List Index). length xs) steps.0),
       ap (λ (all : List Share). map index_of all ++ rest) c.in_ok-push.ensures.items
           ∙ (ap (λ (all : List Index). all ++ rest)
-          (map-append index_of shares (record { index = index; owns = Ok c.new-owns.result } ∷ []))
+          (map-append index_of shares (record { index = index; owns = Ok c.new.result } ∷ []))
           ∙ (append_assoc (map index_of shares) (index ∷ []) rest
           ∙ (ap (λ (all : List Index). map index_of shares ++ all) (sym steps.0) ∙ was.3))),
     )

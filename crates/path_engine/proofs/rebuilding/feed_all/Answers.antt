@@ -27,7 +27,7 @@ loop-front-preserved g c = (
   tt,
   c.in-Some.ensures.steps.0 ∙ c.loop-front.invariant.2,
   more_fed c.args.engine.now.queries c.args.entries.now c.loop-front.engine
-      c.feed_next.new.self (chunks_rest c.loop-front.front-iterator) c.in-Some.front.now
+      c.feed_next.new.engine (chunks_rest c.loop-front.front-iterator) c.in-Some.front.now
       (chunks_rest c.next.new.self) c.in_ok-feed_next.ensures.feeds.0 c.loop-front.invariant.3
       c.in-Some.ensures.steps.1.0 c.in_ok-feed_next.ensures.feeds.1 c.feed_next.ensures.queries,
 )
