@@ -1,14 +1,16 @@
 #!/usr/bin/env python3
-"""tools/gate-times.py [--samples FILE] [COMMAND ..]
+"""tools/gate-times.py [--samples FILE] COMMAND ..
+tools/gate-times.py --watch PID --samples FILE
 tools/gate-times.py --table FILE
 
-Runs the gate, `.ci/run`, or another command, as `rt ci text_parts`, at the top of the repository,
-and prints at its end what each crate took of the processors, as the table of docs/proofs/gate.md.
-It ends with the command's status. It looks at the processes of this run alone, so others may be at
-work on the machine; but then each second is dearer.
+Runs a command, as `rt ci text_parts`, at the top of the repository, and prints at its end what each
+crate took of the processors, as the table of docs/proofs/gate.md. It ends with the command's
+status. It looks at the processes of this run alone, so others may be at work on the machine; but
+then each second is dearer.
 
 With `--samples` what was seen is kept in that file as the run goes on, and `--table` prints the
-table of such a file, also of a run that was cut off.
+table of such a file, also of a run that was cut off. With `--watch` it runs nothing, and looks at
+what a process runs that is there already, until that ends: so `.ci/run` is watched.
 
 Once a second it looks in /proc at each process below the command that is a check, a build, a link
 or a run of a program: how much processor time it and its children have taken, and how much memory
@@ -264,6 +266,17 @@ def watched(command, file):
     return seen, status if status >= 0 else 128 - status
 
 
+def watch(root, file):
+    """Looks at what a process runs until it ends."""
+    sampler, looks = Sampler(root), 0
+    while os.path.exists("/proc/%d" % root):
+        sampler.sample()
+        looks += 1
+        if looks % 10 == 0:
+            keep(seen_by(sampler, 0), file)
+        time.sleep(1)
+
+
 def seen_by(sampler, counted):
     return {"rows": [*sampler.rows.values()], "wall": time.time() - sampler.begun,
             "counted": counted}
@@ -273,15 +286,19 @@ def main():
     parser = argparse.ArgumentParser(description=__doc__.split("\n\n")[1])
     parser.add_argument("--samples", help="keeps what was seen in this file")
     parser.add_argument("--table", help="prints the table of such a file, and runs nothing")
-    parser.add_argument("command", nargs=argparse.REMAINDER, help=".ci/run, unless it is given")
+    parser.add_argument("--watch", type=int, help="looks at what this process runs")
+    parser.add_argument("command", nargs=argparse.REMAINDER, help="what to run")
     given = parser.parse_args()
+    file = given.samples and os.path.abspath(given.samples)
     status = 0
+    if given.watch:
+        watch(given.watch, file)
+        return
     if given.table:
         with open(given.table, encoding="utf-8") as it:
             seen = json.load(it)
     else:
-        file = given.samples and os.path.abspath(given.samples)
-        seen, status = watched(given.command or [".ci/run"], file)
+        seen, status = watched(given.command, file)
     print("\n".join(table_of(seen)))
     sys.exit(status)
 
