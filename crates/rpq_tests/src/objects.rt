@@ -1,17 +1,21 @@
 //! Runs with objects of the test's own, which leave or run out of memory while they are told.
 
-use crate::memory::{CYCLE, PATHS, given_of, has_written, outcome_of};
+use crate::case::words_of;
 use rpq_base::{Event, Memory};
-use rpq_io::OpenGate;
+use rpq_io::{MemoryFiles, MemorySink, OpenGate};
+use rpq_run::run;
 use standing::{Roll, Standing, Stay};
 use std::alloc::Global;
-use std::process::Abort;
 use std::random::RandomSource;
 use std::sync::Wait;
+use std::test::Fail;
 use std::thread::Threads;
 
-/// The first two blocks that a run of [`PATHS`] over [`CYCLE`] writes.
-const TWO_BLOCKS: &str = "@1 1 1 r a x +\n+ q r x\n@2 1 1 x a y +\n+ q r y\n+ q x y\n";
+/// A query for all paths of one label.
+const PATHS: &str = "query q window 100 slide 10 arbitrary: a+\n";
+
+/// A stream whose four entries bring one, two, three and two events.
+const CYCLE: &str = "1 r a x\n1 x a y\n1 y a x\n1 r a x -\n";
 
 /// Keeps what it hears, and leaves at its second event.
 #[derive(Drop)]
@@ -78,74 +82,62 @@ impl Standing for Short {
 }
 
 /// What a run is to answer: its status, how many objects stayed and left, what the one object says,
-/// and what is written on the events.
-#[derive(Clone, Copy)]
+/// and how many blocks were written.
+#[derive(Drop)]
 struct Wanted<'a> {
     status: u8,
     stayed: usize,
     left: usize,
     says: &'a [u8],
-    events: &'a str,
-}
-
-/// Whether all these objects say this.
-fn all_say(objects: &[Box<dyn Standing>], wanted: &[u8]) -> bool {
-    for object in objects {
-        if !says(object, wanted) {
-            return false;
-        }
-    }
-    true
-}
-
-/// Whether the object says this.
-fn says(object: &Box<dyn Standing>, wanted: &[u8]) -> bool {
-    match object.say() {
-        Ok(said) => said.as_slice() == wanted,
-        Err(Memory) => false,
-    }
+    blocks: usize,
 }
 
 /// Whether the run of [`PATHS`] over [`CYCLE`] with this object, of which the write of the events
 /// with this number fails, answers what it is to.
-fn ends_so<R: Threads + Wait + RandomSource + Sync + Abort>(
+fn ends_so<R: Threads + Wait + RandomSource + Sync>(
     rt: &R,
     alloc: Global,
     object: Box<dyn Standing>,
     failing_write: u64,
     wanted: &Wanted,
-) -> bool {
-    let texts = [PATHS, CYCLE, ""];
-    let standing = list_of(rt, alloc, object);
-    let mut given = given_of(rt, alloc, &["q", "s"], texts, &[failing_write], standing);
-    let outcome = outcome_of(rt, alloc, &mut given, &OpenGate);
-    outcome.status == wanted.status
-        && given.standing.len() == wanted.stayed
-        && outcome.left.len() == wanted.left
-        && has_written(&given.events, wanted.events)
-        && all_say(&given.standing, wanted.says)
-        && all_say(&outcome.left, wanted.says)
-}
-
-/// A list of this one object.
-fn list_of(rt: &impl Abort, alloc: Global, object: Box<dyn Standing>) -> Vec<Box<dyn Standing>> {
-    let mut objects = Vec::new(alloc);
-    objects.push(object).expect(rt, "memory");
-    objects
-}
-
-/// A roll of the events of the first query.
-fn roll(rt: &impl Abort, alloc: Global) -> Roll {
-    let mut wanted = Vec::new(alloc);
-    wanted.push(0).expect(rt, "memory");
-    Roll::new(alloc, wanted)
+) -> Result<bool, Fail> {
+    let words = words_of(alloc, &["q", "s"])?;
+    let mut files = MemoryFiles::new(alloc, 0, 1, &[], &[])?;
+    files.add("q", PATHS.as_bytes(), 64, &[])?;
+    files.add("s", CYCLE.as_bytes(), 64, &[])?;
+    let mut events = MemorySink::new(alloc, 4096, 4096, &[failing_write])?;
+    let mut errors = MemorySink::new(alloc, 4096, 64, &[])?;
+    let mut standing = Vec::new(alloc);
+    standing.push(object)?;
+    let report = run(
+        rt,
+        alloc,
+        &words,
+        &mut files,
+        &mut events,
+        &mut errors,
+        &mut standing,
+        &OpenGate,
+    );
+    let mut says_so = true;
+    for one in standing.iter().chain(&report.left) {
+        says_so = says_so && one.say()?.as_slice() == wanted.says;
+    }
+    let blocks = events.bytes().iter().filter(|byte| **byte == b'@').count();
+    Ok(
+        says_so
+            && report.status == wanted.status
+            && standing.len() == wanted.stayed
+            && report.left.len() == wanted.left
+            && blocks == wanted.blocks,
+    )
 }
 
 #[test]
-fn an_object_that_left_before_a_failed_write(rt: HostRuntime) {
+fn an_object_that_left_before_a_failed_write(rt: HostRuntime) -> Result<(), Fail> {
     let alloc = rt.alloc();
     let object = Leaving {
-        roll: roll(&rt, alloc),
+        roll: Roll::new(alloc, (0..1).collect(alloc)?),
         calls: 0,
         is_gone: false,
     };
@@ -154,17 +146,17 @@ fn an_object_that_left_before_a_failed_write(rt: HostRuntime) {
         stayed: 0,
         left: 1,
         says: b"roll 2 0",
-        events: TWO_BLOCKS,
+        blocks: 2,
     };
-    let object = Box::new(alloc, object).expect(&rt, "memory");
-    assert!(rt; ends_so(&rt, alloc, object, 3, &wanted));
+    assert!(rt; ends_so(&rt, alloc, Box::new(alloc, object)?, 3, &wanted)?);
+    Ok(())
 }
 
 #[test]
-fn an_object_without_memory_for_an_event(rt: HostRuntime) {
+fn an_object_without_memory_for_an_event(rt: HostRuntime) -> Result<(), Fail> {
     let alloc = rt.alloc();
     let object = Short {
-        roll: roll(&rt, alloc),
+        roll: Roll::new(alloc, (0..1).collect(alloc)?),
         calls: 0,
     };
     let wanted = Wanted {
@@ -172,8 +164,8 @@ fn an_object_without_memory_for_an_event(rt: HostRuntime) {
         stayed: 1,
         left: 0,
         says: b"roll 2 0",
-        events: TWO_BLOCKS,
+        blocks: 2,
     };
-    let object = Box::new(alloc, object).expect(&rt, "memory");
-    assert!(rt; ends_so(&rt, alloc, object, 0, &wanted));
+    assert!(rt; ends_so(&rt, alloc, Box::new(alloc, object)?, 0, &wanted)?);
+    Ok(())
 }

@@ -1,14 +1,14 @@
 //! Workers on trees: two at the same time, with the bytes of one.
 
-use crate::memory::{CYCLE, PATHS, given_of, has_written, outcome_of};
+use crate::case::{Case, holds_behind, path};
 use rpq_io::{Gate, OpenGate, Who};
 use std::alloc::Global;
 use std::hint::spin_loop;
-use std::process::Abort;
 use std::random::RandomSource;
 use std::sync::Wait;
 use std::sync::atomic::AtomicU64;
 use std::sync::atomic::Ordering::SeqCst;
+use std::test::Fail;
 use std::thread::Threads;
 
 /// For how many turns a worker waits for another.
@@ -71,39 +71,51 @@ impl Gate for MeetingGate {
     fn replied(&self, _session: u32, _position: u64) {}
 }
 
-/// What a run of [`PATHS`] over [`CYCLE`] writes.
-const EVENTS: &str = "@1 1 1 r a x +\n+ q r x\n\
-    @2 1 1 x a y +\n+ q r y\n+ q x y\n\
-    @3 1 1 y a x +\n+ q x x\n+ q y x\n+ q y y\n\
-    @4 1 1 r a x -\n- q r x\n- q r y\n";
+/// A run by one worker over a stream that makes three trees and takes the edge out on which all of
+/// one tree hangs.
+fn one_worker<'a>() -> Case<'a> {
+    Case {
+        words: &["--workers", "1", "q", "s"],
+        queries: "query q window 100 slide 10 arbitrary: a+\n",
+        stream: "1 r a x\n1 x a y\n1 y a x\n1 r a x -\n",
+        events: "@1 1 1 r a x +\n+ q r x\n\
+            @2 1 1 x a y +\n+ q r y\n+ q x y\n\
+            @3 1 1 y a x +\n+ q x x\n+ q y x\n+ q y y\n\
+            @4 1 1 r a x -\n- q r x\n- q r y\n",
+        ..path()
+    }
+}
 
-/// Whether a run of [`PATHS`] over [`CYCLE`] by so many workers writes [`EVENTS`] behind a gate by
-/// which a change is shared from so many trees on, and whether a worker was found waiting in it is
-/// as wanted.
-fn writes_and_meets<R: Threads + Wait + RandomSource + Sync + Abort>(
+/// The same run by two workers.
+fn two_workers<'a>() -> Case<'a> {
+    Case {
+        words: &["--workers", "2", "q", "s"],
+        ..one_worker()
+    }
+}
+
+/// Whether the run of the case answers what it is to behind a gate by which a change is shared from
+/// so many trees on, and whether a worker was found waiting in it is as wanted.
+fn holds_and_meets<R: Threads + Wait + RandomSource + Sync>(
     rt: &R,
     alloc: Global,
-    workers: &str,
+    case: &Case,
     least: usize,
     wanted: bool,
-) -> bool {
+) -> Result<bool, Fail> {
     let gate = MeetingGate::new(least);
-    let words = ["--workers", workers, "q", "s"];
-    let texts = [PATHS, CYCLE, ""];
-    let mut given = given_of(rt, alloc, &words, texts, &[], Vec::new(alloc));
-    let outcome = outcome_of(rt, alloc, &mut given, &gate);
-    outcome.status == 0
-        && has_written(&given.events, EVENTS)
-        && has_written(&given.errors, "")
-        && (gate.met.load(SeqCst) > 0) == wanted
+    let holds = holds_behind(rt, alloc, case, &gate)?;
+    let meets = gate.met.load(SeqCst) > 0;
+    Ok(holds && meets == wanted)
 }
 
 #[test]
-fn two_workers_at_the_same_time(rt: HostRuntime) {
+fn two_workers_at_the_same_time(rt: HostRuntime) -> Result<(), Fail> {
     let alloc = rt.alloc();
-    assert!(rt; writes_and_meets(&rt, alloc, "1", 1, false));
-    assert!(rt; writes_and_meets(&rt, alloc, "2", 1, true));
+    assert!(rt; holds_and_meets(&rt, alloc, &one_worker(), 1, false)?);
+    assert!(rt; holds_and_meets(&rt, alloc, &two_workers(), 1, true)?);
     // few trees aren't shared by the gate of the program
     let least = OpenGate.trees_per_worker();
-    assert!(rt; writes_and_meets(&rt, alloc, "2", least, false));
+    assert!(rt; holds_and_meets(&rt, alloc, &two_workers(), least, false)?);
+    Ok(())
 }
