@@ -7,7 +7,6 @@ pub enum Request {
     Front,
     Rebuild,
     Run,
-    Calls,
     Readers,
     Faults,
 }
@@ -20,7 +19,6 @@ impl Request {
             b"front" => Some(Request::Front),
             b"rebuild" => Some(Request::Rebuild),
             b"run" => Some(Request::Run),
-            b"calls" => Some(Request::Calls),
             b"readers" => Some(Request::Readers),
             b"faults" => Some(Request::Faults),
             _ => None,
