@@ -6,10 +6,11 @@ use anyhow::{anyhow, ensure};
 use case_lines::{Fields, Output, decoded, entries_of, put_events, put_pair};
 use path_engine::Engine;
 use query_file::read_queries;
-use rpq_base::{Entry, Workers};
+use rpq_base::{Entry, Event, Workers};
 use rpq_io::OpenGate;
 use std::alloc::Global;
 use std::random::RandomSource;
+use std::sync::Arc;
 use std::thread::Threads;
 
 /// The most queries of a file.
@@ -34,6 +35,52 @@ fn engine_of<R: RandomSource>(
     Ok(Engine::new(rt, alloc, queries)?)
 }
 
+/// How an engine is to take the tuples of a request.
+#[derive(Clone, Copy)]
+pub enum Way {
+    /// One after another. What each changes is put.
+    Each,
+    /// All at once, as a front. What each changes is put.
+    Front,
+    /// One after another. Then the engine shows its answers, is rebuilt over all but the last, and
+    /// takes the last once more. What that changes is put.
+    Rebuilt,
+}
+
+/// What tuples change of the answers of some queries, for an engine that takes them in this way,
+/// and then its position and the answers with their ends.
+pub fn answer_engine<R: RandomSource + Threads + Sync>(
+    rt: &R,
+    alloc: Global,
+    out: &mut Output,
+    way: Way,
+    fields: Fields,
+) -> anyhow::Result<()> {
+    let mut fields = fields;
+    let workers = workers_of(&mut fields)?;
+    let mut engine = engine_of(rt, alloc, &mut fields)?;
+    take(rt, alloc, out, &mut engine, fields.rest(), workers, way)
+}
+
+/// Has an engine take tuples in this way, and puts what they change, and its end.
+fn take<R: Threads + Sync>(
+    rt: &R,
+    alloc: Global,
+    out: &mut Output,
+    engine: &mut Engine,
+    tuples: &[u8],
+    workers: Workers,
+    way: Way,
+) -> anyhow::Result<()> {
+    let entries = entries_of(alloc, tuples)?;
+    match way {
+        Way::Each => feed_each(rt, out, engine, &entries, workers)?,
+        Way::Front => feed_front(rt, out, engine, &entries, workers)?,
+        Way::Rebuilt => feed_again(rt, alloc, out, engine, &entries, workers)?,
+    }
+    put_end(alloc, out, engine)
+}
+
 /// Feeds entries to an engine one after another, and puts what each changes.
 fn feed_each<R: Threads + Sync>(
     rt: &R,
@@ -43,67 +90,68 @@ fn feed_each<R: Threads + Sync>(
     workers: Workers,
 ) -> anyhow::Result<()> {
     for entry in entries {
-        ensure!(engine.position() < 1 << 30, "too many tuples");
-        let Ok(events) = engine.feed(rt, entry, workers, &OpenGate) else {
-            return Err(anyhow!("out of memory"));
-        };
-        put_events(out, &events)?;
+        put_events(out, &events_of(rt, engine, entry, workers)?)?;
     }
     Ok(())
 }
 
-/// What each tuple changes of the answers of some queries, and then the position and the answers
-/// with their ends.
-pub fn answer_engine<R: RandomSource + Threads + Sync>(
+/// Feeds an entry to an engine. The events of the entry.
+fn events_of<R: Threads + Sync>(
     rt: &R,
-    alloc: Global,
-    out: &mut Output,
-    mut fields: Fields,
-) -> anyhow::Result<()> {
-    let workers = workers_of(&mut fields)?;
-    let mut engine = engine_of(rt, alloc, &mut fields)?;
-    let entries = entries_of(alloc, fields.rest())?;
-    feed_each(rt, out, &mut engine, &entries, workers)?;
-    put_end(alloc, out, engine)
+    engine: &mut Engine,
+    entry: &Entry,
+    workers: Workers,
+) -> anyhow::Result<Vec<Event>> {
+    ensure!(engine.position() < 1 << 30, "too many tuples");
+    match engine.feed(rt, entry, workers, &OpenGate) {
+        Ok(events) => Ok(events),
+        Err(_) => Err(anyhow!("out of memory")),
+    }
 }
 
-/// The same of an engine that takes all tuples as one front.
-pub fn answer_front<R: RandomSource + Threads + Sync>(
+/// Feeds entries to an engine as one front, and puts what each changes.
+fn feed_front<R: Threads + Sync>(
     rt: &R,
-    alloc: Global,
     out: &mut Output,
-    mut fields: Fields,
+    engine: &mut Engine,
+    entries: &[Entry],
+    workers: Workers,
 ) -> anyhow::Result<()> {
-    let workers = workers_of(&mut fields)?;
-    let mut engine = engine_of(rt, alloc, &mut fields)?;
-    let entries = entries_of(alloc, fields.rest())?;
-    ensure!(engine.position() < 1 << 20, "too many tuples before");
-    ensure!(entries.len() < 1 << 20, "too many tuples");
-    let Ok(events) = engine.feed_front(rt, &entries, workers, &OpenGate) else {
-        return Err(anyhow!("out of memory"));
-    };
-    for own in &events {
+    for own in &events_of_all(rt, engine, entries, workers)? {
         put_events(out, own)?;
     }
-    put_end(alloc, out, engine)
+    Ok(())
 }
 
-/// What the last tuple changes, and then the position and the answers with their ends, of an engine
-/// that took all tuples, showed its answers, and was rebuilt over all but the last.
-pub fn answer_rebuild<R: RandomSource + Threads + Sync>(
+/// Feeds entries to an engine as one front. The events of each entry.
+fn events_of_all<R: Threads + Sync>(
+    rt: &R,
+    engine: &mut Engine,
+    entries: &[Entry],
+    workers: Workers,
+) -> anyhow::Result<Vec<Vec<Event>>> {
+    ensure!(engine.position() < 1 << 20, "too many tuples before");
+    ensure!(entries.len() < 1 << 20, "too many tuples");
+    match engine.feed_front(rt, entries, workers, &OpenGate) {
+        Ok(events) => Ok(events),
+        Err(_) => Err(anyhow!("out of memory")),
+    }
+}
+
+/// Feeds entries to an engine one after another, rebuilds it over all but the last, feeds the last
+/// to it once more, and puts what that changes.
+fn feed_again<R: Threads + Sync>(
     rt: &R,
     alloc: Global,
     out: &mut Output,
-    mut fields: Fields,
+    engine: &mut Engine,
+    entries: &[Entry],
+    workers: Workers,
 ) -> anyhow::Result<()> {
-    let workers = workers_of(&mut fields)?;
-    let mut engine = engine_of(rt, alloc, &mut fields)?;
-    let entries = entries_of(alloc, fields.rest())?;
-    feed_each(rt, &mut Output::new(alloc), &mut engine, &entries, workers)?;
+    feed_each(rt, &mut Output::new(alloc), engine, entries, workers)?;
     let (before, last) = entries.split_at(entries.len().saturating_sub(1));
-    rebuild(rt, &mut engine, before, workers)?;
-    feed_each(rt, out, &mut engine, last, workers)?;
-    put_end(alloc, out, engine)
+    rebuild(rt, engine, before, workers)?;
+    feed_each(rt, out, engine, last, workers)
 }
 
 /// Shows the answers of an engine, and rebuilds it over these entries.
@@ -113,20 +161,23 @@ fn rebuild<R: Threads + Sync>(
     entries: &[Entry],
     workers: Workers,
 ) -> anyhow::Result<()> {
-    ensure!(!engine.is_spent(), "spent");
     ensure!(entries.len() < 1 << 30, "too many tuples");
-    let _shown = engine.view()?;
+    let _shown = shown(engine)?;
     engine.rebuild(rt, entries, workers, &OpenGate)?;
     Ok(())
 }
 
-/// Puts the position of an engine and the answers with their ends.
-fn put_end(alloc: Global, out: &mut Output, mut engine: Engine) -> anyhow::Result<()> {
+/// What an engine shows.
+fn shown(engine: &mut Engine) -> anyhow::Result<Arc<View>> {
     ensure!(!engine.is_spent(), "spent");
+    Ok(engine.view()?)
+}
+
+/// Puts the position of an engine and the answers with their ends.
+fn put_end(alloc: Global, out: &mut Output, engine: &mut Engine) -> anyhow::Result<()> {
     out.put(" ")?;
     out.put_shown(&engine.position())?;
-    let view = engine.view()?;
-    put_view(alloc, out, &*view)
+    put_view(alloc, out, &*shown(engine)?)
 }
 
 /// Puts the answers of each query, `|` before each.

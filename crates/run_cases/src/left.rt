@@ -1,104 +1,106 @@
-//! What a run left behind, as far as it isn't up to the machine.
+//! What a run leaves behind, as bytes.
 
-use crate::blocks::{Blocks, blocks_of};
-use case_lines::{Output, decoded};
-use query_file::{Compiled, read_queries};
+use crate::outside::Outside;
 use rpq_base::Entry;
-use rpq_io::MemoryFiles;
+use rpq_io::{MemoryFiles, MemorySink};
 use rpq_run::{Answered, Report};
 use standing::Standing;
 use std::alloc::{AllocError, Global};
+use std::mem;
 use text_parts::push_decimal;
 
-/// What a run left behind: its report, the objects that stayed, and what it wrote on the events and
-/// the errors.
-#[derive(Clone, Copy)]
-pub struct Left<'a> {
-    pub report: &'a Report<MemoryFiles>,
-    pub standing: &'a [Box<dyn Standing>],
-    pub events: &'a [u8],
-    pub errors: &'a [u8],
+/// What a run leaves behind.
+#[derive(Drop)]
+pub struct Left {
+    pub status: u8,
+    pub history: Vec<Entry>,
+    /// How many sources the report has.
+    pub sources: usize,
+    /// How many sessions the report has.
+    pub sessions: usize,
+    pub events: Vec<u8>,
+    pub errors: Vec<u8>,
+    /// What the run wrote on the replies, if it has a sink for them.
+    pub replies: Option<Vec<u8>>,
+    /// The line of each session, and behind it what its asks were answered.
+    pub answers: Vec<u8>,
+    /// The window that the run saved, if it has a sink for it.
+    pub saved: Option<Vec<u8>>,
+    /// What each of the objects says that stayed.
+    pub stayed: Vec<Vec<u8>>,
+    /// What each of the objects says that left.
+    pub gone: Vec<Vec<u8>>,
 }
 
-/// Puts what a run with the queries of this field left behind.
-pub fn put_left(
+/// What a run leaves behind with this report, these sinks and these objects.
+pub fn left_of(
     alloc: Global,
-    out: &mut Output,
-    queries: &[u8],
-    left: &Left,
-) -> anyhow::Result<()> {
-    let report = left.report;
-    let queries = queries_of(alloc, queries)?;
-    let due = blocks_of(alloc, &queries, &report.history, left.events.len())?;
-    out.put_shown(&report.status)?;
-    put_extent(out, left.events, &due.text)?;
-    put_entries(out, &report.history, left.events == due.text.as_slice())?;
-    put_count(out, report.sources.len())?;
-    put_count(out, report.sessions.len())?;
-    put_replies(alloc, out, report)?;
-    put_tally(alloc, out, left, &due)?;
-    out.put("|")?;
-    out.put_bytes(left.errors)
+    outside: Outside,
+    standing: Vec<Box<dyn Standing>>,
+    report: Report<MemoryFiles>,
+) -> anyhow::Result<Left> {
+    let mut report = report;
+    let mut left = Left::new(alloc, report.status);
+    left.note(alloc, &outside, &standing, &report)?;
+    mem::swap(&mut left.history, &mut report.history);
+    Ok(left)
 }
 
-/// The queries that a field gives, and none where it has a fault.
-fn queries_of(alloc: Global, text: &[u8]) -> anyhow::Result<Vec<Compiled>> {
-    match read_queries(alloc, &decoded(alloc, text)?) {
-        Ok(queries) => Ok(queries),
-        Err(_) => Ok(Vec::new(alloc)),
+impl Left {
+    /// Nothing but a status.
+    fn new(alloc: Global, status: u8) -> Left {
+        Left {
+            status,
+            history: Vec::new(alloc),
+            sources: 0,
+            sessions: 0,
+            events: Vec::new(alloc),
+            errors: Vec::new(alloc),
+            replies: None,
+            answers: Vec::new(alloc),
+            saved: None,
+            stayed: Vec::new(alloc),
+            gone: Vec::new(alloc),
+        }
+    }
+
+    /// Notes all but the history.
+    fn note(
+        &mut self,
+        alloc: Global,
+        outside: &Outside,
+        standing: &[Box<dyn Standing>],
+        report: &Report<MemoryFiles>,
+    ) -> anyhow::Result<()> {
+        self.sources = report.sources.len();
+        self.sessions = report.sessions.len();
+        self.events.extend_from_slice(outside.events.bytes())?;
+        self.errors.extend_from_slice(outside.errors.bytes())?;
+        self.replies = bytes_of(alloc, &report.replies)?;
+        self.saved = bytes_of(alloc, &report.save)?;
+        put_sessions(&mut self.answers, &report.sessions)?;
+        put_said(&mut self.stayed, standing)?;
+        put_said(&mut self.gone, &report.left)
     }
 }
 
-/// Puts how much of a text was written.
-fn put_extent(out: &mut Output, written: &[u8], text: &[u8]) -> anyhow::Result<()> {
-    out.put(if written.is_empty() {
-        " none"
-    } else if written == text {
-        " whole"
-    } else if text.starts_with(written) {
-        " part"
-    } else {
-        " other"
-    })
-}
-
-/// Puts how many entries a history has, or `-` where not all of its text was written, since it's up
-/// to the machine then how far the streams come.
-fn put_entries(out: &mut Output, history: &[Entry], is_whole: bool) -> anyhow::Result<()> {
-    if is_whole {
-        put_count(out, history.len())
-    } else {
-        out.put(" -")
+/// What is written on a sink, if there is one.
+fn bytes_of(alloc: Global, sink: &Option<MemorySink>) -> Result<Option<Vec<u8>>, AllocError> {
+    match sink {
+        Some(sink) => Ok(Some(Vec::from_slice(alloc, sink.bytes())?)),
+        None => Ok(None),
     }
 }
 
-fn put_count(out: &mut Output, count: usize) -> anyhow::Result<()> {
-    out.put(" ")?;
-    out.put_shown(&count)
-}
-
-/// Puts how much of the text of its sessions a run wrote on its replies, or `-` where it has none.
-fn put_replies(
-    alloc: Global,
-    out: &mut Output,
-    report: &Report<MemoryFiles>,
-) -> anyhow::Result<()> {
-    match &report.replies {
-        Some(sink) => put_extent(out, sink.bytes(), &replies_of(alloc, &report.sessions)?),
-        None => out.put(" -"),
-    }
-}
-
-/// The line of each session, and behind it what its asks were answered.
-fn replies_of(alloc: Global, sessions: &[Vec<Answered>]) -> Result<Vec<u8>, AllocError> {
-    let mut text = Vec::new(alloc);
+/// Puts the line of each session, and behind it what its asks were answered.
+fn put_sessions(text: &mut Vec<u8>, sessions: &[Vec<Answered>]) -> Result<(), AllocError> {
     for (place, answers) in sessions.iter().enumerate() {
         text.extend_from_slice(b"session ")?;
-        push_decimal(&mut text, place as u64 + 1)?;
+        push_decimal(text, place as u64 + 1)?;
         text.push(b'\n')?;
-        put_answers(&mut text, answers)?;
+        put_answers(text, answers)?;
     }
-    Ok(text)
+    Ok(())
 }
 
 fn put_answers(text: &mut Vec<u8>, answers: &[Answered]) -> Result<(), AllocError> {
@@ -108,24 +110,10 @@ fn put_answers(text: &mut Vec<u8>, answers: &[Answered]) -> Result<(), AllocErro
     Ok(())
 }
 
-/// Puts whether the tally says what is due, and in which list it is.
-fn put_tally(alloc: Global, out: &mut Output, left: &Left, due: &Blocks) -> anyhow::Result<()> {
-    let wanted = format!(in alloc; "tally {} {}", due.added, due.retracted)?;
-    put_said(out, left.standing, "standing", &wanted)?;
-    put_said(out, &left.report.left, "left", &wanted)
-}
-
-/// Puts for each object of a list whether it says this, and the name of the list.
-fn put_said(
-    out: &mut Output,
-    objects: &[Box<dyn Standing>],
-    list: &str,
-    wanted: &str,
-) -> anyhow::Result<()> {
+/// Puts what each of some objects says.
+fn put_said(texts: &mut Vec<Vec<u8>>, objects: &[Box<dyn Standing>]) -> anyhow::Result<()> {
     for object in objects {
-        let is_due = object.say()?.as_slice() == wanted.as_bytes();
-        out.put(if is_due { " yes " } else { " no " })?;
-        out.put(list)?;
+        texts.push(object.say()?)?;
     }
     Ok(())
 }

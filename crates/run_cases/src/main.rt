@@ -18,6 +18,10 @@
 //!   of `w`, and this write of the sinks that the run opens: its status, what it writes on the
 //!   events, behind `|` what it tells on the errors, and behind another `|` the window that it
 //!   saves, if it does. Numbers count from 1, and 0, or none, is no failure.
+//! - `calls READ WRITE ROOM OPENING FILE NUMBER EVENT ERROR WORDS QUERIES STREAM`: the same of a run
+//!   over the files `q` and `s`, where a read gives at most READ bytes and a write takes at most
+//!   WRITE, the events have room for ROOM, and the opening of this number fails, the read of this
+//!   number of the file of this name, and these writes of the events and the errors.
 //! - `readers PIECE WORDS QUERIES ASKS STREAM STREAM`: a run over the files `q`, `a`, `s` and `t`,
 //!   read in pieces of this length: its status, how many entries its history has of each of the
 //!   streams 1 to 4, and how many in all; behind `|` what it tells on the errors, and behind
@@ -43,12 +47,16 @@
 mod blocks;
 mod engines;
 mod faults;
+mod given;
 mod left;
+mod made;
+mod outside;
 mod readers;
 mod request;
 mod runs;
 
 use case_lines::{Fields, Output, answer_lines};
+use engines::{Way, answer_engine};
 use request::Request;
 use std::alloc::Global;
 use std::random::RandomSource;
@@ -64,10 +72,11 @@ fn answer<R: RandomSource + Threads + Wait + Sync>(
     fields: Fields,
 ) -> anyhow::Result<()> {
     match request {
-        Request::Engine => engines::answer_engine(rt, alloc, out, fields),
-        Request::Front => engines::answer_front(rt, alloc, out, fields),
-        Request::Rebuild => engines::answer_rebuild(rt, alloc, out, fields),
+        Request::Engine => answer_engine(rt, alloc, out, Way::Each, fields),
+        Request::Front => answer_engine(rt, alloc, out, Way::Front, fields),
+        Request::Rebuild => answer_engine(rt, alloc, out, Way::Rebuilt, fields),
         Request::Run => runs::answer_run(rt, alloc, out, fields),
+        Request::Calls => runs::answer_calls(rt, alloc, out, fields),
         Request::Readers => readers::answer_readers(rt, alloc, out, fields),
         Request::Faults => faults::answer_faults(rt, alloc, out, fields),
     }

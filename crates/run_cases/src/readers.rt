@@ -1,17 +1,16 @@
-//! Runs over several streams in memory, beside readers.
+//! Runs over several streams beside readers, of which the replies are told.
 
-ghost use Rattle.std.specs.Prelude.{◌≤◌};
-
-use case_lines::{Fields, Output, decoded, words_of};
+use crate::given::{Faults, Given, Sizes, Texts};
+use crate::left::Left;
+use crate::made::left_by;
+use case_lines::{Fields, Output};
 use rpq_base::Entry;
-use rpq_io::{MemoryFiles, MemorySink, OpenGate};
-use rpq_run::{Report, run};
 use std::alloc::Global;
 use std::random::RandomSource;
 use std::sync::Wait;
 use std::thread::Threads;
 
-/// How many bytes the events, the errors and the replies take.
+/// How many bytes a sink takes.
 const ROOM: usize = 1 << 20;
 
 /// How many streams are told apart in the answer.
@@ -24,49 +23,40 @@ pub fn answer_readers<R: RandomSource + Threads + Wait + Sync>(
     rt: &R,
     alloc: Global,
     out: &mut Output,
-    mut fields: Fields,
+    fields: Fields,
 ) -> anyhow::Result<()> {
-    let piece = (fields.number() as usize).max(1);
-    let words = words_of(alloc, fields.next())?;
-    let mut files = files_of(alloc, piece, fields)?;
-    let mut events = MemorySink::new(alloc, ROOM, piece, &[])?;
-    let mut errors = MemorySink::new(alloc, ROOM, piece, &[])?;
-    let report = run(
-        rt,
-        alloc,
-        &words,
-        &mut files,
-        &mut events,
-        &mut errors,
-        &mut Vec::new(alloc),
-        &OpenGate,
-    );
-    put_report(out, &report, errors.bytes())
+    put_readers(out, &left_by(rt, alloc, &given(fields))?)
 }
 
-/// Puts what a run with readers answered, and what it told on the errors.
-fn put_report(out: &mut Output, report: &Report<MemoryFiles>, errors: &[u8]) -> anyhow::Result<()> {
-    out.put_shown(&report.status)?;
-    put_counts(out, &report.history)?;
-    out.put("|")?;
-    out.put_bytes(errors)?;
-    out.put("|")?;
-    match &report.replies {
-        Some(sink) => out.put_bytes(sink.bytes()),
-        None => Ok(()),
+/// What the fields give.
+fn given<'a>(fields: Fields<'a>) -> Given<'a> {
+    let mut fields = fields;
+    Given {
+        sizes: Sizes::of(fields.number() as usize, ROOM),
+        words: fields.next(),
+        texts: Texts {
+            q: Some(fields.next()),
+            a: Some(fields.next()),
+            s: Some(fields.next()),
+            t: Some(fields.rest()),
+            ..Texts::none()
+        },
+        faults: Faults::none(),
+        is_counted: false,
     }
 }
 
-/// The files `q`, `a`, `s` and `t` with the bytes of four fields.
-fn files_of(alloc: Global, piece: usize, mut fields: Fields) -> anyhow::Result<MemoryFiles>
-    requires { 1 ≤ piece }
-{
-    let mut files = MemoryFiles::new(alloc, ROOM, piece, &[], &[])?;
-    files.add("q", &decoded(alloc, fields.next())?, piece, &[])?;
-    files.add("a", &decoded(alloc, fields.next())?, piece, &[])?;
-    files.add("s", &decoded(alloc, fields.next())?, piece, &[])?;
-    files.add("t", &decoded(alloc, fields.rest())?, piece, &[])?;
-    Ok(files)
+/// Puts what a run with readers left behind.
+fn put_readers(out: &mut Output, left: &Left) -> anyhow::Result<()> {
+    out.put_shown(&left.status)?;
+    put_counts(out, &left.history)?;
+    out.put("|")?;
+    out.put_bytes(&left.errors)?;
+    out.put("|")?;
+    match &left.replies {
+        Some(replies) => out.put_bytes(replies),
+        None => Ok(()),
+    }
 }
 
 /// Puts how many entries are of each of the first streams, and how many there are.

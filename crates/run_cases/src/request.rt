@@ -7,6 +7,7 @@ pub enum Request {
     Front,
     Rebuild,
     Run,
+    Calls,
     Readers,
     Faults,
 }
@@ -19,6 +20,7 @@ impl Request {
             b"front" => Some(Request::Front),
             b"rebuild" => Some(Request::Rebuild),
             b"run" => Some(Request::Run),
+            b"calls" => Some(Request::Calls),
             b"readers" => Some(Request::Readers),
             b"faults" => Some(Request::Faults),
             _ => None,

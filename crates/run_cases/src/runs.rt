@@ -1,16 +1,15 @@
-//! Runs over files in memory.
+//! Runs over one stream, of which all bytes are told.
 
-ghost use Rattle.std.specs.Prelude.{◌≤◌};
-
-use case_lines::{Fields, Output, decoded, words_of};
-use rpq_io::{MemoryFiles, MemorySink, OpenGate};
-use rpq_run::run;
+use crate::given::{Faults, Given, Sizes, Texts};
+use crate::left::Left;
+use crate::made::left_by;
+use case_lines::{Fields, Output};
 use std::alloc::Global;
 use std::random::RandomSource;
 use std::sync::Wait;
 use std::thread::Threads;
 
-/// How many bytes the events and the errors take.
+/// How many bytes a sink takes.
 const ROOM: usize = 1 << 14;
 
 /// The status of a run, what it writes on the events, what it tells on the errors, and the window
@@ -19,67 +18,93 @@ pub fn answer_run<R: RandomSource + Threads + Wait + Sync>(
     rt: &R,
     alloc: Global,
     out: &mut Output,
-    mut fields: Fields,
+    fields: Fields,
 ) -> anyhow::Result<()> {
-    let piece = (fields.number() as usize).max(1);
-    let opening = fields.number();
-    let words = words_of(alloc, fields.next())?;
-    let mut files = files_of(alloc, piece, opening, fields)?;
-    let mut events = MemorySink::new(alloc, ROOM, piece, &[])?;
-    let mut errors = MemorySink::new(alloc, ROOM, piece, &[])?;
-    let report = run(
-        rt,
-        alloc,
-        &words,
-        &mut files,
-        &mut events,
-        &mut errors,
-        &mut Vec::new(alloc),
-        &OpenGate,
-    );
-    put_run(out, report.status, events.bytes(), errors.bytes())?;
-    put_saved(out, report.save)
+    put_run(out, &left_by(rt, alloc, &run_given(fields))?)
 }
 
-/// The files `q`, `s` and `w` with the bytes of three fields, of which the opening of this number
-/// fails; of `w` the read fails of which the next field has the number, and on each sink that is
-/// opened the write of which the last one has.
-fn files_of(
+/// The same of a run of which further calls fail.
+pub fn answer_calls<R: RandomSource + Threads + Wait + Sync>(
+    rt: &R,
     alloc: Global,
-    piece: usize,
-    opening: u64,
-    mut fields: Fields,
-) -> anyhow::Result<MemoryFiles>
-    requires { 1 ≤ piece }
-{
-    let queries = decoded(alloc, fields.next())?;
-    let stream = decoded(alloc, fields.next())?;
-    let window = decoded(alloc, fields.next())?;
-    let read = fields.number();
-    let write = fields.number();
-    let mut files = MemoryFiles::new(alloc, ROOM, piece, &[write], &[opening])?;
-    files.add("q", &queries, piece, &[])?;
-    files.add("s", &stream, piece, &[])?;
-    files.add("w", &window, piece, &[read])?;
-    Ok(files)
+    out: &mut Output,
+    fields: Fields,
+) -> anyhow::Result<()> {
+    put_run(out, &left_by(rt, alloc, &calls_given(fields))?)
 }
 
-/// Puts the saved window, if there is one.
-fn put_saved(out: &mut Output, save: Option<MemorySink>) -> anyhow::Result<()> {
-    match save {
-        Some(sink) => {
-            out.put("|")?;
-            out.put_bytes(sink.bytes())
-        }
-        None => Ok(()),
+/// What the fields of `run` give.
+fn run_given<'a>(fields: Fields<'a>) -> Given<'a> {
+    let mut fields = fields;
+    let sizes = Sizes::of(fields.number() as usize, ROOM);
+    let opening = fields.number();
+    let words = fields.next();
+    let texts = Texts {
+        q: Some(fields.next()),
+        s: Some(fields.next()),
+        w: Some(fields.next()),
+        ..Texts::none()
+    };
+    let faults = Faults {
+        opening,
+        file: b"w",
+        read: fields.number(),
+        opened: fields.number(),
+        ..Faults::none()
+    };
+    Given {
+        words,
+        texts,
+        sizes,
+        faults,
+        is_counted: false,
     }
 }
 
-/// Puts what a run answered.
-fn put_run(out: &mut Output, status: u8, events: &[u8], errors: &[u8]) -> anyhow::Result<()> {
-    out.put_shown(&status)?;
+/// What the fields of `calls` give.
+fn calls_given<'a>(fields: Fields<'a>) -> Given<'a> {
+    let mut fields = fields;
+    let sizes = Sizes {
+        read: fields.number() as usize,
+        write: fields.number() as usize,
+        events: fields.number() as usize,
+        others: ROOM,
+    };
+    let faults = Faults {
+        opening: fields.number(),
+        file: fields.next(),
+        read: fields.number(),
+        event: fields.number(),
+        error: fields.number(),
+        ..Faults::none()
+    };
+    let words = fields.next();
+    let texts = Texts {
+        q: Some(fields.next()),
+        s: Some(fields.next()),
+        ..Texts::none()
+    };
+    Given {
+        words,
+        texts,
+        sizes,
+        faults,
+        is_counted: false,
+    }
+}
+
+/// Puts what a run left behind.
+fn put_run(out: &mut Output, left: &Left) -> anyhow::Result<()> {
+    out.put_shown(&left.status)?;
     out.put(" ")?;
-    out.put_bytes(events)?;
+    out.put_bytes(&left.events)?;
     out.put("|")?;
-    out.put_bytes(errors)
+    out.put_bytes(&left.errors)?;
+    match &left.saved {
+        Some(window) => {
+            out.put("|")?;
+            out.put_bytes(window)
+        }
+        None => Ok(()),
+    }
 }
