@@ -2,14 +2,15 @@
 
 ghost use Rattle.std.specs.Prelude.{◌≡◌, ◌≤◌, false};
 
+use crate::memory::{has_written, sink_of};
 use rpq_io::{
     AllFault, Files, HostFiles, HostSink, HostSource, LineFault, LineReader, MemoryFiles,
-    MemorySink, MemorySource, Place, Source, put_all, read_all,
+    MemorySink, MemorySource, Place, Sink, Source, put_all, read_all,
 };
 use std::alloc::Global;
 use std::io;
 use std::io::{ErrorKind, Read};
-use std::test::Fail;
+use std::process::Abort;
 
 /// Whether a read of the source fails, and then all that is left are these bytes.
 fn fails_and_then_gives<S: Source>(alloc: Global, source: &mut S, rest: &[u8]) -> bool
@@ -34,23 +35,26 @@ fn has_bytes<S: Source>(alloc: Global, source: &mut S, expected: &[u8]) -> bool
     }
 }
 
-#[test]
-fn a_read_that_fails_loses_nothing(rt: HostRuntime) -> Result<(), Fail> {
-    let mut source = MemorySource::new(rt.alloc(), b"abcd", 2, &[2])?;
-    assert!(rt; fails_and_then_gives(rt.alloc(), &mut source, b"cd"));
-    Ok(())
+/// Whether the sink takes all the bytes.
+fn takes<S: Sink>(sink: &mut S, bytes: &[u8]) -> bool {
+    put_all(sink, bytes).is_ok()
 }
 
 #[test]
-fn a_write_that_fails_keeps_what_went_out(rt: HostRuntime) -> Result<(), Fail> {
-    let mut failing = MemorySink::new(rt.alloc(), 9, 2, &[2])?;
-    assert!(rt; put_all(&mut failing, b"abcde").is_err());
-    assert!(rt; put_all(&mut failing, b"xyz").is_ok());
-    assert!(rt; failing.bytes() == b"abxyz".as_slice());
-    let mut full = MemorySink::new(rt.alloc(), 3, 2, &[])?;
-    assert!(rt; put_all(&mut full, b"abcde").is_err());
-    assert!(rt; full.bytes() == b"abc".as_slice());
-    Ok(())
+fn a_read_that_fails_loses_nothing(rt: HostRuntime) {
+    let mut source = MemorySource::new(rt.alloc(), b"abcd", 2, &[2]).expect(&rt, "memory");
+    assert!(rt; fails_and_then_gives(rt.alloc(), &mut source, b"cd"));
+}
+
+#[test]
+fn a_write_that_fails_keeps_what_went_out(rt: HostRuntime) {
+    let mut failing = sink_of(&rt, rt.alloc(), 9, 2, &[2]);
+    assert!(rt; !takes(&mut failing, b"abcde"));
+    assert!(rt; takes(&mut failing, b"xyz"));
+    assert!(rt; has_written(&failing, "abxyz"));
+    let mut full = sink_of(&rt, rt.alloc(), 3, 2, &[]);
+    assert!(rt; !takes(&mut full, b"abcde"));
+    assert!(rt; has_written(&full, "abc"));
 }
 
 /// Whether a file in memory is read as it was added: the second read fails.
@@ -64,21 +68,37 @@ fn opens_a_file(alloc: Global, files: &mut MemoryFiles) -> bool {
     }
 }
 
+/// Whether this file can't be opened to read.
+fn has_no_source<F: Files>(files: &mut F, name: &str) -> bool {
+    files.source(name).is_err()
+}
+
+/// Whether this file is opened to write, its first write fails, and it then has no room for the
+/// last byte.
+fn writes_with_faults(files: &mut MemoryFiles, name: &str) -> bool {
+    match files.sink(name) {
+        Ok(sink) => {
+            let mut sink = sink;
+            !takes(&mut sink, b"xyz") && !takes(&mut sink, b"xyz") && has_written(&sink, "xy")
+        }
+        Err(_) => false,
+    }
+}
+
+/// Files in memory of which one can be read, where the third opening fails.
+fn files_of_one(rt: &impl Abort, alloc: Global) -> MemoryFiles {
+    let mut files = MemoryFiles::new(alloc, 2, 1, &[1], &[3]).expect(rt, "memory");
+    files.add("a", b"first", 2, &[2]).expect(rt, "memory");
+    files
+}
+
 #[test]
-fn files_in_memory_are_opened(rt: HostRuntime) -> Result<(), Fail> {
-    let mut files = MemoryFiles::new(rt.alloc(), 2, 1, &[1], &[3])?;
-    files.add("a", b"first", 2, &[2])?;
-    assert!(rt; files.source("b").is_err(), "not there");
+fn files_in_memory_are_opened(rt: HostRuntime) {
+    let mut files = files_of_one(&rt, rt.alloc());
+    assert!(rt; has_no_source(&mut files, "b"), "not there");
     assert!(rt; opens_a_file(rt.alloc(), &mut files));
-    assert!(rt; files.source("a").is_err(), "the third opening");
-    let mut sink = files.sink("c")?;
-    assert!(rt; put_all(&mut sink, b"xyz").is_err(), "the first write");
-    assert!(rt;
-        put_all(&mut sink, b"xyz").is_err(),
-        "no room for the last byte"
-    );
-    assert!(rt; sink.bytes() == b"xy".as_slice());
-    Ok(())
+    assert!(rt; has_no_source(&mut files, "a"), "the third opening");
+    assert!(rt; writes_with_faults(&mut files, "c"));
 }
 
 /// Whether a new run reads this file of the host, and doesn't open it to write afterwards.
@@ -93,20 +113,30 @@ fn reads_a_file(rt: &HostRuntime, name: &str, expected: &[u8]) -> bool {
     }
 }
 
+/// Whether a new run opens this file of the host to write, and not once more, and writes these
+/// bytes, so that another run reads them at once; and has no other file to read.
+fn writes_a_file(rt: &HostRuntime, name: &str, bytes: &[u8]) -> bool {
+    let mut files = HostFiles::new(rt.alloc(), rt);
+    match files.sink(name) {
+        Ok(sink) => {
+            let mut sink = sink;
+            takes(&mut sink, bytes)
+                && files.sink(name).is_err()
+                && has_no_source(&mut files, "rpq_no_such_file")
+                && reads_a_file(rt, name, bytes)
+        }
+        Err(_) => false,
+    }
+}
+
 #[test]
-fn files_of_the_host_are_written_and_read(rt: HostRuntime) -> Result<(), Fail> {
+fn files_of_the_host_are_written_and_read(rt: HostRuntime) {
     let name = "rpq_written_by_a_test";
-    let mut files = HostFiles::new(rt.alloc(), &rt);
-    let mut sink = files.sink(name)?;
-    assert!(rt; put_all(&mut sink, b"one line\n").is_ok());
-    assert!(rt; files.sink(name).is_err(), "opened to write before");
-    assert!(rt; files.source("rpq_no_such_file").is_err());
-    assert!(rt; reads_a_file(&rt, name, b"one line\n"));
+    assert!(rt; writes_a_file(&rt, name, b"one line\n"));
     assert!(rt;
         reads_a_file(&rt, name, b"one line\n"),
         "not written anew by reading"
     );
-    Ok(())
 }
 
 /// Gives an `a`, then fails, then is at its end. The first write fails, and each later one takes
@@ -159,16 +189,14 @@ impl io::Write for Full {
 }
 
 #[test]
-fn faults_of_the_host_are_answered(rt: HostRuntime) -> Result<(), Fail> {
+fn faults_of_the_host_are_answered(rt: HostRuntime) {
     let mut source = HostSource::new(Flaky { calls: 0 });
     assert!(rt; fails_and_then_gives(rt.alloc(), &mut source, b""));
-    let mut sink = HostSink::new(Flaky { calls: 0 });
     assert!(rt;
-        put_all(&mut sink, b"abc").is_err(),
+        !takes(&mut HostSink::new(Flaky { calls: 0 }), b"abc"),
         "a failed write isn't made again"
     );
-    assert!(rt; put_all(&mut HostSink::new(Full), b"abc").is_err());
-    Ok(())
+    assert!(rt; !takes(&mut HostSink::new(Full), b"abc"));
 }
 
 /// Takes one byte in a write.
@@ -194,39 +222,38 @@ impl io::Write for Sparing {
 }
 
 #[test]
-fn a_writer_that_takes_less_gets_all_bytes(rt: HostRuntime) -> Result<(), Fail> {
+fn a_writer_that_takes_less_gets_all_bytes(rt: HostRuntime) {
     let mut sink = HostSink::new(Sparing {
         bytes: Vec::new(rt.alloc()),
     });
-    assert!(rt; put_all(&mut sink, b"abc").is_ok());
+    assert!(rt; takes(&mut sink, b"abc"));
     let writer = sink.into_writer();
     assert!(rt; writer.bytes.as_slice() == b"abc".as_slice());
-    Ok(())
 }
 
 #[test]
-fn standard_output_and_error_are_sinks(rt: HostRuntime) -> Result<(), Fail> {
+fn standard_output_and_error_are_sinks(rt: HostRuntime) {
     let output: Place<Flaky> = Place::Output(rt.stdout());
-    assert!(rt; put_all(&mut HostSink::new(output), b"to standard output\n").is_ok());
+    assert!(rt; takes(&mut HostSink::new(output), b"to standard output\n"));
     let errors: Place<Flaky> = Place::Errors(rt.stderr());
-    assert!(rt; put_all(&mut HostSink::new(errors), b"to standard error\n").is_ok());
-    Ok(())
+    assert!(rt; takes(&mut HostSink::new(errors), b"to standard error\n"));
 }
 
 /// A reader of lines of at most 8 bytes over bytes in memory, which come in pieces of 3; the reads
 /// with these numbers fail.
 fn reader_over(
+    rt: &impl Abort,
     alloc: Global,
     bytes: &[u8],
     fails: &[u64],
     byte_limit: u64,
-) -> Result<LineReader<MemorySource>, Fail>
+) -> LineReader<MemorySource>
     requires { 1 ≤ byte_limit }
 {
-    let source = MemorySource::new(alloc, bytes, 3, fails)?;
+    let source = MemorySource::new(alloc, bytes, 3, fails).expect(rt, "memory");
     match LineReader::new(alloc, source, 8, byte_limit) {
-        Ok(reader) => Ok(reader),
-        Err((_source, fault)) => Err(Fail::from(fault)),
+        Ok(reader) => reader,
+        Err(_) => panic!(rt; "memory"),
     }
 }
 
@@ -252,7 +279,7 @@ fn fails_by<S: Source>(reader: &mut LineReader<S>, fault: LineFault) -> bool {
 }
 
 /// Whether the limit is reached, and these bytes are left in the source.
-fn leaves<S: Source + Drop>(alloc: Global, reader: LineReader<S>, rest: &[u8]) -> bool {
+fn leaves(alloc: Global, reader: LineReader<MemorySource>, rest: &[u8]) -> bool {
     let mut reader = reader;
     match reader.next_line() {
         Err(LineFault::LongStream) => {
@@ -264,22 +291,20 @@ fn leaves<S: Source + Drop>(alloc: Global, reader: LineReader<S>, rest: &[u8]) -
 }
 
 #[test]
-fn a_failed_read_loses_no_line(rt: HostRuntime) -> Result<(), Fail> {
-    let mut reader = reader_over(rt.alloc(), b"abcd\nef", &[2, 4], 100)?;
+fn a_failed_read_loses_no_line(rt: HostRuntime) {
+    let mut reader = reader_over(&rt, rt.alloc(), b"abcd\nef", &[2, 4], 100);
     assert!(rt; fails_by(&mut reader, LineFault::Read));
     assert!(rt; gives(&mut reader, b"abcd"));
     assert!(rt; fails_by(&mut reader, LineFault::Read));
     assert!(rt; gives(&mut reader, b"ef"));
     assert!(rt; is_at_end(&mut reader));
     assert!(rt; reader.lines() == 2);
-    Ok(())
 }
 
 #[test]
-fn no_more_bytes_are_taken_than_may_be(rt: HostRuntime) -> Result<(), Fail> {
-    let mut reader = reader_over(rt.alloc(), b"abcdefgh\nijklmnop", &[], 12)?;
+fn no_more_bytes_are_taken_than_may_be(rt: HostRuntime) {
+    let mut reader = reader_over(&rt, rt.alloc(), b"abcdefgh\nijklmnop", &[], 12);
     assert!(rt; gives(&mut reader, b"abcdefgh"));
     assert!(rt; fails_by(&mut reader, LineFault::LongStream));
     assert!(rt; leaves(rt.alloc(), reader, b"lmnop"));
-    Ok(())
 }

@@ -1,19 +1,16 @@
 //! Runs of [`rpq_run::run`] over files and sinks in memory, sources and sinks that fail, threads
 //! that wait for each other, and nothing but tests.
 //!
-//! The runs show by worked examples what no clause of `run` says: that a run with memory enough
-//! never answers that memory ran out, which bytes it writes, whichever call of a file or a sink
-//! fails, and that streams, readers and the engine go on at the same time. Each is a row of a table:
-//! what the run is given, and what it is to answer. Runs in which no call fails are requests of
-//! `run_cases`.
+//! The runs show by worked examples what no clause of `run` says: that streams, workers on trees,
+//! readers and the engine go on at the same time, and what becomes of the objects of the caller.
+//! The other tests show what the sources, the sinks and the files of `rpq_io` do where a call
+//! fails. Runs that need no thread and no object of the test's own are requests of `run_cases`.
 #![tactic(auto)]
 
 #[cfg(test)]
-mod case;
-#[cfg(test)]
 mod edge;
 #[cfg(test)]
-mod faults;
+mod memory;
 #[cfg(test)]
 mod objects;
 #[cfg(test)]

@@ -1,21 +1,14 @@
 //! Runs with objects of the test's own, which leave or run out of memory while they are told.
 
-use crate::case::words_of;
+use crate::memory::{CYCLE, Given, Outcome, PATHS, given_of, has_written, outcome_of};
 use rpq_base::{Event, Memory};
-use rpq_io::{MemoryFiles, MemorySink, OpenGate};
-use rpq_run::run;
+use rpq_io::OpenGate;
 use standing::{Roll, Standing, Stay};
 use std::alloc::Global;
-use std::random::RandomSource;
-use std::sync::Wait;
-use std::test::Fail;
-use std::thread::Threads;
+use std::process::Abort;
 
-/// A query for all paths of one label.
-const PATHS: &str = "query q window 100 slide 10 arbitrary: a+\n";
-
-/// A stream whose four entries bring one, two, three and two events.
-const CYCLE: &str = "1 r a x\n1 x a y\n1 y a x\n1 r a x -\n";
+/// The first two blocks that a run of [`PATHS`] over [`CYCLE`] writes.
+const TWO_BLOCKS: &str = "@1 1 1 r a x +\n+ q r x\n@2 1 1 x a y +\n+ q r y\n+ q x y\n";
 
 /// Keeps what it hears, and leaves at its second event.
 #[derive(Drop)]
@@ -82,62 +75,76 @@ impl Standing for Short {
 }
 
 /// What a run is to answer: its status, how many objects stayed and left, what the one object says,
-/// and how many blocks were written.
-#[derive(Drop)]
+/// and what is written on the events.
+#[derive(Clone, Copy)]
 struct Wanted<'a> {
     status: u8,
     stayed: usize,
     left: usize,
     says: &'a [u8],
-    blocks: usize,
+    events: &'a str,
 }
 
-/// Whether the run of [`PATHS`] over [`CYCLE`] with this object, of which the write of the events
-/// with this number fails, answers what it is to.
-fn ends_so<R: Threads + Wait + RandomSource + Sync>(
-    rt: &R,
+/// Whether all these objects say this.
+fn all_say(objects: &[Box<dyn Standing>], wanted: &[u8]) -> bool {
+    for object in objects {
+        if !says(object, wanted) {
+            return false;
+        }
+    }
+    true
+}
+
+/// Whether the object says this.
+fn says(object: &Box<dyn Standing>, wanted: &[u8]) -> bool {
+    match object.say() {
+        Ok(said) => said.as_slice() == wanted,
+        Err(Memory) => false,
+    }
+}
+
+/// What a run of [`PATHS`] over [`CYCLE`] with this object is given, of which this write of the
+/// events fails.
+fn given_with(
+    rt: &impl Abort,
     alloc: Global,
     object: Box<dyn Standing>,
     failing_write: u64,
-    wanted: &Wanted,
-) -> Result<bool, Fail> {
-    let words = words_of(alloc, &["q", "s"])?;
-    let mut files = MemoryFiles::new(alloc, 0, 1, &[], &[])?;
-    files.add("q", PATHS.as_bytes(), 64, &[])?;
-    files.add("s", CYCLE.as_bytes(), 64, &[])?;
-    let mut events = MemorySink::new(alloc, 4096, 4096, &[failing_write])?;
-    let mut errors = MemorySink::new(alloc, 4096, 64, &[])?;
-    let mut standing = Vec::new(alloc);
-    standing.push(object)?;
-    let report = run(
-        rt,
-        alloc,
-        &words,
-        &mut files,
-        &mut events,
-        &mut errors,
-        &mut standing,
-        &OpenGate,
-    );
-    let mut says_so = true;
-    for one in standing.iter().chain(&report.left) {
-        says_so = says_so && one.say()?.as_slice() == wanted.says;
-    }
-    let blocks = events.bytes().iter().filter(|byte| **byte == b'@').count();
-    Ok(
-        says_so
-            && report.status == wanted.status
-            && standing.len() == wanted.stayed
-            && report.left.len() == wanted.left
-            && blocks == wanted.blocks,
-    )
+) -> Given {
+    let texts = [PATHS, CYCLE, ""];
+    let standing = list_of(rt, alloc, object);
+    given_of(rt, alloc, &["q", "s"], texts, &[failing_write], standing)
+}
+
+/// Whether a run with one object, which was given this and has this outcome, answers what it is to.
+fn ends_so(given: &Given, outcome: &Outcome, wanted: &Wanted) -> bool {
+    outcome.status == wanted.status
+        && given.standing.len() == wanted.stayed
+        && outcome.left.len() == wanted.left
+        && has_written(&given.events, wanted.events)
+        && all_say(&given.standing, wanted.says)
+        && all_say(&outcome.left, wanted.says)
+}
+
+/// A list of this one object.
+fn list_of(rt: &impl Abort, alloc: Global, object: Box<dyn Standing>) -> Vec<Box<dyn Standing>> {
+    let mut objects = Vec::with_capacity(alloc, 1).expect(rt, "memory");
+    objects.push_reserved(object);
+    objects
+}
+
+/// A roll of the events of the first query.
+fn roll(rt: &impl Abort, alloc: Global) -> Roll {
+    let mut wanted = Vec::new(alloc);
+    wanted.push(0).expect(rt, "memory");
+    Roll::new(alloc, wanted)
 }
 
 #[test]
-fn an_object_that_left_before_a_failed_write(rt: HostRuntime) -> Result<(), Fail> {
+fn an_object_that_left_before_a_failed_write(rt: HostRuntime) {
     let alloc = rt.alloc();
     let object = Leaving {
-        roll: Roll::new(alloc, (0..1).collect(alloc)?),
+        roll: roll(&rt, alloc),
         calls: 0,
         is_gone: false,
     };
@@ -146,17 +153,19 @@ fn an_object_that_left_before_a_failed_write(rt: HostRuntime) -> Result<(), Fail
         stayed: 0,
         left: 1,
         says: b"roll 2 0",
-        blocks: 2,
+        events: TWO_BLOCKS,
     };
-    assert!(rt; ends_so(&rt, alloc, Box::new(alloc, object)?, 3, &wanted)?);
-    Ok(())
+    let object = Box::new(alloc, object).expect(&rt, "memory");
+    let mut given = given_with(&rt, alloc, object, 3);
+    let outcome = outcome_of(&rt, alloc, &mut given, &OpenGate);
+    assert!(rt; ends_so(&given, &outcome, &wanted));
 }
 
 #[test]
-fn an_object_without_memory_for_an_event(rt: HostRuntime) -> Result<(), Fail> {
+fn an_object_without_memory_for_an_event(rt: HostRuntime) {
     let alloc = rt.alloc();
     let object = Short {
-        roll: Roll::new(alloc, (0..1).collect(alloc)?),
+        roll: roll(&rt, alloc),
         calls: 0,
     };
     let wanted = Wanted {
@@ -164,8 +173,10 @@ fn an_object_without_memory_for_an_event(rt: HostRuntime) -> Result<(), Fail> {
         stayed: 1,
         left: 0,
         says: b"roll 2 0",
-        blocks: 2,
+        events: TWO_BLOCKS,
     };
-    assert!(rt; ends_so(&rt, alloc, Box::new(alloc, object)?, 0, &wanted)?);
-    Ok(())
+    let object = Box::new(alloc, object).expect(&rt, "memory");
+    let mut given = given_with(&rt, alloc, object, 0);
+    let outcome = outcome_of(&rt, alloc, &mut given, &OpenGate);
+    assert!(rt; ends_so(&given, &outcome, &wanted));
 }

@@ -3,18 +3,18 @@
 
 ghost use Rattle.std.specs.Prelude.{◌≡◌};
 
-use crate::case::words_of;
+use crate::memory::words_of;
 use rpq_io::{Files, Gate, HostSink, HostSource, OpenFault, Who};
-use rpq_run::{Report, run};
+use rpq_run::{Answered, Report, run};
 use std::alloc::Global;
 use std::hint::spin_loop;
 use std::io;
 use std::io::{ErrorKind, Read, Write};
+use std::process::Abort;
 use std::random::RandomSource;
+use std::sync::Wait;
 use std::sync::atomic::AtomicU64;
 use std::sync::atomic::Ordering::SeqCst;
-use std::sync::{Arc, Wait};
-use std::test::Fail;
 use std::thread::Threads;
 
 /// For how many turns one waits for another.
@@ -50,20 +50,20 @@ fn comes_to(count: &AtomicU64, wanted: u64) -> bool {
 
 /// Gives one text and then another, and the second only once a reader was answered.
 #[derive(Drop)]
-struct Watching {
-    first: &'static str,
-    second: &'static str,
-    replies: Arc<AtomicU64>,
+struct Watching<'a> {
+    first: &'a str,
+    second: &'a str,
+    replies: &'a AtomicU64,
     calls: u8,
 }
 
-impl Read for Watching {
+impl<'a> Read for Watching<'a> {
     fn read(&mut self, buf: &mut [u8]) -> io::Result<usize> {
         self.calls = self.calls.saturating_add(1);
         let text = match self.calls {
             1 => self.first,
             2 if self.second.is_empty() => "",
-            2 if comes_to(&self.replies, 1) => self.second,
+            2 if comes_to(self.replies, 1) => self.second,
             2 => return Err(io::Error::from(ErrorKind::Other)),
             _ => "",
         };
@@ -76,18 +76,18 @@ impl Read for Watching {
 /// The files `q`, `a` and `s`, of which the last is watched, and the names that were opened to read
 /// and to write.
 #[derive(Drop)]
-struct WatchedFiles {
+struct WatchedFiles<'a> {
     alloc: Global,
-    asks: &'static str,
-    replies: Arc<AtomicU64>,
+    asks: &'a str,
+    replies: &'a AtomicU64,
     opened: Vec<String>,
     made: Vec<String>,
 }
 
-impl Files for WatchedFiles {
-    ghost use Rattle.std.specs.Prelude.{[], None, map, string_bytes};
+impl<'a> Files for WatchedFiles<'a> {
+    ghost use Rattle.std.specs.Prelude.{None, map, string_bytes};
 
-    type Source = HostSource<Watching>;
+    type Source = HostSource<Watching<'a>>;
 
     type Sink = HostSink<Taking>;
 
@@ -101,10 +101,7 @@ impl Files for WatchedFiles {
 
     ghost unmade = { λ _ _. 0 };
 
-    fn source(&mut self, name: &str) -> Result<HostSource<Watching>, OpenFault> {
-        let Ok(replies) = Arc::try_clone(&self.replies) else {
-            return Err(OpenFault::Memory);
-        };
+    fn source(&mut self, name: &str) -> Result<HostSource<Watching<'a>>, OpenFault> {
         self.opened.reserve(1)?;
         let noted = String::from_str(self.alloc, name)?;
         self.opened.push_reserved(noted);
@@ -116,7 +113,7 @@ impl Files for WatchedFiles {
         Ok(HostSource::new(Watching {
             first,
             second,
-            replies,
+            replies: self.replies,
             calls: 0,
         }))
     }
@@ -132,7 +129,7 @@ impl Files for WatchedFiles {
 /// Counts the answers.
 #[derive(Drop)]
 struct CountingGate {
-    replies: Arc<AtomicU64>,
+    replies: AtomicU64,
 }
 
 impl Gate for CountingGate {
@@ -147,7 +144,7 @@ impl Gate for CountingGate {
 /// until the second answer.
 #[derive(Drop)]
 struct HoldingGate {
-    replies: Arc<AtomicU64>,
+    replies: AtomicU64,
     passes: AtomicU64,
     /// How many gave up waiting.
     alone: AtomicU64,
@@ -178,77 +175,82 @@ impl Gate for HoldingGate {
     }
 }
 
-/// Whether the one session of a run over the watched files, behind this gate, is answered so, and the
-/// run is done.
-fn is_answered<R: Threads + Wait + RandomSource + Sync, G: Gate>(
+/// Whether the one session of a run over the watched files, behind this gate, is answered so, and
+/// the run is done. It promises nothing, so that no test carries along what `run` promises.
+fn is_answered<R: Threads + Wait + RandomSource + Sync + Abort, G: Gate>(
     rt: &R,
     alloc: Global,
-    asks: &'static str,
-    replies: &Arc<AtomicU64>,
+    asks: &str,
+    replies: &AtomicU64,
     gate: &G,
     wanted: [&[u8]; 2],
-) -> Result<bool, Fail> {
-    let words = words_of(alloc, &["--asks", "a", "--replies", "r", "q", "s"])?;
+) -> bool {
+    let words = words_of(rt, alloc, &["--asks", "a", "--replies", "r", "q", "s"]);
     let mut files = WatchedFiles {
         alloc,
         asks,
-        replies: Arc::try_clone(replies)?,
+        replies,
         opened: Vec::new(alloc),
         made: Vec::new(alloc),
     };
-    let mut events = HostSink::new(Taking);
-    let mut errors = HostSink::new(Taking);
     let report = run(
         rt,
         alloc,
         &words,
         &mut files,
-        &mut events,
-        &mut errors,
+        &mut HostSink::new(Taking),
+        &mut HostSink::new(Taking),
         &mut Vec::new(alloc),
         gate,
     );
-    Ok(has_answers(&report, wanted))
+    has_answers(report, wanted)
 }
 
-/// Whether the one session of a run that is done was answered so.
-fn has_answers<F: Files>(report: &Report<F>, wanted: [&[u8]; 2]) -> bool {
-    match report.sessions.as_slice() {
-        [answers] => match answers.as_slice() {
-            [one, two] => report.status == 0
-                && one.text.as_slice() == wanted[0]
-                && two.text.as_slice() == wanted[1],
-            _ => false,
-        },
+/// Whether the run of this report is done, and its one session was answered so.
+fn has_answers<F: Files>(report: Report<F>, wanted: [&[u8]; 2]) -> bool {
+    report.status == 0 && is_one_answered_so(&report.sessions, wanted)
+}
+
+/// Whether there is one session, which was answered so.
+fn is_one_answered_so(sessions: &[Vec<Answered>], wanted: [&[u8]; 2]) -> bool {
+    match sessions {
+        [answers] => are_so(answers, wanted),
         _ => false,
     }
 }
 
-#[test]
-fn a_reply_before_the_next_line(rt: HostRuntime) -> Result<(), Fail> {
-    let alloc = rt.alloc();
-    let replies = Arc::new(alloc, AtomicU64::new(0))?;
-    let gate = CountingGate {
-        replies: Arc::try_clone(&replies)?,
-    };
-    let wanted = [b"@1 wait 1\n".as_slice(), b"@2 wait 2\n".as_slice()];
-    let asks = "session\nwait 1\nwait 2\n";
-    assert!(rt; is_answered(&rt, alloc, asks, &replies, &gate, wanted)?);
-    Ok(())
+/// Whether these are the texts of the answers.
+fn are_so(answers: &[Answered], wanted: [&[u8]; 2]) -> bool {
+    match answers {
+        [one, two] => has_text(one, wanted[0]) && has_text(two, wanted[1]),
+        _ => false,
+    }
+}
+
+/// Whether this is the text of the answer.
+fn has_text(answered: &Answered, wanted: &[u8]) -> bool {
+    answered.text.as_slice() == wanted
 }
 
 #[test]
-fn a_reader_beside_the_engine(rt: HostRuntime) -> Result<(), Fail> {
-    let alloc = rt.alloc();
-    let replies = Arc::new(alloc, AtomicU64::new(0))?;
+fn a_reply_before_the_next_line(rt: HostRuntime) {
+    let gate = CountingGate {
+        replies: AtomicU64::new(0),
+    };
+    let wanted = [b"@1 wait 1\n".as_slice(), b"@2 wait 2\n".as_slice()];
+    let asks = "session\nwait 1\nwait 2\n";
+    assert!(rt; is_answered(&rt, rt.alloc(), asks, &gate.replies, &gate, wanted));
+}
+
+#[test]
+fn a_reader_beside_the_engine(rt: HostRuntime) {
     let gate = HoldingGate {
-        replies: Arc::try_clone(&replies)?,
+        replies: AtomicU64::new(0),
         passes: AtomicU64::new(0),
         alone: AtomicU64::new(0),
     };
     let wanted = [b"@1 wait 1\n".as_slice(), b"@1 count q 0\n".as_slice()];
     let asks = "session\nwait 1\ncount q\n";
-    assert!(rt; is_answered(&rt, alloc, asks, &replies, &gate, wanted)?);
+    assert!(rt; is_answered(&rt, rt.alloc(), asks, &gate.replies, &gate, wanted));
     assert!(rt; gate.alone.load(SeqCst) == 0);
-    Ok(())
 }

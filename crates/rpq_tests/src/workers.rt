@@ -1,14 +1,14 @@
 //! Workers on trees: two at the same time, with the bytes of one.
 
-use crate::case::{Case, holds_behind, path};
+use crate::memory::{CYCLE, Given, Outcome, PATHS, has_written, outcome_of, plainly_given};
 use rpq_io::{Gate, OpenGate, Who};
 use std::alloc::Global;
 use std::hint::spin_loop;
+use std::process::Abort;
 use std::random::RandomSource;
 use std::sync::Wait;
 use std::sync::atomic::AtomicU64;
 use std::sync::atomic::Ordering::SeqCst;
-use std::test::Fail;
 use std::thread::Threads;
 
 /// For how many turns a worker waits for another.
@@ -45,6 +45,11 @@ impl MeetingGate {
         }
     }
 
+    /// Whether a worker was found waiting.
+    fn has_met(&self) -> bool {
+        self.met.load(SeqCst) > 0
+    }
+
     /// The worker waits until another lets it go on, or for so many turns.
     fn wait(&self, number: u64) {
         for _ in 0..TURNS {
@@ -71,51 +76,51 @@ impl Gate for MeetingGate {
     fn replied(&self, _session: u32, _position: u64) {}
 }
 
-/// A run by one worker over a stream that makes three trees and takes the edge out on which all of
-/// one tree hangs.
-fn one_worker<'a>() -> Case<'a> {
-    Case {
-        words: &["--workers", "1", "q", "s"],
-        queries: "query q window 100 slide 10 arbitrary: a+\n",
-        stream: "1 r a x\n1 x a y\n1 y a x\n1 r a x -\n",
-        events: "@1 1 1 r a x +\n+ q r x\n\
-            @2 1 1 x a y +\n+ q r y\n+ q x y\n\
-            @3 1 1 y a x +\n+ q x x\n+ q y x\n+ q y y\n\
-            @4 1 1 r a x -\n- q r x\n- q r y\n",
-        ..path()
-    }
-}
+/// What a run of [`PATHS`] over [`CYCLE`] writes.
+const EVENTS: &str = "@1 1 1 r a x +\n+ q r x\n\
+    @2 1 1 x a y +\n+ q r y\n+ q x y\n\
+    @3 1 1 y a x +\n+ q x x\n+ q y x\n+ q y y\n\
+    @4 1 1 r a x -\n- q r x\n- q r y\n";
 
-/// The same run by two workers.
-fn two_workers<'a>() -> Case<'a> {
-    Case {
-        words: &["--workers", "2", "q", "s"],
-        ..one_worker()
-    }
-}
-
-/// Whether the run of the case answers what it is to behind a gate by which a change is shared from
-/// so many trees on, and whether a worker was found waiting in it is as wanted.
-fn holds_and_meets<R: Threads + Wait + RandomSource + Sync>(
+/// Whether a run of [`PATHS`] over [`CYCLE`] by so many workers writes [`EVENTS`] behind a gate by
+/// which a change is shared from so many trees on, and whether a worker was found waiting in it is
+/// as wanted.
+fn writes_and_meets<R: Threads + Wait + RandomSource + Sync + Abort>(
     rt: &R,
     alloc: Global,
-    case: &Case,
+    workers: &str,
     least: usize,
     wanted: bool,
-) -> Result<bool, Fail> {
+) -> bool {
     let gate = MeetingGate::new(least);
-    let holds = holds_behind(rt, alloc, case, &gate)?;
-    let meets = gate.met.load(SeqCst) > 0;
-    Ok(holds && meets == wanted)
+    writes_all(rt, alloc, workers, &gate) && gate.has_met() == wanted
+}
+
+/// Whether a run of [`PATHS`] over [`CYCLE`] by so many workers behind this gate writes [`EVENTS`].
+fn writes_all<R: Threads + Wait + RandomSource + Sync + Abort>(
+    rt: &R,
+    alloc: Global,
+    workers: &str,
+    gate: &MeetingGate,
+) -> bool {
+    let words = ["--workers", workers, "q", "s"];
+    let texts = [PATHS, CYCLE, ""];
+    let mut given = plainly_given(rt, alloc, &words, texts);
+    let outcome = outcome_of(rt, alloc, &mut given, gate);
+    has_all(&given, &outcome)
+}
+
+/// Whether a run that was given this wrote [`EVENTS`], and nothing went wrong.
+fn has_all(given: &Given, outcome: &Outcome) -> bool {
+    outcome.status == 0 && has_written(&given.events, EVENTS) && has_written(&given.errors, "")
 }
 
 #[test]
-fn two_workers_at_the_same_time(rt: HostRuntime) -> Result<(), Fail> {
+fn two_workers_at_the_same_time(rt: HostRuntime) {
     let alloc = rt.alloc();
-    assert!(rt; holds_and_meets(&rt, alloc, &one_worker(), 1, false)?);
-    assert!(rt; holds_and_meets(&rt, alloc, &two_workers(), 1, true)?);
+    assert!(rt; writes_and_meets(&rt, alloc, "1", 1, false));
+    assert!(rt; writes_and_meets(&rt, alloc, "2", 1, true));
     // few trees aren't shared by the gate of the program
     let least = OpenGate.trees_per_worker();
-    assert!(rt; holds_and_meets(&rt, alloc, &two_workers(), least, false)?);
-    Ok(())
+    assert!(rt; writes_and_meets(&rt, alloc, "2", least, false));
 }

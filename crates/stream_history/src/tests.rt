@@ -1,21 +1,21 @@
 //! A test of a journal: its refusals and its look-ups.
 
-ghost use Rattle.std.specs.Prelude.{◌≡◌, ◌≢◌, ℕ, [], IfOk};
+ghost use Rattle.std.specs.Prelude.{◌≡◌, ◌≢◌, ℕ, [], length, IfOk};
 ghost use Rattle.rpq_base.specs.Plain.{IsPlainTuple};
 ghost use Rattle.history_model.specs.Lines.{entries, IsShut};
 ghost use Rattle.answer_view.specs.View.{IsViewOf};
-ghost use Rattle.stream_history.specs.Journal.{IsSound, IsOpen};
+ghost use Rattle.stream_history.specs.Journal.{empty_view, IsSound, IsOpen};
 
 use crate::{AppendFault, Journal, PublishFault};
 use answer_rows::Rows;
 use answer_view::{View, plain_view};
 use history_model::Why;
-use path_syntax::read_expr;
-use rpq_base::{Act, Memory, Name, Tuple};
+use path_syntax::Expr;
+use rpq_base::{Act, Label, Memory, Name, Tuple};
 use rpq_model::{Mode, QueryDef, Window};
 use std::alloc::Global;
+use std::process::Abort;
 use std::sync::Arc;
-use std::test::Fail;
 
 /// A tuple that lets time pass.
 pub(crate) fn tick(time: u32) -> Tuple
@@ -28,27 +28,44 @@ pub(crate) fn tick(time: u32) -> Tuple
 }
 
 /// A query.
-pub(crate) fn one_query(alloc: Global) -> Result<QueryDef, Fail> {
-    Ok(QueryDef {
-        name: Name::new(alloc, b"q")?,
+fn query(rt: &impl Abort, alloc: Global) -> QueryDef {
+    QueryDef {
+        name: Name::new(alloc, b"q").expect(rt, "a name"),
         window: Window { size: 10, slide: 5 },
         mode: Mode::Arbitrary,
-        expr: read_expr(alloc, b"a")?,
-    })
+        expr: Expr::Atom(Label {
+            name: Name::new(alloc, b"a").expect(rt, "a name"),
+            back: false,
+        }),
+    }
+}
+
+/// One query, as a history has it.
+pub(crate) fn one_query(rt: &impl Abort, alloc: Global) -> Arc<Vec<QueryDef>>
+    ensures { length result.value.items ≡ 1 }
+{
+    let mut queries = Vec::new(alloc);
+    queries.push(query(rt, alloc)).expect(rt, "memory");
+    Arc::new(alloc, queries).expect(rt, "memory")
+}
+
+/// The view of one query over no entries.
+pub(crate) fn first_view(rt: &impl Abort, alloc: Global) -> Arc<View>
+    ensures { result.value ≡ empty_view 1 }
+{
+    let mut rows = Vec::new(alloc);
+    rows.push(Rows::new(alloc)).expect(rt, "memory");
+    View::new(alloc, 0, rows).expect(rt, "memory")
 }
 
 /// A history of two streams that takes one entry.
-fn small_history(alloc: Global) -> Result<Journal, Fail>
-    ensures lines { IfOk result (λ journal. journal.lines ≡ []) }
-    ensures streams { IfOk result (λ journal. journal.terms.streams ≡ 2) }
-    ensures sound { IfOk result IsSound }
+fn small_history(rt: &impl Abort, alloc: Global) -> Journal
+    ensures lines { result.lines ≡ [] }
+    ensures streams { result.terms.streams ≡ 2 }
+    ensures sound { IsSound result }
 {
-    let mut queries = Vec::new(alloc);
-    queries.push(one_query(alloc)?)?;
-    let mut rows = Vec::new(alloc);
-    rows.push(Rows::new(alloc))?;
-    let first = View::new(alloc, 0, rows)?;
-    Ok(Journal::new(alloc, Arc::new(alloc, queries)?, 2, 1, first)?)
+    let first = first_view(rt, alloc);
+    Journal::new(alloc, one_query(rt, alloc), 2, 1, first).expect(rt, "memory")
 }
 
 /// Appends a tuple that lets time pass.
@@ -100,29 +117,28 @@ fn shut(journal: &mut Journal)
 
 /// Whether the history tells that it has one entry, which was published.
 fn tells_one_entry(journal: &Journal) -> bool {
-    let one = journal.length() == 1 && journal.published() == 1;
-    one && journal.entries().len() == 1 && journal.view().position() == 1
+    let one = (journal.length() == 1) & (journal.published() == 1);
+    one & (journal.entries().len() == 1) & (journal.view().position() == 1)
 }
 
 /// Whether a history refuses what it should, and tells of its streams what it should.
-fn refuses_and_tells(alloc: Global) -> Result<bool, Fail> {
-    let mut journal = small_history(alloc)?;
+fn refuses_and_tells(rt: &impl Abort, alloc: Global) -> bool {
+    let mut journal = small_history(rt, alloc);
     let first = write(&mut journal, 1, 5) == Ok(1);
     let full = write(&mut journal, 2, 6) == Err(AppendFault::Full(1));
     let published = publish(alloc, &mut journal) == Ok(());
     let behind = publish(alloc, &mut journal) == Err(PublishFault::Behind(1));
     end(&mut journal, 2);
-    let goes_on = !journal.all_ended() && journal.shut_reason().is_none();
+    let goes_on = !journal.all_ended() & journal.shut_reason().is_none();
     shut(&mut journal);
     let closed = write(&mut journal, 1, 7) == Err(AppendFault::Closed(Why::Write));
     end(&mut journal, 1);
-    let ended = journal.all_ended() && journal.shut_reason() == Some(Why::Write);
-    let refuses = full && behind && closed;
-    Ok(first && published && refuses && goes_on && ended && tells_one_entry(&journal))
+    let ended = journal.all_ended() & (journal.shut_reason() == Some(Why::Write));
+    let refuses = full & behind & closed;
+    first & published & refuses & goes_on & ended & tells_one_entry(&journal)
 }
 
 #[test]
-fn a_journal_refuses_and_tells(rt: HostRuntime) -> Result<(), Fail> {
-    assert!(rt; refuses_and_tells(rt.alloc())?);
-    Ok(())
+fn a_journal_refuses_and_tells(rt: HostRuntime) {
+    assert!(rt; refuses_and_tells(&rt, rt.alloc()));
 }

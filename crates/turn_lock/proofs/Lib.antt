@@ -1,6 +1,6 @@
 pub mod LineLaws
 pub mod Lines
-pub mod Three
+pub mod AllPasses
 pub mod Views
 pub mod Deals
 pub mod Joins

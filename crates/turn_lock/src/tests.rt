@@ -1,14 +1,13 @@
 //! Two threads that write into a book in turn, and one that looks.
-ghost use Rattle.std.specs.Prelude.{◌≡◌, ◌≤◌, true, Some, IfSome, length};
-ghost use Rattle.std.specs.Thread.{IsSync};
+ghost use Rattle.std.specs.Prelude.{◌≡◌, ◌<◌, ◌≤◌, ℕ, true, length, slice_index_or};
 ghost use Rattle.turn_lock.specs.Lines.{Adds};
-ghost use Rattle.turn_lock.specs.Passes.{newcomer, newcomers, IsAtRest};
+ghost use Rattle.turn_lock.specs.Passes.{IsAtRest};
 
 use crate::{Kept, Pass, Turns};
 use std::alloc::Global;
+use std::process::Abort;
 use std::sync::Wait;
-use std::test::Fail;
-use std::thread::{Threads, join};
+use std::thread::{Threads, for_each_mut};
 
 #[derive(Clone, Copy)]
 struct Entry {
@@ -51,22 +50,15 @@ fn write(rt: &impl Wait, turns: &Turns<Book>, pass: &mut Pass<Book>, entry: Entr
     turns.give(pass, with_entry(book, entry));
 }
 
-fn write_all(
-    rt: &impl Wait,
-    turns: &Turns<Book>,
-    mut pass: Pass<Book>,
-    by: u32,
-    count: u32,
-) -> Pass<Book>
-    requires rest { IsAtRest turns.now pass }
-    requires own { pass.number ≡ by }
-    ensures rest { IsAtRest turns.now result }
-    ensures own { result.number ≡ by }
+fn write_all(rt: &impl Wait, turns: &Turns<Book>, pass: &mut Pass<Book>, by: u32, count: u32)
+    requires rest { IsAtRest turns.now pass.old }
+    requires own { pass.old.number ≡ by }
+    ensures rest { IsAtRest turns.now pass.new }
+    ensures own { pass.new.number ≡ by }
 {
     for mark in 0..count {
-        write(rt, turns, &mut pass, Entry { by, mark });
+        write(rt, turns, pass, Entry { by, mark });
     }
-    pass
 }
 
 /// The length that a look finds.
@@ -84,103 +76,68 @@ fn look(rt: &impl Wait, turns: &Turns<Book>, pass: &mut Pass<Book>) -> usize
 }
 
 /// Whether no look finds fewer entries than the one before.
-fn look_all(
-    rt: &impl Wait,
-    turns: &Turns<Book>,
-    mut pass: Pass<Book>,
-    count: u32,
-) -> (Pass<Book>, bool)
-    requires { IsAtRest turns.now pass }
-    ensures rest { IsAtRest turns.now result.0 }
-    ensures own { result.0.number ≡ pass.number }
-    ensures rises { result.1 ≡ true }
+fn look_all(rt: &impl Wait, turns: &Turns<Book>, pass: &mut Pass<Book>, count: u32) -> bool
+    requires { IsAtRest turns.now pass.old }
+    ensures rest { IsAtRest turns.now pass.new }
+    ensures own { pass.new.number ≡ pass.old.number }
+    ensures rises { result ≡ true }
 {
     let mut rises = true;
-    let mut last = look(rt, turns, &mut pass);
+    let mut last = look(rt, turns, pass);
     for _ in 0..count {
-        let found = look(rt, turns, &mut pass);
+        let found = look(rt, turns, pass);
         rises &= last <= found;
         last = found;
     }
-    (pass, rises)
+    rises
 }
 
-/// The first three passes.
-fn three(
-    turns: &Turns<Book>,
-    passes: Vec<Pass<Book>>,
-) -> Option<(Pass<Book>, Pass<Book>, Pass<Book>)>
-    requires { passes.items ≡ newcomers turns.now.id tt 3 }
-    ensures first { IfSome result (λ all. all.0 ≡ newcomer turns.now.id tt 0) }
-    ensures second { IfSome result (λ all. all.1 ≡ newcomer turns.now.id tt 1) }
-    ensures looker { IfSome result (λ all. all.2 ≡ newcomer turns.now.id tt 2) }
-{
-    let _ = turns;
-    let mut passes = passes.into_iter();
-    Some((passes.next()?, passes.next()?, passes.next()?))
-}
-
-/// Two threads write and a third looks, and all their passes come back.
-fn share<R: Threads + Wait + Sync>(
+/// What the thread with the pass of this number does: the first two write, and the third looks.
+fn take_part<R: Wait + Abort>(
     rt: &R,
     turns: &Turns<Book>,
-    first: Pass<Book>,
-    second: Pass<Book>,
-    looker: Pass<Book>,
+    number: usize,
+    pass: &mut Pass<Book>,
     each: u32,
-) -> (Pass<Book>, (Pass<Book>, (Pass<Book>, bool)))
-    requires first { IsAtRest turns.now first × (first.number ≡ 0) }
-    requires second { IsAtRest turns.now second × (second.number ≡ 1) }
-    requires looker { IsAtRest turns.now looker × (looker.number ≡ 2) }
-    ensures first { IsAtRest turns.now result.0 × (result.0.number ≡ 0) }
-    ensures second { IsAtRest turns.now result.1.0 × (result.1.0.number ≡ 1) }
-    ensures looker { IsAtRest turns.now result.1.1.0 × (result.1.1.0.number ≡ 2) }
+)
+    requires rest { IsAtRest turns.now pass.old }
+    requires own { (pass.old.number ≡ number) × (number < 3) }
+    ensures rest { IsAtRest turns.now pass.new }
+    ensures own { pass.new.number ≡ number }
 {
-    join(
-        rt,
-        move || -> Pass<Book>
-            requires { IsAtRest turns.now first × (first.number ≡ 0) }
-            ensures { IsAtRest turns.entry.now result × (result.number ≡ 0) }
-        { write_all(rt, turns, first, 0, each) },
-        move || -> (Pass<Book>, (Pass<Book>, bool))
-            requires sync { IsSync R.row }
-            requires second { IsAtRest turns.now second × (second.number ≡ 1) }
-            requires looker { IsAtRest turns.now looker × (looker.number ≡ 2) }
-            ensures second { IsAtRest turns.entry.now result.0 × (result.0.number ≡ 1) }
-            ensures looker { IsAtRest turns.entry.now result.1.0 × (result.1.0.number ≡ 2) }
-        {
-            join(
-                rt,
-                move || -> Pass<Book>
-                    requires { IsAtRest turns.now second × (second.number ≡ 1) }
-                    ensures { IsAtRest turns.entry.now result × (result.number ≡ 1) }
-                { write_all(rt, turns, second, 1, each) },
-                move || -> (Pass<Book>, bool)
-                    requires { IsAtRest turns.now looker × (looker.number ≡ 2) }
-                    ensures { IsAtRest turns.entry.now result.0 × (result.0.number ≡ 2) }
-                { look_all(rt, turns, looker, each) },
-            )
-        },
-    )
+    if number < 2 {
+        write_all(rt, turns, pass, number as u32, each);
+    } else {
+        assert!(rt; look_all(rt, turns, pass, each));
+    }
 }
 
-/// A book with the entries of two threads, and whether a third saw it only grow.
-fn book_of_two<R: Threads + Wait + Sync>(rt: &R, alloc: Global, each: u32) -> Option<(Book, bool)> {
-    let book = Book {
-        entries: Vec::new(alloc),
-    };
-    let Ok((turns, passes)) = Turns::new(alloc, book, 3) else {
-        return None;
-    };
-    let (first, second, looker) = three(&turns, passes)?;
-    let Ok(mut passes) = Vec::with_capacity(alloc, 3) else {
-        return None;
-    };
-    let (first, (second, (looker, rises))) = share(rt, &turns, first, second, looker, each);
-    passes.push_reserved(first);
-    passes.push_reserved(second);
-    passes.push_reserved(looker);
-    Some((turns.close(passes), rises))
+/// Each of three passes takes part in a thread of its own.
+fn share<R: Threads + Wait + Abort + Sync>(
+    rt: &R,
+    turns: &Turns<Book>,
+    passes: &mut Vec<Pass<Book>>,
+    each: u32,
+)
+    requires three { length passes.old.items ≡ 3 }
+    requires passes { (i : ℕ) (d : _) → i < 3 →
+        IsAtRest turns.now (slice_index_or passes.old.items i d)
+        × ((slice_index_or passes.old.items i d).number ≡ i) }
+    ensures three { length passes.new.items ≡ 3 }
+    ensures passes { (i : ℕ) (d : _) → i < 3 →
+        IsAtRest turns.now (slice_index_or passes.new.items i d)
+        × ((slice_index_or passes.new.items i d).number ≡ i) }
+{
+    for_each_mut(
+        rt,
+        passes,
+        3,
+        &|number: usize, pass: &mut Pass<Book>|
+            requires rest { IsAtRest turns.now pass.now }
+            requires own { (pass.now.number ≡ number) × (number < 3) }
+            ensures { IsAtRest turns.entry.now pass.exit.now × (pass.exit.now.number ≡ number) }
+        { take_part(rt, turns, number, pass, each) },
+    );
 }
 
 /// How many entries are by this thread, each marked by how many there were before.
@@ -194,14 +151,24 @@ fn in_order(book: &Book, by: u32) -> usize {
     next
 }
 
-#[test]
-fn a_book_has_each_entry_once_and_only_grows(rt: HostRuntime) -> Result<(), Fail> {
-    let Some((book, rises)) = book_of_two(&rt, rt.alloc(), 100) else {
-        panic!(rt; "no memory")
+/// Whether the book has a hundred entries of each of two threads, and no others.
+fn is_whole(book: &Book) -> bool {
+    book.entries.len() == 200 && in_order(book, 0) == 100 && in_order(book, 1) == 100
+}
+
+/// Whether a book into which two threads wrote a hundred entries each has all of them once.
+fn has_each_once<R: Threads + Wait + Abort + Sync>(rt: &R, alloc: Global) -> bool {
+    let book = Book {
+        entries: Vec::new(alloc),
     };
-    assert!(rt; rises);
-    assert_eq!(rt; book.entries.len(), 200);
-    assert_eq!(rt; in_order(&book, 0), 100);
-    assert_eq!(rt; in_order(&book, 1), 100);
-    Ok(())
+    let Ok((turns, mut passes)) = Turns::new(alloc, book, 3) else {
+        return false;
+    };
+    share(rt, &turns, &mut passes, 100);
+    is_whole(&turns.close(passes))
+}
+
+#[test]
+fn a_book_has_each_entry_once_and_only_grows(rt: HostRuntime) {
+    assert!(rt; has_each_once(&rt, rt.alloc()));
 }

@@ -4,25 +4,25 @@ use Rattle.stream_history.proofs.Steps.{open_at_first}
 use Rattle.stream_history.proofs.tests.refuses_and_tells.Goals as goal
 
 pub write-requires-2 : goal.write-requires-2
-write-requires-2 c =
-    let first = c.in_ok-journal.ensures in
+write-requires-2 g c =
+    let first = c.small_history-journal.ensures in
     let is : IsStream 2 2 = (omega arith, omega arith) in
     c.write.ensures.open 2
-    (open_at_first c.in_ok-journal.journal 2 2 first.lines first.streams is)
+    (open_at_first c.small_history-journal.result 2 2 first.lines first.streams is)
 
 pub end-requires : goal.end-requires
-end-requires c =
-    let first = c.in_ok-journal.ensures in
+end-requires g c =
+    let first = c.small_history-journal.ensures in
     let is : IsStream 2 2 = (omega arith, omega arith) in
     c.publish-2.ensures.open 2
     (c.publish.ensures.open 2
     (c.write-2.ensures.open 2
     (c.write.ensures.open 2
-    (open_at_first c.in_ok-journal.journal 2 2 first.lines first.streams is))))
+    (open_at_first c.small_history-journal.result 2 2 first.lines first.streams is))))
 
 pub write-requires-3 : goal.write-requires-3
-write-requires-3 c =
-    let first = c.in_ok-journal.ensures in
+write-requires-3 g c =
+    let first = c.small_history-journal.ensures in
     let is : IsStream 2 1 = (omega arith, omega arith) in
     c.shut.ensures 1
     (c.end.ensures.open 1 (λ same. omega (arith, same))
@@ -30,11 +30,11 @@ write-requires-3 c =
     (c.publish.ensures.open 1
     (c.write-2.ensures.open 1
     (c.write.ensures.open 1
-    (open_at_first c.in_ok-journal.journal 2 1 first.lines first.streams is))))))
+    (open_at_first c.small_history-journal.result 2 1 first.lines first.streams is))))))
 
 pub end-requires-2 : goal.end-requires-2
-end-requires-2 c =
-    let first = c.in_ok-journal.ensures in
+end-requires-2 g c =
+    let first = c.small_history-journal.ensures in
     let is : IsStream 2 1 = (omega arith, omega arith) in
     c.write-3.ensures.open 1
     (c.shut.ensures 1
@@ -43,4 +43,4 @@ end-requires-2 c =
     (c.publish.ensures.open 1
     (c.write-2.ensures.open 1
     (c.write.ensures.open 1
-    (open_at_first c.in_ok-journal.journal 2 1 first.lines first.streams is)))))))
+    (open_at_first c.small_history-journal.result 2 1 first.lines first.streams is)))))))
