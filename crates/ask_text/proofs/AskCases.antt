@@ -6,16 +6,17 @@ use Rattle.std.proofs.lemmas.Bool.{false≢true}
 use Rattle.std.proofs.lemmas.Option.{same_Some}
 use Rattle.std.proofs.lemmas.Slice.Eq.{bytes_eq-Decides}
 use Rattle.text_parts.specs.Numbers.{number_of}
+use Rattle.text_parts.specs.Reading.{◌>>=◌}
 use Rattle.rpq_base.specs.Names.{IsName}
 use Rattle.rpq_base.proofs.Members.{cons_members}
-use Rattle.rpq_model.specs.Query.{Query}
+use Rattle.rpq_model.specs.Query.{Query, query_named}
 use Rattle.answer_rows.specs.Answers.{pair}
 use Rattle.ask_text.specs.declared.ask.Ask.{Ask}
 use Rattle.ask_text.specs.declared.ask.Ask.TheVariants.{Answers, From, Pair, Count, Wait, Until}
 use Rattle.ask_text.specs.declared.fault.AskKind.{AskKind}
 use Rattle.ask_text.specs.declared.fault.AskKind.TheVariants.{Shape, UnknownQuery, BadName, Number}
 use Rattle.ask_text.specs.declared.fault.AskKind.TheVariants.{TooMany, Memory}
-use Rattle.ask_text.specs.Reading.{◌>>=◌, query_named, position_of, ask_of_two, ask_of_three}
+use Rattle.ask_text.specs.Reading.{position_of, ask_of_two, ask_of_three}
 use Rattle.ask_text.specs.Reading.{pair_of, ask_of_four, ask_of_fields}
 use Rattle.ask_text.specs.Parts.{names, IsPositionText, IsQueryWord, IsPairWord, IsAskOf, IsForm}
 use Rattle.ask_text.specs.Parts.{HasAskFault, IsFirstNamed, number_of_kind}
@@ -110,7 +111,7 @@ is_known queries number name field is same none =
 -- two fields, of which the first is the word of an ask about a query
 of_query : (queries : List Query) (word name : List ℕ) (make : ℕ → Ask) → IsQueryWord word →
     ((q : ℕ) → IsFirstNamed queries q name → IsAskOf queries (make q) (word ∷ name ∷ [])) →
-    ask_of_fields queries (word ∷ name ∷ []) ≡ (query_named queries name >>= λ q. Ok (make q)) →
+    ask_of_fields queries (word ∷ name ∷ []) ≡ (query_named UnknownQuery queries name >>= λ q. Ok (make q)) →
     QueryCase queries name → AskEnds queries (word ∷ name ∷ [])
 of_query queries word name make w asks e (unknown none found) =
     unknown_first queries (word ∷ name ∷ []) (inl w) (name, (w, refl), none)

@@ -5,20 +5,25 @@ use Rattle.std.proofs.Common.{filter, refl, sym, ap, ap₂, subst, ◌∙◌, ar
 use Rattle.std.proofs.Common.{length-append, append_assoc, append-nil}
 use Rattle.std.specs.Prelude.{All}
 use Rattle.std.specs.List.{AllZip}
+use Rattle.std.specs.Result.{result_map_both}
 use Rattle.std.proofs.lemmas.Bool.{cases_order, false≢true}
 use Rattle.std.proofs.lemmas.List.Elements.{All-head, All-tail}
+use Rattle.std.proofs.lemmas.Bool.{lt-leb}
 use Rattle.text_parts.specs.Lines.{is_blank_line, is_comment, lines}
 use Rattle.text_parts.specs.Fields.{fields}
+use Rattle.text_parts.specs.Reading.{◌>>=◌}
+use Rattle.text_parts.proofs.LineByLine.{from_first, from_none}
 use Rattle.rpq_base.specs.Names.{IsName}
-use Rattle.rpq_model.specs.Query.{Query}
+use Rattle.rpq_model.specs.Query.{Query, query_named}
 use Rattle.ask_text.specs.declared.ask.Ask.{Ask}
 use Rattle.ask_text.specs.declared.fault.AskFault.{AskFault}
 use Rattle.ask_text.specs.declared.fault.AskKind.{AskKind}
+use Rattle.ask_text.specs.declared.fault.AskKind.TheVariants.{UnknownQuery}
 use Rattle.ask_text.specs.declared.ask.Ask.TheVariants.{Answers, From, Pair, Count, Wait, Until}
-use Rattle.ask_text.specs.Reading.{◌>>=◌, query_named, vertex_of, position_of, ask_of_two}
+use Rattle.ask_text.specs.Reading.{vertex_of, position_of, ask_of_two}
 use Rattle.ask_text.specs.Reading.{ask_of_three, pair_of, ask_of_four, ask_of_fields}
 use Rattle.ask_text.specs.Asks.{Sessions, all, with_current, none_yet, begun, grown, begins_session}
-use Rattle.ask_text.specs.Asks.{after_fields, after_line, fault_at, onward, gives, asks}
+use Rattle.ask_text.specs.Asks.{after_fields, after_line, fault_at, line_step, gives, asks}
 use Rattle.ask_text.specs.Parts.{names, IsFirstNamed, IsPositionText, IsAskOf, session_fields}
 use Rattle.ask_text.specs.Ranges.{IsSession}
 use Rattle.ask_text.specs.ByParts.{is_ask_line, Item, Begin, One, items, IsItemOf, AreSessionsOf}
@@ -29,8 +34,7 @@ use Rattle.ask_text.proofs.Steps.{position_case}
 use Rattle.ask_text.proofs.AskCases.{contains_at}
 use Rattle.ask_text.proofs.LineCases.{line_by_parts, BeginCase, begins, goes_on, begin_case}
 use Rattle.ask_text.proofs.LineCases.{asked_so, asked_grown, goes_on_so}
-use Rattle.ask_text.proofs.ByParts.{items_push, items_grow, parts_told}
-use Rattle.std.proofs.lemmas.Bool.{lt-leb}
+use Rattle.ask_text.proofs.ByParts.{items_push, items_grow, parts_told, whole, whole_fault}
 
 -- ---- an ask is read from its fields
 
@@ -47,10 +51,10 @@ first_once queries one two name a b = elim (cases_order one two) [
 ]
 
 query_read : (queries : List Query) (q : ℕ) (name : List ℕ) → IsFirstNamed queries q name →
-    query_named queries name ≡ Ok q
+    query_named UnknownQuery queries name ≡ Ok q
 query_read queries q name is = by (query_case queries name)
   where
-    by : QueryCase queries name → query_named queries name ≡ Ok q
+    by : QueryCase queries name → query_named UnknownQuery queries name ≡ Ok q
     by (known other first e) = e ∙ ap (λ n. Ok n) (first_once queries other q name first is)
     by (unknown none e) = absurd (none (contains_at (names queries) q name is.has))
 
@@ -281,14 +285,9 @@ line_read queries sessions line e =
 one_line : (queries : List Query) (sessions next : Sessions) (count : ℕ) (line : List ℕ)
     (rest : List (List ℕ)) → after_line queries sessions line ≡ Ok next →
     gives queries sessions count (line ∷ rest) ≡ gives queries next (count + 1) rest
-unfolding gives
 one_line queries sessions next count line rest e =
-    ap (onward (count + 1) (λ s. gives queries s (count + 1) rest)) e
-
-no_line : (queries : List Query) (sessions : Sessions) (count : ℕ) →
-    gives queries sessions count [] ≡ Ok (all sessions)
-unfolding gives
-no_line queries sessions count = refl
+    from_first (line_step queries) count sessions line rest (Ok next)
+    (ap (result_map_both (λ (n : Sessions). n) (fault_at (count + 1))) e)
 
 -- the lines that are left give the sessions whose items they are
 abbrev Remain : List Query → Sessions → List (List ℕ) → List (List Ask) → Type 0
@@ -432,11 +431,12 @@ front_leads queries front found are =
 sessions_are_read : (queries : List Query) (bytes : List ℕ) (sessions : List (List Ask)) →
     AreSessionsOf queries (lines bytes) sessions →
     asks queries bytes ≡ Ok sessions
-unfolding asks
 sessions_are_read queries bytes sessions are =
     let leads = front_leads queries (lines bytes) sessions are in
+    let reached_all : gives queries none_yet 0 (lines bytes) ≡ Ok leads.last =
     ap (gives queries none_yet 0) (sym (append-nil (lines bytes))) ∙ leads.gives_so []
-    ∙ no_line queries leads.last (0 + length (lines bytes))
+    ∙ from_none (line_step queries) (0 + length (lines bytes)) leads.last in
+    whole queries bytes none_yet leads.last refl reached_all
     ∙ ap (λ list. Ok list) leads.all_found
 
 -- sessions that are reached are known by all of them
@@ -475,9 +475,9 @@ reached_same one two r s e = by one.current two.current refl refl
 faulty_line : (queries : List Query) (sessions : Sessions) (count : ℕ) (line : List ℕ)
     (rest : List (List ℕ)) (kind : AskKind) → after_line queries sessions line ≡ Err kind →
     gives queries sessions count (line ∷ rest) ≡ Err (fault_at (count + 1) kind)
-unfolding gives
 faulty_line queries sessions count line rest kind e =
-    ap (onward (count + 1) (λ s. gives queries s (count + 1) rest)) e
+    from_first (line_step queries) count sessions line rest (Err (fault_at (count + 1) kind))
+    (ap (result_map_both (λ (n : Sessions). n) (fault_at (count + 1))) e)
 
 ask_line_reads : (line : List ℕ) → is_ask_line line ≡ true →
     (is_blank_line line || is_comment line) ≡ false
@@ -490,7 +490,6 @@ ask_line_reads line e = by (is_blank_line line || is_comment line) refl
 
 fault_is_told : (queries : List Query) (bytes : List ℕ) (fault : AskFault) →
     HasFirstFault queries (lines bytes) fault → asks queries bytes ≡ Err fault
-unfolding asks
 fault_is_told queries bytes fault has =
     let leads = front_leads queries has.front (all has.sessions) has.good in
     let same : leads.last ≡ has.sessions =
@@ -499,10 +498,12 @@ fault_is_told queries bytes fault has =
     line_read queries has.sessions has.line (ask_line_reads has.line has.is_one)
     ∙ ((line_by_parts queries has.sessions (fields has.line)).fault fault.kind).1 has.first in
     let number : 0 + length has.front + 1 ≡ fault.line = omega (arith, has.number) in
+    let refuses : gives queries none_yet 0 (lines bytes) ≡ Err fault =
     ap (gives queries none_yet 0) has.split ∙ leads.gives_so (has.line ∷ has.rest)
     ∙ ap (λ (s : Sessions). gives queries s (0 + length has.front) (has.line ∷ has.rest)) same
     ∙ faulty_line queries has.sessions (0 + length has.front) has.line has.rest fault.kind refused
-    ∙ ap (λ (n : ℕ). Err (fault_at n fault.kind)) number
+    ∙ ap (λ (n : ℕ). Err (fault_at n fault.kind)) number in
+    whole_fault queries bytes none_yet fault refl refuses
 
 pub asks_by_parts : AsksByParts
 asks_by_parts = record {

@@ -1,22 +1,26 @@
 -- What a file gives is known by its parts.
 use Rattle.std.proofs.Common.{◌≡◌, ℕ, ◌+◌, Bool, true, false, not, ◌||◌, cond, Option, Some, None}
 use Rattle.std.proofs.Common.{Result, Ok, Err, List, [], ◌∷◌, ◌++◌, length, map}
-use Rattle.std.proofs.Common.{filter, refl, sym, ap, subst, ◌∙◌, arith, inl, inr, length-append}
+use Rattle.std.proofs.Common.{filter, refl, sym, ap, subst, ◌∙◌, arith, inl, inr}
 use Rattle.std.proofs.Common.{append_assoc, append-nil}
 use Rattle.std.specs.List.{AllZip}
-use Rattle.std.proofs.lemmas.List.Elements.{All-nil}
+use Rattle.std.proofs.lemmas.List.Elements.{All-nil, filter-append}
 use Rattle.text_parts.specs.Lines.{is_blank_line, is_comment, lines}
 use Rattle.text_parts.specs.Fields.{fields}
+use Rattle.text_parts.specs.Reading.{◌>>=◌, StopsAt}
+use Rattle.text_parts.proofs.LineByLine.{same_ok, ok_no_err, bind_ok, mapped_err, taken, refused}
+use Rattle.text_parts.proofs.LineByLine.{holds_at_end, stops_at}
 use Rattle.rpq_model.specs.Query.{Query}
 use Rattle.ask_text.specs.declared.ask.Ask.{Ask}
 use Rattle.ask_text.specs.declared.fault.AskFault.{AskFault}
 use Rattle.ask_text.specs.declared.fault.AskKind.{AskKind}
 use Rattle.ask_text.specs.Asks.{Sessions, all, with_current, none_yet, after_fields, after_line}
-use Rattle.ask_text.specs.Asks.{fault_at, onward, gives, asks}
+use Rattle.ask_text.specs.Asks.{fault_at, line_step, gives, asks}
 use Rattle.ask_text.specs.Parts.{IsFirstFault, IsAfter}
 use Rattle.ask_text.specs.Ranges.{IsSession}
 use Rattle.ask_text.specs.ByParts.{is_ask_line, Begin, One, items, IsItemOf, AreSessionsOf}
 use Rattle.ask_text.specs.ByParts.{HasFirstFault}
+use Rattle.ask_text.specs.Laws.{SessionsAreFew}
 use Rattle.ask_text.proofs.LineCases.{line_by_parts}
 use Rattle.ask_text.proofs.Ranged.{Ranged, all_ranged, ranged_next}
 
@@ -27,17 +31,6 @@ zip_push R [] [] x y all one = (one, tt)
 zip_push R [] (b ∷ ys) x y all one = absurd all
 zip_push R (a ∷ xs) [] x y all one = absurd all
 zip_push R (a ∷ xs) (b ∷ ys) x y all one = (all.0, zip_push R xs ys x y all.1 one)
-
-filter_push : {A : Type 0} (test : A → Bool) (xs : List A) (x : A) →
-    filter test (xs ++ x ∷ []) ≡ filter test xs ++ filter test (x ∷ [])
-filter_push test [] x = refl
-filter_push test (y ∷ xs) x = by (test y) refl (filter_push test xs x)
-  where
-    by : (passes : Bool) → test y ≡ passes →
-        filter test (xs ++ x ∷ []) ≡ filter test xs ++ filter test (x ∷ []) →
-        filter test ((y ∷ xs) ++ x ∷ []) ≡ filter test (y ∷ xs) ++ filter test (x ∷ [])
-    by true e later = rw e (ap (λ l. y ∷ l) later)
-    by false e later = rw e later
 
 -- the items of one session more, and of one ask more
 pub items_push : (over : List (List Ask)) (asks : List Ask) →
@@ -83,7 +76,7 @@ adds queries front line sessions next e s after = record {
   reached = still after;
   ranged = ranged_next queries sessions next (fields line) s.ranged after;
   each = subst (λ l. AllZip (IsItemOf queries) l (items (all next)))
-      (sym (filter_push is_ask_line front line
+      (sym (filter-append is_ask_line front (line ∷ [])
       ∙ ap (λ b. filter is_ask_line front ++ cond b (line ∷ []) []) e)) (by after);
 }
   where
@@ -124,94 +117,38 @@ passes queries front line sessions e s = record {
   reached = s.reached;
   ranged = s.ranged;
   each = subst (λ l. AllZip (IsItemOf queries) l (items (all sessions)))
-      (sym (filter_push is_ask_line front line
+      (sym (filter-append is_ask_line front (line ∷ [])
       ∙ ap (λ b. filter is_ask_line front ++ cond b (line ∷ []) []) e
       ∙ append-nil (filter is_ask_line front))) s.each;
 }
 
--- how a line ends
-data Turn (queries : List Query) (front : List (List ℕ)) (line : List ℕ)
-    (sessions : Sessions) : Type 0 where
-  taken : (next : Sessions) → after_line queries sessions line ≡ Ok next →
-      Stands queries (front ++ line ∷ []) next → Turn queries front line sessions
-  refused : (kind : AskKind) → after_line queries sessions line ≡ Err kind →
-      is_ask_line line ≡ true → IsFirstFault queries sessions (fields line) kind →
-      Turn queries front line sessions
-
-turn_of : (queries : List Query) (front : List (List ℕ)) (line : List ℕ) (sessions : Sessions) →
-    Stands queries front sessions → Turn queries front line sessions
+-- a line without a fault keeps this
+keeps : (queries : List Query) (front : List (List ℕ)) (line : List ℕ)
+    (sessions next : Sessions) → Stands queries front sessions →
+    after_line queries sessions line ≡ Ok next → Stands queries (front ++ line ∷ []) next
 unfolding after_line
-turn_of queries front line sessions s =
-    by (is_blank_line line || is_comment line) refl (after_fields queries sessions (fields line))
-    refl
+keeps queries front line sessions next s e = by (is_blank_line line || is_comment line) refl e
   where
     by : (nothing : Bool) → (is_blank_line line || is_comment line) ≡ nothing →
-        (outcome : Result Sessions AskKind) → after_fields queries sessions (fields line) ≡ outcome
-        → Turn queries front line sessions
-    by true e outcome is = taken sessions
-        (ap (λ b. cond b (Ok sessions) (after_fields queries sessions (fields line))) e)
-        (passes queries front line sessions (ap not e) s)
-    by false e (Ok next) is =
-        taken next (ap (λ b. cond b (Ok sessions) (after_fields queries sessions (fields line))) e
-        ∙ is)
-        (adds queries front line sessions next (ap not e) s
-        ((line_by_parts queries sessions (fields line)).good next is))
-    by false e (Err kind) is =
-        refused kind (ap (λ b. cond b (Ok sessions) (after_fields queries sessions (fields line))) e
-        ∙ is) (ap not e)
-        (((line_by_parts queries sessions (fields line)).fault kind).0 is)
+        cond nothing (Ok sessions) (after_fields queries sessions (fields line)) ≡ Ok next →
+        Stands queries (front ++ line ∷ []) next
+    by true is e = subst (Stands queries (front ++ line ∷ [])) (same_ok sessions next e)
+        (passes queries front line sessions (ap not is) s)
+    by false is e = adds queries front line sessions next (ap not is) s
+        ((line_by_parts queries sessions (fields line)).good next e)
 
--- how all lines end
-data Ending (queries : List Query) (whole : List (List ℕ))
-    (outcome : Result (List (List Ask)) AskFault) : Type 0 where
-  good : (sessions : List (List Ask)) → outcome ≡ Ok sessions →
-      AreSessionsOf queries whole sessions → Ending queries whole outcome
-  bad : (fault : AskFault) → outcome ≡ Err fault → HasFirstFault queries whole fault →
-      Ending queries whole outcome
-
-ending : (rest : List (List ℕ)) (queries : List Query) (front : List (List ℕ))
-    (sessions : Sessions) → Stands queries front sessions →
-    Ending queries (front ++ rest) (gives queries sessions (length front) rest)
-unfolding gives
-ending [] queries front sessions s =
-    good (all sessions) refl (subst (λ l. AreSessionsOf queries l (all sessions))
-    (sym (append-nil front)) (stands_for queries front sessions s))
-ending (line ∷ rest) queries front sessions s =
-    by (turn_of queries front line sessions s)
-    (λ next t. ending rest queries (front ++ line ∷ []) next t)
+-- a line with a fault
+faulty : (queries : List Query) (line : List ℕ) (sessions : Sessions) (kind : AskKind) →
+    after_line queries sessions line ≡ Err kind →
+    (is_ask_line line ≡ true) × IsFirstFault queries sessions (fields line) kind
+unfolding after_line
+faulty queries line sessions kind e = by (is_blank_line line || is_comment line) refl e
   where
-    further : Result Sessions AskKind → Result (List (List Ask)) AskFault
-    further outcome = onward (length front + 1)
-        (λ next. gives queries next (length front + 1) rest) outcome
-
-    one_longer : length (front ++ line ∷ []) ≡ length front + 1
-    one_longer = length-append front (line ∷ [])
-
-    by : Turn queries front line sessions →
-        ((next : Sessions) → Stands queries (front ++ line ∷ []) next →
-        Ending queries ((front ++ line ∷ []) ++ rest)
-        (gives queries next (length (front ++ line ∷ [])) rest)) →
-        Ending queries (front ++ line ∷ rest)
-        (gives queries sessions (length front) (line ∷ rest))
-    by (taken next e t) later =
-        subst (Ending queries (front ++ line ∷ rest)) (sym (ap further e))
-        (subst (λ n. Ending queries (front ++ line ∷ rest) (gives queries next n rest)) one_longer
-        (subst (λ l. Ending queries l (gives queries next (length (front ++ line ∷ [])) rest))
-        (append_assoc front (line ∷ []) rest)
-        (later next t)))
-    by (refused kind e is first) later =
-        bad (fault_at (length front + 1) kind) (ap further e) (record {
-          front = front;
-          line = line;
-          rest = rest;
-          sessions = sessions;
-          split = refl;
-          reached = s.reached;
-          good = stands_for queries front sessions s;
-          is_one = is;
-          number = refl;
-          first = first;
-        })
+    by : (nothing : Bool) → (is_blank_line line || is_comment line) ≡ nothing →
+        cond nothing (Ok sessions) (after_fields queries sessions (fields line)) ≡ Err kind →
+        (is_ask_line line ≡ true) × IsFirstFault queries sessions (fields line) kind
+    by true is e = absurd (ok_no_err sessions kind e)
+    by false is e = (ap not is, ((line_by_parts queries sessions (fields line)).fault kind).0 e)
 
 at_first : (queries : List Query) → Stands queries [] none_yet
 at_first queries = record {
@@ -228,17 +165,6 @@ at_first queries = record {
     nothing : (found : List Ask) → ◌≡◌ {A = Option (List Ask)} None (Some found) → ⊥
     nothing found e = absurd cc
 
-same_ok : (a b : List (List Ask)) → ◌≡◌ {A = Result (List (List Ask)) AskFault} (Ok a) (Ok b) →
-    a ≡ b
-same_ok a b e = cc
-
-same_err : (a b : AskFault) → ◌≡◌ {A = Result (List (List Ask)) AskFault} (Err a) (Err b) → a ≡ b
-same_err a b e = cc
-
-ok_or_err : (a : List (List Ask)) (b : AskFault) →
-    ◌≡◌ {A = Result (List (List Ask)) AskFault} (Ok a) (Err b) → ⊥
-ok_or_err a b e = absurd cc
-
 -- one way of the law
 pub record Tells : Type 0 where
   pub ok : (queries : List Query) (bytes : List ℕ) (sessions : List (List Ask)) →
@@ -249,25 +175,67 @@ pub record Tells : Type 0 where
 pub parts_told : Tells
 unfolding asks
 parts_told = record {
-  ok = λ queries bytes sessions e. of_ok queries bytes sessions
-      (ending (lines bytes) queries [] none_yet (at_first queries)) e;
-  err = λ queries bytes fault e. of_err queries bytes fault
-      (ending (lines bytes) queries [] none_yet (at_first queries)) e;
+  ok = λ queries bytes sessions e.
+      let read = bind_ok (gives queries none_yet 0 (lines bytes)) (λ found. Ok (all found)) sessions
+      e in
+      subst (AreSessionsOf queries (lines bytes)) (same_ok (all read.0) sessions read.2)
+      (stands_for queries (lines bytes) read.0
+      (holds_at_end (line_step queries) (Stands queries) (kept queries) (lines bytes) none_yet read.0
+      (at_first queries) read.1));
+  err = λ queries bytes fault e. stopped queries (lines bytes) fault
+      (stops_at (line_step queries) (Stands queries) (kept queries) (lines bytes) none_yet fault
+      (at_first queries)
+      (mapped_err (gives queries none_yet 0 (lines bytes)) (λ found. all found) fault e));
 }
   where
-    of_ok : (queries : List Query) (bytes : List ℕ) (sessions : List (List Ask)) →
-        Ending queries (lines bytes) (gives queries none_yet 0 (lines bytes)) →
-        gives queries none_yet 0 (lines bytes) ≡ Ok sessions →
-        AreSessionsOf queries (lines bytes) sessions
-    of_ok queries bytes sessions (good found e are) is =
-        subst (AreSessionsOf queries (lines bytes)) (same_ok found sessions (sym e ∙ is)) are
-    of_ok queries bytes sessions (bad fault e has) is =
-        absurd (ok_or_err sessions fault (sym is ∙ e))
+    kept : (queries : List Query) (front : List (List ℕ)) (line : List ℕ)
+        (before next : Sessions) → Stands queries front before →
+        line_step queries (length front + 1) before line ≡ Ok next →
+        Stands queries (front ++ line ∷ []) next
+    kept queries front line before next s e =
+        keeps queries front line before next s
+        (taken fault_at (after_line queries) (length front + 1) before next line e)
 
-    of_err : (queries : List Query) (bytes : List ℕ) (fault : AskFault) →
-        Ending queries (lines bytes) (gives queries none_yet 0 (lines bytes)) →
-        gives queries none_yet 0 (lines bytes) ≡ Err fault →
-        HasFirstFault queries (lines bytes) fault
-    of_err queries bytes fault (good found e are) is = absurd (ok_or_err found fault (sym e ∙ is))
-    of_err queries bytes fault (bad other e has) is =
-        subst (HasFirstFault queries (lines bytes)) (same_err other fault (sym e ∙ is)) has
+    stopped : (queries : List Query) (all_lines : List (List ℕ)) (fault : AskFault) →
+        StopsAt (line_step queries) (Stands queries) all_lines fault →
+        HasFirstFault queries all_lines fault
+    stopped queries all_lines fault at =
+        let refusal = refused fault_at (after_line queries) (length at.front + 1) at.before at.line
+        fault at.fails in
+        let first = faulty queries at.line at.before refusal.0 refusal.1 in
+        subst (HasFirstFault queries all_lines) refusal.2 (record {
+          front = at.front;
+          line = at.line;
+          rest = at.rest;
+          sessions = at.before;
+          split = at.split;
+          reached = at.good.reached;
+          good = stands_for queries at.front at.before at.good;
+          is_one = first.0;
+          number = refl;
+          first = first.1;
+        })
+
+-- a file whose lines reach sessions gives them
+pub whole : (queries : List Query) (bytes : List ℕ) (start sessions : Sessions) →
+    start ≡ none_yet → gives queries start 0 (lines bytes) ≡ Ok sessions →
+    asks queries bytes ≡ Ok (all sessions)
+unfolding asks
+whole queries bytes start sessions first e =
+    ap (λ (r : Result Sessions AskFault). r >>= λ found. Ok (all found))
+    (ap (λ (begin : Sessions). gives queries begin 0 (lines bytes)) (sym first) ∙ e)
+
+-- and one whose lines reach a fault has it
+pub whole_fault : (queries : List Query) (bytes : List ℕ) (start : Sessions) (fault : AskFault) →
+    start ≡ none_yet → gives queries start 0 (lines bytes) ≡ Err fault →
+    asks queries bytes ≡ Err fault
+unfolding asks
+whole_fault queries bytes start fault first e =
+    ap (λ (r : Result Sessions AskFault). r >>= λ found. Ok (all found))
+    (ap (λ (begin : Sessions). gives queries begin 0 (lines bytes)) (sym first) ∙ e)
+
+-- the sessions of a file are few
+pub sessions_are_few : SessionsAreFew
+sessions_are_few queries bytes sessions e =
+    let are = parts_told.ok queries bytes sessions e in
+    (are.few, are.each_few)

@@ -4,11 +4,13 @@ use Rattle.std.specs.Fmt.{digits}
 use Rattle.text_parts.specs.Lines.{raw_lines, without_return}
 use Rattle.text_parts.specs.Fields.{fields}
 use Rattle.text_parts.specs.Numbers.{number_within}
+use Rattle.text_parts.specs.Reading.{reached}
 use Rattle.rpq_base.specs.Names.{is_name}
-use Rattle.ask_text.specs.Reading.{query_named, vertex_of, position_of, ask_of_two, ask_of_three}
+use Rattle.rpq_model.specs.Query.{query_named}
+use Rattle.ask_text.specs.Reading.{vertex_of, position_of, ask_of_two, ask_of_three}
 use Rattle.ask_text.specs.Reading.{pair_of, ask_of_four, ask_of_fields}
 use Rattle.ask_text.specs.Asks.{begun, grown, begins_session, asked, after_fields, after_line}
-use Rattle.ask_text.specs.Asks.{gives, asks}
+use Rattle.ask_text.specs.Asks.{asks}
 use Rattle.ask_text.specs.Reply.{answers_text, from_text, pair_text, count_text, wait_text, told}
 use Rattle.ask_text.specs.Reply.{reply}
 use Rattle.ask_text.specs.Examples.{AskExamples, ReplyExamples}
@@ -16,7 +18,7 @@ use Rattle.ask_text.specs.Examples.{AskExamples, ReplyExamples}
 pub ask_examples : AskExamples
 unfolding raw_lines without_return fields number_within is_name query_named vertex_of position_of
     ask_of_two ask_of_three pair_of ask_of_four ask_of_fields begun grown begins_session asked
-    after_fields after_line gives asks
+    after_fields after_line reached asks
 ask_examples = record {
   empty = refl;
   no_asks = refl;

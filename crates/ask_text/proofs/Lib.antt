@@ -2,7 +2,6 @@ mod AskCases
 mod Back
 mod ByParts
 mod Examples
-mod Going
 mod LineCases
 mod Ranged
 mod Steps

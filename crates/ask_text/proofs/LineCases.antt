@@ -3,12 +3,13 @@ use Rattle.std.proofs.Common.{◌≡◌, ◌≢◌, ℕ, ◌<◌, ◌≤◌, fal
 use Rattle.std.proofs.Common.{[], ◌∷◌, ◌++◌, length, codes, refl, sym, ap, subst, ◌∙◌, Result, ◌==◌}
 use Rattle.std.proofs.Common.{arith, inl, inr}
 use Rattle.std.proofs.lemmas.Bool.{cases_lt, le-leb, lt-leb}
+use Rattle.text_parts.specs.Reading.{◌>>=◌}
 use Rattle.rpq_model.specs.Query.{Query}
 use Rattle.ask_text.specs.declared.ask.Ask.{Ask}
 use Rattle.ask_text.specs.declared.fault.AskKind.{AskKind}
 use Rattle.ask_text.specs.declared.fault.AskKind.TheVariants.{Shape, UnknownQuery, BadName, Number}
 use Rattle.ask_text.specs.declared.fault.AskKind.TheVariants.{TooMany, Memory}
-use Rattle.ask_text.specs.Reading.{◌>>=◌, ask_of_fields}
+use Rattle.ask_text.specs.Reading.{ask_of_fields}
 use Rattle.ask_text.specs.Asks.{Sessions, all, begun, grown, begins_session, asked, after_fields}
 use Rattle.ask_text.specs.Parts.{session_fields, HasAskFault, HasFault, number_of_kind}
 use Rattle.ask_text.specs.Parts.{IsFirstFault, IsAfter, IsReadByParts, LineByParts}

@@ -5,6 +5,7 @@ use Rattle.std.proofs.Common.{List, [], ◌∷◌, length, refl, sym, ap, ◌∙
 use Rattle.std.proofs.Common.{⊎_elim}
 use Rattle.std.specs.Prelude.{Contains, slice_get, bytes_eq}
 use Rattle.std.specs.List.{position_or_len}
+use Rattle.std.specs.Option.{ok_or}
 use Rattle.std.specs.Cmp.Lexicographic.{same_text, other_text}
 use Rattle.std.proofs.lemmas.Bool.{false≢true, lt-ltb, le-ltb, cases_lt}
 use Rattle.std.proofs.lemmas.Option.{same_Some}
@@ -14,9 +15,9 @@ use Rattle.text_parts.proofs.Digits.{within_larger, within_other}
 use Rattle.rpq_base.specs.Names.{is_name, IsName}
 use Rattle.rpq_base.specs.declared.data.TheConstants.{MAX_TIME}
 use Rattle.rpq_base.proofs.Members.{cons_members, none_in}
-use Rattle.rpq_model.specs.Query.{Query}
+use Rattle.rpq_model.specs.Query.{Query, query_named}
 use Rattle.ask_text.specs.declared.fault.AskKind.TheVariants.{UnknownQuery, BadName, Number}
-use Rattle.ask_text.specs.Reading.{found_or, query_named, vertex_of, position_of}
+use Rattle.ask_text.specs.Reading.{vertex_of, position_of}
 use Rattle.ask_text.specs.Parts.{names, IsFirstNamed, IsPositionText}
 
 -- whether a word is another
@@ -70,10 +71,10 @@ search_names (query ∷ queries) name = by (word_case query.name name) (search_n
 
 -- the query of a name
 pub data QueryCase (queries : List Query) (name : List ℕ) : Type 0 where
-  known : (number : ℕ) → IsFirstNamed queries number name → query_named queries name ≡ Ok number →
-      QueryCase queries name
-  unknown : (Contains (names queries) name → ⊥) → query_named queries name ≡ Err UnknownQuery →
-      QueryCase queries name
+  known : (number : ℕ) → IsFirstNamed queries number name →
+      query_named UnknownQuery queries name ≡ Ok number → QueryCase queries name
+  unknown : (Contains (names queries) name → ⊥) →
+      query_named UnknownQuery queries name ≡ Err UnknownQuery → QueryCase queries name
 
 pub query_case : (queries : List Query) (name : List ℕ) → QueryCase queries name
 unfolding query_named
@@ -85,11 +86,11 @@ query_case queries name = by (search_names queries name)
     by : Found queries name (place_of queries name) → QueryCase queries name
     by (there below is) =
         known (place_of queries name) is
-        (ap (λ within. found_or UnknownQuery (cond within (Some (place_of queries name)) None))
+        (ap (λ within. ok_or (cond within (Some (place_of queries name)) None) UnknownQuery)
         (lt-ltb (place_of queries name) (length queries) below))
     by (nowhere past none) =
-        unknown none (ap (λ within. found_or UnknownQuery
-        (cond within (Some (place_of queries name)) None))
+        unknown none (ap (λ within. ok_or
+        (cond within (Some (place_of queries name)) None) UnknownQuery)
         (le-ltb (place_of queries name) (length queries) past))
 
 -- a vertex
@@ -119,14 +120,14 @@ position_case field = by (is_digit_text field) refl
   where
     by : (digits : Bool) → is_digit_text field ≡ digits → PositionCase field
     by false e = no_position (λ number is. false≢true (sym e ∙ digit_text_passes field is.digits))
-        (ap (found_or Number) (within_other field MAX_TIME e))
+        (ap (λ found. ok_or found Number) (within_other field MAX_TIME e))
     by true e =
         let digits = digit_text_found field e in
         elim (cases_lt MAX_TIME (number_of field)) [
           | inl above ↦
               no_position (λ number is. omega (arith, above, is.value, is.range))
-              (ap (found_or Number) (within_larger field MAX_TIME digits above))
+              (ap (λ found. ok_or found Number) (within_larger field MAX_TIME digits above))
           | inr fits ↦
               written (record { digits = digits; value = refl; range = fits })
-              (ap (found_or Number) (within_fits field MAX_TIME digits fits))
+              (ap (λ found. ok_or found Number) (within_fits field MAX_TIME digits fits))
         ]

@@ -1,33 +1,19 @@
 -- What a line of an asks file gives: an ask, or its first fault. Lines stand without their line
 -- feed and their carriage return.
 use Rattle.std.specs.Prelude.{ℕ, bytes_eq, codes, if◌then◌else◌}
-use Rattle.std.specs.Prelude.{List, [], ◌∷◌, Option, Some, None, Result, Ok, Err}
+use Rattle.std.specs.Prelude.{List, [], ◌∷◌, Result, Ok, Err}
+use Rattle.std.specs.Option.{ok_or}
 use Rattle.text_parts.specs.Numbers.{number_within}
+use Rattle.text_parts.specs.Reading.{◌>>=◌}
 use Rattle.rpq_base.specs.Names.{is_name}
 use Rattle.rpq_base.specs.declared.data.TheConstants.{MAX_TIME}
 use Rattle.rpq_base.specs.declared.data.Pair.{Pair as PairOf}
-use Rattle.rpq_model.specs.Query.{Query, place_named}
+use Rattle.rpq_model.specs.Query.{Query, query_named}
 use Rattle.answer_rows.specs.Answers.{pair}
 use Rattle.ask_text.specs.declared.ask.Ask.{Ask}
 use Rattle.ask_text.specs.declared.ask.Ask.TheVariants.{Answers, From, Pair, Count, Wait, Until}
 use Rattle.ask_text.specs.declared.fault.AskKind.{AskKind}
 use Rattle.ask_text.specs.declared.fault.AskKind.TheVariants.{Shape, UnknownQuery, BadName, Number}
-
--- a step and the next one, which takes what the first gave; the first fault ends the reading
-infixl 10 ◌>>=◌
-abbrev pub ◌>>=◌ : {A B : Type 0} → Result A AskKind → (A → Result B AskKind) → Result B AskKind
-(Ok x) >>= next = next x
-(Err kind) >>= next = Err kind
-
--- what was found, or this fault where there is nothing
-abbrev pub found_or : {A : Type 0} → AskKind → Option A → Result A AskKind
-found_or kind None = Err kind
-found_or kind (Some x) = Ok x
-
--- the number of the query with this name, from 0
-unfoldable pub query_named : List Query → List ℕ → Result ℕ AskKind
-query_named queries name =
-    found_or UnknownQuery (place_named queries name)
 
 -- the vertex that a field names
 unfoldable pub vertex_of : List ℕ → Result (List ℕ) AskKind
@@ -35,13 +21,15 @@ vertex_of field = if is_name field then Ok field else Err BadName
 
 -- the position that a field writes
 unfoldable pub position_of : List ℕ → Result ℕ AskKind
-position_of field = found_or Number (number_within MAX_TIME field)
+position_of field = ok_or (number_within MAX_TIME field) Number
 
 -- an ask of two fields
 unfoldable pub ask_of_two : List Query → List ℕ → List ℕ → Result Ask AskKind
 ask_of_two queries word field =
-    if bytes_eq word (codes "answers") then (query_named queries field >>= λ q. Ok (Answers q))
-    else if bytes_eq word (codes "count") then (query_named queries field >>= λ q. Ok (Count q))
+    if bytes_eq word (codes "answers") then
+    (query_named UnknownQuery queries field >>= λ q. Ok (Answers q))
+    else if bytes_eq word (codes "count") then
+    (query_named UnknownQuery queries field >>= λ q. Ok (Count q))
     else if bytes_eq word (codes "wait") then (position_of field >>= λ n. Ok (Wait n))
     else Err Shape
 
@@ -49,7 +37,7 @@ ask_of_two queries word field =
 unfoldable pub ask_of_three : List Query → List ℕ → List ℕ → List ℕ → Result Ask AskKind
 ask_of_three queries word name from =
     if bytes_eq word (codes "from") then (do
-      query ← query_named queries name
+      query ← query_named UnknownQuery queries name
       vertex ← vertex_of from
       Ok (From query vertex))
     else Err Shape
@@ -57,7 +45,7 @@ ask_of_three queries word name from =
 -- a query and the pair of two vertices
 unfoldable pub pair_of : List Query → List ℕ → List ℕ → List ℕ → Result (ℕ × PairOf) AskKind
 pair_of queries name from to = do
-  query ← query_named queries name
+  query ← query_named UnknownQuery queries name
   source ← vertex_of from
   target ← vertex_of to
   Ok (query, pair source target)

@@ -56,11 +56,21 @@ impl Model for Session {
 }
 
 /// An ask of a session, the position at which it was answered, and the reply.
-#[derive(Debug, Drop)]
+#[derive(Debug)]
 pub struct Answered {
     pub ask: Ask,
     pub position: u64,
     pub text: Vec<u8>,
+}
+
+impl Drop for Answered {
+    fn drop(self) {
+        let Answered {
+            ask: _ask,
+            position: _position,
+            text: _text,
+        } = self;
+    }
 }
 
 impl Model for Answered {

@@ -1,6 +1,7 @@
 //! Reading an asks file.
 
 ghost use Rattle.std.specs.Prelude.{◌≡◌, ◌≢◌, ◌+◌, ◌<◌, ◌≤◌, ◌^◌, map, length, All, IfOk, IfErr};
+ghost use Rattle.ask_text.specs.declared.fault.AskKind.{AskKind};
 ghost use Rattle.ask_text.specs.Asks.{none_yet, all, begun, asked, after_fields, after_line, asks};
 ghost use Rattle.ask_text.specs.Ranges.{IsSession};
 
@@ -11,7 +12,7 @@ use rpq_base::Memory;
 use rpq_model::QueryDef;
 use std::alloc::Global;
 use std::marker::Model;
-use text_parts::{fields, is_blank_line, is_comment, split_line, without_return};
+use text_parts::{LineReader, fields, is_blank_line, is_comment, read_lines};
 
 /// The most sessions that a file has.
 const MAX_SESSIONS: usize = 64;
@@ -41,6 +42,34 @@ impl Model for Progress {
     } };
 }
 
+/// What reads an asks file: the queries that its asks may name.
+#[derive(Drop)]
+struct AskReader<'a> {
+    alloc: Global,
+    queries: &'a [QueryDef],
+}
+
+impl<'a> LineReader for AskReader<'a> {
+    type Progress = Progress;
+
+    type Fault = AskFault;
+
+    ghost use Rattle.ask_text.specs.Asks.{line_step};
+
+    ghost can_read = { λ reader. length reader.queries.now ≤ 64 };
+
+    ghost step = { λ reader. line_step reader.queries.now };
+
+    ghost told = { λ fault. fault.kind ≢ AskKind.Memory };
+
+    fn with_line(&self, number: u64, before: Progress, line: &[u8]) -> Result<Progress, AskFault> {
+        match with_line(self.alloc, self.queries, before, line) {
+            Ok(next) => Ok(next),
+            Err(kind) => Err(AskFault { line: number, kind }),
+        }
+    }
+}
+
 /// The sessions of an asks file with these bytes, or the first fault. An ask's query is told by its
 /// place among these.
 ///
@@ -61,17 +90,8 @@ pub fn read_asks(
     ensures few { IfOk result (λ found. length found.items ≤ 64) }
     ensures each { IfOk result (λ found. All (IsSession (length queries.now)) found.items) }
 {
-    let mut progress = none_yet(alloc);
-    let mut rest = bytes;
-    let mut count = 0;
-    while let Some((line, after)) = split_line(rest) {
-        count += 1;
-        match with_line(alloc, queries, progress, without_return(line)) {
-            Ok(next) => progress = next,
-            Err(kind) => return Err(AskFault { line: count, kind }),
-        }
-        rest = after;
-    }
+    let reader = AskReader { alloc, queries };
+    let (progress, count) = read_lines(&reader, none_yet(alloc), bytes)?;
     match all(progress) {
         Ok(sessions) => Ok(sessions),
         Err(Memory) => Err(AskFault {

@@ -2,6 +2,7 @@
 use Rattle.std.proofs.Common.{◌≡◌, ℕ, Bool, true, false, ◌==◌, ◌&&◌, List, [], ◌∷◌, map, filter, refl, sym, ap, ap₂, subst, ◌∙◌, ◌⊎◌, inl, inr, ⊎_elim}
 use Rattle.std.proofs.Math.Bool.{beq}
 use Rattle.std.specs.Prelude.{◌↔◌, Contains}
+use Rattle.std.specs.Cmp.{booleans_Decides}
 use Rattle.std.specs.List.Sorted.{IsStrictlySortedBy}
 use Rattle.std.proofs.lemmas.Bool.{false≢true, and_parts, eqb-true, eq-eqb}
 use Rattle.rpq_base.proofs.Members.{cons_members, none_in, kept_members}
@@ -16,7 +17,6 @@ use Rattle.conj_query.specs.Changed.{IsFound}
 use Rattle.conj_query.specs.State.{family, ArePut, MayCome}
 use Rattle.conj_query.proofs.Losing.{there_or_not, changes_are_touched}
 use Rattle.conj_query.proofs.Telling.{through_is_touched}
-use Rattle.conj_query.proofs.Ordering.{kinds, kind_again}
 
 -- ---- the pairs that events of one kind tell
 
@@ -48,14 +48,14 @@ are_told added events query pair =
           let from = given.0 member in
           let both = (kept from.0).0 from.1 in
           let parts = and_parts (beq from.0.added added) (from.0.query == query) both.1 in
-          (from.0, both.0, kinds from.0.added added parts.0, eqb-true from.0.query query parts.1, from.2)),
+          (from.0, both.0, (booleans_Decides from.0.added added).0 parts.0, eqb-true from.0.query query parts.1, from.2)),
       (λ tells.
           given.1 (
             tells.0,
             (kept tells.0).1 (
               tells.1,
               ap₂ (λ (first second : Bool). first && second)
-                  (ap (λ (kind : Bool). beq kind added) tells.2 ∙ kind_again added)
+                  (ap (λ (kind : Bool). beq kind added) tells.2 ∙ (booleans_Decides added added).1 refl)
                   (eq-eqb tells.0.query query tells.3),
             ),
             tells.4,

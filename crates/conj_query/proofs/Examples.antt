@@ -2,15 +2,17 @@
 use Rattle.std.proofs.Common.{refl}
 use Rattle.text_parts.specs.Lines.{raw_lines, without_return}
 use Rattle.text_parts.specs.Fields.{fields}
+use Rattle.text_parts.specs.Reading.{reached}
 use Rattle.rpq_base.specs.Names.{is_name}
-use Rattle.conj_query.specs.JoinLine.{variable_name, atom_texts, is_count, are_sound, checked_text, text_of_fields, placed, query_named, named, term_of}
+use Rattle.rpq_model.specs.Query.{query_named}
+use Rattle.conj_query.specs.JoinLine.{variable_name, atom_texts, is_count, are_sound, checked_text, text_of_fields, placed, named, term_of}
 use Rattle.conj_query.specs.JoinLine.{atom_of, with_atoms, atoms_of, join_of_fields}
-use Rattle.conj_query.specs.JoinsFile.{after_line, gives, joins}
+use Rattle.conj_query.specs.JoinsFile.{after_line, joins}
 use Rattle.conj_query.specs.Examples.{JoinExamples, TextExamples}
 
 pub join_examples : JoinExamples
 unfolding raw_lines without_return fields is_name variable_name atom_texts is_count are_sound checked_text text_of_fields placed query_named named
-    term_of atom_of with_atoms atoms_of join_of_fields after_line gives joins
+    term_of atom_of with_atoms atoms_of join_of_fields after_line reached joins
 join_examples = record {
   empty = refl;
   chain = λ one two p q. rw (p, q) refl;

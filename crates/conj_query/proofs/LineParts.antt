@@ -8,29 +8,31 @@ use Rattle.std.proofs.lemmas.Bool.{false≢true, cases_lt, lt-leb, le-leb}
 use Rattle.std.proofs.lemmas.List.{append_assoc, append-nil}
 use Rattle.std.proofs.lemmas.Option.{same_Some}
 use Rattle.std.proofs.lemmas.Slice.Eq.{bytes_eq-Decides}
+use Rattle.std.specs.Option.{ok_or}
+use Rattle.text_parts.specs.Reading.{◌>>=◌}
+use Rattle.text_parts.proofs.LineByLine.{same_ok, ok_no_err}
 use Rattle.rpq_base.specs.Names.{is_name, IsName}
 use Rattle.rpq_base.specs.Same.{same_name}
 use Rattle.rpq_base.proofs.Equality.{names as name_test}
 use Rattle.rpq_base.proofs.Members.{cons_members, none_in}
-use Rattle.rpq_model.specs.Query.{Query}
+use Rattle.rpq_model.specs.Query.{Query, query_named}
 use Rattle.conj_query.specs.declared.data.Term.{Term}
 use Rattle.conj_query.specs.declared.data.Term.TheVariants.{Variable, Vertex}
 use Rattle.conj_query.specs.declared.data.JoinAtom.{JoinAtom}
 use Rattle.conj_query.specs.declared.fault.JoinsKind.{JoinsKind}
 use Rattle.conj_query.specs.declared.fault.JoinsKind.TheVariants.{Shape, Twice, TooMany, UnknownQuery, BadName, Memory}
 use Rattle.conj_query.specs.Joins.{JoinValue}
-use Rattle.conj_query.specs.JoinLine.{◌>>=◌, Read, AtomText, LineText, AtomsRead, none_read, variable_sign, variable_name, found_or, query_named, is_known_query, named}
+use Rattle.conj_query.specs.JoinLine.{Read, AtomText, LineText, AtomsRead, none_read, variable_sign, variable_name, is_known_query, named}
 use Rattle.conj_query.specs.JoinLine.{number_at, numbered, variable_of, term_by, term_of, atom_of, with_atom, with_atoms, atoms_of, join_with, placed, text_of_fields, join_of_fields}
 use Rattle.conj_query.specs.Parts.{query_names, join_names, IsVariable, HasParts, name_in, HasFault, number_of_kind, IsFirstFault, IsTermOf, IsAtomOf, IsLineOf, IsReadByParts, LineByParts}
 use Rattle.conj_query.proofs.Differing.{mapped}
-use Rattle.conj_query.proofs.Reading.{same_ok, ok_no_err}
 use Rattle.conj_query.proofs.LineShape.{some_passes, AllCase, all_pass, one_fails, all_case, PlaceCase, at, no_place, place_case, given_at, FieldCase, variable, other, field_case}
 use Rattle.conj_query.proofs.LineShape.{TextCase, formed, unformed, text_case, parts_given}
 
 -- ---- queries and names
 
 data QueryCase (queries : List Query) (name : List ℕ) : Type 0 where
-  known : (number : ℕ) → slice_get (query_names queries) number ≡ Some name → query_named queries name ≡ Ok number →
+  known : (number : ℕ) → slice_get (query_names queries) number ≡ Some name → query_named UnknownQuery queries name ≡ Ok number →
       is_some (position (λ (query : Query). bytes_eq query.name name) queries) ≡ true → QueryCase queries name
   unknown : (Contains (query_names queries) name → ⊥) →
       is_some (position (λ (query : Query). bytes_eq query.name name) queries) ≡ false → QueryCase queries name
@@ -45,7 +47,7 @@ query_case queries name = by (place_case test queries)
     by : PlaceCase test queries → QueryCase queries name
     by (at place query found there passes) =
         known place (given_at (λ (each : Query). each.name) queries place query there ∙ ap (λ (text : List ℕ). Some text) (same_text query.name name (sym passes)))
-        (ap (found_or UnknownQuery) found) (ap (λ (place : Option ℕ). is_some place) found)
+        (ap (λ (place : Option ℕ). ok_or place UnknownQuery) found) (ap (λ (place : Option ℕ). is_some place) found)
     by (no_place found none) = unknown
         (λ member.
         let from = (mapped (λ (each : Query). each.name) queries name).0 member in

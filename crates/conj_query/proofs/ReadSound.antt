@@ -1,15 +1,16 @@
--- What a joins file gives are sound conjunctions.
-use Rattle.std.proofs.Common.{◌≡◌, ℕ, ◌+◌, ◌<◌, ◌≤◌, nat_lt, ◌||◌, Bool, true, false, cond, List, [], ◌∷◌, ◌++◌, Result, Ok, Err, Option, Some, None, length, refl, sym, ap, subst, ◌∙◌, inl, inr, ⊎_elim, arith, length-append}
+-- What a line of a joins file gives is a sound conjunction.
+use Rattle.std.proofs.Common.{◌≡◌, ℕ, ◌+◌, ◌<◌, ◌≤◌, nat_lt, Bool, true, false, cond, List, [], ◌∷◌, ◌++◌, Result, Ok, Err, Option, Some, None, length, refl, sym, ap, subst, ◌∙◌, inl, inr, ⊎_elim, arith, length-append}
 use Rattle.std.specs.Prelude.{Contains, All, bytes_eq, nat_le, if◌then◌else◌}
 use Rattle.std.specs.List.{position, position_or_len, list_any, list_all}
 use Rattle.std.proofs.lemmas.Bool.{cases_lt}
 use Rattle.std.proofs.lemmas.Bool.Decides.{nat_tests}
-use Rattle.std.proofs.lemmas.List.Elements.{All-nil, All-cons, All-append, Contains-get_or}
+use Rattle.std.proofs.lemmas.List.Elements.{Contains-get_or}
+use Rattle.std.specs.Option.{ok_or}
+use Rattle.text_parts.specs.Reading.{◌>>=◌}
+use Rattle.text_parts.proofs.LineByLine.{bind_ok, same_ok, ok_no_err}
 use Rattle.rpq_base.specs.Same.{same_name}
 use Rattle.rpq_base.proofs.Members.{none_in, one_more}
-use Rattle.rpq_model.specs.Query.{Query}
-use Rattle.text_parts.specs.Lines.{lines, is_blank_line, is_comment}
-use Rattle.text_parts.specs.Fields.{fields}
+use Rattle.rpq_model.specs.Query.{Query, query_named}
 use Rattle.conj_query.specs.declared.data.Term.{Term}
 use Rattle.conj_query.specs.declared.data.Term.TheVariants.{Variable, Vertex}
 use Rattle.conj_query.specs.declared.data.JoinAtom.{JoinAtom}
@@ -17,10 +18,8 @@ use Rattle.conj_query.specs.declared.fault.JoinsKind.{JoinsKind}
 use Rattle.conj_query.specs.declared.fault.JoinsKind.TheVariants.{UnknownQuery, TooMany, Twice}
 use Rattle.conj_query.specs.Joins.{JoinValue}
 use Rattle.conj_query.specs.Sound.{IsWithin, IsAtomWithin, Mentions, IsSound}
-use Rattle.conj_query.specs.JoinLine.{◌>>=◌, Read, AtomText, AtomsRead, found_or, query_named, named, number_at, numbered, variable_of, variable_name, term_by, term_of}
+use Rattle.conj_query.specs.JoinLine.{Read, AtomText, AtomsRead, named, number_at, numbered, variable_of, variable_name, term_by, term_of}
 use Rattle.conj_query.specs.JoinLine.{atom_of, with_atom, with_atoms, none_read, is_known_query, atoms_of, join_with, placed, text_of_fields, join_of_fields}
-use Rattle.conj_query.specs.JoinsFile.{after_line, onward, gives, joins}
-use Rattle.conj_query.proofs.Reading.{bind_ok, same_ok, ok_no_err}
 
 -- the place of the first that passes is within
 pub position_within : {X : Type 0} (test : X → Bool) (xs : List X) (place : ℕ) → position test xs ≡ Some place → place < length xs
@@ -37,14 +36,14 @@ position_within test xs place e = by (nat_lt (position_or_len test xs) (length x
         none_some f = absurd cc
 
 -- the query of an atom is one of those given
-query_below : (queries : List Query) (name : List ℕ) (number : ℕ) → query_named queries name ≡ Ok number → number < length queries
+query_below : (queries : List Query) (name : List ℕ) (number : ℕ) → query_named UnknownQuery queries name ≡ Ok number → number < length queries
 unfolding query_named
 query_below queries name number e = by (position (λ query. bytes_eq query.name name) queries) refl
   where
     by : (found : Option ℕ) → position (λ query. bytes_eq query.name name) queries ≡ found → number < length queries
-    by None f = absurd (ok_no_err number UnknownQuery (sym e ∙ ap (found_or UnknownQuery) f))
+    by None f = absurd (ok_no_err number UnknownQuery (sym e ∙ ap (λ (place : Option ℕ). ok_or place UnknownQuery) f))
     by (Some place) f =
-        let same = same_ok place number (sym (ap (found_or UnknownQuery) f) ∙ e) in
+        let same = same_ok place number (sym (ap (λ (place : Option ℕ). ok_or place UnknownQuery) f) ∙ e) in
         subst (λ (n : ℕ). n < length queries) same (position_within (λ query. bytes_eq query.name name) queries place f)
 
 -- what one more term brings
@@ -108,7 +107,7 @@ atom_brings : (queries : List Query) (seen more : List (List ℕ)) (text : AtomT
     BringsAtom queries seen atom more
 unfolding atom_of
 atom_brings queries seen more text atom e =
-    let query = bind_ok (query_named queries text.query) (λ q. term_of seen text.from >>= λ from. term_of from.1 text.to >>= λ to.
+    let query = bind_ok (query_named UnknownQuery queries text.query) (λ q. term_of seen text.from >>= λ from. term_of from.1 text.to >>= λ to.
     Ok (record { query = q; from = from.0; to = to.0 }, to.1)) (atom, more) e in
     let from = bind_ok (term_of seen text.from) (λ from. term_of from.1 text.to >>= λ to.
     Ok (record { query = query.0; from = from.0; to = to.0 }, to.1)) (atom, more) query.2 in
@@ -207,49 +206,3 @@ join_sound queries before list join e =
     room true full f name found e = absurd (ok_no_err found (Twice name) (sym e))
     room false true f name found e = absurd (ok_no_err found TooMany (sym e))
     room false false f name found e = grind (arith, nat_tests, f)
-
-line_sound : (queries : List Query) (before next : List JoinValue) (line : List ℕ) → (length before ≤ 32) × All (IsSound (length queries)) before →
-    after_line queries before line ≡ Ok next → (length next ≤ 32) × All (IsSound (length queries)) next
-unfolding after_line
-line_sound queries before next line so_far e = by (is_blank_line line || is_comment line) e
-  where
-    Holds : List JoinValue → Type 0
-    Holds list = (length list ≤ 32) × All (IsSound (length queries)) list
-
-    by : (nothing : Bool) → (if nothing then Ok before else (join_of_fields queries before (fields line) >>= λ join. Ok (before ++ join ∷ []))) ≡ Ok next → Holds next
-    by true f = subst Holds (same_ok before next f) so_far
-    by false f =
-        let join = bind_ok (join_of_fields queries before (fields line)) (λ join. Ok (before ++ join ∷ [])) next f in
-        let sound = join_sound queries before (fields line) join.0 join.1 in
-        let room = sound.0 in
-        let grown : length (before ++ join.0 ∷ []) ≡ length before + 1 = length-append before (join.0 ∷ []) in
-        subst Holds (same_ok (before ++ join.0 ∷ []) next join.2) (
-          omega (arith, room, grown),
-          All-append (IsSound (length queries)) before (join.0 ∷ []) so_far.1
-              (All-cons (IsSound (length queries)) join.0 [] sound.1 (All-nil (IsSound (length queries)))),
-        )
-
-lines_sound : (rest : List (List ℕ)) (queries : List Query) (before found : List JoinValue) (count : ℕ) →
-    (length before ≤ 32) × All (IsSound (length queries)) before → gives queries before count rest ≡ Ok found →
-    (length found ≤ 32) × All (IsSound (length queries)) found
-unfolding gives
-lines_sound [] queries before found count so_far e =
-    subst (λ (list : List JoinValue). (length list ≤ 32) × All (IsSound (length queries)) list) (same_ok before found e) so_far
-lines_sound (line ∷ rest) queries before found count so_far e = by (after_line queries before line) refl
-    (λ next holds f. lines_sound rest queries next found (count + 1) holds f)
-  where
-    by : (outcome : Result (List JoinValue) JoinsKind) → after_line queries before line ≡ outcome →
-        ((next : List JoinValue) → (length next ≤ 32) × All (IsSound (length queries)) next → gives queries next (count + 1) rest ≡ Ok found →
-        (length found ≤ 32) × All (IsSound (length queries)) found) →
-        (length found ≤ 32) × All (IsSound (length queries)) found
-    by (Ok next) f later =
-        later next (line_sound queries before next line so_far f)
-        (sym (ap (onward (count + 1) (λ next. gives queries next (count + 1) rest)) f) ∙ e)
-    by (Err kind) f later =
-        absurd (ok_no_err found _ (sym (sym (ap (onward (count + 1) (λ next. gives queries next (count + 1) rest)) f) ∙ e)))
-
-pub few_and_sound : (queries : List Query) (bytes : List ℕ) (found : List JoinValue) →
-    joins queries bytes ≡ Ok found → (length found ≤ 32) × All (IsSound (length queries)) found
-unfolding joins
-few_and_sound queries bytes found e =
-    lines_sound (lines bytes) queries [] found 0 (omega arith, All-nil (IsSound (length queries))) e

@@ -1,8 +1,10 @@
 -- Each conjunction of a joins file is sound, and has a variable.
-use Rattle.std.proofs.Common.{◌≡◌, ℕ, ◌<◌, List, [], ◌∷◌, Ok, length, take, get_or}
-use Rattle.std.proofs.Common.{sym, subst, ⊎_elim, arith}
-use Rattle.std.specs.Prelude.{All, Contains}
+use Rattle.std.proofs.Common.{◌≡◌, ℕ, ◌<◌, ◌≤◌, List, [], ◌∷◌, Ok, length, take, get_or}
+use Rattle.std.proofs.Common.{sym, subst, inl, inr, ⊎_elim, arith}
+use Rattle.std.specs.Prelude.{Contains}
 use Rattle.std.specs.List.{AllZip}
+use Rattle.std.proofs.lemmas.Bool.{cases_lt}
+use Rattle.std.proofs.lemmas.List.{length-take-le}
 use Rattle.std.proofs.lemmas.Option.{slice_get_within, slice_get-get_or}
 use Rattle.rpq_base.proofs.Members.{cons_members, none_in}
 use Rattle.rpq_model.specs.Query.{Query}
@@ -11,13 +13,14 @@ use Rattle.text_parts.specs.Fields.{fields}
 use Rattle.conj_query.specs.declared.data.Term.{Term}
 use Rattle.conj_query.specs.declared.data.Term.TheVariants.{Variable, Vertex}
 use Rattle.conj_query.specs.Joins.{JoinValue}
+use Rattle.conj_query.specs.JoinLine.{join_of_fields}
 use Rattle.conj_query.specs.JoinsFile.{joins}
 use Rattle.conj_query.specs.Parts.{IsVariable, IsTermOf, IsAtomOf, IsLineOf}
 use Rattle.conj_query.specs.ByParts.{join_lines_of}
 use Rattle.conj_query.proofs.LineParts.{line_by_parts}
 use Rattle.conj_query.specs.FileLaws.{JoinsAreSound}
 use Rattle.conj_query.proofs.ByParts.{joins_by_parts}
-use Rattle.conj_query.proofs.ReadSound.{few_and_sound}
+use Rattle.conj_query.proofs.ReadSound.{join_sound}
 
 -- what stands in the other list at an element's place
 beside : {A B : Type 0} (R : A → B → Type 0) (firsts : List A) (seconds : List B) (first : A) →
@@ -48,21 +51,43 @@ line_some queries before list join line =
     (λ to. seen_some line.seen text.to atom.0.to to atom.1.to)
     variable.2)
 
-all_some : (queries : List Query) (bytes : List ℕ) (found : List JoinValue) →
-    joins queries bytes ≡ Ok found → All (λ (join : JoinValue). 0 < join.variables) found
-all_some queries bytes found e place default below =
+-- what stands at a place of a file's conjunctions is that of a line behind those before it
+given_by : (queries : List Query) (bytes : List ℕ) (found : List JoinValue) →
+    joins queries bytes ≡ Ok found → (place : ℕ) (default : JoinValue) → place < length found →
+    (line : List (List ℕ))
+    × (join_of_fields queries (take place found) line ≡ Ok (get_or found place default))
+given_by queries bytes found e place default below =
     let are = joins_by_parts.ok queries bytes found e in
     let many = are.as_many in
     let given = join_lines_of (lines bytes) in
     let within : place < length given = omega (arith, below, many) in
-    let line = get_or given place [] in
-    let join = get_or found place default in
-    line_some queries (take place found) (fields line) join
-    ((line_by_parts queries (take place found) (fields line)).good join
-    (are.each place line join (slice_get-get_or given place [] within)
-    (slice_get-get_or found place default below)))
+    let line = get_or given place [] in (
+      fields line,
+      are.each place line (get_or found place default) (slice_get-get_or given place [] within)
+          (slice_get-get_or found place default below),
+    )
+
+-- there is no place behind the thirty-second
+few : (queries : List Query) (bytes : List ℕ) (found : List JoinValue) →
+    joins queries bytes ≡ Ok found → length found ≤ 32
+few queries bytes found e = elim (cases_lt 32 (length found)) [
+  | inl many ↦
+      let none : JoinValue = record { name = []; variables = 0; atoms = [] } in
+      let line = given_by queries bytes found e 32 none many in
+      let room = (join_sound queries (take 32 found) line.0 (get_or found 32 none) line.1).0 in
+      omega (arith, room, many, length-take-le 32 found (omega (arith, many)))
+  | inr fits ↦ fits
+]
 
 pub joins_are_sound : JoinsAreSound
-joins_are_sound queries bytes found e =
-    let held = few_and_sound queries bytes found e in
-    (held.0, held.1, all_some queries bytes found e)
+joins_are_sound queries bytes found e = (
+  few queries bytes found e,
+  (λ place default below.
+      let line = given_by queries bytes found e place default below in
+      (join_sound queries (take place found) line.0 (get_or found place default) line.1).1),
+  (λ place default below.
+      let line = given_by queries bytes found e place default below in
+      line_some queries (take place found) line.0 (get_or found place default)
+      ((line_by_parts queries (take place found) line.0).good (get_or found place default)
+      line.1)),
+)

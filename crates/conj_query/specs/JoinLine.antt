@@ -3,9 +3,10 @@ use Rattle.std.specs.Prelude.{ℕ, Bool, false, ◌==◌, ◌||◌, ◌&&◌, no
 use Rattle.std.specs.Prelude.{length, Option, Some, None, Result, Ok, Err, bytes_eq, codes, is_some}
 use Rattle.std.specs.Prelude.{if◌then◌else◌}
 use Rattle.std.specs.List.{position, list_any, list_all}
+use Rattle.text_parts.specs.Reading.{◌>>=◌}
 use Rattle.rpq_base.specs.Names.{is_name}
 use Rattle.rpq_base.specs.Same.{same_name}
-use Rattle.rpq_model.specs.Query.{Query, place_named}
+use Rattle.rpq_model.specs.Query.{Query, place_named, query_named}
 use Rattle.conj_query.specs.declared.data.Term.{Term}
 use Rattle.conj_query.specs.declared.data.Term.TheVariants.{Variable, Vertex}
 use Rattle.conj_query.specs.declared.data.JoinAtom.{JoinAtom}
@@ -13,13 +14,6 @@ use Rattle.conj_query.specs.declared.fault.JoinsKind.{JoinsKind}
 use Rattle.conj_query.specs.declared.fault.JoinsKind.TheVariants.{Shape, Twice, TooMany}
 use Rattle.conj_query.specs.declared.fault.JoinsKind.TheVariants.{UnknownQuery, BadName}
 use Rattle.conj_query.specs.Joins.{JoinValue}
-
--- a step and the next one, which takes what the first gave; the first fault ends the reading
-infixl 10 ◌>>=◌
-abbrev pub ◌>>=◌ : {A B : Type 0} → Result A JoinsKind → (A → Result B JoinsKind) →
-    Result B JoinsKind
-(Ok x) >>= next = next x
-(Err kind) >>= next = Err kind
 
 -- the fields of an atom
 pub record AtomText : Type 0 where
@@ -92,15 +86,6 @@ placed before name =
     else if nat_le 32 (length before) then Err TooMany
     else Ok name
 
--- the number of the query with this name, from 0
-abbrev pub found_or : {A : Type 0} → JoinsKind → Option A → Result A JoinsKind
-found_or kind None = Err kind
-found_or kind (Some x) = Ok x
-
-unfoldable pub query_named : List Query → List ℕ → Result ℕ JoinsKind
-query_named queries name =
-    found_or UnknownQuery (place_named queries name)
-
 -- the query of the atom is known
 abbrev pub is_known_query : List Query → AtomText → Bool
 is_known_query queries atom = is_some (place_named queries atom.query)
@@ -136,7 +121,7 @@ term_of seen field = term_by seen field (variable_name field)
 -- an atom, and the variables seen with it
 unfoldable pub atom_of : List Query → List (List ℕ) → AtomText → Result (Read JoinAtom) JoinsKind
 atom_of queries seen text = do
-  query ← query_named queries text.query
+  query ← query_named UnknownQuery queries text.query
   from ← term_of seen text.from
   to ← term_of from.1 text.to
   Ok (record { query = query; from = from.0; to = to.0 }, to.1)

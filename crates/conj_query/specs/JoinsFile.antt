@@ -1,12 +1,13 @@
 -- The conjunctions of a joins file, or the first fault of it, line by line.
-use Rattle.std.specs.Prelude.{ℕ, ◌+◌, ◌||◌, List, [], ◌∷◌, ◌++◌, Result, Ok, Err, if◌then◌else◌}
+use Rattle.std.specs.Prelude.{ℕ, ◌+◌, ◌||◌, List, [], ◌∷◌, ◌++◌, Result, Ok, if◌then◌else◌}
 use Rattle.text_parts.specs.Lines.{lines, is_blank_line, is_comment}
 use Rattle.text_parts.specs.Fields.{fields}
+use Rattle.text_parts.specs.Reading.{◌>>=◌, reached, with_number}
 use Rattle.rpq_model.specs.Query.{Query}
 use Rattle.conj_query.specs.declared.fault.JoinsFault.{JoinsFault}
 use Rattle.conj_query.specs.declared.fault.JoinsKind.{JoinsKind}
 use Rattle.conj_query.specs.Joins.{JoinValue}
-use Rattle.conj_query.specs.JoinLine.{◌>>=◌, join_of_fields}
+use Rattle.conj_query.specs.JoinLine.{join_of_fields}
 
 -- the conjunctions after a line: a blank line or a comment gives nothing
 unfoldable pub after_line : List Query → List JoinValue → List ℕ →
@@ -19,20 +20,10 @@ after_line queries before line =
 abbrev pub fault_at : ℕ → JoinsKind → JoinsFault
 fault_at number kind = record { line = number; kind = kind }
 
--- what comes after a line: the rest, or the fault of the line with this number
-abbrev pub onward : ℕ → (List JoinValue → Result (List JoinValue) JoinsFault) →
-    Result (List JoinValue) JoinsKind → Result (List JoinValue) JoinsFault
-onward number rest (Ok joins) = rest joins
-onward number rest (Err kind) = Err (fault_at number kind)
-
--- what lines give behind so many lines with these conjunctions
-unfoldable pub gives : List Query → List JoinValue → ℕ → List (List ℕ) →
-    Result (List JoinValue) JoinsFault
-gives queries before count [] = Ok before
-gives queries before count (line ∷ rest) =
-    onward (count + 1) (λ next. gives queries next (count + 1) rest)
-    (after_line queries before line)
+-- the step of the line with this number
+abbrev pub line_step : List Query → ℕ → List JoinValue → List ℕ → Result (List JoinValue) JoinsFault
+line_step queries = with_number fault_at (after_line queries)
 
 -- what the bytes of a joins file give: its conjunctions, or its first fault
 unfoldable pub joins : List Query → List ℕ → Result (List JoinValue) JoinsFault
-joins queries bytes = gives queries [] 0 (lines bytes)
+joins queries bytes = reached (line_step queries) 0 [] (lines bytes)

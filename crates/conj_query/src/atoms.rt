@@ -4,7 +4,7 @@ ghost use Rattle.std.specs.Prelude.{◌≡◌, ◌≢◌, ◌<◌, ◌≤◌, �
 ghost use Rattle.std.specs.Prelude.{is_some};
 ghost use Rattle.std.specs.List.{list_all, position};
 ghost use Rattle.rpq_base.specs.Same.{same_name};
-ghost use Rattle.conj_query.specs.JoinLine.{named, query_named, is_known_query, numbered};
+ghost use Rattle.conj_query.specs.JoinLine.{named, is_known_query, numbered};
 ghost use Rattle.conj_query.specs.JoinLine.{term_of, atom_of, AtomsRead, none_read};
 ghost use Rattle.conj_query.specs.JoinLine.{with_atoms, atoms_of};
 
@@ -12,7 +12,7 @@ use crate::data::{JoinAtom, Term};
 use crate::fault::JoinsKind;
 use crate::line::{AtomText, variable_name};
 use rpq_base::{Memory, Name, NameFault};
-use rpq_model::{QueryDef, place_named};
+use rpq_model::{QueryDef, find_query, place_named};
 use std::alloc::Global;
 use std::marker::Model;
 
@@ -29,18 +29,6 @@ impl Model for AtomsRead {
     ghost Value = { ReadOf };
 
     ghost view = { λ read. record { atoms = read.atoms.items; seen = read.seen.items } };
-}
-
-/// The number of the query with this name.
-#[tactic(auto, unfolding(crate::specs::JoinLine::query_named))]
-fn find_query(queries: &[QueryDef], name: &[u8]) -> Result<u32, JoinsKind>
-    requires { length queries.now ≤ 64 }
-    ensures { result ≡ query_named queries.now name.now }
-{
-    match place_named(queries, name) {
-        Some(place) => Ok(place as u32),
-        None => Err(JoinsKind::UnknownQuery),
-    }
 }
 
 /// Whether the query of the atom is known.
@@ -121,7 +109,7 @@ fn read_atom(
         atom_of queries.now seen.old.items text.now ≡ Err kind) }
     ensures few { length seen.new.items ≤ length seen.old.items + 2 }
 {
-    let query = find_query(queries, text.query)?;
+    let query = find_query(queries, text.query, JoinsKind::UnknownQuery)?;
     let from = read_term(alloc, seen, text.from)?;
     let to = read_term(alloc, seen, text.to)?;
     Ok(JoinAtom { query, from, to })

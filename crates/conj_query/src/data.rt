@@ -21,11 +21,21 @@ pub struct JoinAtom {
 }
 
 /// A conjunction: its name, the number of its variables, and its atoms.
-#[derive(Debug, Drop)]
+#[derive(Debug)]
 pub struct JoinDef {
     pub name: Name,
     pub variables: u32,
     pub atoms: Vec<JoinAtom>,
+}
+
+impl Drop for JoinDef {
+    fn drop(self) {
+        let JoinDef {
+            name: _name,
+            variables: _variables,
+            atoms: _atoms,
+        } = self;
+    }
 }
 
 impl Model for JoinDef {

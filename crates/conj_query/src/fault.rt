@@ -1,6 +1,6 @@
 //! Why a joins file isn't taken.
 
-ghost use Rattle.std.specs.Prelude.{◌≡◌, Some};
+ghost use Rattle.std.specs.Prelude.{◌≡◌, ◌≤◌, Some, length};
 ghost use Rattle.conj_query.specs.declared.fault.JoinsKind.{JoinsKind};
 ghost use Rattle.conj_query.specs.FaultTexts.{joins_kind_text, joins_fault_text};
 
@@ -34,6 +34,23 @@ pub struct JoinsFault {
     pub kind: JoinsKind,
 }
 
+impl JoinsKind {
+    /// What is wrong, as it is told.
+    pub fn text(&self) -> &'static str
+        ensures text { result.now ≡ joins_kind_text self.now }
+        ensures short { length result.now ≤ 100 }
+    {
+        match self {
+            Self::Shape => "shape",
+            Self::Twice(_) => "name twice",
+            Self::TooMany => "too many",
+            Self::UnknownQuery => "unknown query",
+            Self::BadName => "bad name",
+            Self::Memory => "out of memory",
+        }
+    }
+}
+
 impl From<Memory> for JoinsKind {
     ghost from_gives = { λ _ kind. kind ≡ JoinsKind.Memory };
 
@@ -62,14 +79,7 @@ impl fmt::Display for JoinsKind {
     ghost output = { λ kind. Some (joins_kind_text kind) };
 
     fn fmt<W: fmt::Write>(&self, f: &mut fmt::Formatter<W>) -> fmt::Result {
-        match self {
-            JoinsKind::Shape => f.write_str("shape"),
-            JoinsKind::Twice(_) => f.write_str("name twice"),
-            JoinsKind::TooMany => f.write_str("too many"),
-            JoinsKind::UnknownQuery => f.write_str("unknown query"),
-            JoinsKind::BadName => f.write_str("bad name"),
-            JoinsKind::Memory => f.write_str("out of memory"),
-        }
+        f.write_str(self.text())
     }
 }
 

@@ -36,12 +36,22 @@ impl From<Memory> for JoinFault {
 }
 
 /// Conjunctions over the pairs of queries.
-#[derive(Drop)]
 pub struct Joins {
     alloc: Global,
     defs: Arc<Vec<JoinDef>>,
     sets: Vec<PairSet>,
     spent: bool,
+}
+
+impl Drop for Joins {
+    fn drop(self) {
+        let Joins {
+            alloc: _alloc,
+            defs: _defs,
+            sets: _sets,
+            spent: _spent,
+        } = self;
+    }
 }
 
 impl Model for Joins {

@@ -4,6 +4,7 @@ ghost use Rattle.std.specs.Prelude.{◌≡◌, ◌≢◌, ◌+◌, ◌<◌, ◌�
 ghost use Rattle.std.specs.Prelude.{OnOk};
 ghost use Rattle.std.specs.List.{list_any};
 ghost use Rattle.rpq_base.specs.Same.{same_name};
+ghost use Rattle.conj_query.specs.declared.fault.JoinsKind.{JoinsKind};
 ghost use Rattle.conj_query.specs.Sound.{IsSound};
 ghost use Rattle.conj_query.specs.JoinLine.{placed, join_of_fields};
 ghost use Rattle.conj_query.specs.JoinsFile.{after_line, joins};
@@ -15,10 +16,55 @@ use crate::line::read_text;
 use rpq_base::{Copied, Name};
 use rpq_model::QueryDef;
 use std::alloc::Global;
-use text_parts::{fields, is_blank_line, is_comment, split_line, without_return};
+use std::marker::Model;
+use text_parts::{LineReader, fields, is_blank_line, is_comment, read_lines};
 
 /// The most joins of a file.
 const MAX_JOINS: usize = 32;
+
+/// The conjunctions of the lines so far.
+#[derive(Drop)]
+struct Found {
+    joins: Vec<JoinDef>,
+}
+
+impl Model for Found {
+    ghost use Rattle.std.specs.Prelude.{List};
+    ghost use Rattle.conj_query.specs.Joins.{JoinValue};
+
+    ghost Value = { List JoinValue };
+
+    ghost view = { λ found. found.joins.items };
+}
+
+/// What reads a joins file: the queries that its atoms may name.
+#[derive(Drop)]
+struct JoinReader<'a> {
+    alloc: Global,
+    queries: &'a [QueryDef],
+}
+
+impl<'a> LineReader for JoinReader<'a> {
+    type Progress = Found;
+
+    type Fault = JoinsFault;
+
+    ghost use Rattle.conj_query.specs.JoinsFile.{line_step};
+
+    ghost can_read = { λ reader. length reader.queries.now ≤ 64 };
+
+    ghost step = { λ reader. line_step reader.queries.now };
+
+    ghost told = { λ fault. fault.kind ≢ JoinsKind.Memory };
+
+    fn with_line(&self, number: u64, before: Found, line: &[u8]) -> Result<Found, JoinsFault> {
+        let Found { mut joins } = before;
+        match take_line(self.alloc, self.queries, &mut joins, line) {
+            Ok(()) => Ok(Found { joins }),
+            Err(kind) => Err(JoinsFault { line: number, kind }),
+        }
+    }
+}
 
 /// The conjunctions of a joins file with these bytes, or the first fault. An atom's query is told
 /// by its place among these.
@@ -41,18 +87,12 @@ pub fn read_joins(
     ensures sound { IfOk result (λ found. All (IsSound (length queries.now)) found.items) }
     ensures variables { IfOk result (λ found. All (λ join. 0 < join.variables) found.items) }
 {
-    let mut found = Vec::new(alloc);
-    let mut rest = bytes;
-    let mut count = 0;
-    while let Some((line, after)) = split_line(rest) {
-        count += 1;
-        let taken = take_line(alloc, queries, &mut found, without_return(line));
-        if let Err(kind) = taken {
-            return Err(JoinsFault { line: count, kind });
-        }
-        rest = after;
-    }
-    Ok(found)
+    let reader = JoinReader { alloc, queries };
+    let none = Found {
+        joins: Vec::new(alloc),
+    };
+    let (found, _) = read_lines(&reader, none, bytes)?;
+    Ok(found.joins)
 }
 
 /// Puts the conjunction of the line, if it gives one, behind those before it.

@@ -11,7 +11,7 @@ use Rattle.std.proofs.lemmas.Cmp.{tied_itself, nat_list_cmp_total}
 use Rattle.std.proofs.lemmas.Map.Lookups.{exact_bytes}
 use Rattle.rpq_base.proofs.Equality.{same_tests, names}
 use Rattle.rpq_base.specs.Order.{name_cmp}
-use Rattle.rpq_model.proofs.LiveEdges.{is_equal}
+use Rattle.rpq_base.proofs.InOrder.{is_equal}
 use Rattle.rpq_base.specs.Same.{same_name}
 use Rattle.rpq_base.specs.declared.data.Edge.{Edge}
 use Rattle.path_witness.specs.LastVisits.{is_left, are_last, is_taken, cut_from, by_name, HasSources}

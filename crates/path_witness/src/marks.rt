@@ -22,7 +22,6 @@ use std::sync::Arc;
 /// for each query, beside its names.
 ///
 /// Contracts see the queries, and what is kept of the history, of which only `StandsFor` speaks.
-#[derive(Drop)]
 pub struct Marks {
     pub(crate) alloc: Global,
     pub(crate) queries: Arc<Vec<QueryDef>>,
@@ -35,6 +34,19 @@ pub struct Marks {
     /// How many entries more are taken before the edges are looked through for those that no
     /// window holds any more.
     until_look: usize,
+}
+
+impl Drop for Marks {
+    fn drop(self) {
+        let Marks {
+            alloc: _alloc,
+            queries: _queries,
+            taken: _taken,
+            clock: _clock,
+            rows: _rows,
+            until_look: _until_look,
+        } = self;
+    }
 }
 
 /// How many entries are taken between two looks at the least.

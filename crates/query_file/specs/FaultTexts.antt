@@ -1,5 +1,5 @@
 -- Faults as they are told.
-use Rattle.std.specs.Prelude.{ℕ, List, ◌++◌, codes, decimal}
+use Rattle.std.specs.Prelude.{ℕ, Bool, true, false, List, ◌++◌, codes, decimal}
 use Rattle.path_syntax.specs.FaultTexts.{bad_expr_text}
 use Rattle.path_syntax.specs.Written.{written_word}
 use Rattle.query_file.specs.declared.fault.QueryFault.{QueryFault}
@@ -8,6 +8,13 @@ use Rattle.query_file.specs.declared.fault.QueryKind.TheVariants.{Shape, Number,
 use Rattle.query_file.specs.declared.fault.QueryKind.TheVariants.{NoQuery, Expr, TooManyLabels}
 use Rattle.query_file.specs.declared.fault.QueryKind.TheVariants.{TooManyStates, NotContained}
 use Rattle.query_file.specs.declared.fault.QueryKind.TheVariants.{Memory}
+
+-- whether more than a fixed text is told of the kind
+abbrev pub has_parts : QueryKind → Bool
+has_parts (Expr fault) = true
+has_parts (TooManyLabels count) = true
+has_parts (NotContained p q w) = true
+has_parts others = false
 
 -- what is wrong with a line, as it is told
 abbrev pub query_kind_text : QueryKind → List ℕ

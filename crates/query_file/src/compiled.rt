@@ -14,11 +14,21 @@ use std::marker::Model;
 /// query takes simple paths.
 ///
 /// Contracts see it as the record of the three, and the type keeps that they belong together.
-#[derive(Debug, Drop)]
+#[derive(Debug)]
 pub struct Compiled {
     pub def: QueryDef,
     pub dfa: Dfa,
     pub verdict: Verdict,
+}
+
+impl Drop for Compiled {
+    fn drop(self) {
+        let Compiled {
+            def: _def,
+            dfa: _dfa,
+            verdict: _verdict,
+        } = self;
+    }
 }
 
 impl Model for Compiled {

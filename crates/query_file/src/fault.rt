@@ -1,8 +1,8 @@
 //! Why a queries file isn't taken.
 
-ghost use Rattle.std.specs.Prelude.{◌≡◌, Some};
+ghost use Rattle.std.specs.Prelude.{◌≡◌, ◌≤◌, Some, false, length};
 ghost use Rattle.query_file.specs.declared.fault.QueryKind.{QueryKind};
-ghost use Rattle.query_file.specs.FaultTexts.{query_kind_text, query_fault_text};
+ghost use Rattle.query_file.specs.FaultTexts.{has_parts, query_kind_text, query_fault_text};
 ghost use Rattle.query_file.specs.Kinds.{kind_of_expr, kind_of_build};
 
 use crate::word_text::WordText;
@@ -46,6 +46,25 @@ pub enum QueryKind {
 pub struct QueryFault {
     pub line: u64,
     pub kind: QueryKind,
+}
+
+impl QueryKind {
+    /// What is wrong, as it is told, where no part of the kind is told with it.
+    pub fn text(&self) -> &'static str
+        ensures text { has_parts self.now ≡ false → result.now ≡ query_kind_text self.now }
+        ensures short { length result.now ≤ 100 }
+    {
+        match self {
+            Self::Shape => "shape",
+            Self::Number => "number",
+            Self::Twice(_) => "name twice",
+            Self::TooMany => "too many queries",
+            Self::NoQuery => "no query",
+            Self::Expr(_) | Self::TooManyLabels(_) | Self::NotContained { .. } => "",
+            Self::TooManyStates => "too many states",
+            Self::Memory => "out of memory",
+        }
+    }
 }
 
 impl From<Memory> for QueryKind {
@@ -101,19 +120,19 @@ impl fmt::Display for QueryKind {
 
     fn fmt<W: fmt::Write>(&self, f: &mut fmt::Formatter<W>) -> fmt::Result {
         match self {
-            QueryKind::Shape => f.write_str("shape"),
-            QueryKind::Number => f.write_str("number"),
-            QueryKind::Twice(_) => f.write_str("name twice"),
-            QueryKind::TooMany => f.write_str("too many queries"),
-            QueryKind::NoQuery => f.write_str("no query"),
             QueryKind::Expr(fault) => write!(f, "{fault}"),
             QueryKind::TooManyLabels(count) => write!(f, "{count} labels"),
-            QueryKind::TooManyStates => f.write_str("too many states"),
             QueryKind::NotContained { p, q, w } => {
                 let (p, q, w) = (WordText(p), WordText(q), WordText(w));
                 write!(f, "not contained {p} {q} {w}")
             }
-            QueryKind::Memory => f.write_str("out of memory"),
+            QueryKind::Shape
+            | QueryKind::Number
+            | QueryKind::Twice(_)
+            | QueryKind::TooMany
+            | QueryKind::NoQuery
+            | QueryKind::TooManyStates
+            | QueryKind::Memory => f.write_str(self.text()),
         }
     }
 }

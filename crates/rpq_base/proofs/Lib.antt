@@ -1,5 +1,6 @@
 pub mod Derived
 pub mod Equality
+pub mod InOrder
 pub mod Members
 mod Naming
 pub mod Orders

@@ -17,7 +17,7 @@ both_equal Equal second e = (refl, e)
 both_equal Greater second e = cc
 
 -- directions that the order doesn't tell apart are equal
-same_direction : (first second : Bool) → bool_cmp first second ≡ Equal → first ≡ second
+pub same_direction : (first second : Bool) → bool_cmp first second ≡ Equal → first ≡ second
 same_direction true true e = refl
 same_direction true false e = cc
 same_direction false true e = cc

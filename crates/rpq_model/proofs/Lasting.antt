@@ -35,7 +35,8 @@ use Rattle.rpq_model.specs.Ends.{IsUntil, AreEndedAnswers, pairs_of}
 use Rattle.rpq_model.specs.Lasting.{AreDeadlines, GivesEnd, row_of}
 use Rattle.rpq_model.proofs.OwnDeadlines.{deadline_of, deadline_is, one_deadline, seen_below_deadline}
 use Rattle.rpq_model.proofs.Ends.{later_answers_less, ended_at, lasts_at, until_from_clocks}
-use Rattle.rpq_model.proofs.LiveEdges.{at_place, is_equal}
+use Rattle.rpq_base.proofs.InOrder.{is_equal}
+use Rattle.rpq_model.proofs.LiveEdges.{at_place}
 use Rattle.rpq_model.proofs.Pairs.{has, has_iff}
 use Rattle.rpq_model.proofs.Paths.{more_edges}
 use Rattle.rpq_model.proofs.Places.{to_place, from_place, live_by_places, later_sees_less}

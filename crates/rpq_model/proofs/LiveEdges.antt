@@ -7,16 +7,16 @@ use Rattle.std.specs.BTreeMap.{is_at}
 use Rattle.std.specs.List.{cons_option, list_any}
 use Rattle.std.specs.Option.{option_to_list}
 use Rattle.std.specs.declared.cmp.Ordering.{Ordering}
-use Rattle.std.specs.declared.cmp.Ordering.TheVariants.{Less, Equal, Greater}
+use Rattle.std.specs.declared.cmp.Ordering.TheVariants.{Equal}
 use Rattle.std.specs.Ordering.{ordering_then, is_eq}
 use Rattle.std.specs.Cmp.{IsTotalOrder}
-use Rattle.std.proofs.lemmas.Bool.{false≢true}
 use Rattle.std.proofs.lemmas.Cmp.{tied_itself, then_total, on_total, nat_list_cmp_total}
 use Rattle.std.proofs.lemmas.Map.Lookups.{exact_bytes}
 use Rattle.std.proofs.lemmas.List.{drop_more, drop_all, reverse-append}
 use Rattle.rpq_base.specs.Order.{name_cmp, label_cmp}
 use Rattle.rpq_base.specs.Same.{same_edge}
 use Rattle.rpq_base.proofs.Equality.{same_tests, edges}
+use Rattle.rpq_base.proofs.InOrder.{is_equal}
 use Rattle.rpq_base.proofs.Orders.{both_equal, label_cmp_total, label_cmp_exact}
 use Rattle.rpq_base.specs.declared.data.Edge.{Edge}
 use Rattle.rpq_base.specs.declared.data.Act.{Act}
@@ -114,11 +114,6 @@ edge_cmp_exact first second e =
     let label = label_cmp_exact first.label second.label inner.1 in
     let to = exact_bytes first.to second.to outer.1 in
     λ i. record { from = from i; label = label i; to = to i }
-
-pub is_equal : (order : Ordering) → is_eq order ≡ true → order ≡ Equal
-is_equal Less e = absurd (false≢true e)
-is_equal Equal e = refl
-is_equal Greater e = absurd (false≢true e)
 
 -- the set finds exactly the equal edge
 key_test : (key other : EdgeKey) → is_at (key_cmp key) other ≡ same_edge (edge_of other) (edge_of key)

@@ -49,7 +49,7 @@ pub use own_end_laws::{
     live_below_its_end, tick_at_the_end,
 };
 pub use plain::plain_answers;
-pub use query::{QueryDef, place_named};
+pub use query::{QueryDef, find_query, place_named};
 pub use rows::{Ended, plain_rows};
 pub use window::{Window, clock, own_end};
 pub use window_laws::{

@@ -1,7 +1,7 @@
 //! Query definitions.
 
-ghost use Rattle.std.specs.Prelude.{◌≡◌, ◌<◌, length, IfOk, IfSome};
-ghost use Rattle.rpq_model.specs.Query.{place_named};
+ghost use Rattle.std.specs.Prelude.{◌≡◌, ◌<◌, ◌≤◌, length, IfOk, IfSome};
+ghost use Rattle.rpq_model.specs.Query.{place_named, query_named};
 
 use crate::mode::Mode;
 use crate::window::Window;
@@ -13,12 +13,23 @@ use std::marker::Model;
 /// A query: its name, its window, the paths that it takes, and its expression.
 ///
 /// Contracts see it as a `Query` of `specs/`, with the expression as a tree.
-#[derive(Debug, Drop)]
+#[derive(Debug)]
 pub struct QueryDef {
     pub name: Name,
     pub window: Window,
     pub mode: Mode,
     pub expr: Expr,
+}
+
+impl Drop for QueryDef {
+    fn drop(self) {
+        let QueryDef {
+            name: _name,
+            window: _window,
+            mode: _mode,
+            expr: _expr,
+        } = self;
+    }
 }
 
 impl Model for QueryDef {
@@ -67,4 +78,17 @@ pub fn place_named(queries: &[QueryDef], name: &[u8]) -> Option<usize>
     queries
         .iter()
         .position(|query| query.name.as_bytes() == name)
+}
+
+/// The number of the query with this name, which is its place, or this fault where none has it.
+#[tactic(auto, unfolding(crate::specs::Query::query_named))]
+pub fn find_query<F: Drop>(queries: &[QueryDef], name: &[u8], unknown: F) -> Result<u32, F>
+    requires { length queries.now ≤ 64 }
+    ensures exact { result ≡ query_named unknown queries.now name.now }
+    ensures within { IfOk result (λ number. number < length queries.now) }
+{
+    match place_named(queries, name) {
+        Some(place) => Ok(place as u32),
+        None => Err(unknown),
+    }
 }

@@ -3,3 +3,4 @@ pub mod FaultTexts
 pub mod Fields
 pub mod Lines
 pub mod Numbers
+pub mod Reading

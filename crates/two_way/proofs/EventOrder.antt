@@ -2,10 +2,10 @@
 use Rattle.std.proofs.Common.{◌≡◌, ℕ, ◌+◌, ◌<◌, Bool, true, false, not, ◌&&◌, List, [], ◌∷◌, ◌++◌, map, get_or, nat_eq, Ordering, refl, sym, ap, subst, ◌∙◌, inl, inr, arith}
 use Rattle.std.proofs.Math.Bool.{beq}
 use Rattle.std.specs.Prelude.{Contains}
-use Rattle.std.specs.Cmp.{IsTotalOrder, IsEquivalence, bool_cmp_total, nat_cmp_is}
+use Rattle.std.specs.Cmp.{IsTotalOrder, bool_cmp_total, nat_cmp_is}
 use Rattle.std.specs.List.Sorted.{IsSorted, IsStrictlySortedBy}
-use Rattle.std.specs.Ordering.{is_lt, is_eq, nat_cmp, bool_cmp, ordering_then, ordering_reverse, eq_by_cmp}
-use Rattle.std.specs.declared.cmp.Ordering.TheVariants.{Less, Equal, Greater}
+use Rattle.std.specs.Ordering.{is_lt, nat_cmp, bool_cmp, ordering_then, ordering_reverse}
+use Rattle.std.specs.declared.cmp.Ordering.TheVariants.{Less}
 use Rattle.std.proofs.lemmas.Cmp.{then_total, on_total, nat_cmp_total, tied_itself}
 use Rattle.std.proofs.lemmas.List.Elements.{All-from_recursion, All-map, All-append, All-weaker, All-contains_itself}
 use Rattle.std.proofs.lemmas.List.Kept.{IsStrictlySortedBy-filter}
@@ -15,10 +15,8 @@ use Rattle.rpq_base.specs.Order.{pair_cmp}
 use Rattle.rpq_base.specs.Same.{same_pair}
 use Rattle.rpq_base.specs.declared.data.Pair.{Pair}
 use Rattle.rpq_base.specs.declared.data.Event.{Event}
-use Rattle.rpq_base.proofs.Derived.{events as event_test}
-use Rattle.rpq_base.proofs.Equality.{same_tests}
 use Rattle.rpq_base.proofs.Members.{cons_members}
-use Rattle.rpq_base.proofs.Orders.{both_equal, pair_cmp_total, pair_cmp_exact}
+use Rattle.rpq_base.proofs.Orders.{both_equal, same_direction, pair_cmp_total, pair_cmp_exact}
 use Rattle.rpq_base.proofs.Sorted.{sorted_nil, sorted_cons}
 use Rattle.rpq_model.specs.Events.{event, without, changes}
 use Rattle.rpq_model.proofs.ByMembers.{event_members}
@@ -33,48 +31,18 @@ event_cmp_total =
     (then_total (on_total (λ (each : Event). each.query) nat_cmp_total) (on_total (λ (each : Event). each.added) bool_cmp_total))
     (on_total (λ (each : Event). each.pair) pair_cmp_total)
 
-same_kind : (first second : Bool) → bool_cmp first second ≡ Equal → first ≡ second
-same_kind true true e = refl
-same_kind true false e = cc
-same_kind false true e = cc
-same_kind false false e = refl
-
 pub event_cmp_exact : CmpEqualImpliesEq event_cmp
 event_cmp_exact first second e =
     let outer = both_equal (ordering_then (nat_cmp first.query second.query) (bool_cmp first.added second.added)) (pair_cmp first.pair second.pair) e in
     let inner = both_equal (nat_cmp first.query second.query) (bool_cmp first.added second.added) outer.0 in
     let query = exact_unsigned first.query second.query inner.0 in
-    let added = same_kind first.added second.added inner.1 in
+    let added = same_direction first.added second.added inner.1 in
     let pair = pair_cmp_exact first.pair second.pair outer.1 in
     λ i. record { query = query i; added = added i; pair = pair i }
 
 -- the test of events that is derived
 abbrev pub same_event : Event → Event → Bool
 same_event first second = nat_eq first.query second.query && (beq first.added second.added && same_pair first.pair second.pair)
-
-pub same_event_equivalence : IsEquivalence same_event
-same_event_equivalence = record {
-  refl = λ each. (event_test each each).1 refl;
-  symm = λ first second. same_tests (same_event first second) (same_event second first) (
-    (λ e. (event_test second first).1 (sym ((event_test first second).0 e))),
-    (λ e. (event_test first second).1 (sym ((event_test second first).0 e))),
-  );
-  congr = λ first second third e. ap (λ (each : Event). same_event each third) ((event_test first second).0 e);
-}
-
-equal_order : (order : Ordering) → is_eq order ≡ true → order ≡ Equal
-equal_order Less e = cc
-equal_order Equal e = refl
-equal_order Greater e = cc
-
--- it finds the events that the order doesn't tell apart
-pub same_where_tied : (first second : Event) → same_event first second ≡ eq_by_cmp event_cmp first second
-same_where_tied first second = same_tests (same_event first second) (eq_by_cmp event_cmp first second) (
-  (λ e.
-      ap (λ (each : Event). is_eq (event_cmp first each)) (sym ((event_test first second).0 e))
-      ∙ ap is_eq (tied_itself event_cmp_total first)),
-  (λ e. (event_test first second).1 (event_cmp_exact first second (equal_order (event_cmp first second) e))),
-)
 
 -- ---- lists in order
 

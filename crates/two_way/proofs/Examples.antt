@@ -1,6 +1,7 @@
 -- The net of two given lists of events, by tests.
 use Rattle.std.proofs.Common.{◌≡◌, Bool, true, not, ◌&&◌, ◌||◌, List, [], ◌∷◌, refl, sym, ap, ◌∙◌, inl, inr, ⊎_elim}
 use Rattle.std.specs.Prelude.{◌↔◌, Contains}
+use Rattle.std.specs.Cmp.{decided}
 use Rattle.std.specs.List.{list_any, list_all}
 use Rattle.std.specs.List.Sorted.{IsStrictlySortedBy}
 use Rattle.std.proofs.lemmas.Bool.{and_parts, and_from, or_cases, both_ways, not-true, false_from_ne_true}
@@ -11,7 +12,7 @@ use Rattle.rpq_base.proofs.Members.{cons_members, none_in}
 use Rattle.two_way.specs.Differences.{event_cmp}
 use Rattle.two_way.specs.Examples.{TwoWayExamples}
 use Rattle.two_way.specs.Net.{opposite, Stays, AreNet}
-use Rattle.two_way.proofs.EventOrder.{same_event, same_event_equivalence}
+use Rattle.two_way.proofs.EventOrder.{same_event}
 
 -- whether an event is among others
 abbrev has : List Event → Event → Bool
@@ -20,7 +21,7 @@ has events each = list_any (same_event each) events
 has_iff : (events : List Event) (each : Event) → (has events each ≡ true) ↔ Contains events each
 has_iff events each = (
   Contains-from_any {eq = same_event} (λ first second. (event_test first second).0) each events,
-  list_any-from_Contains same_event_equivalence each events,
+  list_any-from_Contains (decided same_event event_test) each events,
 )
 
 -- what passes a test for all of a list

@@ -1,7 +1,8 @@
 use Rattle.std.proofs.Common.{arith}
+use Rattle.text_parts.proofs.LineByLine.{err_out}
 use Rattle.conj_query.specs.declared.fault.JoinsKind.{JoinsKind}
 use Rattle.conj_query.specs.JoinLine.{AtomsRead}
-use Rattle.conj_query.proofs.Reading.{err_out, atom_taken, atom_refused, atoms_end}
+use Rattle.conj_query.proofs.Reading.{atom_taken, atom_refused, atoms_end}
 use Rattle.conj_query.proofs.atoms.read_all.Goals as goal
 
 pub returns-in_err-atom-clause-err : goal.returns-in_err-atom-clause-err

@@ -1,34 +1,13 @@
-use Rattle.std.proofs.Common.{ap, sym, ◌∙◌, arith}
-use Rattle.conj_query.specs.JoinsFile.{after_line}
+use Rattle.std.proofs.Common.{List, Ok, sym, ap, ◌∙◌}
+use Rattle.conj_query.specs.Joins.{JoinValue}
 use Rattle.conj_query.proofs.SomeVariable.{joins_are_sound}
-use Rattle.conj_query.proofs.Reading.{turn, stop, end, whole}
+use Rattle.conj_query.proofs.ByParts.{whole}
 use Rattle.conj_query.proofs.read.read_joins.Goals as goal
-
-pub returns-in-Err-clause-fault : goal.returns-in-Err-clause-fault
-returns-in-Err-clause-fault c = λ other.
-    let loop = c.loop-line in
-    let line = ap (after_line c.args.queries.now loop.found.items) (sym c.without_return.ensures.line) in
-    whole c.args.queries.now c.args.bytes.now
-    ∙ stop c.args.queries.now loop.rest.now c.in-Some.line.now c.in-Some.after.now loop.found.items loop.count c.in-Err.kind _ loop.invariant.so_far
-    c.in-Some.ensures.first (line ∙ c.in-Err.ensures.err other)
-
-pub loop-line-preserved : goal.loop-line-preserved
-loop-line-preserved c =
-    let loop = c.loop-line in
-    let shorter = c.in-Some.ensures.shorter in
-    let counted = loop.invariant.counted in
-    let line = ap (after_line c.args.queries.now loop.found.items) (sym c.without_return.ensures.line) in
-    record {
-      so_far = turn c.args.queries.now loop.rest.now c.in-Some.line.now c.in-Some.after.now loop.found.items c.take_line-taken.new.joins.items loop.count _
-          loop.invariant.so_far c.in-Some.ensures.first (line ∙ c.in_default-taken.ensures.ok);
-      counted = omega (arith, shorter, counted);
-    }
 
 pub returns-clause-joins : goal.returns-clause-joins
 returns-clause-joins c =
-    let loop = c.loop-line in
-    whole c.args.queries.now c.args.bytes.now
-    ∙ end c.args.queries.now loop.rest.now loop.found.items loop.count _ loop.invariant.so_far c.in_default.ensures.end
+    whole c.args.queries.now c.args.bytes.now c.new.result.items _ c.new.ensures.items c.in_ok-found.ensures.ok
+    ∙ ap (λ (list : List JoinValue). Ok list) (sym c.found.view_is)
 
 pub returns-clause-few : goal.returns-clause-few
 returns-clause-few c =
