@@ -24,10 +24,6 @@ import sys
 EXCEPTIONS = {
     # The table's own fault has the slots alone, and no value of the allocator's.
     ("crates/turn_lock/src/ends.rt", "Err(Refused { slots }) => Err((only(slots), Memory)),"),
-    # A limit: a slot has the number of its row from 1, in 32 bits, and so have vertices.
-    ("crates/edge_store/src/rows.rt", "return Err(Memory);"),
-    # A limit: places of sources are numbers of 32 bits, and so are roots.
-    ("crates/source_table/src/places.rt", "return Err(Memory);"),
     # A limit: positions of entries are numbers of 64 bits.
     ("crates/path_witness/src/marks.rt", "return Err(Memory);"),
 }

@@ -1,8 +1,8 @@
 -- What a change does to a forest.
-use Rattle.std.specs.Prelude.{◌≡◌, ◌≢◌, ◌⊎◌, ◌↔◌, ℕ, ◌+◌, ◌≤◌, false, List, map, Contains, AllPairs, Option, None, Some, IsSome}
+use Rattle.std.specs.Prelude.{◌≡◌, ◌≢◌, ◌⊎◌, ◌↔◌, ℕ, ◌+◌, ◌≤◌, false, List, map, Contains, AllPairs, Option, None, Some, IsSome, ⊤}
 use Rattle.std.specs.Ordering.{nat_cmp}
 use Rattle.std.specs.List.Sorted.{IsStrictlySortedBy}
-use Rattle.edge_store.specs.Edges.{Edges, Expires, Updates, raised, value_of}
+use Rattle.edge_store.specs.Edges.{Edges, Expires, JoinsSmall, Updates, raised, value_of}
 use Rattle.delta_tree.specs.Nodes.{TreeValue}
 use Rattle.source_tree.specs.declared.change.Change.{Change}
 use Rattle.source_tree.specs.declared.change.Change.TheVariants.{Raise, Remove, Expire}
@@ -11,6 +11,12 @@ use Rattle.source_tree.specs.declared.change.Reached.{Reached}
 use Rattle.source_tree.specs.Ends.{end_change}
 use Rattle.source_tree.specs.Taking.{KeepsNodes}
 use Rattle.delta_forest.specs.Forest.{ForestValue, IsEnd, IsIndexed, kept, tree_of}
+
+-- a raised edge joins vertices below the greatest number of 32 bits
+abbrev pub RaisesSmall : Change → Type 0
+RaisesSmall (Raise edge value) = JoinsSmall edge
+RaisesSmall (Remove edge) = ⊤
+RaisesSmall (Expire now) = ⊤
 
 -- a store takes a change: a raise gives the edge the greater of its value and the new one, a
 -- removal takes the edge out, an expiry all edges whose value is at most the clock

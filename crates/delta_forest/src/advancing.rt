@@ -2,7 +2,7 @@
 
 ghost use Rattle.std.specs.Prelude.{◌≡◌, ◌≤◌, ◌<◌, ◌^◌, Bool, IfOk, OnOk, Some, false};
 ghost use Rattle.edge_store.specs.Edges.{HasSameValues};
-ghost use Rattle.delta_forest.specs.Changes.{Applies, TakesChange};
+ghost use Rattle.delta_forest.specs.Changes.{Applies, RaisesSmall, TakesChange};
 ghost use Rattle.source_tree.specs.Product.{AreFinals};
 ghost use Rattle.delta_forest.specs.Keeping.{IsKept};
 ghost use Rattle.delta_forest.specs.Settling.{forest_of};
@@ -32,6 +32,7 @@ fn has_risen(raised: Raised) -> bool
 /// The store takes the change. Answers whether the store may have changed: it hasn't where a raise
 /// raised nothing, or where the removed edge wasn't there.
 fn change_store(store: &mut EdgeStore, change: Change) -> Result<bool, Memory>
+    requires { RaisesSmall change }
     ensures takes { OnOk result (TakesChange change store.old store.new) }
     ensures same { IfOk result (λ changed. changed ≡ false → HasSameValues store.old store.new) }
 {
@@ -69,6 +70,7 @@ pub(crate) fn advance<R: Threads + Sync, G: Gate>(
 ) -> Result<(), Memory>
     requires finals { AreFinals dfa.now finals.now }
     requires calls { state.old.calls < 2 ^ 60 }
+    requires small { RaisesSmall change }
     requires kept { IsKept dfa.now state.old.store state.old.calls state.old.index }
     ensures kept { OnOk result
         (IsKept dfa.now state.new.store state.new.calls state.new.index) }

@@ -1,8 +1,9 @@
 //! The roots whose trees a change may touch.
 
-ghost use Rattle.std.specs.Prelude.{◌≡◌, ◌↔◌, ℕ, [], Contains, IsSome, IsTrue, OnOk, Some};
+ghost use Rattle.std.specs.Prelude.{◌≡◌, ◌↔◌, ◌+◌, ◌^◌, ◌<◌, ℕ, [], Contains, IsSome, IsTrue, OnOk, Some};
 ghost use Rattle.edge_store.specs.Edges.{Edges};
 ghost use Rattle.dfa_table.specs.DfaValue.{step_of};
+ghost use Rattle.delta_forest.specs.Changes.{RaisesSmall};
 ghost use Rattle.delta_forest.specs.Keeping.{IsKept};
 ghost use Rattle.delta_forest.specs.Candidates.{Adds, AddsSource, AreCandidates, AreInOrder, AreRaised, AreTaken, IsHeldBy, IsHeldBySome, IsHungAt, IsHungBy, IsRemovedAt, StartsBy};
 
@@ -29,6 +30,7 @@ fn put_in_order(roots: &mut Vec<u32>)
 
 /// A new source for the root, where it has none.
 fn add_source(alloc: Global, sources: &mut SourceTable, root: u32) -> Result<(), Memory>
+    requires { root + 1 < 2 ^ 32 }
     ensures { OnOk result (AddsSource sources.old sources.new root) }
 {
     if sources.get(root).is_some() {
@@ -92,6 +94,7 @@ fn add_start(
     edge: EdgeId,
     roots: &mut Vec<u32>,
 ) -> Result<(), Memory>
+    requires { edge.from + 1 < 2 ^ 32 }
     ensures { OnOk result (StartsBy sources.old sources.new (step_of dfa.now) edge
         roots.old.items roots.new.items) }
 {
@@ -157,7 +160,8 @@ fn add_raised(
     edge: EdgeId,
     roots: &mut Vec<u32>,
 ) -> Result<(), Memory>
-    requires { roots.old.items ≡ [] }
+    requires none { roots.old.items ≡ [] }
+    requires small { edge.from + 1 < 2 ^ 32 }
     ensures { OnOk result (AreRaised sources.old sources.new holders.now (step_of dfa.now) edge
         roots.new.items) }
 {
@@ -210,6 +214,7 @@ pub(crate) fn find_candidates(
     change: Change,
     roots: &mut Vec<u32>,
 ) -> Result<(), Memory>
+    requires { RaisesSmall change }
     ensures { (store : Edges) (calls : ℕ) → IsKept dfa.now store calls index.old →
         OnOk result (AreCandidates change (step_of dfa.now) index.old index.new roots.new.items) }
 {

@@ -4,7 +4,7 @@ ghost use Rattle.std.specs.Prelude.{◌≡◌, ◌↔◌, ◌^◌, ◌<◌, [], 
 ghost use Rattle.std.specs.Prelude.{IfOk, IfSome, IsTrue, OnErr, OnOk};
 ghost use Rattle.edge_store.specs.Edges.{IsEmpty};
 ghost use Rattle.delta_forest.specs.Forest.{IsIndexed, kept};
-ghost use Rattle.delta_forest.specs.Changes.{Applies, AreReachedFrom};
+ghost use Rattle.delta_forest.specs.Changes.{Applies, AreReachedFrom, RaisesSmall};
 ghost use Rattle.delta_forest.specs.Paths.{IsBestPath};
 ghost use Rattle.dfa_table.specs.DfaValue.{is_final};
 ghost use Rattle.delta_forest.specs.Candidates.{Adds};
@@ -28,7 +28,6 @@ use std::thread::Threads;
 ///
 /// Contracts see it as `ForestValue` of `specs/`. Where memory runs out, it is broken, and of no
 /// use until it is cleared.
-#[derive(Drop)]
 pub struct Forest {
     alloc: Global,
     dfa: Dfa,
@@ -37,6 +36,18 @@ pub struct Forest {
     state: State,
     /// Whether a change was begun and not taken to its end.
     broken: bool,
+}
+
+impl Drop for Forest {
+    fn drop(self) {
+        let Forest {
+            alloc: _alloc,
+            dfa: _dfa,
+            finals: _finals,
+            state: _state,
+            broken: _broken,
+        } = self;
+    }
 }
 
 impl Model for Forest {
@@ -144,7 +155,8 @@ impl Forest {
     /// before it begins. Where there is no tree, or the change ends at the store, none does.
     ///
     /// The only error is [`Memory`], after which the forest is broken. It may have taken fewer than
-    /// 2^60 changes since it was made or cleared.
+    /// 2^60 changes since it was made or cleared. No raised edge has a vertex that is the greatest
+    /// number of 32 bits.
     pub fn apply<R: Threads + Sync, G: Gate>(
         &mut self,
         context: &Context<'_, R, G>,
@@ -153,6 +165,7 @@ impl Forest {
     ) -> Result<(), Memory>
         requires unbroken { self.old.broken ≡ false }
         requires calls { self.old.calls < 2 ^ 60 }
+        requires small { RaisesSmall change }
         ensures applied { OnOk result (Applies change self.old self.new) }
         ensures dfa { self.new.dfa ≡ self.old.dfa }
         ensures broken { OnErr result (self.new.broken ≡ true) }

@@ -1,6 +1,7 @@
 mod Bounds
 mod Halves
 mod Noted
+mod Numbered
 mod Outcomes
 mod RowChanges
 mod RowEntries

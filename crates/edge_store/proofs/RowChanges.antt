@@ -322,7 +322,7 @@ kept_slot slots vertex each place within is = by (vertex == each) refl
         (other, sym (slot_kept slots vertex each other) ∙ is)
 
 -- a vertex with a row has a slot
-has_slot : (slots : List ℕ) (vertex place : ℕ) → place_of slots vertex ≡ Some place →
+pub has_slot : (slots : List ℕ) (vertex place : ℕ) → place_of slots vertex ≡ Some place →
     vertex < length slots
 has_slot [] vertex place at = absurd cc
 has_slot (number ∷ slots) zero place at = omega arith

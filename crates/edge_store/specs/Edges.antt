@@ -1,6 +1,6 @@
 -- A store of edges as contracts see it: a finite map from edges to values, and the order in which
 -- a walk gives the edges of a vertex.
-use Rattle.std.specs.Prelude.{◌≡◌, ℕ, ◌≤◌, Bool, ◌&&◌, ◌==◌, cond, max, nat_lt, List, [], All, Option, None, Some, ◌↔◌, Contains, slice_index_or}
+use Rattle.std.specs.Prelude.{◌≡◌, ℕ, ◌+◌, ◌^◌, ◌<◌, ◌≤◌, Bool, ◌&&◌, ◌==◌, cond, max, nat_lt, List, [], All, Option, None, Some, ◌↔◌, Contains, slice_index_or}
 use Rattle.std.specs.List.{IsDistinct}
 use Rattle.std.specs.Map.{lookup, keys_of}
 use Rattle.edge_store.specs.declared.edge.EdgeId.{EdgeId}
@@ -38,6 +38,10 @@ same_half first second = (first.label == second.label) && (first.far == second.f
 -- equal edges
 abbrev pub same_edge : EdgeId → EdgeId → Bool
 same_edge first second = (first.from == second.from) && same_half (out_half first) (out_half second)
+
+-- both vertices are below the greatest number of 32 bits
+abbrev pub JoinsSmall : EdgeId → Type 0
+JoinsSmall edge = (edge.from + 1 < 2 ^ 32) × (edge.to + 1 < 2 ^ 32)
 
 -- ---- the map
 

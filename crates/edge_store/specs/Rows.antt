@@ -1,6 +1,6 @@
 -- The rows of one side of a store.
-use Rattle.std.specs.Prelude.{◌≡◌, ℕ, zero, suc, ◌<◌, ◌&&◌, ◌==◌, cond, List, [], map}
-use Rattle.std.specs.Prelude.{Option, None, Some, slice_index_or}
+use Rattle.std.specs.Prelude.{◌≡◌, ℕ, zero, suc, ◌<◌, ◌≤◌, ◌^◌, ◌&&◌, ◌==◌, cond, List, [], map, length}
+use Rattle.std.specs.Prelude.{Option, None, Some, slice_index_or, sum_by}
 use Rattle.edge_store.specs.Row.{RowValue, Takes}
 use Rattle.edge_store.specs.declared.edge.EdgeId.{EdgeId}
 use Rattle.edge_store.specs.declared.edge.HalfEdge.{HalfEdge}
@@ -55,6 +55,21 @@ pub record IsSide (slots : List ℕ) (count : ℕ) : Type 0 where
   pub within : (vertex place : ℕ) → place_of slots vertex ≡ Some place → place < count
   pub once : (first second place : ℕ) → place_of slots first ≡ Some place →
       place_of slots second ≡ Some place → first ≡ second
+
+-- one for the number of a row, and nothing for the number 0
+abbrev pub owners_by : ℕ → ℕ
+owners_by zero = 0
+owners_by (suc place) = 1
+
+-- how many vertices have a row
+abbrev pub owners_in : List ℕ → ℕ
+owners_in slots = sum_by owners_by slots
+
+-- there are no more rows than vertices that have one, and fewer vertices than numbers of 32 bits,
+-- so that each row has a number
+pub record AreNumbered (slots : List ℕ) (count : ℕ) : Type 0 where
+  pub owned : count ≤ owners_in slots
+  pub short : length slots < 2 ^ 32
 
 -- the row at this place is that of the vertex and has no edges
 pub record IsBareAt (slots : List ℕ) (rows : List RowValue) (place vertex : ℕ) : Type 0 where

@@ -1,12 +1,12 @@
 //! One side of a store: for each vertex its edges, by their labels and far ends.
 
-ghost use Rattle.std.specs.Prelude.{◌≡◌, ℕ, ◌-◌, ◌<◌, [], length, IfOk, IfSome, OnOk, None, Some};
+ghost use Rattle.std.specs.Prelude.{◌≡◌, ℕ, ◌+◌, ◌-◌, ◌^◌, ◌<◌, [], length, IfOk, IfSome, OnOk, None, Some};
 ghost use Rattle.std.specs.Prelude.{vec_len};
 ghost use Rattle.std.specs.List.{IsDistinct};
 ghost use Rattle.std.specs.Map.{keys_of};
 ghost use Rattle.edge_store.specs.Edges.{row, value_at, same_half};
 ghost use Rattle.edge_store.specs.Row.{walk_of};
-ghost use Rattle.edge_store.specs.Rows.{rows_of, place_of};
+ghost use Rattle.edge_store.specs.Rows.{rows_of, place_of, owners_in, AreNumbered};
 ghost use Rattle.edge_store.specs.Rows.{IsSide, IsBareAt, GivesRow, HasRoom, HasSameRows, KeepsRows};
 ghost use Rattle.edge_store.specs.Rows.{TakesAt, Writes};
 
@@ -40,11 +40,12 @@ impl Model for Rows {
 
     ghost Value = { List RowValue };
 
-    ghost use Rattle.edge_store.specs.Rows.{side, IsSide};
+    ghost use Rattle.edge_store.specs.Rows.{side, IsSide, AreNumbered};
 
     ghost view = { λ both. side both.slots.items both.rows.items };
 
-    ghost invariant = { λ both. IsSide both.slots.items (length both.rows.items) };
+    ghost invariant = { λ both. IsSide both.slots.items (length both.rows.items)
+        × AreNumbered both.slots.items (length both.rows.items) };
 }
 
 /// The number of places at which a row without edges is looked for before a row more is made. In
@@ -64,7 +65,10 @@ fn locate(slots: &[u32], vertex: u32) -> Option<usize>
 
 /// A slot for the vertex.
 fn reach(slots: &mut Vec<u32>, vertex: u32) -> Result<(), Memory>
+    requires small { vertex + 1 < 2 ^ 32 }
+    requires short { length slots.old.items < 2 ^ 32 }
     ensures same { (each : ℕ) → place_of slots.new.items each ≡ place_of slots.old.items each }
+    ensures short { length slots.new.items < 2 ^ 32 }
     ensures ok { OnOk result (vertex < length slots.new.items) }
 {
     let vertex = vertex as usize;
@@ -100,8 +104,8 @@ fn find_bare(slots: &[u32], rows: &[Row], owners: &mut Owners) -> Option<(u32, u
     None
 }
 
-/// A new row for a vertex that has none, and its place. A row more than there are numbers is
-/// refused as out of memory.
+/// A new row for a vertex that has none, and its place. There are no more rows than other vertices,
+/// so its number is one of 32 bits.
 fn add(
     alloc: Global,
     slots: &mut Vec<u32>,
@@ -110,16 +114,15 @@ fn add(
     vertex: u32,
 ) -> Result<usize, Memory>
     requires side { IsSide slots.old.items (length rows.old.items) }
+    requires numbered { AreNumbered slots.old.items (length rows.old.items) }
     requires none { place_of slots.old.items vertex ≡ None }
     requires reached { vertex < length slots.old.items }
     ensures side { IsSide slots.new.items (length rows.new.items) }
+    ensures numbered { AreNumbered slots.new.items (length rows.new.items) }
     ensures same { KeepsRows slots.old.items rows.old.items slots.new.items rows.new.items }
     ensures ok { IfOk result (λ at. place_of slots.new.items vertex ≡ Some at) }
 {
     let at = rows.len();
-    if at >= u32::MAX as usize {
-        return Err(Memory);
-    }
     owners.add(at, vertex)?;
     rows.push(Row::new(alloc))?;
     slots[vertex as usize] = (at + 1) as u32;
@@ -137,8 +140,10 @@ fn last_bare(slots: &[u32], rows: &[Row], owners: &Owners) -> Option<u32>
 /// Takes the last row, which has no edges, away from the vertex that has it.
 fn drop_last(slots: &mut Vec<u32>, rows: &mut Vec<Row>, vertex: u32)
     requires side { IsSide slots.old.items (length rows.old.items) }
+    requires numbered { AreNumbered slots.old.items (length rows.old.items) }
     requires bare { IsBareAt slots.old.items rows.old.items (length rows.old.items - 1) vertex }
     ensures side { IsSide slots.new.items (length rows.new.items) }
+    ensures numbered { AreNumbered slots.new.items (length rows.new.items) }
     ensures same { KeepsRows slots.old.items rows.old.items slots.new.items rows.new.items }
     ensures fewer { vec_len rows.new < vec_len rows.old }
 {
@@ -149,8 +154,10 @@ fn drop_last(slots: &mut Vec<u32>, rows: &mut Vec<Row>, vertex: u32)
 /// Takes the rows away that have no edges and stand behind all that have some. Each was made once,
 /// so over a run this costs no more than the making of rows.
 fn trim(slots: &mut Vec<u32>, rows: &mut Vec<Row>, owners: &Owners)
-    requires { IsSide slots.old.items (length rows.old.items) }
+    requires side { IsSide slots.old.items (length rows.old.items) }
+    requires numbered { AreNumbered slots.old.items (length rows.old.items) }
     ensures side { IsSide slots.new.items (length rows.new.items) }
+    ensures numbered { AreNumbered slots.new.items (length rows.new.items) }
     ensures same { KeepsRows slots.old.items rows.old.items slots.new.items rows.new.items }
 {
     while let Some(owner) = last_bare(slots, rows, owners) {
@@ -162,7 +169,10 @@ fn trim(slots: &mut Vec<u32>, rows: &mut Vec<Row>, owners: &Owners)
 fn give(slots: &mut Vec<u32>, from: u32, to: u32)
     requires from { from < length slots.old.items }
     requires to { to < length slots.old.items }
-    ensures { GivesRow slots.old.items slots.new.items from to }
+    requires none { place_of slots.old.items to ≡ None }
+    ensures gives { GivesRow slots.old.items slots.new.items from to }
+    ensures len { length slots.new.items ≡ length slots.old.items }
+    ensures owners { owners_in slots.new.items ≡ owners_in slots.old.items }
 {
     let number = slots[from as usize];
     slots[from as usize] = 0;
@@ -179,8 +189,11 @@ fn place_new(
     vertex: u32,
 ) -> Result<usize, Memory>
     requires side { IsSide slots.old.items (length rows.old.items) }
+    requires numbered { AreNumbered slots.old.items (length rows.old.items) }
+    requires small { vertex + 1 < 2 ^ 32 }
     requires none { place_of slots.old.items vertex ≡ None }
     ensures side { IsSide slots.new.items (length rows.new.items) }
+    ensures numbered { AreNumbered slots.new.items (length rows.new.items) }
     ensures same { KeepsRows slots.old.items rows.old.items slots.new.items rows.new.items }
     ensures ok { IfOk result (λ at. place_of slots.new.items vertex ≡ Some at) }
 {
@@ -204,7 +217,10 @@ fn place_or_new(
     vertex: u32,
 ) -> Result<usize, Memory>
     requires side { IsSide slots.old.items (length rows.old.items) }
+    requires numbered { AreNumbered slots.old.items (length rows.old.items) }
+    requires small { vertex + 1 < 2 ^ 32 }
     ensures side { IsSide slots.new.items (length rows.new.items) }
+    ensures numbered { AreNumbered slots.new.items (length rows.new.items) }
     ensures same { KeepsRows slots.old.items rows.old.items slots.new.items rows.new.items }
     ensures ok { IfOk result (λ at. place_of slots.new.items vertex ≡ Some at) }
 {
@@ -253,6 +269,7 @@ impl Rows {
 
     /// Room for one more edge of the vertex.
     pub(crate) fn make_room(&mut self, alloc: Global, vertex: u32) -> Result<(), Memory>
+        requires { vertex + 1 < 2 ^ 32 }
         ensures same { HasSameRows (rows_of self.old) (rows_of self.new) }
         ensures ok { OnOk result (HasRoom self.new vertex) }
     {

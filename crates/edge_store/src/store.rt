@@ -3,7 +3,7 @@
 ghost use Rattle.std.specs.Prelude.{◌≡◌, ◌+◌, ◌<◌, length, IfOk, OnErr, OnOk, None, Some, slice_get};
 ghost use Rattle.edge_store.specs.Edges.{IsEmpty, HasSameValues, Updates, Expires, GivesOuts, GivesIns};
 ghost use Rattle.edge_store.specs.Edges.{value_of, raised, above, outs_of, ins_of, out_entry, in_entry};
-ghost use Rattle.edge_store.specs.Edges.{out_half, in_half};
+ghost use Rattle.edge_store.specs.Edges.{out_half, in_half, JoinsSmall};
 ghost use Rattle.edge_store.specs.Rows.{rows_of, sides, Agree, HasSameRows, TakesAt};
 
 use crate::edge::{EdgeId, In, Out, Raised};
@@ -19,8 +19,8 @@ use std::sync::ledger::Ledger;
 /// A finite map from edges to values, with the edges of each vertex at hand.
 ///
 /// Contracts see it as `Edges` of `specs/`. It takes four bytes on each side for each number of a
-/// vertex up to the greatest that it was given, so these numbers should be dense.
-#[derive(Drop)]
+/// vertex up to the greatest that it was given, so these numbers should be dense. None of them is
+/// the greatest of 32 bits, which leaves each vertex a number for its row.
 pub struct EdgeStore {
     alloc: Global,
     /// For each vertex the edges that leave it.
@@ -29,6 +29,17 @@ pub struct EdgeStore {
     ins: Rows,
     /// Each edge with its value, and beside them values that an edge had before.
     dues: DueQueue<EdgeId>,
+}
+
+impl Drop for EdgeStore {
+    fn drop(self) {
+        let EdgeStore {
+            alloc: _alloc,
+            outs: _outs,
+            ins: _ins,
+            dues: _dues,
+        } = self;
+    }
 }
 
 impl Model for EdgeStore {
@@ -72,6 +83,7 @@ impl EdgeStore {
     /// store hasn't got comes in. The only error is [`Memory`], after which all values are as
     /// before.
     pub fn raise(&mut self, edge: EdgeId, value: u64) -> Result<Raised, Memory>
+        requires { JoinsSmall edge }
         ensures before { IfOk result (λ change. change.before ≡ value_of self.old edge) }
         ensures after { IfOk result (λ change.
             change.after ≡ raised (value_of self.old edge) value) }
@@ -106,7 +118,8 @@ impl EdgeStore {
 
     /// Gives the edge this value, where it had that one before.
     fn put(&mut self, edge: EdgeId, before: Option<u64>, value: u64) -> Result<(), Memory>
-        requires { before ≡ value_of self.old edge }
+        requires before { before ≡ value_of self.old edge }
+        requires small { JoinsSmall edge }
         ensures updates { OnOk result (Updates self.old self.new edge (Some value)) }
         ensures unchanged { OnErr result (HasSameValues self.old self.new) }
     {
@@ -201,6 +214,7 @@ fn make_room(
 ) -> Result<(), Memory>
     requires agree { Agree (rows_of outs.old) (rows_of ins.old) }
     requires before { before ≡ value_of (sides (rows_of outs.old) (rows_of ins.old)) edge }
+    requires small { JoinsSmall edge }
     ensures same_outs { HasSameRows (rows_of outs.old) (rows_of outs.new) }
     ensures same_ins { HasSameRows (rows_of ins.old) (rows_of ins.new) }
     ensures out_room { OnOk result (TakesAt outs.new edge.from (out_half edge)) }

@@ -7,7 +7,7 @@ use Rattle.std.specs.List.{dedup, dedup_from}
 use Rattle.std.specs.List.Sorted.{IsSorted, IsStrictlySortedBy, IsPermutation, IsBinarySearchResult, IsSearchInRange}
 use Rattle.std.specs.Ordering.{is_lt, ordering_reverse, eq_by_cmp}
 use Rattle.std.specs.declared.cmp.Ordering.TheVariants.{Equal}
-use Rattle.std.proofs.lemmas.Bool.{false_from_ne_true, cases_lt, and_parts, eqb-true, eq-eqb}
+use Rattle.std.proofs.lemmas.Bool.{false_from_ne_true, cases_lt, eqb-true, eq-eqb}
 use Rattle.std.proofs.lemmas.Cmp.{tied_itself}
 use Rattle.std.proofs.lemmas.List.{get_or-map, length-map}
 use Rattle.std.proofs.lemmas.List.Elements.{All-head, All-tail}
@@ -21,27 +21,40 @@ use Rattle.rpq_base.specs.declared.data.Pair.{Pair}
 use Rattle.rpq_base.proofs.Equality.{same_tests, pairs as pair_test}
 use Rattle.rpq_base.proofs.Orders.{pair_cmp_total, pair_cmp_exact}
 use Rattle.rpq_model.proofs.Pairs.{has, has_iff, same_pair_equivalence}
+use Rattle.name_table.specs.Keys.{beginning}
 use Rattle.name_table.specs.Names.{name_at, number_of}
 use Rattle.end_events.specs.declared.pairs.NumberedPair.{NumberedPair}
 use Rattle.end_events.specs.Order.{numbered_cmp}
 use Rattle.end_events.specs.Pairs.{pair_at, pairs_at, AreNumbered, IsNamed, IsNumbered}
-use Rattle.end_events.proofs.Order.{numbered_total}
+use Rattle.end_events.proofs.Order.{numbered_is, numbered_total}
 
 -- ---- one pair
 
--- by the numbers
+-- by the numbers, and by the keys beside them
 abbrev pub same_numbered : NumberedPair → NumberedPair → Bool
-same_numbered first second = first.root == second.root && first.vertex == second.vertex
+same_numbered first second =
+    first.root == second.root && (first.vertex == second.vertex && (first.root_key == second.root_key && first.vertex_key == second.vertex_key))
 
 -- numbers of one name are one
-one_number : (names : List (List ℕ)) (first second : ℕ) →
-    IsNamed names first → IsNamed names second → name_at names first ≡ name_at names second → first ≡ second
-one_number names first second here there same =
+one_number : (names : List (List ℕ)) (first first_key second second_key : ℕ) →
+    IsNamed names first first_key → IsNamed names second second_key → name_at names first ≡ name_at names second → first ≡ second
+one_number names first first_key second second_key here there same =
     same_Some first second (sym here.found ∙ (ap (number_of names) same ∙ there.found))
 
--- two tests hold
-both : (a b : Bool) → a ≡ true → b ≡ true → (a && b) ≡ true
-both a b p q = rw (p, q) refl
+-- and their keys are one
+one_key : (names : List (List ℕ)) (first first_key second second_key : ℕ) →
+    IsNamed names first first_key → IsNamed names second second_key → name_at names first ≡ name_at names second → first_key ≡ second_key
+one_key names first first_key second second_key here there same = here.key_is ∙ ap beginning same ∙ sym there.key_is
+
+-- four tests hold
+all_hold : (a b c d : Bool) → a ≡ true → b ≡ true → c ≡ true → d ≡ true → (a && (b && (c && d))) ≡ true
+all_hold a b c d p q r s = rw (p, q, r, s) refl
+
+-- of four tests that hold the first two do
+two_hold : (a b c d : Bool) → (a && (b && (c && d))) ≡ true → (a ≡ true) × (b ≡ true)
+two_hold true true c d all = (refl, refl)
+two_hold true false c d all = absurd cc
+two_hold false b c d all = absurd cc
 
 -- their numbers tell pairs apart
 same_by_numbers : (names : List (List ℕ)) (first second : NumberedPair) → IsNumbered names first → IsNumbered names second →
@@ -49,15 +62,19 @@ same_by_numbers : (names : List (List ℕ)) (first second : NumberedPair) → Is
 same_by_numbers names first second here there =
     same_tests (same_numbered first second) (same_pair (pair_at names first) (pair_at names second)) (
       (λ e.
-          let parts = and_parts (first.root == second.root) (first.vertex == second.vertex) e in
+          let parts = two_hold (first.root == second.root) (first.vertex == second.vertex) (first.root_key == second.root_key) (first.vertex_key == second.vertex_key) e in
           let from = ap (name_at names) (eqb-true first.root second.root parts.0) in
           let to = ap (name_at names) (eqb-true first.vertex second.vertex parts.1) in
           (pair_test (pair_at names first) (pair_at names second)).1 (λ i. record { from = from i; to = to i })),
       (λ e.
           let same = (pair_test (pair_at names first) (pair_at names second)).0 e in
-          both (first.root == second.root) (first.vertex == second.vertex)
-          (eq-eqb first.root second.root (one_number names first.root second.root here.from there.from (ap (λ (pair : Pair). pair.from) same)))
-          (eq-eqb first.vertex second.vertex (one_number names first.vertex second.vertex here.to there.to (ap (λ (pair : Pair). pair.to) same)))),
+          let from = ap (λ (pair : Pair). pair.from) same in
+          let to = ap (λ (pair : Pair). pair.to) same in
+          all_hold (first.root == second.root) (first.vertex == second.vertex) (first.root_key == second.root_key) (first.vertex_key == second.vertex_key)
+          (eq-eqb first.root second.root (one_number names first.root first.root_key second.root second.root_key here.from there.from from))
+          (eq-eqb first.vertex second.vertex (one_number names first.vertex first.vertex_key second.vertex second.vertex_key here.to there.to to))
+          (eq-eqb first.root_key second.root_key (one_key names first.root first.root_key second.root second.root_key here.from there.from from))
+          (eq-eqb first.vertex_key second.vertex_key (one_key names first.vertex first.vertex_key second.vertex second.vertex_key here.to there.to to))),
     )
 
 -- pairs are equal where the order doesn't tell them apart
@@ -70,17 +87,18 @@ same_where_tied first second =
 
 -- any pair of numbers
 abbrev pub no_pair : NumberedPair
-no_pair = record { root = 0; vertex = 0 }
+no_pair = record { root = 0; vertex = 0; root_key = 0; vertex_key = 0 }
 
 -- pairs are in the order of their numbers
-pairs_sorted : (names : List (List ℕ)) (sorted : List NumberedPair) →
+pairs_sorted : (names : List (List ℕ)) (sorted : List NumberedPair) → AreNumbered names sorted →
     IsSorted (numbered_cmp names) sorted → IsSorted pair_cmp (pairs_at names sorted)
-pairs_sorted names sorted in_order = λ k d low high.
+pairs_sorted names sorted all in_order = λ k d low high.
     let above : k + 1 < length sorted = omega (arith, high, length-map sorted (pair_at names)) in
     let below : k < length sorted = omega (arith, above) in
     ap₂ (λ (upper lower : Pair). is_lt (pair_cmp upper lower))
     (get_or-map (pair_at names) sorted (k + 1) no_pair d above)
     (get_or-map (pair_at names) sorted k no_pair d below)
+    ∙ ap is_lt (sym (numbered_is names (get_or sorted (k + 1) no_pair) (get_or sorted k no_pair) (all (k + 1) no_pair above) (all k no_pair below)))
     ∙ in_order k no_pair low above
 
 -- the pairs of a list without repeated neighbours have none either
@@ -112,7 +130,7 @@ pub distinct_sorted : (names : List (List ℕ)) (sorted distinct : List Numbered
     IsSorted (numbered_cmp names) sorted → distinct ≡ dedup same_numbered sorted → IsStrictlySortedBy pair_cmp (pairs_at names distinct)
 distinct_sorted names sorted distinct all in_order is =
     subst (λ (pairs : List Pair). IsStrictlySortedBy pair_cmp pairs) (sym (ap (pairs_at names) is ∙ pairs_once names sorted all))
-    (IsStrictlySortedBy-dedup pair_cmp_total same_where_tied (pairs_at names sorted) (pairs_sorted names sorted in_order))
+    (IsStrictlySortedBy-dedup pair_cmp_total same_where_tied (pairs_at names sorted) (pairs_sorted names sorted all in_order))
 
 -- the same pairs in order, each once
 pub distinct_same : (names : List (List ℕ)) (old sorted distinct : List NumberedPair) → AreNumbered names sorted →
@@ -133,33 +151,34 @@ distinct_same names old sorted distinct all moved is pair =
 -- ---- a search
 
 -- in strict order no pair is below the one before it
-none_falls : (names : List (List ℕ)) (pairs : List NumberedPair) →
+none_falls : (names : List (List ℕ)) (pairs : List NumberedPair) → AreNumbered names pairs →
     IsStrictlySortedBy pair_cmp (pairs_at names pairs) → IsSorted (numbered_cmp names) pairs
-none_falls names pairs sorted = λ k d low high.
+none_falls names pairs all sorted = λ k d low high.
     let below : k < length pairs = omega (arith, high) in
     let lower = pair_at names (get_or pairs k d) in
     let upper = pair_at names (get_or pairs (k + 1) d) in
     let less = Less-from_sorted pair_cmp (pairs_at names pairs) k (k + 1) (pair_at names d) sorted (omega arith) (omega (arith, high, length-map pairs (pair_at names))) in
     let here = get_or-map (pair_at names) pairs k d (pair_at names d) below in
     let next = get_or-map (pair_at names) pairs (k + 1) d (pair_at names d) high in
-    ap is_lt (pair_cmp_total.antisymm upper lower ∙ ap ordering_reverse (sym (ap₂ pair_cmp here next) ∙ less))
+    ap is_lt (numbered_is names (get_or pairs (k + 1) d) (get_or pairs k d) (all (k + 1) d high) (all k d below)
+    ∙ pair_cmp_total.antisymm upper lower ∙ ap ordering_reverse (sym (ap₂ pair_cmp here next) ∙ less))
 
 -- what a binary search finds is whether the pair is among them
 pub found_by_search : (names : List (List ℕ)) (found : Result ℕ ℕ) (others : List NumberedPair) (one : NumberedPair) →
-    IsStrictlySortedBy pair_cmp (pairs_at names others) →
+    IsNumbered names one → AreNumbered names others → IsStrictlySortedBy pair_cmp (pairs_at names others) →
     IsBinarySearchResult (λ each. numbered_cmp names each one) others found → IsSearchInRange found (length others) →
     is_ok found ≡ has (pairs_at names others) (pair_at names one)
-found_by_search names (Ok place) others one sorted found within =
+found_by_search names (Ok place) others one own all sorted found within =
     let each = get_or others place one in
-    let same = pair_cmp_exact (pair_at names each) (pair_at names one) (found one) in
+    let same = pair_cmp_exact (pair_at names each) (pair_at names one) (sym (numbered_is names each one (all place one within) own) ∙ found one) in
     sym ((has_iff (pairs_at names others) (pair_at names one)).1 (
       place,
       omega (arith, within, length-map others (pair_at names)),
       get_or-map (pair_at names) others place one (pair_at names one) within ∙ same,
     ))
-found_by_search names (Err gap) others one sorted found within =
+found_by_search names (Err gap) others one own all sorted found within =
     let pair = pair_at names one in
-    let point = found (searchable_from_sorted (numbered_total names) (λ each. each) others one (none_falls names others sorted)) in
+    let point = found (searchable_from_sorted (numbered_total names) (λ each. each) others one (none_falls names others all sorted)) in
     sym (false_from_ne_true (has (pairs_at names others) pair) (λ e.
     let member = (has_iff (pairs_at names others) pair).0 e in
     let place = member.0 in
@@ -167,7 +186,7 @@ found_by_search names (Err gap) others one sorted found within =
     let each = get_or others place one in
     let here : pair_at names each ≡ pair = sym (get_or-map (pair_at names) others place one pair below) ∙ member.2 in
     let tied : numbered_cmp names each one ≡ Equal =
-    ap (λ (other : Pair). pair_cmp other pair) here ∙ tied_itself pair_cmp_total pair in
+    numbered_is names each one (all place one below) own ∙ ap (λ (other : Pair). pair_cmp other pair) here ∙ tied_itself pair_cmp_total pair in
     ⊎_elim
     (λ before. let less = point.0 place one (omega arith) before in cc)
     (λ after. let greater = point.1 place one after below in cc)

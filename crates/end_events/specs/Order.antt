@@ -1,19 +1,20 @@
--- The order of pairs of numbers, for sorts: that of their names, which their ranks follow.
--- No public contract cites this file.
-use Rattle.std.specs.Prelude.{ℕ, ◌+◌, ◌*◌, ◌^◌, Bool, nat_lt, ◌&&◌, List, length, slice_index}
+-- The order of pairs of numbers, for sorts: that of their names, which the names' beginnings
+-- follow. No public contract cites this file.
+use Rattle.std.specs.Prelude.{ℕ, List}
+use Rattle.std.specs.Ordering.{nat_cmp, ordering_then}
 use Rattle.std.specs.declared.cmp.Ordering.{Ordering}
-use Rattle.rpq_base.specs.Order.{pair_cmp}
+use Rattle.rpq_base.specs.Order.{name_cmp}
+use Rattle.name_table.specs.Names.{name_at}
 use Rattle.end_events.specs.declared.pairs.NumberedPair.{NumberedPair}
-use Rattle.end_events.specs.Pairs.{pair_at}
 
--- the order of the pairs of the names that have these numbers
+-- the order of the keys that stand beside two numbers, and then that of their names
+abbrev pub keyed_cmp : List (List ℕ) → ℕ → ℕ → ℕ → ℕ → Ordering
+keyed_cmp names first first_key second second_key =
+    ordering_then (nat_cmp first_key second_key)
+    (name_cmp (name_at names first) (name_at names second))
+
+-- the order of two pairs by both
 abbrev pub numbered_cmp : List (List ℕ) → NumberedPair → NumberedPair → Ordering
-numbered_cmp names first second = pair_cmp (pair_at names first) (pair_at names second)
-
--- whether both names of a pair have ranks
-abbrev pub is_ranked : List ℕ → NumberedPair → Bool
-is_ranked ranks pair = nat_lt pair.root (length ranks) && nat_lt pair.vertex (length ranks)
-
--- the ranks of both names as one number, that of the first name the more significant
-abbrev pub pair_rank : List ℕ → NumberedPair → ℕ
-pair_rank ranks pair = slice_index ranks pair.root * 2 ^ 32 + slice_index ranks pair.vertex
+numbered_cmp names first second = ordering_then
+    (keyed_cmp names first.root first.root_key second.root second.root_key)
+    (keyed_cmp names first.vertex first.vertex_key second.vertex second.vertex_key)

@@ -4,6 +4,7 @@ use Rattle.std.specs.Prelude.{Contains, Option, Some, is_some, is_none}
 use Rattle.rpq_base.specs.declared.data.Pair.{Pair}
 use Rattle.rpq_model.specs.declared.mode.Mode.{Mode}
 use Rattle.rpq_model.specs.Relations.{Adds, AreExactly}
+use Rattle.name_table.specs.Keys.{beginning, AreBytes}
 use Rattle.name_table.specs.Names.{name_at, number_of}
 use Rattle.source_tree.specs.declared.change.EndChange.{EndChange}
 use Rattle.end_events.specs.declared.pairs.NumberedPair.{NumberedPair}
@@ -34,15 +35,17 @@ pub record IsGiven (mode : Mode) (outcome : Outcome) (names : List (List ℕ)) (
   pub to : number_of names pair.to ≡ Some each.vertex
   pub gives : gives_event mode outcome each ≡ true
 
--- the number is that of a name
-pub record IsNamed (names : List (List ℕ)) (number : ℕ) : Type 0 where
+-- the number is that of a name, and the key beside it is the name's beginning
+pub record IsNamed (names : List (List ℕ)) (number key : ℕ) : Type 0 where
   pub within : number < length names
   pub found : number_of names (name_at names number) ≡ Some number
+  pub key_is : key ≡ beginning (name_at names number)
+  pub bytes : AreBytes (name_at names number)
 
 -- both numbers are those of names
 pub record IsNumbered (names : List (List ℕ)) (pair : NumberedPair) : Type 0 where
-  pub from : IsNamed names pair.root
-  pub to : IsNamed names pair.vertex
+  pub from : IsNamed names pair.root pair.root_key
+  pub to : IsNamed names pair.vertex pair.vertex_key
 
 abbrev pub AreNumbered : List (List ℕ) → List NumberedPair → Type 0
 AreNumbered names pairs = All (IsNumbered names) pairs

@@ -21,9 +21,10 @@ use std::alloc::Global;
 /// with itself. The only error is [`Memory`].
 ///
 /// A pair changes at most twice, so one whose end both goes and comes is as it was before. Each
-/// list is gone through once; the pairs whose ends go or come are put in order by the ranks of
-/// their names, or by the names where some have none, and an event then copies its two names. Where
-/// no end goes or comes, nothing is allocated.
+/// list is gone through twice, first for the count; the pairs whose ends go or come are put in
+/// order by the beginnings of their names, and where these are the same by the names' ranks or all
+/// their bytes; an event then copies its two names. Where no end goes or comes, nothing is
+/// allocated.
 pub fn events_between(
     alloc: Global,
     query: u32,
@@ -71,6 +72,7 @@ fn push_events(
     others: &[NumberedPair],
 ) -> Result<(), Memory>
     requires numbered { AreNumbered names.now pairs.now }
+    requires others_numbered { AreNumbered names.now others.now }
     requires others_sorted { IsStrictlySortedBy pair_cmp (pairs_at names.now others.now) }
     ensures { OnOk result (events.new.items ≡ events.old.items
         ++ map (event query (is_gain outcome))
@@ -86,7 +88,9 @@ fn push_events(
 
 /// Whether the pair is among others in order, by binary search.
 fn is_among(names: &Names, others: &[NumberedPair], pair: &NumberedPair) -> bool
-    requires { IsStrictlySortedBy pair_cmp (pairs_at names.now others.now) }
+    requires numbered { IsNumbered names.now pair.now }
+    requires others_numbered { AreNumbered names.now others.now }
+    requires sorted { IsStrictlySortedBy pair_cmp (pairs_at names.now others.now) }
     ensures { result ≡ list_any (same_pair (pair_at names.now pair.now))
         (pairs_at names.now others.now) }
 {

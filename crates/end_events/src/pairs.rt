@@ -1,14 +1,12 @@
 //! The pairs that lists of changed ends take away or bring.
 
-ghost use Rattle.std.specs.Prelude.{◌≡◌, ◌<◌, ◌^◌, ◌↔◌, ◌∷◌, [], ℕ, length};
-ghost use Rattle.std.specs.Prelude.{All, Contains, IfOk, OnOk, slice_index, true};
-ghost use Rattle.std.specs.List.Sorted.{IsPermutation, IsSorted, IsSortedByKey, IsStrictlySortedBy};
-ghost use Rattle.std.specs.Ordering.{nat_cmp};
+ghost use Rattle.std.specs.Prelude.{◌≡◌, ◌<◌, ◌↔◌, ◌∷◌, [], length, Contains, IfOk, OnOk};
+ghost use Rattle.std.specs.List.Sorted.{IsPermutation, IsSorted, IsStrictlySortedBy};
 ghost use Rattle.rpq_base.specs.declared.data.Pair.{Pair};
 ghost use Rattle.rpq_base.specs.Order.{pair_cmp};
 ghost use Rattle.end_events.specs.Changes.{AreNamed, counts};
 ghost use Rattle.end_events.specs.declared.pairs.Outcome.TheVariants.{Gained, Lost};
-ghost use Rattle.end_events.specs.Order.{is_ranked, numbered_cmp, pair_rank};
+ghost use Rattle.end_events.specs.Order.{keyed_cmp, numbered_cmp};
 ghost use Rattle.end_events.specs.Pairs.{gives_event, is_gain, is_loss, pairs_at};
 ghost use Rattle.end_events.specs.Pairs.{AreGiven, AreNumbered, Gathers, IsNumbered};
 
@@ -19,14 +17,14 @@ use source_tree::EndChange;
 use std::alloc::Global;
 use std::cmp::Ordering;
 
-/// More than any number of names.
-const NAMES: u64 = 0x1_0000_0000;
-
 /// A pair of vertices by the numbers of their names.
 #[derive(Clone, Copy, PartialEq, Eq)]
 pub(crate) struct NumberedPair {
     pub root: u32,
     pub vertex: u32,
+    /// The beginnings of both names, which are looked up once and mostly tell the order of pairs.
+    pub root_key: u64,
+    pub vertex_key: u64,
 }
 
 /// What a change does to a pair that counts.
@@ -57,46 +55,39 @@ pub(crate) struct LostAndGained {
     pub gained: Vec<NumberedPair>,
 }
 
-/// The order of two pairs, which is that of their names.
-pub(crate) fn pair_order(names: &Names, first: &NumberedPair, second: &NumberedPair) -> Ordering
-    ensures { result ≡ numbered_cmp names.now first.now second.now }
+/// The order of the names of two numbers: that of the keys beside them, and where they share one
+/// that of all bytes or of the ranks, which aren't looked up where both are one name.
+fn name_order(names: &Names, first: u32, first_key: u64, second: u32, second_key: u64) -> Ordering
+    ensures { result ≡ keyed_cmp names.now first first_key second second_key }
 {
-    match names.compare(first.root, second.root) {
-        Ordering::Equal => names.compare(first.vertex, second.vertex),
+    match first_key.cmp(&second_key) {
+        Ordering::Equal if first == second => Ordering::Equal,
+        Ordering::Equal => names.compare(first, second),
         other => other,
     }
 }
 
-/// The rank of the name of this number, or 0 where it has none.
-fn rank_at(ranks: &[u32], number: u32) -> u32
-    ensures { result ≡ slice_index ranks.now number }
+/// The order of two pairs, which is that of their names.
+pub(crate) fn pair_order(names: &Names, first: &NumberedPair, second: &NumberedPair) -> Ordering
+    ensures { result ≡ numbered_cmp names.now first.now second.now }
 {
-    match ranks.get(number as usize) {
-        Some(rank) => *rank,
-        None => 0,
+    let roots = name_order(
+        names,
+        first.root,
+        first.root_key,
+        second.root,
+        second.root_key,
+    );
+    match roots {
+        Ordering::Equal => name_order(
+            names,
+            first.vertex,
+            first.vertex_key,
+            second.vertex,
+            second.vertex_key,
+        ),
+        other => other,
     }
-}
-
-/// The ranks of a pair's names as one number, that of the vertex that it leads from the more
-/// significant.
-fn pair_rank(ranks: &[u32], pair: &NumberedPair) -> u64
-    ensures { result ≡ pair_rank ranks.now pair.now }
-{
-    rank_at(ranks, pair.root) as u64 * NAMES + rank_at(ranks, pair.vertex) as u64
-}
-
-/// Whether both names of the pair have ranks.
-fn is_ranked(ranks: &[u32], pair: &NumberedPair) -> bool
-    ensures { result ≡ is_ranked ranks.now pair.now }
-{
-    (pair.root as usize) < ranks.len() && (pair.vertex as usize) < ranks.len()
-}
-
-/// Whether all names of the pairs have ranks.
-fn are_ranked(ranks: &[u32], pairs: &[NumberedPair]) -> bool
-    ensures { result ≡ true → All (λ pair. is_ranked ranks.now pair ≡ true) pairs.now }
-{
-    pairs.iter().all(|pair| is_ranked(ranks, pair))
 }
 
 /// Whether a pair of these vertices counts in a query of this mode: no simple path ends where it
@@ -139,6 +130,8 @@ fn pair_of(names: &Names, each: &EndChange) -> NumberedPair
     NumberedPair {
         root: each.root,
         vertex: each.vertex,
+        root_key: names.beginning_of(each.root),
+        vertex_key: names.beginning_of(each.vertex),
     }
 }
 
@@ -182,25 +175,34 @@ fn add_given(
     Ok(())
 }
 
-/// Puts the pairs in order by the ranks of their names alone.
-fn sort_by_ranks(ranks: &[u32], pairs: &mut Vec<NumberedPair>)
-    ensures sorted { IsSortedByKey (pair_rank ranks.now) nat_cmp pairs.new.items }
-    ensures permutation { IsPermutation pairs.old.items pairs.new.items }
-    ensures small { (number : ℕ) → slice_index ranks.now number < 2 ^ 32 }
-{
-    pairs.sort_unstable_by_key(|pair| pair_rank(ranks, pair));
+/// How many of the changes have this outcome for a pair that counts.
+fn count(mode: Mode, outcome: Outcome, changes: &[EndChange]) -> usize {
+    changes
+        .iter()
+        .filter(|each| gives_event(mode, outcome, each))
+        .count()
 }
 
-/// Puts the pairs in order: by the ranks of their names alone where all have ranks, else by their
-/// names.
+/// A list with room for the pairs that both lists of changes give with this outcome.
+fn room_for(
+    alloc: Global,
+    mode: Mode,
+    outcome: Outcome,
+    first: &[EndChange],
+    second: &[EndChange],
+) -> Result<Vec<NumberedPair>, Memory>
+    ensures { IfOk result (λ list. list.items ≡ []) }
+{
+    let count = count(mode, outcome, first).saturating_add(count(mode, outcome, second));
+    Ok(Vec::with_capacity(alloc, count)?)
+}
+
+/// Puts the pairs in order.
 fn sort_pairs(names: &Names, pairs: &mut Vec<NumberedPair>)
     ensures sorted { IsSorted (numbered_cmp names.now) pairs.new.items }
     ensures permutation { IsPermutation pairs.old.items pairs.new.items }
 {
-    let ranks = names.ranks();
-    if are_ranked(ranks, pairs) {
-        sort_by_ranks(ranks, pairs);
-    } else {
+    if pairs.len() > 1 {
         pairs.sort_unstable_by(|first, second| pair_order(names, first, second));
     }
 }
@@ -233,8 +235,8 @@ pub(crate) fn given_pairs(
     ensures gained { IfOk result (λ given.
         AreGiven mode Gained names.now first.now second.now given.gained.items) }
 {
-    let mut lost = Vec::new(alloc);
-    let mut gained = Vec::new(alloc);
+    let mut lost = room_for(alloc, mode, Outcome::Lost, first, second)?;
+    let mut gained = room_for(alloc, mode, Outcome::Gained, first, second)?;
     add_given(&mut lost, &mut gained, mode, names, first)?;
     add_given(&mut lost, &mut gained, mode, names, second)?;
     put_in_order(names, &mut lost);

@@ -1,5 +1,5 @@
 -- The sort keys of names: how great they are, and that they are in the order of names.
-use Rattle.std.proofs.Common.{◌≡◌, ◌≢◌, ◌<◌, ◌≤◌, ◌+◌, ◌-◌, ◌*◌, ◌^◌, ℕ, zero, suc, List, [], ◌∷◌, slice_index, length, take, drop, refl, sym, ap, ◌∙◌, arith}
+use Rattle.std.proofs.Common.{◌≡◌, ◌≢◌, ◌<◌, ◌≤◌, ◌+◌, ◌-◌, ◌*◌, ◌/◌, ◌^◌, ℕ, zero, suc, List, [], ◌∷◌, slice_index, length, take, drop, refl, sym, ap, ◌∙◌, arith}
 use Rattle.std.specs.declared.cmp.Ordering.TheVariants.{Less}
 use Rattle.std.specs.Int.{w128, from_be_bytes}
 use Rattle.std.specs.Ordering.{nat_cmp, ordering_reverse, ordering_then}
@@ -8,7 +8,7 @@ use Rattle.std.proofs.lemmas.Cmp.{ranked, by_ranked, nat_list_cmp_total}
 use Rattle.std.proofs.lemmas.List.{length-drop, take_all}
 use Rattle.std.proofs.lemmas.Nat.{mul-le}
 use Rattle.rpq_base.specs.Order.{name_cmp}
-use Rattle.name_table.specs.Keys.{leading, sort_key, AreBytes}
+use Rattle.name_table.specs.Keys.{beginning, leading, sort_key, AreBytes}
 
 -- ---- their size
 
@@ -74,22 +74,30 @@ leading_less (suc places) (x ∷ xs) (y ∷ ys) bytes others less =
       leading_below places ys (λ place. others (suc place)),
     )))
 
--- a name whose key is less is before the other
-pub key_less : (first second : List ℕ) → AreBytes first → AreBytes second →
-    sort_key first < sort_key second → name_cmp first second ≡ Less
-unfolding sort_key
-key_less first second bytes others less = leading_less 16 first second bytes others less
+-- names whose first digits, so many, differ are in the order of these
+leading_decides : (places : ℕ) (first second : List ℕ) (key other : ℕ) → AreBytes first → AreBytes second →
+    key ≡ leading places first → other ≡ leading places second → key ≢ other → nat_cmp key other ≡ name_cmp first second
+leading_decides places first second key other bytes others is also differ =
+    by_ranked (key < other) (key ≡ other) (other < key) (nat_cmp key other) (ranked key other (nat_cmp key other) refl)
+    (λ order before. order ∙ sym (leading_less places first second bytes others (omega (arith, is, also, before))))
+    (λ order equal. absurd (differ equal))
+    (λ order after. order
+    ∙ sym (nat_list_cmp_total.antisymm first second
+    ∙ ap ordering_reverse (leading_less places second first others bytes (omega (arith, is, also, after)))))
+
+-- names whose beginnings differ are in the order of these
+pub beginning_decides : (first second : List ℕ) (key other : ℕ) → AreBytes first → AreBytes second →
+    key ≡ beginning first → other ≡ beginning second → key ≢ other → nat_cmp key other ≡ name_cmp first second
+unfolding beginning
+beginning_decides first second key other bytes others is also differ =
+    leading_decides 8 first second key other bytes others is also differ
 
 -- names whose keys differ are in the order of these
 pub key_decides : (first second : List ℕ) (key other : ℕ) → AreBytes first → AreBytes second →
     key ≡ sort_key first → other ≡ sort_key second → key ≢ other → nat_cmp key other ≡ name_cmp first second
+unfolding sort_key
 key_decides first second key other bytes others is also differ =
-    by_ranked (key < other) (key ≡ other) (other < key) (nat_cmp key other) (ranked key other (nat_cmp key other) refl)
-    (λ order before. order ∙ sym (key_less first second bytes others (omega (arith, is, also, before))))
-    (λ order equal. absurd (differ equal))
-    (λ order after. order
-    ∙ sym (nat_list_cmp_total.antisymm first second
-    ∙ ap ordering_reverse (key_less second first others bytes (omega (arith, is, also, after)))))
+    leading_decides 16 first second key other bytes others is also differ
 
 -- no bytes have the key 0
 pub no_key : (name : List ℕ) → [] ≡ name → 0 ≡ sort_key name
@@ -101,6 +109,32 @@ no_key name is = sym (none_leading 16) ∙ ap (leading 16) is
 -- a digit more
 digit_more : (name : List ℕ) (place next : ℕ) → next ≡ suc place → leading next name ≡ leading place name * 256 + slice_index name place
 digit_more name place next is = ap (λ places. leading places name) is
+
+-- the first half of the sort key is the beginning
+pub beginning_is : (name : List ℕ) (key : ℕ) → AreBytes name → key ≡ sort_key name → key / 2 ^ 64 ≡ beginning name
+unfolding sort_key beginning
+beginning_is name key bytes is =
+    let more = digit_more name in
+    omega (
+      arith,
+      is,
+      more 8 9 refl,
+      more 9 10 refl,
+      more 10 11 refl,
+      more 11 12 refl,
+      more 12 13 refl,
+      more 13 14 refl,
+      more 14 15 refl,
+      more 15 16 refl,
+      bytes 8,
+      bytes 9,
+      bytes 10,
+      bytes 11,
+      bytes 12,
+      bytes 13,
+      bytes 14,
+      bytes 15,
+    )
 
 -- 16 digits more
 pub chunk_more : (name : List ℕ) (place chunk : ℕ) →

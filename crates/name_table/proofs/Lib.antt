@@ -1,3 +1,3 @@
-mod Keys
+pub mod Keys
 mod Numbers
 mod Ranking

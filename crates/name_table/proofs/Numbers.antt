@@ -1,13 +1,15 @@
 -- The numbers of names.
-use Rattle.std.proofs.Common.{◌≡◌, ◌<◌, ◌≤◌, ◌+◌, ◌^◌, ℕ, zero, suc, Bool, true, false, not, cond, ◌||◌, nat_lt, List, [], ◌∷◌, ◌++◌, length, get_or, slice_get, None, Some, refl, sym, ap, ap₂, subst, ◌∙◌, true≢false, arith}
+use Rattle.std.proofs.Common.{◌≡◌, ◌<◌, ◌≤◌, ◌+◌, ◌^◌, ℕ, zero, suc, Bool, true, false, not, cond, ◌||◌, nat_lt, List, [], ◌∷◌, ◌++◌, length, get_or, slice_get, None, Some, Option, is_some, refl, sym, ap, subst, ◌∙◌, true≢false, arith}
 use Rattle.std.specs.Cmp.{IsEquivalence}
 use Rattle.std.specs.Cmp.Lexicographic.{nat_list_eq_equiv}
 use Rattle.std.specs.List.{IsDistinct, position, position_or_len, list_any}
-use Rattle.std.specs.Map.{keys_of, lookup}
+use Rattle.std.specs.Map.{lookup}
 use Rattle.std.proofs.lemmas.Bool.{lt-ltb, ltb-false}
-use Rattle.std.proofs.lemmas.List.{get_or_append_left, get_or_push, length-map, length-append, map-append}
+use Rattle.std.proofs.lemmas.List.{get_or_append_left, get_or_push, length-append}
 use Rattle.std.proofs.lemmas.List.Quantifiers.{position-Some}
 use Rattle.std.proofs.lemmas.List.Sums.{position_or_len_is, fails_before_first}
+use Rattle.std.proofs.lemmas.List.Elements.{All-push}
+use Rattle.std.proofs.lemmas.Map.Made.{is_some-lookup}
 use Rattle.std.proofs.lemmas.Map.Keys.{apart_from_distinct, IsDistinct-push}
 use Rattle.std.proofs.lemmas.Option.{slice_get_within, get_or_from_slice_get}
 use Rattle.rpq_base.specs.Same.{same_name}
@@ -15,7 +17,7 @@ use Rattle.rpq_base.proofs.Equality.{name_again}
 use Rattle.indexmap.specs.IndexMap.{IndexMap, insert_entry}
 use Rattle.indexmap.proofs.CallerLemmas.{insert_entry-new}
 use Rattle.name_table.specs.Names.{KeepsNumbers, name_at, number_of}
-use Rattle.name_table.specs.Table.{names_of, IsKeyed, IsTable}
+use Rattle.name_table.specs.Table.{names_of, HasKey, IsTable}
 
 -- the equality of names is one
 same_name_laws : IsEquivalence same_name
@@ -89,83 +91,48 @@ apart_more names name distinct none =
 -- ---- the table
 
 -- past the last entry there is no name
-pub no_name : (entries : List (List ℕ × List ℕ)) (number : ℕ) → slice_get entries number ≡ None → [] ≡ name_at (names_of entries) number
+pub no_name : (entries : List (List ℕ × ℕ)) (number : ℕ) → slice_get entries number ≡ None → [] ≡ name_at (names_of entries) number
 no_name [] number none = refl
 no_name (entry ∷ entries) zero none = cc
 no_name (entry ∷ entries) (suc number) none = no_name entries number none
 
--- what a look-up by bytes finds
-pub found_by_bytes : (entries : List (List ℕ × List ℕ)) (name : List ℕ) → IsKeyed entries →
-    position (λ (key : List ℕ). same_name name key) (keys_of entries) ≡ number_of (names_of entries) name
-found_by_bytes entries name keyed =
-    ap₂ (λ place len. cond (nat_lt place len) (Some place) None) (same_place entries keyed)
-    (length-map entries (λ (e : List ℕ × List ℕ). e.0) ∙ sym (length-map entries (λ (e : List ℕ × List ℕ). e.1)))
-  where
-    same_place : (entries : List (List ℕ × List ℕ)) → IsKeyed entries →
-        position_or_len (λ (key : List ℕ). same_name name key) (keys_of entries)
-        ≡ position_or_len (same_name name) (names_of entries)
-    same_place [] keyed = refl
-    same_place (entry ∷ entries) keyed =
-        ap₂ (λ bytes rest. cond (not (same_name name bytes)) (1 + rest) 0) keyed.0 (same_place entries keyed.1)
-
-keyed_more : (entries : List (List ℕ × List ℕ)) (key : List ℕ) (name : List ℕ) → IsKeyed entries → key ≡ name →
-    IsKeyed (entries ++ (key, name) ∷ [])
-keyed_more [] key name keyed is = (is, tt)
-keyed_more (entry ∷ entries) key name keyed is = (keyed.0, keyed_more entries key name keyed.1 is)
-
-pub names_more : (entries : List (List ℕ × List ℕ)) (key : List ℕ) (name : List ℕ) →
-    names_of (entries ++ (key, name) ∷ []) ≡ names_of entries ++ name ∷ []
-names_more entries key name = map-append (λ (e : List ℕ × List ℕ). e.1) entries ((key, name) ∷ [])
+-- the names with one more
+pub names_more : (entries : List (List ℕ × ℕ)) (name : List ℕ) (key : ℕ) →
+    names_of (entries ++ (name, key) ∷ []) ≡ names_of entries ++ name ∷ []
+names_more [] name key = refl
+names_more (entry ∷ entries) name key = ap (λ names. entry.0 ∷ names) (names_more entries name key)
 
 -- a table with a new name
-pub table_more : (entries : List (List ℕ × List ℕ)) (key : List ℕ) (name : List ℕ) → IsTable entries → key ≡ name →
-    number_of (names_of entries) name ≡ None → length entries + 1 < 2 ^ 32 → IsTable (entries ++ (key, name) ∷ [])
-table_more entries key name table is none few = record {
-  keyed = keyed_more entries key name table.keyed is;
-  apart = subst (IsDistinct same_name) (sym (names_more entries key name)) (apart_more (names_of entries) name table.apart none);
-  few = omega (arith, length-append entries ((key, name) ∷ []), few);
+pub table_more : (entries : List (List ℕ × ℕ)) (name : List ℕ) (key : ℕ) → IsTable entries → HasKey (name, key) →
+    number_of (names_of entries) name ≡ None → length entries + 1 < 2 ^ 32 → IsTable (entries ++ (name, key) ∷ [])
+table_more entries name key table own none few = record {
+  keyed = All-push HasKey entries (name, key) table.keyed own;
+  apart = subst (IsDistinct same_name) (sym (names_more entries name key)) (apart_more (names_of entries) name table.apart none);
+  few = omega (arith, length-append entries ((name, key) ∷ []), few);
 }
 
--- a name that has no number isn't found by its bytes
-not_found : (entries : List (List ℕ × List ℕ)) (name : List ℕ) → IsKeyed entries →
-    list_any (same_name name) (names_of entries) ≡ false → lookup (λ (key : List ℕ). same_name name key) entries ≡ None
-not_found [] name keyed none = refl
-not_found (entry ∷ entries) name keyed none =
-    by (same_name name entry.1) refl none (not_found entries name keyed.1)
-  where
-    by : (b : Bool) → same_name name entry.1 ≡ b → (b || list_any (same_name name) (names_of entries)) ≡ false →
-        (list_any (same_name name) (names_of entries) ≡ false → lookup (λ (key : List ℕ). same_name name key) entries ≡ None) →
-        lookup (λ (key : List ℕ). same_name name key) (entry ∷ entries) ≡ None
-    by true passes stays rest = absurd (true≢false stays)
-    by false fails stays rest =
-        ap (λ b. cond b (Some entry.1) (lookup (λ (key : List ℕ). same_name name key) entries)) (ap (same_name name) keyed.0 ∙ fails)
-        ∙ rest stays
+-- what isn't some is none
+nothing : {A : Type 0} (found : Option A) → is_some found ≡ false → found ≡ None
+nothing None none = refl
+nothing (Some value) some = absurd (true≢false some)
 
-pub absent : (entries : List (List ℕ × List ℕ)) (name : List ℕ) → IsKeyed entries → number_of (names_of entries) name ≡ None →
-    lookup (λ (key : List ℕ). same_name name key) entries ≡ None
-absent entries name keyed none =
-    not_found entries name keyed (none_passes (same_name name) (names_of entries) (past_end (same_name name) (names_of entries) none))
+-- a name that has no number isn't found
+absent : (entries : List (List ℕ × ℕ)) (name : List ℕ) → number_of (names_of entries) name ≡ None →
+    lookup (λ (each : List ℕ). same_name name each) entries ≡ None
+absent entries name none =
+    nothing (lookup (same_name name) entries)
+    (is_some-lookup (same_name name) entries
+    ∙ none_passes (same_name name) (names_of entries) (past_end (same_name name) (names_of entries) none))
 
 -- a table without names
 pub no_names : IsTable []
 unfolding IsDistinct
-no_names = record { keyed = tt; apart = tt; few = omega arith }
+no_names = record { keyed = λ place d within. absurd (omega (arith, within)); apart = tt; few = omega arith }
 
 -- the entries after a new name came in
-pub added : {S : Type 0} (table : IndexMap (List ℕ) (List ℕ) S) (after : List (List ℕ × List ℕ)) (key : List ℕ) (name copy : List ℕ) →
-    IsTable table.entries → key ≡ name → copy ≡ name → number_of (names_of table.entries) name ≡ None →
-    after ≡ insert_entry (λ (x y : List ℕ). same_name x y) table.entries key copy →
-    after ≡ table.entries ++ (key, name) ∷ []
-added table after key name copy is_table is same none inserted =
-    inserted
-    ∙ insert_entry-new (λ (x y : List ℕ). same_name x y) table key copy
-    (subst (λ bytes. lookup (λ (k : List ℕ). same_name bytes k) table.entries ≡ None) (sym is)
-    (absent table.entries name is_table.keyed none))
-    ∙ ap (λ n. table.entries ++ (key, n) ∷ []) same
-
--- their names, and the number of the new one
-pub added_names : {S : Type 0} (table : IndexMap (List ℕ) (List ℕ) S) (after : List (List ℕ × List ℕ)) (key : List ℕ) (name : List ℕ)
-    (names : List (List ℕ)) → after ≡ table.entries ++ (key, name) ∷ [] → names_of table.entries ≡ names →
-    names_of after ≡ names ++ name ∷ []
-added_names table after key name names is view =
-    ap names_of is ∙ names_more table.entries key name ∙ ap (λ l. l ++ name ∷ []) view
+pub added : {S : Type 0} (table : IndexMap (List ℕ) ℕ S) (after : List (List ℕ × ℕ)) (name : List ℕ) (key : ℕ) →
+    number_of (names_of table.entries) name ≡ None →
+    after ≡ insert_entry (λ (x y : List ℕ). same_name x y) table.entries name key →
+    after ≡ table.entries ++ (name, key) ∷ []
+added table after name key none inserted =
+    inserted ∙ insert_entry-new (λ (x y : List ℕ). same_name x y) table name key (absent table.entries name none)

@@ -11,6 +11,10 @@ leading (suc place) name = leading place name * 256 + slice_index name place
 unfoldable pub sort_key : List ℕ → ℕ
 sort_key name = leading 16 name
 
+-- the beginning of a name: its first eight bytes
+unfoldable pub beginning : List ℕ → ℕ
+beginning name = leading 8 name
+
 -- all elements are bytes
 abbrev pub AreBytes : List ℕ → Type 0
 AreBytes bytes = (place : ℕ) → slice_index bytes place < 256

@@ -1,5 +1,5 @@
 -- The names that have numbers, in the order of their first sight.
-use Rattle.std.specs.Prelude.{◌≡◌, ℕ, List, [], ◌∷◌, ◌++◌, Option, Some, is_some, if◌then◌else◌, slice_index_or}
+use Rattle.std.specs.Prelude.{◌≡◌, ◌+◌, ◌^◌, ◌<◌, ℕ, List, [], ◌∷◌, ◌++◌, Option, Some, is_some, if◌then◌else◌, slice_index_or}
 use Rattle.std.specs.List.{position}
 use Rattle.rpq_base.specs.Same.{same_name}
 
@@ -15,6 +15,11 @@ with_name names name = if is_some (number_of names name) then names else names +
 abbrev pub KeepsNumbers : List (List ℕ) → List (List ℕ) → Type 0
 KeepsNumbers old new = (name : List ℕ) (number : ℕ) →
     number_of old name ≡ Some number → number_of new name ≡ Some number
+
+-- the numbers of the names are below the greatest of 32 bits
+abbrev pub AreSmall : List (List ℕ) → Type 0
+AreSmall names = (name : List ℕ) (number : ℕ) →
+    number_of names name ≡ Some number → number + 1 < 2 ^ 32
 
 -- the name that has this number; where none has it, no bytes
 abbrev pub name_at : List (List ℕ) → ℕ → List ℕ

@@ -9,9 +9,9 @@
 #![tactic(auto)]
 
 mod bytes_order;
-mod named;
 mod names;
 mod ranks;
+mod sort_key;
 #[cfg(test)]
 mod tests;
 

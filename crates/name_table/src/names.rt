@@ -1,21 +1,25 @@
 //! The table of names.
 
-ghost use Rattle.std.specs.Prelude.{◌≡◌, ◌<◌, ◌-◌, ◌^◌, ◌∷◌, ◌++◌, [], ℕ, length};
-ghost use Rattle.std.specs.Prelude.{IfOk, OnOk, OnErr, Some, None, slice_get};
+ghost use Rattle.std.specs.Prelude.{◌≡◌, ◌<◌, ◌+◌, ◌-◌, ◌^◌, ◌∷◌, ◌++◌, [], ℕ, length};
+ghost use Rattle.std.specs.Prelude.{IfOk, OnOk, OnErr, Some, None, is_some, not, slice_get};
+ghost use Rattle.std.specs.Prelude.{if◌then◌else◌};
 ghost use Rattle.rpq_base.specs.Order.{name_cmp};
-ghost use Rattle.name_table.specs.Keys.{sort_key, AreBytes};
-ghost use Rattle.name_table.specs.Names.{name_at, number_of, with_name, KeepsNumbers};
+ghost use Rattle.name_table.specs.Keys.{beginning, sort_key, AreBytes};
+ghost use Rattle.name_table.specs.Names.{name_at, number_of, with_name, AreSmall, KeepsNumbers};
 ghost use Rattle.name_table.specs.Ranks.{AreRanks};
 
 use crate::bytes_order::bytes_compared;
-use crate::named::Named;
 use crate::ranks::{numbers_by_rank, places_in};
+use crate::sort_key::sort_key;
 use indexmap::IndexMap;
 use rpq_base::{Copied, KeyedHash, Memory, Name};
 use std::alloc::Global;
 use std::cmp::Ordering;
 use std::marker::Model;
 use std::random::RandomSource;
+
+/// What the first eight of sixteen bytes count, as the digits of one number.
+const BEHIND_BEGINNING: u128 = 0x1_0000_0000_0000_0000;
 
 /// Names with their numbers, from 0 in the order of their first sight.
 ///
@@ -24,8 +28,8 @@ use std::random::RandomSource;
 #[derive(Drop)]
 pub struct Names {
     alloc: Global,
-    /// The names in their order, each found by its own hash.
-    names: IndexMap<Name, Named, KeyedHash>,
+    /// The names in their order, each found by its own hash, and beside each its sort key.
+    names: IndexMap<Name, u128, KeyedHash>,
     /// The ranks of the names that had numbers when they were last made, by these numbers.
     ranks: Vec<u32>,
     /// How many events were told since then.
@@ -71,18 +75,22 @@ impl Names {
         self.told = 0;
     }
 
-    /// The number of the name, which a new name gets now: the number of those before it. There are
-    /// fewer than 2^32 - 1 names. The only error is [`Memory`], after which the table is as before.
-    pub fn number(&mut self, name: &Name) -> Result<u32, Memory>
+    /// The number of the name, which a new name gets now: the number of those before it; and
+    /// whether the name is new. There are fewer than 2^32 - 1 names. The only error is [`Memory`],
+    /// after which the table is as before.
+    pub fn number(&mut self, name: &Name) -> Result<(u32, bool), Memory>
         requires { length self.old < 2 ^ 32 - 1 }
-        ensures number { IfOk result (λ number. number_of self.new name.now ≡ Some number) }
+        ensures number { IfOk result (λ found. number_of self.new name.now ≡ Some found.0) }
+        ensures new { IfOk result (λ found. found.1 ≡ not (is_some (number_of self.old name.now))) }
+        ensures len { IfOk result (λ found.
+            length self.new ≡ length self.old + (if found.1 then 1 else 0)) }
         ensures names { OnOk result (self.new ≡ with_name self.old name.now) }
         ensures kept { OnOk result (KeepsNumbers self.old self.new) }
         ensures unchanged { OnErr result (self.new ≡ self.old) }
     {
         match self.find(name) {
-            Some(number) => Ok(number),
-            None => self.add(name),
+            Some(number) => Ok((number, false)),
+            None => Ok((self.add(name)?, true)),
         }
     }
 
@@ -95,9 +103,8 @@ impl Names {
         ensures kept { OnOk result (KeepsNumbers self.old self.new) }
         ensures unchanged { OnErr result (self.new ≡ self.old) }
     {
-        let key = name.copy()?;
         let number = self.names.len() as u32;
-        self.names.insert(key, Named::new(name)?)?;
+        self.names.insert(name.copy()?, sort_key(name.as_bytes()))?;
         Ok(number)
     }
 
@@ -117,13 +124,20 @@ impl Names {
         ensures name { slice_get self.now number ≡ Some result.now }
         ensures number { number_of self.now result.now ≡ Some number }
     {
-        self.names[number as usize].name()
+        &self.names.keys().as_slice()[number as usize]
     }
 
     /// Each name stands once in the table, so the name of a number has that number. Does nothing.
     pub fn keeps_names_apart(&self)
         ensures { (number : ℕ) → number < length self.now →
             number_of self.now (name_at self.now number) ≡ Some number }
+    {
+        let _ = &self.names;
+    }
+
+    /// Each number is below the greatest of 32 bits. Does nothing.
+    pub fn keeps_numbers_small(&self)
+        ensures { AreSmall self.now }
     {
         let _ = &self.names;
     }
@@ -202,6 +216,16 @@ impl Names {
         }
     }
 
+    /// The beginning of the name of this number, by one index: its first eight bytes as one number,
+    /// the first byte the most significant, and 0 where the name is shorter or where there is none.
+    /// Of two names whose beginnings differ, the one with the lesser is before the other.
+    pub fn beginning_of(&self, number: u32) -> u64
+        ensures beginning { result ≡ beginning (name_at self.now number) }
+        ensures bytes { AreBytes (name_at self.now number) }
+    {
+        (self.key_of(number) / BEHIND_BEGINNING) as u64
+    }
+
     /// The sort key of the name of this number, by one index: its first 16 bytes as one number, the
     /// first byte the most significant, and 0 where the name is shorter or where there is none.
     fn key_of(&self, number: u32) -> u128
@@ -209,7 +233,7 @@ impl Names {
         ensures bytes { AreBytes (name_at self.now number) }
     {
         match self.names.get_index(number as usize) {
-            Some((_, named)) => named.key(),
+            Some((_, key)) => *key,
             None => 0,
         }
     }
@@ -219,7 +243,7 @@ impl Names {
         ensures { result.now ≡ name_at self.now number }
     {
         match self.names.get_index(number as usize) {
-            Some((_, named)) => named.name().as_bytes(),
+            Some((name, _)) => name.as_bytes(),
             None => &[],
         }
     }

@@ -5,8 +5,8 @@ use rpq_base::Name;
 use std::alloc::Global;
 use std::io;
 use std::io::ErrorKind;
+use std::process::Abort;
 use std::random::RandomSource;
-use std::test::Fail;
 
 /// A system that gives no random bytes.
 struct NoRandomBytes;
@@ -18,15 +18,15 @@ impl RandomSource for NoRandomBytes {
 }
 
 /// Whether two names have the numbers 0 and 1 in the order of their first sight, and a third none.
-fn numbers_names<R: RandomSource>(rt: &R, alloc: Global) -> Result<bool, Fail> {
-    let late = Name::new(alloc, b"z")?;
-    let early = Name::new(alloc, b"a")?;
-    let other = Name::new(alloc, b"zz")?;
-    let mut names = Names::new(rt, alloc)?;
-    let first = names.number(&late)?;
-    let second = names.number(&early)?;
-    let found = names.find(&late) == Some(0) && names.find(&other).is_none();
-    Ok(first == 0 && second == 1 && found && is_named(&names, &early))
+fn numbers_names<R: RandomSource>(rt: &impl Abort, random: &R, alloc: Global) -> bool {
+    let late = Name::new(alloc, b"z").expect(rt, "a name");
+    let early = Name::new(alloc, b"a").expect(rt, "a name");
+    let other = Name::new(alloc, b"zz").expect(rt, "a name");
+    let mut names = Names::new(random, alloc).expect(rt, "memory");
+    let (first, _) = names.number(&late).expect(rt, "memory");
+    let (second, _) = names.number(&early).expect(rt, "memory");
+    let found = (names.find(&late) == Some(0)) & names.find(&other).is_none();
+    (first == 0) & (second == 1) & found & is_named(&names, &early)
 }
 
 /// Whether the name with the name's number is this name.
@@ -38,7 +38,6 @@ fn is_named(names: &Names, name: &Name) -> bool {
 }
 
 #[test]
-fn names_have_numbers_in_the_order_of_first_sight(rt: HostRuntime) -> Result<(), Fail> {
-    assert!(rt; numbers_names(&NoRandomBytes, rt.alloc())?);
-    Ok(())
+fn names_have_numbers_in_the_order_of_first_sight(rt: HostRuntime) {
+    assert!(rt; numbers_names(&rt, &NoRandomBytes, rt.alloc()));
 }

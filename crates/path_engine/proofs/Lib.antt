@@ -1,5 +1,6 @@
 pub mod Telling
 pub mod Untouched
+pub mod Small
 pub mod Stepping
 pub mod Kept
 pub mod Answered

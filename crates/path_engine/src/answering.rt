@@ -5,6 +5,8 @@ ghost use Rattle.std.specs.Prelude.{◌≡◌, ◌≤◌, ◌<◌, ◌^◌, ◌-
 ghost use Rattle.std.specs.Prelude.{IfOk, IfNone, IfSome, OnOk, None, Some, false};
 ghost use Rattle.std.specs.List.{AllZip};
 ghost use Rattle.dfa_table.specs.DfaValue.{place_of};
+ghost use Rattle.delta_forest.specs.Changes.{RaisesSmall};
+ghost use Rattle.name_table.specs.Names.{AreSmall};
 ghost use Rattle.query_file.specs.Compiled.{IsCompiled};
 ghost use Rattle.path_engine.specs.Answering.{AreEndsFor, HasApplied, HasAnswered, HasHistory};
 ghost use Rattle.path_engine.specs.Answering.{HasStepped, HaveAnswered, IsNumbered, Suits, log_if};
@@ -93,6 +95,7 @@ pub(crate) fn answer<R: Threads + Sync, G: Gate>(
         index.new events.items) }
 {
     let mode = mode_of(query);
+    names.keeps_numbers_small(); // called for its clause
     let logs = step(crew, index, ends, entry)?;
     laws();
     let alloc = crew.context.alloc;
@@ -148,6 +151,8 @@ fn step<R: Threads + Sync, G: Gate>(
 ) -> Result<Logs, Memory>
     requires unbroken { index.old.forest.broken ≡ false }
     requires calls { index.old.forest.calls < 2 ^ 40 }
+    requires small { (names : List (List ℕ)) × AreSmall names
+        × AreEndsFor names index.old.forest.dfa entry.now.tuple.act ends }
     ensures { IfOk result (λ logs. (names : List (List ℕ)) →
         AreEndsFor names index.old.forest.dfa entry.now.tuple.act ends →
         HasStepped names entry.now index.old index.new logs.first.items
@@ -185,6 +190,7 @@ fn apply<R: Threads + Sync, G: Gate>(
 ) -> Result<(), Memory>
     requires unbroken { forest.old.broken ≡ false }
     requires calls { forest.old.calls < 2 ^ 60 }
+    requires small { RaisesSmall change }
     ensures applied { OnOk result (HasApplied change forest.old forest.new forest.new.log) }
     ensures fresh { OnOk result (LeavesFresh stale.old forest.old stale.new forest.new) }
 {
@@ -264,12 +270,15 @@ fn number_of(dfa: &Dfa, ends: Option<Ends>, edge: &Edge) -> Option<EdgeId>
     ensures some { IfSome result (λ id. IsNumbered dfa.now ends edge.now id) }
     ensures none { IfNone result ((ends ≡ None) ⊎ (place_of dfa.now edge.now.label ≡ None)) }
 {
-    match (ends, dfa.label_number(&edge.label)) {
-        (Some(ends), Some(label)) => Some(EdgeId {
-            from: ends.from,
-            label,
-            to: ends.to,
-        }),
-        _ => None,
+    match ends {
+        None => None,
+        Some(ends) => match dfa.label_number(&edge.label) {
+            None => None,
+            Some(label) => Some(EdgeId {
+                from: ends.from,
+                label,
+                to: ends.to,
+            }),
+        },
     }
 }

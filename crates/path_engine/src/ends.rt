@@ -169,14 +169,11 @@ fn number_name(names: &mut Names, named: &mut u32, name: &Name) -> Result<u32, M
     ensures grown { OnOk result (length names.new ≤ length names.old + 1) }
     ensures named { named.new ≡ length names.new }
 {
-    match names.find(name) {
-        Some(number) => Ok(number),
-        None => {
-            let number = names.number(name)?;
-            *named += 1;
-            Ok(number)
-        }
+    let (number, new) = names.number(name)?;
+    if new {
+        *named += 1;
     }
+    Ok(number)
 }
 
 /// The numbers of the edge's vertices, where both have one.

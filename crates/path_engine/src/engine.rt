@@ -39,7 +39,6 @@ use std::thread::Threads;
 /// Contracts see its queries, the number of entries that it answered, whether it is spent, and what
 /// it keeps of the history, of which only `StandsFor` speaks. Where memory runs out, it is spent,
 /// and answers no entry until it is rebuilt.
-#[derive(Drop)]
 pub struct Engine {
     alloc: Global,
     queries: Vec<Compiled>,
@@ -53,6 +52,20 @@ pub struct Engine {
     named: u32,
     /// For each query its index.
     indexes: Vec<Index>,
+}
+
+impl Drop for Engine {
+    fn drop(self) {
+        let Engine {
+            alloc: _alloc,
+            queries: _queries,
+            position: _position,
+            spent: _spent,
+            names: _names,
+            named: _named,
+            indexes: _indexes,
+        } = self;
+    }
 }
 
 impl Model for Engine {

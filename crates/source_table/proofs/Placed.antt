@@ -1,9 +1,11 @@
 -- Sources that are found by their places.
-use Rattle.std.proofs.Common.{◌≡◌, ◌<◌, inl, inr, ◌↔◌, ℕ, Bool, true, false, cond, List, [], ◌∷◌, ◌++◌, length, get_or, None, Some, slice_get, nat_eq, refl, sym, ap, subst, ◌∙◌, arith}
+use Rattle.std.proofs.Common.{◌≡◌, ◌+◌, ◌-◌, ◌^◌, ◌<◌, zero, suc, All, inl, inr, ◌↔◌, ℕ, Bool, true, false, cond, List, [], ◌∷◌, ◌++◌, length, get_or, None, Some, slice_get, nat_eq, refl, sym, ap, subst, ◌∙◌, arith}
 use Rattle.std.specs.Cmp.{nat_eq_equiv}
 use Rattle.std.specs.List.{IsDistinct}
-use Rattle.std.proofs.lemmas.Map.Keys.{IsDistinct-from_apart}
-use Rattle.std.proofs.lemmas.Map.Views.{exact_unsigned_eq}
+use Rattle.std.proofs.lemmas.List.Elements.{All-contains, All-from_get_or}
+use Rattle.std.proofs.lemmas.Map.Keys.{IsDistinct-from_apart, apart_from_distinct}
+use Rattle.std.proofs.lemmas.Map.Steps.{length-le_from_distinct_below}
+use Rattle.std.proofs.lemmas.Map.Views.{Contains-from_any, exact_unsigned_eq}
 use Rattle.std.proofs.lemmas.Option.{slice_get-get_or, slice_get_read, slice_get_within}
 use Rattle.std.proofs.lemmas.List.{map-append, length-map}
 use Rattle.source_tree.specs.Ends.{SourceValue}
@@ -123,6 +125,65 @@ are_apart roots places placed = IsDistinct-from_apart nat_eq roots (λ i j d les
               (slice_get-get_or roots j d below),
         ))
     by i j d less below false apart = refl
+
+-- ---- numbers for the places
+
+-- a root with a place has a mark
+has_mark : (marks : List ℕ) (root place : ℕ) → place_of marks root ≡ Some place →
+    root < length marks
+has_mark [] root place is = absurd (none_or_some place is)
+has_mark (mark ∷ marks) zero place is = omega arith
+has_mark (mark ∷ marks) (suc root) place is = omega (arith, has_mark marks root place is)
+
+-- a place more has a number, where it is for a root without one: the roots are distinct
+pub next_place : (sources : List SourceValue) (marks : List ℕ) (root : ℕ) →
+    ArePlaced (roots_of sources) marks → source_in sources root ≡ None →
+    length marks < 2 ^ 32 → root + 1 < 2 ^ 32 → length sources + 1 < 2 ^ 32
+next_place sources marks root placed new short small = omega (
+  arith,
+  length-map sources root_of,
+  length-le_from_distinct_below (root ∷ roots) (2 ^ 32 - 1) distinct (λ each member.
+      All-contains (λ (n : ℕ). n < 2 ^ 32 - 1) (root ∷ roots) each
+      (All-from_get_or (λ (n : ℕ). n < 2 ^ 32 - 1) (root ∷ roots) 0 below)
+      (Contains-from_any exact_unsigned_eq each (root ∷ roots) member)),
+)
+  where
+    roots : List ℕ
+    roots = roots_of sources
+
+    here : (place : ℕ) (d : ℕ) → place < length roots →
+        place_of marks (get_or roots place d) ≡ Some place
+    here place d within =
+        (placed (get_or roots place d) place).1 (slice_get-get_or roots place d within)
+
+    below : (place : ℕ) → place < length (root ∷ roots) → get_or (root ∷ roots) place 0 < 2 ^ 32 - 1
+    below zero within = omega (arith, small)
+    below (suc place) within = omega (
+      arith,
+      short,
+      has_mark marks (get_or roots place 0) place (here place 0 (omega (arith, within))),
+    )
+
+    other : (place : ℕ) (d : ℕ) → place < length roots → (b : Bool) →
+        nat_eq root (get_or roots place d) ≡ b → b ≡ false
+    other place d within true same =
+        absurd (none_or_some place
+        (sym (no_place sources marks placed root new)
+        ∙ ap (place_of marks) (exact_unsigned_eq root (get_or roots place d) same)
+        ∙ here place d within))
+    other place d within false apart = refl
+
+    distinct : IsDistinct nat_eq (root ∷ roots)
+    distinct = IsDistinct-from_apart nat_eq (root ∷ roots) differ
+      where
+        differ : (i j : ℕ) (d : ℕ) → i < j → j < length (root ∷ roots) →
+            nat_eq (get_or (root ∷ roots) i d) (get_or (root ∷ roots) j d) ≡ false
+        differ i zero d less within = absurd (omega (arith, less))
+        differ zero (suc j) d less within =
+            other j d (omega (arith, within)) (nat_eq root (get_or roots j d)) refl
+        differ (suc i) (suc j) d less within =
+            apart_from_distinct nat_eq roots i j d (are_apart roots marks placed)
+            (omega (arith, less)) (omega (arith, within))
 
 -- ---- one source more
 

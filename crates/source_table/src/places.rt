@@ -16,6 +16,9 @@ pub(crate) struct Places {
 
 /// Makes the list long enough for the root.
 fn reach(marks: &mut Vec<u32>, root: u32) -> Result<(), Memory>
+    requires small { root + 1 < 2 ^ 32 }
+    requires short { length marks.old.items < 2 ^ 32 }
+    ensures short { length marks.new.items < 2 ^ 32 }
     ensures long { OnOk result (root < length marks.new.items) }
     ensures same { OnOk result (SamePlaces marks.old.items marks.new.items) }
     ensures unchanged { OnErr result (marks.new.items ≡ marks.old.items) }
@@ -49,13 +52,14 @@ impl Places {
 
     /// Gives the root this place. The only error is [`Memory`], after which all is as before.
     pub(crate) fn add(&mut self, root: u32, place: usize) -> Result<(), Memory>
+        requires small { root + 1 < 2 ^ 32 }
+        requires few { place + 1 < 2 ^ 32 }
+        requires short { length self.old.marks.items < 2 ^ 32 }
+        ensures short { length self.new.marks.items < 2 ^ 32 }
         ensures given { OnOk result
             (GivesPlace self.old.marks.items self.new.marks.items root (Some place)) }
         ensures unchanged { OnErr result (self.new.marks.items ≡ self.old.marks.items) }
     {
-        if place >= u32::MAX as usize {
-            return Err(Memory);
-        }
         reach(&mut self.marks, root)?;
         self.marks[root as usize] = place as u32 + 1;
         Ok(())
@@ -66,6 +70,7 @@ impl Places {
         ensures was { result ≡ place_of self.old.marks.items root }
         ensures taken { GivesPlace self.old.marks.items self.new.marks.items root None }
         ensures few { IfSome result (λ place. place + 1 < 2 ^ 32) }
+        ensures len { length self.new.marks.items ≡ length self.old.marks.items }
     {
         if self.marks.len() <= root as usize {
             return None;
@@ -79,7 +84,8 @@ impl Places {
     pub(crate) fn move_to(&mut self, root: u32, place: u32)
         requires there { IsSome (place_of self.old.marks.items root) }
         requires few { place + 1 < 2 ^ 32 }
-        ensures { GivesPlace self.old.marks.items self.new.marks.items root (Some place) }
+        ensures given { GivesPlace self.old.marks.items self.new.marks.items root (Some place) }
+        ensures len { length self.new.marks.items ≡ length self.old.marks.items }
     {
         self.marks[root as usize] = place + 1;
     }

@@ -1,6 +1,6 @@
 //! The table of sources.
 
-ghost use Rattle.std.specs.Prelude.{◌≡◌, ◌∷◌, ◌++◌, [], option_map, OnOk, OnErr, None};
+ghost use Rattle.std.specs.Prelude.{◌≡◌, ◌+◌, ◌^◌, ◌<◌, ◌∷◌, ◌++◌, [], option_map, OnOk, OnErr, None};
 ghost use Rattle.std.specs.Ordering.{nat_cmp};
 ghost use Rattle.std.specs.List.Sorted.{IsStrictlySortedBy};
 ghost use Rattle.source_tree.specs.Ends.{SourceValue};
@@ -19,7 +19,8 @@ use tree_insert::Search;
 
 /// The trees of some sources, each found by its root.
 ///
-/// Contracts see the list of the sources, in which each root stands once.
+/// Contracts see the list of the sources, in which each root stands once. No root is the greatest
+/// number of 32 bits, which leaves each source a number for its place.
 #[derive(Drop)]
 pub struct SourceTable {
     sources: Vec<SourceTree>,
@@ -32,7 +33,7 @@ pub struct SourceTable {
 }
 
 impl Model for SourceTable {
-    ghost use Rattle.std.specs.Prelude.{List};
+    ghost use Rattle.std.specs.Prelude.{◌<◌, ◌^◌, List, length};
     ghost use Rattle.source_tree.specs.Ends.{SourceValue};
     ghost use Rattle.source_table.specs.Places.{ArePlaced};
     ghost use Rattle.source_table.specs.Sources.{roots_of};
@@ -42,7 +43,8 @@ impl Model for SourceTable {
     ghost view = { λ table. table.sources.items };
 
     ghost invariant = { λ table.
-        ArePlaced (roots_of table.sources.items) table.places.marks.items };
+        ArePlaced (roots_of table.sources.items) table.places.marks.items
+        × (length table.places.marks.items < 2 ^ 32) };
 }
 
 impl SourceTable {
@@ -73,6 +75,7 @@ impl SourceTable {
     /// table is as before.
     pub fn add(&mut self, source: SourceTree) -> Result<(), Memory>
         requires new { source_in self.old source.tree.root ≡ None }
+        requires small { source.tree.root + 1 < 2 ^ 32 }
         ensures added { OnOk result (self.new ≡ self.old ++ source ∷ []) }
         ensures unchanged { OnErr result (self.new ≡ self.old) }
     {

@@ -9,7 +9,7 @@ returns c =
     let step = step_of c.args.dfa.now in
     let start = c.add_start.new.roots.items in
     let starts = subst (λ (before : List ℕ). StartsBy c.args.sources.now c.add_start.new.sources
-    step c.args.edge before start) c.requires c.in_ok-add_start.ensures in
+    step c.args.edge before start) c.requires.none c.in_ok-add_start.ensures in
     record {
       starts = (start, starts);
       order = ordered_like c.put_in_order.new.roots.items c.add_held.new.roots.items

@@ -1,8 +1,19 @@
 use Rattle.std.proofs.Common.{◌≡◌, ◌+◌, ◌++◌, ◌∷◌, [], length, slice_set, ap, ◌∙◌, arith}
 use Rattle.edge_store.specs.Edges.{row}
 use Rattle.edge_store.specs.Rows.{rows_of, side}
+use Rattle.edge_store.proofs.Numbered.{next_number}
 use Rattle.edge_store.proofs.RowChanges.{rows_more}
 use Rattle.edge_store.proofs.rows.add.Goals as goal
+
+pub overflow_cast-at : goal.overflow_cast-at
+overflow_cast-at c =
+    omega (
+      arith,
+      c.len-at.ensures,
+      c.args.rows.now.ok.0,
+      next_number c.args.slots.now.items (length c.args.rows.now.items) c.args.vertex
+          c.requires.numbered c.requires.none c.requires.reached,
+    )
 
 pub returns-in_err-push-clause-same : goal.returns-in_err-push-clause-same
 returns-in_err-push-clause-same c each =

@@ -10,7 +10,7 @@ returns c =
     let one = c.args.pair.now in
     c.is_ok.ensures.value
     ∙ found_by_search names c.binary_search_by-found.result c.args.others.now one
-    c.requires
+    c.requires.numbered c.requires.others_numbered c.requires.sorted
     (c.binary_search_by-found.ensures.position (λ each. numbered_cmp names each one)
     (always_returns_same _ _ _ (λ a r f' k. search rules)))
     c.binary_search_by-found.ensures.bound

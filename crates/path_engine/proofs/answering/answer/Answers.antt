@@ -20,6 +20,14 @@ stepped g c =
     (subst (λ (dfa : DfaValue). AreEndsFor c.args.names.now dfa c.args.entry.now.tuple.act c.args.ends)
     (sym c.requires.index.is.automaton) c.requires.ends)
 
+pub step-requires-clause-small : goal.step-requires-clause-small
+step-requires-clause-small g c κs within = (
+  c.args.names.now,
+  c.keeps_numbers_small.ensures,
+  subst (λ (dfa : DfaValue). AreEndsFor c.args.names.now dfa c.args.entry.now.tuple.act c.args.ends)
+      (sym c.requires.index.is.automaton) c.requires.ends,
+)
+
 pub events_between-requires-clause-first_named : goal.events_between-requires-clause-first_named
 events_between-requires-clause-first_named g c =
     let names = c.args.names.now in

@@ -9,7 +9,7 @@ returns-in-Some c =
     c.get.ensures
     ∙ ap (lookup (same_half c.args.half))
     (sym (row_there c.self.inside.slots.items c.self.inside.rows.items c.args.self.now c.args.vertex
-    c.in-Some.at c.index.result.now c.self.view_is c.self.invariant
+    c.in-Some.at c.index.result.now c.self.view_is c.self.invariant.0
     (place_is c.self.inside.slots.items c.deref.result.now c.args.vertex c.locate.result
     (Some c.in-Some.at) c.deref.ensures.value c.locate.ensures c.in-Some.is)
     c.index.ensures))

@@ -6,7 +6,7 @@ use Rattle.edge_store.proofs.rows.Rows.get.Goals as goal
 pub returns-in-Some-clause-row : goal.returns-in-Some-clause-row
 returns-in-Some-clause-row c =
     sym (row_there c.self.inside.slots.items c.self.inside.rows.items c.args.self.now c.args.vertex
-    c.in-Some.at c.index-row.result.now c.self.view_is c.self.invariant
+    c.in-Some.at c.index-row.result.now c.self.view_is c.self.invariant.0
     (place_is c.self.inside.slots.items c.deref.result.now c.args.vertex c.locate.result
     (Some c.in-Some.at) c.deref.ensures.value c.locate.ensures c.in-Some.is)
     c.index-row.ensures)

@@ -10,7 +10,7 @@ returns-in-Some-clause-value c =
     c.take.ensures.value
     ∙ ap (lookup (same_half c.args.half))
     (sym (row_there c.self.inside.slots.items c.self.inside.rows.items c.args.self.now c.args.vertex
-    c.in-Some.at c.index_mut.result.now c.self.view_is c.self.invariant
+    c.in-Some.at c.index_mut.result.now c.self.view_is c.self.invariant.0
     (place_is c.self.inside.slots.items c.deref.result.now c.args.vertex c.locate.result
     (Some c.in-Some.at) c.deref.ensures.value c.locate.ensures c.in-Some.is)
     c.index_mut.ensures.value))
@@ -21,7 +21,7 @@ returns-in-Some-clause-rest c =
     (rows_of (side c.self.inside.slots.items (slice_set c.self.inside.rows.items c.in-Some.at c.take.new.self)))
     c.args.vertex c.args.half None) c.self.view_is
     (writes c.self.inside.slots.items c.self.inside.rows.items c.args.vertex c.in-Some.at
-    c.index_mut.result.now c.take.new.self c.args.half None c.self.invariant
+    c.index_mut.result.now c.take.new.self c.args.half None c.self.invariant.0
     (place_is c.self.inside.slots.items c.deref.result.now c.args.vertex c.locate.result
     (Some c.in-Some.at) c.deref.ensures.value c.locate.ensures c.in-Some.is)
     c.index_mut.ensures.value c.take.ensures.rest)

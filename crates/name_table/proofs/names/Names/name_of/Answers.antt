@@ -1,12 +1,16 @@
-use Rattle.std.proofs.Common.{◌≡◌, List, ℕ, Some, slice_get, ap, subst, sym, ◌∙◌}
+use Rattle.std.proofs.Common.{◌≡◌, Some, List, ℕ, get_or, ap, sym, subst, ◌∙◌}
 use Rattle.std.specs.List.{IsDistinct}
+use Rattle.std.proofs.lemmas.Option.{slice_get-get_or}
 use Rattle.rpq_base.specs.Same.{same_name}
 use Rattle.name_table.proofs.Numbers.{number_at}
 use Rattle.name_table.proofs.names.Names.name_of.Goals as goal
 
 pub returns-clause-number : goal.returns-clause-number
 returns-clause-number c =
-    number_at c.args.self.now c.args.number c.name.result.now
+    let name : List ℕ = c.index-as_slice-number.result in
+    let all : c.as_slice.result.now ≡ c.args.self.now = c.as_slice.ensures ∙ c.keys.ensures.rest ∙ c.self.view_is in
+    number_at c.args.self.now c.args.number name
     (subst (IsDistinct same_name) c.self.view_is c.self.invariant.0.apart)
-    (subst (λ names. slice_get names c.args.number ≡ Some c.name.result.now) c.self.view_is
-    (c.index.ensures ∙ ap (λ (name : List ℕ). Some name) (sym c.name.ensures)))
+    (slice_get-get_or c.args.self.now c.args.number name c.requires
+    ∙ ap (λ (each : List ℕ). Some each)
+    (ap (λ (names : List (List ℕ)). get_or names c.args.number name) (sym all) ∙ sym c.index-as_slice-number.is))

@@ -3,7 +3,7 @@ use Rattle.std.specs.List.{IsDistinct}
 use Rattle.std.specs.List.Sorted.{IsSorted}
 use Rattle.std.specs.Ordering.{is_lt}
 use Rattle.std.proofs.lemmas.Fn.{always_returns_same}
-use Rattle.std.proofs.lemmas.List.{length-map}
+use Rattle.std.proofs.lemmas.Map.Entries.{length-keys_of}
 use Rattle.std.proofs.lemmas.List.Sorted.{ranks_by}
 use Rattle.std.proofs.lemmas.Result.{IfOk-weaker}
 use Rattle.rpq_base.specs.Same.{same_name}
@@ -32,7 +32,7 @@ returns c =
     let distinct : IsDistinct same_name names = subst (IsDistinct same_name) c.self.view_is c.self.invariant.0.apart in
     let moved = has_all_moved _ c.in_ok-order.order.items order c.in_ok-order.ensures c.sort_by.ensures.permutation in
     let long : length order ≡ length names =
-    omega (arith, moved.long, c.len.ensures.len, ap length c.self.view_is, length-map c.self.inside.names.entries (λ e. e.1)) in
+    omega (arith, moved.long, c.len.ensures.len, ap length c.self.view_is, length-keys_of c.self.inside.names.entries) in
     let sorted : IsSorted (number_cmp names) order =
     c.in_ok-sort_by.ensures.sorted (λ first second. is_lt (number_cmp names first second))
     (ranks_by (number_cmp_total names) (λ number. number))

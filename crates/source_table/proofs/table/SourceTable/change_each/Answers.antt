@@ -14,13 +14,13 @@ change_all-requires-clause-once g c κs within =
     subst (IsDistinct nat_eq) (sym (c.deref.ensures.value ∙ c.in_ok-choose.ensures))
     (chosen_once (place_of c.self.inside.places.marks.items)
     (λ one other place here there. root_at c.self.inside.sources.items
-    c.self.inside.places.marks.items c.self.invariant place one other here there)
+    c.self.inside.places.marks.items c.self.invariant.0 place one other here there)
     c.args.roots.now c.requires.sorted)
 
 pub change_all-requires-clause-ready : goal.change_all-requires-clause-ready
 change_all-requires-clause-ready g c κs within offset d below there =
     can_take c.args.change c.args.product.now c.self.inside.sources.items c.self.inside.places.marks.items
-    c.args.roots.now offset d c.self.invariant
+    c.args.roots.now offset d c.self.invariant.0
     (subst (AreReady c.args.change c.args.product.now
     c.args.roots.now) (sym c.self.view_is) c.requires.ready)
     (subst (λ (list : List ℕ). Contains list offset)
@@ -36,15 +36,17 @@ check-requires g c =
     (filter_map (place_of c.self.inside.places.marks.items) c.args.roots.now))
     (sym (ap length c.deref-2.ensures.value ∙ c.change_all.ensures.len))
     (all_within c.self.inside.sources.items c.self.inside.places.marks.items c.args.roots.now
-    c.self.invariant))
+    c.self.invariant.0))
 
 pub invariant_of-self-2 : goal.invariant_of-self-2
-invariant_of-self-2 g c =
-    subst (λ (roots : List ℕ). ArePlaced roots c.self.inside.places.marks.items)
-    (sym (same_roots c.deref.result.now c.args.change c.args.product.now
-    c.self.inside.sources.items
-    c.change_all.new.sources.items c.change_all.ensures.len c.change_all.ensures.tries))
-    c.self.invariant
+invariant_of-self-2 g c = (
+  subst (λ (roots : List ℕ). ArePlaced roots c.self.inside.places.marks.items)
+      (sym (same_roots c.deref.result.now c.args.change c.args.product.now
+      c.self.inside.sources.items
+      c.change_all.new.sources.items c.change_all.ensures.len c.change_all.ensures.tries))
+      c.self.invariant.0,
+  c.self.invariant.1,
+)
 
 pub returns-clause-taken : goal.returns-clause-taken
 returns-clause-taken g c =
@@ -55,7 +57,7 @@ returns-clause-taken g c =
     subst (λ (old : List SourceValue). HaveTaken c.args.change product
     c.args.roots.now old new) c.self.view_is
     (all_taken chosen c.args.change product c.self.inside.sources.items
-    new c.self.inside.places.marks.items c.args.roots.now c.self.invariant
+    new c.self.inside.places.marks.items c.args.roots.now c.self.invariant.0
     (c.deref.ensures.value ∙ c.in_ok-choose.ensures) c.change_all.ensures.len
     c.change_all.ensures.tries
     (subst (λ (list : List ℕ). AreSound list new)

@@ -12,7 +12,7 @@ pub swap_remove-requires : goal.swap_remove-requires
 swap_remove-requires c =
     omega (
       arith,
-      within c.self.inside.sources.items c.self.inside.places.marks.items c.self.invariant
+      within c.self.inside.sources.items c.self.inside.places.marks.items c.self.invariant.0
           c.in-Some.place c.args.root (sym c.in-Some.ensures.was),
       c.self.inside.sources.ok.0,
     )
@@ -47,7 +47,7 @@ move_to-requires-clause-there c =
     (slice_get_read new (length new) gone c.index.result.now refl here c.index.ensures)
     ∙ ap Some (sym c.root.ensures.root) in
     ap is_some (still_last old new before c.take.new.self.marks.items gone c.args.root
-    c.root.result c.self.invariant moved (sym c.in-Some.ensures.was) lower came
+    c.root.result c.self.invariant.0 moved (sym c.in-Some.ensures.was) lower came
     c.take.ensures.taken)
 
 pub invariant_of-self : goal.invariant_of-self
@@ -79,11 +79,13 @@ invariant_of-self c =
     let came = mapped root_of new gone c.index.result.now
     (slice_get_read new (length new) gone c.index.result.now refl here c.index.ensures)
     ∙ ap Some (sym c.root.ensures.root) in
-    let is = sym c.in-Some.ensures.was in
-    placed_moved old new before c.move_to.new.self.marks.items gone c.args.root c.root.result
-    c.self.invariant moved is lower came
-    (λ each. c.move_to.ensures each ∙ ap (cond (nat_eq c.root.result each) (Some gone))
-    (c.take.ensures.taken each))
+    let is = sym c.in-Some.ensures.was in (
+      placed_moved old new before c.move_to.new.self.marks.items gone c.args.root c.root.result
+          c.self.invariant.0 moved is lower came
+          (λ each. c.move_to.ensures.given each ∙ ap (cond (nat_eq c.root.result each) (Some gone))
+          (c.take.ensures.taken each)),
+      omega (arith, c.move_to.ensures.len, c.take.ensures.len, c.self.invariant.1),
+    )
 
 pub returns-then-index-len-clause-gone : goal.returns-then-index-len-clause-gone
 returns-then-index-len-clause-gone c =
@@ -92,7 +94,7 @@ returns-then-index-len-clause-gone c =
     let gone = c.in-Some.place in
     subst (λ (all : List SourceValue). GivesSource all new c.args.root None) c.self.view_is
     (gives_none old new c.self.inside.places.marks.items c.move_to.new.self.marks.items gone
-    c.args.root c.self.invariant (invariant_of-self c)
+    c.args.root c.self.invariant.0 (invariant_of-self c).0
     (moves old new gone (vec_len c.self.inside.sources) c.self.inside.sources.ok.0
     (omega (
       arith,
@@ -105,7 +107,7 @@ returns-then-index-len-clause-gone c =
 pub returns-then-index-len-clause-apart : goal.returns-then-index-len-clause-apart
 returns-then-index-len-clause-apart c =
     are_apart (roots_of c.swap_remove.new.self.items) c.move_to.new.self.marks.items
-    (invariant_of-self c)
+    (invariant_of-self c).0
 
 pub invariant_of-self-else-index-len : goal.invariant_of-self-else-index-len
 invariant_of-self-else-index-len c =
@@ -113,26 +115,28 @@ invariant_of-self-else-index-len c =
     let new = c.swap_remove.new.self.items in
     let gone = c.in-Some.place in
     let is = sym c.in-Some.ensures.was in
-    let below = within old c.self.inside.places.marks.items c.self.invariant gone c.args.root is in
-    placed_without old new c.self.inside.places.marks.items c.take.new.self.marks.items gone
-    c.args.root c.self.invariant
-    (moves old new gone (vec_len c.self.inside.sources) c.self.inside.sources.ok.0
-    (omega (
-      arith,
-      c.swap_remove.ensures.len,
-      c.self.inside.sources.ok.0,
-      c.swap_remove.new.self.ok.0,
-    )) c.swap_remove.ensures.by_index)
-    is
-    (omega (
-      arith,
-      c.if-index-len.false,
-      c.len.ensures,
-      c.swap_remove.ensures.len,
-      c.self.inside.sources.ok.0,
-      below,
-    ))
-    c.take.ensures.taken
+    let below = within old c.self.inside.places.marks.items c.self.invariant.0 gone c.args.root is in (
+      placed_without old new c.self.inside.places.marks.items c.take.new.self.marks.items gone
+          c.args.root c.self.invariant.0
+          (moves old new gone (vec_len c.self.inside.sources) c.self.inside.sources.ok.0
+          (omega (
+            arith,
+            c.swap_remove.ensures.len,
+            c.self.inside.sources.ok.0,
+            c.swap_remove.new.self.ok.0,
+          )) c.swap_remove.ensures.by_index)
+          is
+          (omega (
+            arith,
+            c.if-index-len.false,
+            c.len.ensures,
+            c.swap_remove.ensures.len,
+            c.self.inside.sources.ok.0,
+            below,
+          ))
+          c.take.ensures.taken,
+      omega (arith, c.take.ensures.len, c.self.invariant.1),
+    )
 
 pub returns-else-index-len-clause-gone : goal.returns-else-index-len-clause-gone
 returns-else-index-len-clause-gone c =
@@ -141,7 +145,7 @@ returns-else-index-len-clause-gone c =
     let gone = c.in-Some.place in
     subst (λ (all : List SourceValue). GivesSource all new c.args.root None) c.self.view_is
     (gives_none old new c.self.inside.places.marks.items c.take.new.self.marks.items gone
-    c.args.root c.self.invariant (invariant_of-self-else-index-len c)
+    c.args.root c.self.invariant.0 (invariant_of-self-else-index-len c).0
     (moves old new gone (vec_len c.self.inside.sources) c.self.inside.sources.ok.0
     (omega (
       arith,
@@ -154,16 +158,16 @@ returns-else-index-len-clause-gone c =
 pub returns-else-index-len-clause-apart : goal.returns-else-index-len-clause-apart
 returns-else-index-len-clause-apart c =
     are_apart (roots_of c.swap_remove.new.self.items) c.take.new.self.marks.items
-    (invariant_of-self-else-index-len c)
+    (invariant_of-self-else-index-len c).0
 
 pub returns-in_default-clause-gone : goal.returns-in_default-clause-gone
 returns-in_default-clause-gone c =
     subst (λ (old : List SourceValue). GivesSource old c.self.inside.sources.items c.args.root None)
     c.self.view_is
     (gives_absent c.self.inside.sources.items c.self.inside.places.marks.items c.args.root
-    c.self.invariant (sym c.take.ensures.was ∙ c.in_default.is))
+    c.self.invariant.0 (sym c.take.ensures.was ∙ c.in_default.is))
 
 pub returns-in_default-clause-apart : goal.returns-in_default-clause-apart
 returns-in_default-clause-apart c =
     are_apart (roots_of c.self.inside.sources.items) c.self.inside.places.marks.items
-    c.self.invariant
+    c.self.invariant.0

@@ -1,6 +1,6 @@
 use Rattle.std.proofs.Common.{◌≡◌}
 use Rattle.name_table.specs.Keys.{leading}
-use Rattle.name_table.proofs.named.sort_key.Given as goal
+use Rattle.name_table.proofs.sort_key.sort_key.Given as goal
 
 -- the digits so far
 abbrev pub invariant-loop-place : goal.invariant-loop-place

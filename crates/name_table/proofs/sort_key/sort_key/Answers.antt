@@ -1,6 +1,6 @@
 use Rattle.std.proofs.Common.{◌∙◌, arith}
 use Rattle.name_table.proofs.Keys.{all_digits, has_room}
-use Rattle.name_table.proofs.named.sort_key.Goals as goal
+use Rattle.name_table.proofs.sort_key.sort_key.Goals as goal
 
 pub overflow_mul-key : goal.overflow_mul-key
 overflow_mul-key c =
