@@ -1,5 +1,5 @@
-//! The program `rpq`: it makes the real files and streams and a tally of all events, calls [`run`]
-//! with the words of the command line, and ends with its status.
+//! The program `rpq`: it makes the real files and streams, and a tally of all events where tuples
+//! are generated, calls [`run`] with the words of the command line, and ends with its status.
 #![tactic(auto)]
 
 ghost use Rattle.std.specs.Prelude.{◌≡◌};
@@ -17,6 +17,14 @@ use std::process::ExitCode;
 /// The words of the command line, the program's name first.
 fn words(rt: &HostRuntime, alloc: Global) -> io::Result<Vec<String>> {
     Ok(env::args(rt)?.collect(alloc)?)
+}
+
+/// Whether the words ask for generated tuples: only the summary of these says what objects counted.
+/// A file of such a name is taken for that, too, and then events are counted for nothing.
+fn are_generated(words: &[String]) -> bool {
+    words
+        .iter()
+        .any(|word| word.as_str().starts_with("--generate"))
 }
 
 /// A tally of all events, as an object of its own.
@@ -50,12 +58,14 @@ fn main(rt: HostRuntime) -> ExitCode {
         Err(_) => Vec::new(alloc),
     };
     let mut standing: Vec<Box<dyn Standing>> = Vec::new(alloc);
-    let is_counted = match tally(alloc) {
-        Ok(tally) => standing.push(tally).is_ok(),
-        Err(Memory) => false,
-    };
-    if !is_counted {
-        return out_of_memory(&rt);
+    if are_generated(&words) {
+        let is_counted = match tally(alloc) {
+            Ok(tally) => standing.push(tally).is_ok(),
+            Err(Memory) => false,
+        };
+        if !is_counted {
+            return out_of_memory(&rt);
+        }
     }
     let mut files = HostFiles::new(alloc, &rt);
     let mut events = HostSink::new(Place::Output(rt.stdout()));

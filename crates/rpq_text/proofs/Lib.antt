@@ -7,3 +7,4 @@ pub mod Texts
 mod Fronts
 pub mod WordPieces
 pub mod VerdictLines
+pub mod BlockLists

@@ -1,11 +1,12 @@
-//! The text of an entry and what it brings.
+//! The text of an entry and what it brings, and that of several.
 
-ghost use Rattle.std.specs.Prelude.{◌≡◌, ◌<◌, ◌++◌, [], length, take, drop, flat_map, codes};
-ghost use Rattle.std.specs.Prelude.{decimal, OnOk, IfOk, All};
+ghost use Rattle.std.specs.Prelude.{◌≡◌, ◌<◌, ◌+◌, ◌^◌, ◌++◌, [], length, take, drop, flat_map};
+ghost use Rattle.std.specs.Prelude.{codes, decimal, OnOk, IfOk, All};
 ghost use Rattle.rpq_base.specs.Plain.{IsPlain};
 ghost use Rattle.ask_text.specs.Reply.{name_at};
 ghost use Rattle.rpq_text.specs.Definitions.{definitions_of};
-ghost use Rattle.rpq_text.specs.Text.{event_line, event_lines, entry_line, block, shown_line};
+ghost use Rattle.rpq_text.specs.Text.{event_line, event_lines, entry_line, block, blocks_from};
+ghost use Rattle.rpq_text.specs.Text.{shown_line};
 
 use crate::step::Step;
 use path_witness::ShownPath;
@@ -44,7 +45,6 @@ pub fn block_text(
 /// Makes the text the block of the entry at position `n`, as [`block_text`] does, in place of what
 /// it was. So one text serves for block after block and keeps its room, up to a mebibyte. The only
 /// error is [`Memory`].
-#[tactic(auto, unfolding(crate::specs::Text::block))]
 pub fn make_block(
     text: &mut Vec<u8>,
     n: u64,
@@ -58,6 +58,48 @@ pub fn make_block(
         (text.new.items ≡ block (definitions_of queries.now) n entry.now step.now) }
 {
     empty(text);
+    push_block(text, n, entry, step, queries)
+}
+
+/// Makes the text the blocks of these entries, in place of what it was, each with the step in the
+/// entry's place. The first entry is at position `n`, counted from 1. The text keeps its room as
+/// that of [`make_block`] does. The only error is [`Memory`].
+pub fn make_blocks(
+    text: &mut Vec<u8>,
+    n: u64,
+    entries: &[Entry],
+    steps: &[Step],
+    queries: &[Compiled],
+) -> Result<(), Memory>
+    requires plain { All IsPlain entries.now }
+    requires numbers { All (λ step. All (λ event. event.query < length queries.now) step.events)
+        steps.now }
+    requires as_many { length steps.now ≡ length entries.now }
+    requires short { n + length entries.now < 2 ^ 64 }
+    ensures { OnOk result (text.new.items
+        ≡ blocks_from (definitions_of queries.now) n entries.now steps.now) }
+{
+    empty(text);
+    for (i, entry) in entries.iter().enumerate() {
+        push_block(text, n + i as u64, entry, &steps[i], queries)?;
+    }
+    Ok(())
+}
+
+/// Writes the block of the entry at position `n` at the end of the text.
+#[tactic(auto, unfolding(crate::specs::Text::block))]
+fn push_block(
+    text: &mut Vec<u8>,
+    n: u64,
+    entry: &Entry,
+    step: &Step,
+    queries: &[Compiled],
+) -> Result<(), Memory>
+    requires plain { IsPlain entry.now }
+    requires numbers { All (λ event. event.query < length queries.now) step.now.events }
+    ensures { OnOk result (text.new.items
+        ≡ text.old.items ++ block (definitions_of queries.now) n entry.now step.now) }
+{
     text.reserve(room_for(step.events.len().saturating_add(step.shown.len())))?;
     push_entry(text, n, entry)?;
     push_events(text, queries, &step.events, &step.shown)?;

@@ -14,8 +14,8 @@ ghost use Rattle.rpq_text.specs.WordTexts.{not_contained_front};
 use crate::ends::{SinkName, Which};
 use crate::status;
 use arrayvec::ArrayString;
-use ask_text::{AskFault, AskKind};
-use conj_query::{JoinsFault, JoinsKind};
+use ask_text::AskFault;
+use conj_query::JoinsFault;
 use itoa::Buffer;
 use path_syntax::BadExpr;
 use stream_tuples::StreamEnd;
@@ -117,53 +117,23 @@ pub fn query_line(line: u64, text: &str, more: &str) -> Line
 }
 
 /// What is wrong with a line of the joins file.
+#[tactic(auto, unfolding(crate::specs::ErrorLines::joins_text))]
 pub fn joins_fault_line(fault: &JoinsFault) -> Line
     ensures { result.bytes ≡ joins_text fault.now.line (joins_kind_text fault.now.kind) }
 {
-    let line = fault.line;
-    match &fault.kind {
-        JoinsKind::Shape => join_line(line, "shape"),
-        JoinsKind::Twice(_) => join_line(line, "name twice"),
-        JoinsKind::TooMany => join_line(line, "too many"),
-        JoinsKind::UnknownQuery => join_line(line, "unknown query"),
-        JoinsKind::BadName => join_line(line, "bad name"),
-        JoinsKind::Memory => join_line(line, "out of memory"),
-    }
-}
-
-/// A text, said of a line of the joins file.
-#[tactic(auto, unfolding(crate::specs::ErrorLines::joins_text))]
-fn join_line(line: u64, text: &str) -> Line
-    requires { length text.now ≤ 100 }
-    ensures { result.bytes ≡ joins_text line text.now }
-{
     let mut digits = Buffer::new();
-    line_of(&["rpq: joins line ", digits.format(line), ": ", text, "\n"])
+    let line = digits.format(fault.line);
+    line_of(&["rpq: joins line ", line, ": ", fault.kind.text(), "\n"])
 }
 
 /// What is wrong with a line of the asks file.
+#[tactic(auto, unfolding(crate::specs::ErrorLines::asks_text))]
 pub fn ask_fault_line(fault: AskFault) -> Line
     ensures { result.bytes ≡ asks_text fault.line (ask_kind_text fault.kind) }
 {
-    let line = fault.line;
-    match fault.kind {
-        AskKind::Shape => ask_line(line, "shape"),
-        AskKind::UnknownQuery => ask_line(line, "unknown query"),
-        AskKind::BadName => ask_line(line, "bad name"),
-        AskKind::Number => ask_line(line, "number"),
-        AskKind::TooMany => ask_line(line, "too many"),
-        AskKind::Memory => ask_line(line, "out of memory"),
-    }
-}
-
-/// A text, said of a line of the asks file.
-#[tactic(auto, unfolding(crate::specs::ErrorLines::asks_text))]
-pub fn ask_line(line: u64, text: &str) -> Line
-    requires { length text.now ≤ 100 }
-    ensures { result.bytes ≡ asks_text line text.now }
-{
     let mut digits = Buffer::new();
-    line_of(&["rpq: asks line ", digits.format(line), ": ", text, "\n"])
+    let line = digits.format(fault.line);
+    line_of(&["rpq: asks line ", line, ": ", fault.kind.text(), "\n"])
 }
 
 /// What is wrong with a line of a stream.

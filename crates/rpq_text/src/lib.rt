@@ -15,12 +15,12 @@ pub mod status;
 mod step;
 mod verdict_lines;
 
-pub use block::{block_text, make_block, name_of};
+pub use block::{block_text, make_block, make_blocks, name_of};
 pub use end_status::{first_status, run_status, status_of_end};
 pub use ends::{SinkName, StartFault, Which};
 pub use error_lines::{
-    Line, ask_fault_line, ask_line, end_line, expr_line, file_line, joins_fault_line, line_of,
-    memory_line, not_contained_front, opening_line, query_line, read_line, write_line,
+    Line, ask_fault_line, end_line, expr_line, file_line, joins_fault_line, line_of, memory_line,
+    not_contained_front, opening_line, query_line, read_line, write_line,
 };
 pub use laws::{
     every_history_has_a_text, fronts_hold_answers, fronts_hold_bindings, line_examples,

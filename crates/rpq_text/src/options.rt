@@ -5,7 +5,6 @@ use std::marker::Model;
 use std::sync::Arc;
 
 /// How a run evaluates its queries, and what it tells of them.
-#[derive(Drop)]
 pub struct Options {
     /// Whether the queries may take edges backwards.
     pub two_way: bool,
@@ -13,6 +12,16 @@ pub struct Options {
     pub paths: bool,
     /// The conjunctions over the queries, whose bindings are told behind the pairs.
     pub joins: Arc<Vec<JoinDef>>,
+}
+
+impl Drop for Options {
+    fn drop(self) {
+        let Options {
+            two_way: _two_way,
+            paths: _paths,
+            joins: _joins,
+        } = self;
+    }
 }
 
 impl Model for Options {

@@ -5,7 +5,7 @@ use rpq_base::Event;
 use std::marker::Model;
 
 /// What an entry brings.
-#[derive(Debug, Drop)]
+#[derive(Debug)]
 pub struct Step {
     /// The pairs that the queries lose and gain.
     pub events: Vec<Event>,
@@ -13,6 +13,16 @@ pub struct Step {
     pub shown: Vec<ShownPath>,
     /// The lines of the bindings that the conjunctions lose and gain, as text.
     pub joined: Vec<u8>,
+}
+
+impl Drop for Step {
+    fn drop(self) {
+        let Step {
+            events: _events,
+            shown: _shown,
+            joined: _joined,
+        } = self;
+    }
 }
 
 impl Model for Step {

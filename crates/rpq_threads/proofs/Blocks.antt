@@ -1,10 +1,10 @@
 -- The blocks of a history, and of what follows it.
-use Rattle.std.proofs.Common.{◌≡◌, ◌≢◌, ℕ, ◌+◌, ◌<◌, ◌≤◌, List, [], ◌∷◌, ◌++◌, length}
-use Rattle.std.proofs.Common.{take, drop, get_or, Option, Some, slice_get}
-use Rattle.std.proofs.Common.{refl, ap, sym, subst, ◌∙◌, append_assoc, arith}
+use Rattle.std.proofs.Common.{◌≡◌, ◌≢◌, ℕ, zero, suc, ◌+◌, ◌<◌, ◌≤◌, ◌⊎◌, inl, inr}
+use Rattle.std.proofs.Common.{⊎_elim, List, [], ◌∷◌, ◌++◌, length, take, drop, Option, Some}
+use Rattle.std.proofs.Common.{slice_get, refl, ap, sym, subst, ◌∙◌, append_assoc, arith}
 use Rattle.std.specs.Io.KnownBytes.{append_known}
-use Rattle.std.proofs.lemmas.List.{append-nil, take-append-drop, length-take-le, take_more}
-use Rattle.std.proofs.lemmas.Option.{slice_get_within, slice_get_read, get_or_from_slice_get}
+use Rattle.std.proofs.lemmas.List.{append-nil}
+use Rattle.std.proofs.lemmas.Option.{slice_get_within}
 use Rattle.rpq_base.specs.declared.data.Entry.{Entry}
 use Rattle.rpq_base.specs.declared.data.Event.{Event}
 use Rattle.rpq_io.specs.Writes.{WritesProperPrefix}
@@ -13,8 +13,9 @@ use Rattle.rpq_model.specs.Events.{AreEachFrom}
 use Rattle.rpq_model.specs.Query.{Query}
 use Rattle.rpq_text.specs.Steps.{OptionsValue, StepValue, AreStepsFrom}
 use Rattle.rpq_text.specs.Text.{block, blocks_from, IsText}
+use Rattle.rpq_text.proofs.BlockLists.{blocks_append, blocks_cut, blocks_with}
 use Rattle.rpq_text.proofs.StepLists.{steps_as_many}
-use Rattle.rpq_threads.specs.Fed.{WritesFront}
+use Rattle.rpq_threads.specs.Fed.{WritesFront, BeginsNext}
 
 -- the lists of some entries, and then those of the entries that follow them
 pub each_append : (first : List Entry) (lists : List (List Event))
@@ -52,28 +53,6 @@ steps_append (next ∷ first) (one ∷ rest) options queries before later more a
           (subst (λ (h : List Entry). AreStepsFrom options queries h later more) regrouped then),
     )
 
--- the blocks of some entries, and then those of the entries that follow them
-pub blocks_append : (first : List Entry) (steps : List StepValue) (queries : List Query)
-    (position : ℕ) (later : List Entry) (more : List StepValue) → length first ≡ length steps →
-    blocks_from queries position (first ++ later) (steps ++ more)
-    ≡ blocks_from queries position first steps
-    ++ blocks_from queries (position + length first) later more
-blocks_append [] [] queries position later more as_many =
-    let here : position ≡ position + 0 = omega arith in
-    ap (λ (n : ℕ). blocks_from queries n later more) here
-blocks_append [] (one ∷ rest) queries position later more as_many = absurd cc
-blocks_append (next ∷ first) [] queries position later more as_many = absurd cc
-blocks_append (next ∷ first) (one ∷ rest) queries position later more as_many =
-    let fewer : length first ≡ length rest = omega (arith, as_many) in
-    let there : (position + 1) + length first ≡ position + length (next ∷ first) = omega arith in
-    let here = block queries position next one in
-    ap (λ (t : List ℕ). here ++ t)
-    (blocks_append first rest queries (position + 1) later more fewer)
-    ∙ (sym (append_assoc here (blocks_from queries (position + 1) first rest)
-    (blocks_from queries ((position + 1) + length first) later more))
-    ∙ ap (λ (n : ℕ). (here ++ blocks_from queries (position + 1) first rest)
-    ++ blocks_from queries n later more) there)
-
 -- the text of a history, and the blocks of the entries that follow it
 pub text_append : (options : OptionsValue) (queries : List Query) (history : List Entry)
     (text : List ℕ) (later : List Entry) (more : List StepValue) →
@@ -94,36 +73,6 @@ text_append options queries history text later more is_text brings =
 
 -- ---- one block after another
 
--- what is read at a place stands there
-pub read_at : {X : Type 0} (all : List X) (i : ℕ) (one : X) → i < length all →
-    one ≡ get_or all i one → slice_get all i ≡ Some one
-read_at all i one below is = slice_get_read all (length all) i one refl below is
-
--- the first elements, and the one behind them
-pub take_with : {X : Type 0} (all : List X) (i : ℕ) (one : X) → slice_get all i ≡ Some one →
-    take (i + 1) all ≡ take i all ++ one ∷ []
-take_with {X} all i one is =
-    take_more all i one (slice_get_within all i one is)
-    ∙ ap (λ (x : X). take i all ++ x ∷ []) (get_or_from_slice_get all i one one is)
-
--- the blocks of the first entries, and those of the others
-pub blocks_cut : (entries : List Entry) (steps : List StepValue) (i : ℕ) (queries : List Query)
-    (position : ℕ) → length steps ≡ length entries → i ≤ length entries →
-    blocks_from queries position entries steps
-    ≡ blocks_from queries position (take i entries) (take i steps)
-    ++ blocks_from queries (position + i) (drop i entries) (drop i steps)
-blocks_cut entries steps i queries position many within =
-    let first = length-take-le i entries within in
-    let second = length-take-le i steps (omega (arith, many, within)) in
-    ap (λ (es : List Entry). blocks_from queries position es steps)
-    (sym (take-append-drop i entries))
-    ∙ (ap (λ (ss : List StepValue). blocks_from queries position
-    (take i entries ++ drop i entries) ss) (sym (take-append-drop i steps))
-    ∙ (blocks_append (take i entries) (take i steps) queries position (drop i entries)
-    (drop i steps) (first ∙ sym second)
-    ∙ ap (λ (n : ℕ). blocks_from queries position (take i entries) (take i steps)
-    ++ blocks_from queries (position + n) (drop i entries) (drop i steps)) first))
-
 -- bytes are written behind those that were written
 pub written_more : (done next : List ℕ) (before between after : Option (List ℕ)) →
     between ≡ append_known before done → after ≡ append_known between next →
@@ -140,24 +89,6 @@ module _ (entries : List Entry) (steps : List StepValue) (i : ℕ) (entry : Entr
   within : i < length entries
   within = slice_get_within entries i entry there
 
-  -- the blocks of the first entries, and the one behind them
-  pub blocks_with : blocks_from queries position (take (i + 1) entries) (take (i + 1) steps)
-      ≡ blocks_from queries position (take i entries) (take i steps)
-      ++ block queries (position + i) entry step
-  blocks_with =
-      let first = length-take-le i entries (omega (arith, within)) in
-      let second = length-take-le i steps (omega (arith, many, within)) in
-      ap (λ (es : List Entry). blocks_from queries position es (take (i + 1) steps))
-      (take_with entries i entry there)
-      ∙ (ap (λ (ss : List StepValue). blocks_from queries position (take i entries ++ entry ∷ [])
-      ss) (take_with steps i step are)
-      ∙ (blocks_append (take i entries) (take i steps) queries position (entry ∷ []) (step ∷ [])
-      (first ∙ sym second)
-      ∙ (ap (λ (n : ℕ). blocks_from queries position (take i entries) (take i steps)
-      ++ (block queries (position + n) entry step ++ [])) first
-      ∙ ap (λ (b : List ℕ). blocks_from queries position (take i entries) (take i steps) ++ b)
-      (append-nil (block queries (position + i) entry step)))))
-
   -- a part of that block was written, and not all: then all blocks aren't written
   pub proper_at : (before between after : Option (List ℕ)) →
       between ≡ append_known before (blocks_from queries position (take i entries) (take i steps)) →
@@ -173,7 +104,8 @@ module _ (entries : List Entry) (steps : List StepValue) (i : ℕ) (entry : Entr
         rest = part.rest ++ later;
         cut =
             blocks_cut entries steps (i + 1) queries position many (omega (arith, within))
-            ∙ (ap (λ (b : List ℕ). b ++ later) blocks_with
+            ∙ (ap (λ (b : List ℕ). b ++ later)
+            (blocks_with entries steps i entry step there are many queries position)
             ∙ (append_assoc done next later
             ∙ (ap (λ (b : List ℕ). done ++ (b ++ later)) part.cut
             ∙ (ap (λ (b : List ℕ). done ++ b) (append_assoc part.front part.rest later)
@@ -198,3 +130,93 @@ front_at entries steps i queries position many within before after written = rec
   cut = blocks_cut entries steps i queries position many within;
   written = written;
 }
+
+-- ---- all blocks at once
+
+-- two cuts of the same bytes: the first part of the one is the beginning of that of the other
+cut_twice : (first later front rest : List ℕ) → first ++ later ≡ front ++ rest →
+    ((more : List ℕ) × (front ≡ first ++ more) × (later ≡ more ++ rest))
+    ⊎ ((more : List ℕ) × (first ≡ front ++ more) × (more ≢ []))
+cut_twice [] later front rest same = inl (front, refl, same)
+cut_twice (byte ∷ first) later [] rest same = inr (byte ∷ first, refl, (λ is. cc))
+cut_twice (byte ∷ first) later (other ∷ front) rest same =
+    let head : byte ≡ other = cc in
+    let tail : first ++ later ≡ front ++ rest = cc in
+    ⊎_elim (λ is. inl (is.0, with_first other byte front (first ++ is.0) (sym head) is.1, is.2))
+    (λ is. inr (is.0, with_first byte other first (front ++ is.0) head is.1, is.2))
+    (cut_twice first later front rest tail)
+  where
+    with_first : (one other : ℕ) (some more : List ℕ) → one ≡ other → some ≡ more →
+        one ∷ some ≡ other ∷ more
+    with_first one other some more same are = cc
+
+nothing_cut : (front rest : List ℕ) → [] ≡ front ++ rest → rest ≡ []
+nothing_cut [] rest is = sym is
+nothing_cut (byte ∷ front) rest is = absurd cc
+
+-- these bytes are the blocks of the first entries, so many, and a part of the next one or nothing
+pub record AreBlocks (queries : List Query) (position : ℕ) (entries : List Entry)
+    (steps : List StepValue) (bytes : List ℕ) : Type 0 where
+  pub count : ℕ
+  pub within : count ≤ length entries
+  pub rest : List ℕ
+  pub part : (rest ≡ []) ⊎ BeginsNext queries position entries steps count rest
+  pub are : bytes ≡ blocks_from queries position (take count entries) (take count steps) ++ rest
+
+-- one block more before them
+next_block : (queries : List Query) (position : ℕ) (entry : Entry) (entries : List Entry)
+    (step : StepValue) (steps : List StepValue) (front more : List ℕ) →
+    front ≡ block queries position entry step ++ more →
+    AreBlocks queries (position + 1) entries steps more →
+    AreBlocks queries position (entry ∷ entries) (step ∷ steps) front
+next_block queries position entry entries step steps front more is later = record {
+  count = suc later.count;
+  within = omega (arith, later.within);
+  rest = later.rest;
+  part = ⊎_elim (λ none. inl none) (λ begins. inr (record {
+    entry = begins.entry;
+    step = begins.step;
+    more = begins.more;
+    there = begins.there;
+    is_step = begins.is_step;
+    cut = ap (λ (n : ℕ). block queries n begins.entry begins.step)
+        {x = position + suc later.count} {y = (position + 1) + later.count} (omega arith)
+        ∙ begins.cut;
+    proper = begins.proper;
+  })) later.part;
+  are = is ∙ (ap (λ (bytes : List ℕ). block queries position entry step ++ bytes) later.are
+      ∙ sym (append_assoc (block queries position entry step)
+      (blocks_from queries (position + 1) (take later.count entries) (take later.count steps))
+      later.rest));
+}
+
+-- a proper prefix of some blocks has so many of them whole, and a part of the next one or nothing
+pub blocks_of_prefix : (entries : List Entry) (steps : List StepValue) (queries : List Query)
+    (position : ℕ) (front rest : List ℕ) → length steps ≡ length entries →
+    blocks_from queries position entries steps ≡ front ++ rest → rest ≢ [] →
+    AreBlocks queries position entries steps front
+blocks_of_prefix [] steps queries position front rest many cut proper =
+    absurd (proper (nothing_cut front rest cut))
+blocks_of_prefix (entry ∷ entries) [] queries position front rest many cut proper = absurd cc
+blocks_of_prefix (entry ∷ entries) (step ∷ steps) queries position front rest many cut proper =
+    let here = block queries position entry step in
+    let fewer : length steps ≡ length entries = omega (arith, many) in
+    ⊎_elim (λ is. next_block queries position entry entries step steps front is.0 is.1
+    (blocks_of_prefix entries steps queries (position + 1) is.0 rest fewer is.2 proper))
+    (λ is. record {
+      count = zero;
+      within = omega arith;
+      rest = front;
+      part = inr (record {
+        entry = entry;
+        step = step;
+        more = is.0;
+        there = refl;
+        is_step = refl;
+        cut = ap (λ (n : ℕ). block queries n entry step) {x = position + zero} {y = position}
+            (omega arith) ∙ is.1;
+        proper = is.2;
+      });
+      are = refl;
+    })
+    (cut_twice here (blocks_from queries (position + 1) entries steps) front rest cut)

@@ -1,6 +1,7 @@
 -- What the objects of a circle were told of.
 use Rattle.std.proofs.Common.{◌≡◌, ◌≢◌, ℕ, zero, suc, ◌+◌, ◌<◌, List, [], ◌∷◌, ◌++◌, length, take}
-use Rattle.std.proofs.Common.{Option, Some, None, slice_get, inl, inr, ⊎_elim}
+use Rattle.std.proofs.Common.{map, Option, Some, None, slice_get, inl, inr, ⊎_elim, Result, Ok}
+use Rattle.std.proofs.Common.{Err, OnOk, OnErr, IfErr}
 use Rattle.std.proofs.Common.{refl, ap, sym, subst, ◌∙◌, append_assoc, length-append, arith}
 use Rattle.std.specs.Prelude.{⊤}
 use Rattle.std.specs.Io.KnownBytes.{append_known}
@@ -23,14 +24,15 @@ use Rattle.rpq_text.specs.Steps.{OptionsValue, StepValue, IsStep, AreSteps, AreS
 use Rattle.rpq_text.specs.Text.{block, blocks_from, IsText}
 use Rattle.rpq_text.proofs.StepLists.{steps_as_many, steps_fronts, steps_have_events}
 use Rattle.standing.specs.Objects.{ObjectValue}
-use Rattle.standing.specs.Circles.{CircleValue}
+use Rattle.standing.specs.Circles.{CircleValue, Parts, TellsEach, as_seen, circle_value}
 use Rattle.standing.specs.Stood.{HaveStood}
-use Rattle.standing.proofs.HavingStood.{none_told, stood_weaker}
+use Rattle.standing.proofs.HavingStood.{none_told, stood_weaker, told_each}
 use Rattle.rpq_threads.specs.Written.{Grew}
 use Rattle.rpq_threads.specs.Told.{all_events, BeginsBlock, TellsObjects}
-use Rattle.rpq_threads.specs.Fed.{TellsOn, BeginsNext, WritesAndTells, HaveHeardAll, HearsOn}
-use Rattle.rpq_threads.proofs.Blocks.{each_append, steps_append, blocks_append, take_with}
-use Rattle.rpq_threads.proofs.Blocks.{blocks_with, written_more}
+use Rattle.rpq_threads.specs.Fed.{TellsOn, BeginsNext, WritesAndTells, WritesBlocks}
+use Rattle.rpq_threads.specs.Fed.{HaveHeardAll, HearsOn}
+use Rattle.rpq_text.proofs.BlockLists.{blocks_append, blocks_with, take_with}
+use Rattle.rpq_threads.proofs.Blocks.{each_append, steps_append, written_more, blocks_of_prefix}
 
 -- ---- telling more
 
@@ -54,6 +56,37 @@ pub tells_weaker : (events : List Event) (whole weaker : Type 0) (old new : Circ
 tells_weaker events whole weaker old new less tells objects before stood =
     stood_weaker objects (before ++ events) whole weaker new.members new.left less
     (tells objects before stood)
+
+-- nobody hears of any event where there are no members
+none_hear : (events : List Event) (left : List ObjectValue) →
+    TellsEach events (circle_value [] left) (circle_value [] left)
+none_hear [] left = refl
+none_hear (event ∷ events) left = (
+  circle_value [] left,
+  record {
+    first = [];
+    told = [];
+    split = refl;
+    heard = tt;
+    stayed = refl;
+    gone = sym (append-nil left);
+  },
+  none_hear events left,
+)
+
+-- objects that have all left are told of whatever comes
+pub tells_nobody : {S : Type 0} (seen : S → ObjectValue) (circle : Parts S) (events : List Event)
+    (whole : Type 0) → circle.members ≡ [] →
+    TellsOn events whole (as_seen seen circle) (as_seen seen circle)
+tells_nobody seen circle events whole none = λ objects before stood.
+    let left = map seen circle.left in
+    let nobody : map seen circle.members ≡ [] = ap (map seen) none in
+    subst (λ (members : List ObjectValue). HaveStood objects (before ++ events) whole members left)
+    (sym nobody)
+    (stood_weaker objects (before ++ events) ⊤ whole [] left (λ _. tt)
+    (told_each objects before events (circle_value [] left) (circle_value [] left)
+    (subst (λ (members : List ObjectValue). HaveStood objects before ⊤ members left) nobody stood)
+    (none_hear events left)))
 
 -- the events of some steps, and then those of others
 events_append : (first second : List StepValue) →
@@ -160,6 +193,57 @@ module _ (entries : List Entry) (steps : List StepValue) (i : ℕ) (entry : Entr
         told = tells_weaker events ⊥ (Memory ≢ Memory) old new (λ never. never refl)
             (told_with ⊥ new part);
       }
+
+-- of all the blocks of these entries a part was written, where nobody hears of their events
+pub front_stops : {S : Type 0} (seen : S → ObjectValue) (circle : Parts S)
+    (entries : List Entry) (steps : List StepValue) (queries : List Query) (position : ℕ)
+    (why : Why) (before after : Option (List ℕ)) → circle.members ≡ [] →
+    length steps ≡ length entries →
+    WritesProperPrefix (blocks_from queries position entries steps) before after →
+    WritesAndTells queries position entries steps why before after (as_seen seen circle)
+    (as_seen seen circle)
+front_stops seen circle entries steps queries position why before after none many part =
+    let did = blocks_of_prefix entries steps queries position part.front part.rest many part.cut
+    part.proper in
+    record {
+      count = did.count;
+      within = did.within;
+      rest = did.rest;
+      part = did.part;
+      written = part.written ∙ ap (append_known before) did.are;
+      told = tells_nobody seen circle (all_events (events_of (take did.count steps)))
+          (why ≢ Memory) none;
+    }
+
+-- all blocks were put out in one text, where nobody hears of their events
+pub one_write : {S T : Type 0} (seen : S → ObjectValue) (circle : Parts S)
+    (entries : List Entry) (steps : List StepValue) (queries : List Query) (position : ℕ)
+    (text : List ℕ) (result : Result T Why) (before after : Option (List ℕ)) →
+    circle.members ≡ [] → length steps ≡ length entries →
+    text ≡ blocks_from queries position entries steps →
+    OnOk result (after ≡ append_known before text) →
+    OnErr result (WritesProperPrefix text before after) →
+    IfErr result (λ why. why ≡ Write) →
+    WritesBlocks queries position entries steps result before after (as_seen seen circle)
+    (as_seen seen circle)
+one_write seen circle entries steps queries position text (Ok x) before after none many is whole
+    part cause = record {
+      ok = whole ∙ ap (append_known before) is;
+      told = tells_nobody seen circle (all_events (events_of steps)) ⊤ none;
+      write = λ never. absurd cc;
+      memory = λ never. absurd cc;
+      part = tt;
+    }
+one_write seen circle entries steps queries position text (Err why) before after none many is
+    whole part cause =
+    let cut = subst (λ (bytes : List ℕ). WritesProperPrefix bytes before after) is part in
+    record {
+      ok = tt;
+      told = tt;
+      write = λ _. cut;
+      memory = λ other. absurd cc;
+      part = front_stops seen circle entries steps queries position why before after none many cut;
+    }
 
 -- ---- the events of a history
 

@@ -1,7 +1,7 @@
 -- What the engine of a run does with the entries of the history. Only private contracts cite this
 -- file.
 use Rattle.std.specs.Prelude.{◌≡◌, ◌≢◌, ℕ, ◌+◌, ◌<◌, ◌≤◌, ◌^◌, ◌⊎◌, true, false, List, [], ◌++◌}
-use Rattle.std.specs.Prelude.{length, take}
+use Rattle.std.specs.Prelude.{length, take, Result, Err, OnOk, IfErr}
 use Rattle.std.specs.Prelude.{Option, Some, None, All, ⊤, slice_get}
 use Rattle.std.specs.Io.KnownBytes.{append_known}
 use Rattle.rpq_base.specs.declared.data.Entry.{Entry}
@@ -9,6 +9,7 @@ use Rattle.rpq_base.specs.declared.data.Event.{Event}
 use Rattle.rpq_base.specs.Plain.{IsPlain}
 use Rattle.rpq_model.specs.Query.{Query}
 use Rattle.two_way.specs.TwoWay.{walked, AreAllWalkedEvents, AreAllWalkedEventsFrom}
+use Rattle.rpq_io.specs.Writes.{WritesProperPrefix}
 use Rattle.path_engine.specs.Engine.{StandsFor, definitions}
 use Rattle.rpq_text.specs.Steps.{OptionsValue, StepValue, AreStepsFrom, CanRun, events_of}
 use Rattle.rpq_text.specs.Text.{block, blocks_from, IsText}
@@ -70,6 +71,22 @@ pub record WritesAndTells (queries : List Query) (position : ℕ) (entries : Lis
   pub written : written_after ≡ append_known written_before
       (blocks_from queries position (take count entries) (take count steps) ++ rest)
   pub told : TellsOn (all_events (events_of (take count steps))) (why ≢ Memory) old new
+
+-- by the answer: the blocks of these entries, the first of which stands at this position, were all
+-- written and the objects were told of all their events; or a part of them was written, a proper
+-- one where a write failed, and the objects were told of the blocks that were written whole
+pub record WritesBlocks (queries : List Query) (position : ℕ) (entries : List Entry)
+    (steps : List StepValue) {T : Type 0} (result : Result T Why)
+    (written_before written_after : Option (List ℕ)) (old new : CircleValue) : Type 0 where
+  pub ok : OnOk result (written_after ≡ append_known written_before
+      (blocks_from queries position entries steps))
+  pub told : OnOk result (TellsOn (all_events (events_of steps)) ⊤ old new)
+  pub write : result ≡ Err Write → WritesProperPrefix
+      (blocks_from queries position entries steps) written_before written_after
+  pub memory : result ≡ Err Memory → WritesFront
+      (blocks_from queries position entries steps) written_before written_after
+  pub part : IfErr result (λ why. WritesAndTells queries position entries steps why
+      written_before written_after old new)
 
 -- objects that were handed in have heard the events of all these entries
 pub record HaveHeardAll (options : OptionsValue) (queries : List Query) (history : List Entry)

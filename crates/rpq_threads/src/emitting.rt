@@ -14,7 +14,7 @@ ghost use Rattle.rpq_text.specs.Text.{block, blocks_from};
 ghost use Rattle.standing.specs.Circles.{as_seen};
 ghost use Rattle.rpq_threads.specs.Fed.{IsFed, KeepsSetup, LooksOn, answered, Emits};
 ghost use Rattle.rpq_threads.specs.Fed.{FindsSteps, Stops};
-ghost use Rattle.rpq_threads.specs.Fed.{WritesFront, TellsOn, WritesAndTells};
+ghost use Rattle.rpq_threads.specs.Fed.{WritesFront, TellsOn, WritesAndTells, WritesBlocks};
 ghost use Rattle.rpq_threads.specs.Told.{all_events};
 
 use crate::evaluator::Evaluator;
@@ -24,12 +24,18 @@ use history_model::Why;
 use query_file::Compiled;
 use rpq_base::{Entry, Event, Memory};
 use rpq_io::{Gate, Sink, put_all};
-use rpq_text::{Step, every_history_has_a_text, make_block};
+use rpq_text::{Step, every_history_has_a_text, make_block, make_blocks};
 use rpq_workers::Shared;
 use standing::{Circle, Standing};
 use std::sync::Wait;
 use std::thread::Threads;
 use stream_history::Pass;
+
+/// The most lines that blocks have together which are written at once.
+const LINES_AT_ONCE: usize = 1 << 14;
+
+/// The fewest bytes that a line of a join is taken to have.
+const LEAST_LINE: usize = 16;
 
 /// Feeds the entries to the engine, all at once, then writes the block of each, and tells the
 /// objects of its events once it is written. It answers why not all of this was done.
@@ -64,7 +70,7 @@ pub fn emit_front<R: Threads + Wait + Sync, G: Gate, K: Sink, O: Standing>(
         return Err(Why::Memory);
     };
     let queries = evaluator.engine.queries();
-    write_blocks(
+    write_front(
         &mut evaluator.block,
         queries,
         position,
@@ -103,8 +109,66 @@ fn find_steps<R: Threads + Wait + Sync, G: Gate>(
 }
 
 /// Writes the block of each of the entries, the first of which stands at this position, counted
-/// from 1, with the step in the entry's place. The objects are told of an entry's events as soon
-/// as its block was written whole.
+/// from 1, with the step in the entry's place, and tells the objects of the events of the blocks
+/// that were written whole. Where no object hears of them, all blocks go out in one write, unless
+/// they are long or there is no memory for that; else each goes out by itself.
+fn write_front<K: Sink, O: Standing>(
+    text: &mut Vec<u8>,
+    queries: &[Compiled],
+    position: u64,
+    entries: &[Entry],
+    steps: &[Step],
+    events: &mut K,
+    circle: &mut Circle<O>,
+) -> Result<(), Why>
+    requires plain { All IsPlain entries.now }
+    requires numbers { All (λ step. All (λ event. event.query < length queries.now) step.events)
+        steps.now }
+    requires as_many { length steps.now ≡ length entries.now }
+    requires short { position + length entries.now < 2 ^ 32 }
+    ensures blocks { WritesBlocks (definitions_of queries.now) position entries.now steps.now
+        result (K.written events.old) (K.written events.new)
+        (as_seen O.seen circle.old) (as_seen O.seen circle.new) }
+    ensures counted { CountsFault (result ≡ Err Why.Write)
+        (K.faults events.old) (K.faults events.new) }
+{
+    if circle.members().is_empty() && are_few(steps) {
+        if let Ok(()) = make_blocks(text, position, entries, steps, queries) {
+            return put_text(events, text);
+        }
+    }
+    write_blocks(text, queries, position, entries, steps, events, circle)
+}
+
+/// Whether blocks with these steps are short enough to be kept in memory together.
+fn are_few(steps: &[Step]) -> bool {
+    let mut lines: usize = 0;
+    for step in steps {
+        lines = lines.saturating_add(step.events.len());
+        lines = lines.saturating_add(step.joined.len() / LEAST_LINE);
+    }
+    lines <= LINES_AT_ONCE
+}
+
+/// Writes this text on the events. The only reason why not all of it was written is
+/// [`Why::Write`].
+fn put_text<K: Sink>(events: &mut K, text: &[u8]) -> Result<(), Why>
+    ensures ok { OnOk result
+        (K.written events.new ≡ append_known (K.written events.old) text.now) }
+    ensures part { OnErr result
+        (WritesProperPrefix text.now (K.written events.old) (K.written events.new)) }
+    ensures cause { IfErr result (λ why. why ≡ Why.Write) }
+    ensures counted { CountsFault (result ≡ Err Why.Write)
+        (K.faults events.old) (K.faults events.new) }
+{
+    match put_all(events, text) {
+        Ok(()) => Ok(()),
+        Err(_) => Err(Why::Write),
+    }
+}
+
+/// Writes the block of each of the entries by itself, as [`write_front`] does. The objects are told
+/// of an entry's events as soon as its block was written whole.
 fn write_blocks<K: Sink, O: Standing>(
     text: &mut Vec<u8>,
     queries: &[Compiled],

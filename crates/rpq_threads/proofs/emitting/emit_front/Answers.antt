@@ -21,8 +21,8 @@ returns-in_default-clause-stops g c =
     before (before ++ entries) (entries, refl)
     (g.K.Sink.written c.args.events.now) (as_seen g.O.Standing.seen c.args.circle.now)
 
-pub write_blocks-requires-clause-numbers : goal.write_blocks-requires-clause-numbers
-write_blocks-requires-clause-numbers g c =
+pub write_front-requires-clause-numbers : goal.write_front-requires-clause-numbers
+write_front-requires-clause-numbers g c =
     let old = c.args.evaluator.now in
     let new = c.find_steps.new.evaluator in
     let before = answered old c.args.pass.now in
@@ -31,8 +31,8 @@ write_blocks-requires-clause-numbers g c =
     numbers_found before old new c.args.entries.now c.deref.result.now finds
     c.find_steps.ensures.keeps c.queries-queries.result.now c.queries-queries.ensures
 
-pub write_blocks-requires-clause-as_many : goal.write_blocks-requires-clause-as_many
-write_blocks-requires-clause-as_many g c =
+pub write_front-requires-clause-as_many : goal.write_front-requires-clause-as_many
+write_front-requires-clause-as_many g c =
     let old = c.args.evaluator.now in
     let new = c.find_steps.new.evaluator in
     let before = answered old c.args.pass.now in
@@ -50,17 +50,17 @@ returns-clause-ok g c =
     let finds = subst (λ (steps : List StepValue). FindsSteps before new c.args.entries.now
     steps) (sym c.deref.ensures.value) c.in-Ok.ensures.steps in
     let start = g.K.Sink.written c.args.events.now in
-    let end = g.K.Sink.written c.write_blocks.new.events in
+    let end = g.K.Sink.written c.write_front.new.events in
     let first = as_seen seen c.args.circle.now in
-    let after = as_seen seen c.write_blocks.new.circle in
-    ok_then_both c.write_blocks.result
+    let after = as_seen seen c.write_front.new.circle in
+    ok_then_both c.write_front.result
     (λ wrote tells.
-    emits_with_block before old new (record new { block = c.write_blocks.new.text })
+    emits_with_block before old new (record new { block = c.write_front.new.text })
     c.args.entries.now start end first after
     (emits_all before old new c.args.entries.now c.deref.result.now finds
     c.find_steps.ensures.keeps c.queries-queries.result.now c.queries-queries.ensures
     c.requires.fed.keeps_up.stands (old.position + 1) refl start end first after wrote tells))
-    c.write_blocks.ensures.ok c.write_blocks.ensures.told
+    c.write_front.ensures.blocks.ok c.write_front.ensures.blocks.told
 
 pub returns-clause-stops : goal.returns-clause-stops
 returns-clause-stops g c =
@@ -70,12 +70,12 @@ returns-clause-stops g c =
     let seen = g.O.Standing.seen in
     let finds = subst (λ (steps : List StepValue). FindsSteps before new c.args.entries.now
     steps) (sym c.deref.ensures.value) c.in-Ok.ensures.steps in
-    err_with c.write_blocks.result _ _ (λ why is.
+    err_with c.write_front.result _ _ (λ why is.
     emits_stops before old new c.args.entries.now c.deref.result.now finds
     c.find_steps.ensures.keeps c.queries-queries.result.now c.queries-queries.ensures
     c.requires.fed.keeps_up.stands (old.position + 1) refl
-    (g.K.Sink.written c.args.events.now) (g.K.Sink.written c.write_blocks.new.events)
-    (as_seen seen c.args.circle.now) (as_seen seen c.write_blocks.new.circle) why
-    (λ same. c.write_blocks.ensures.write (is ∙ ap (λ (w : Why). Err w) same))
-    (λ same. c.write_blocks.ensures.memory (is ∙ ap (λ (w : Why). Err w) same)))
-    c.write_blocks.ensures.part
+    (g.K.Sink.written c.args.events.now) (g.K.Sink.written c.write_front.new.events)
+    (as_seen seen c.args.circle.now) (as_seen seen c.write_front.new.circle) why
+    (λ same. c.write_front.ensures.blocks.write (is ∙ ap (λ (w : Why). Err w) same))
+    (λ same. c.write_front.ensures.blocks.memory (is ∙ ap (λ (w : Why). Err w) same)))
+    c.write_front.ensures.blocks.part

@@ -12,7 +12,8 @@ use Rattle.rpq_text.specs.Steps.{StepValue}
 use Rattle.rpq_text.specs.Text.{blocks_from}
 use Rattle.standing.specs.Circles.{as_seen}
 use Rattle.rpq_threads.specs.Fed.{TellsOn, WritesAndTells}
-use Rattle.rpq_threads.proofs.Blocks.{read_at, proper_at, front_at}
+use Rattle.rpq_text.proofs.BlockLists.{read_at}
+use Rattle.rpq_threads.proofs.Blocks.{proper_at, front_at}
 use Rattle.rpq_threads.proofs.Fronts.{handed_err}
 use Rattle.rpq_threads.proofs.Tellings.{tells_nothing, written_with, told_with, block_stops}
 use Rattle.rpq_threads.proofs.Tellings.{tell_stops}
