@@ -17,11 +17,21 @@ use std::marker::Model;
 ///
 /// Contracts see the list of the answers, sorted by source and then target, each pair once. A
 /// source's row is shared by the copies that hold it, and so is each chunk of sources.
-#[derive(Debug, Drop)]
+#[derive(Debug)]
 pub struct Rows {
     pub(crate) alloc: Global,
     pub(crate) rows: SharedMap<Name, Row>,
     pub(crate) count: u128,
+}
+
+impl Drop for Rows {
+    fn drop(self) {
+        let Rows {
+            alloc: _alloc,
+            rows: _rows,
+            count: _count,
+        } = self;
+    }
 }
 
 impl Model for Rows {

@@ -12,10 +12,19 @@ use std::sync::Arc;
 
 /// The answers of several queries at a position of a history, each with its end. Queries are
 /// numbered from 0.
-#[derive(Debug, Drop)]
+#[derive(Debug)]
 pub struct View {
     position: u64,
     rows: Vec<Rows>,
+}
+
+impl Drop for View {
+    fn drop(self) {
+        let View {
+            position: _position,
+            rows: _rows,
+        } = self;
+    }
 }
 
 impl Model for View {
