@@ -1,6 +1,7 @@
 #!/usr/bin/env python3
 """tools/gate-in-pieces.py run KEPT [--without CRATE ..] [--no-edits]
 tools/gate-in-pieces.py give KEPT CLONE
+tools/gate-in-pieces.py check LANES [CRATE ..]
 
 `run` does at the top of a clone what `rt ci` does, by the kit's own code, but takes as passed what
 an earlier run passed over the same bytes. What passes is kept in the folder KEPT: the library of
@@ -11,7 +12,13 @@ names aren't tried, nor those above them; with `--no-edits` no edit is.
 `give` copies libraries that are kept into another clone, where all files of a crate and of those
 below it are the same, so that `rt check` there doesn't build them again.
 
-A verdict is still the gate's alone: `.ci/run`. Both also compute the sum of a crate's files once,
+`check` does at the top of a clone what `rt check` does, for all crates or for those that are named
+and all below them: so many side by side, each over what earlier checks of it kept, and each before
+those that stand on it. `rt` itself does one check at a time in a clone. What a check says is in
+out/check.log of its crate. Forty crates above a changed low one take some twelve minutes on four
+processors, where nothing else runs. Leave the clone's files as they are meanwhile.
+
+A verdict is still the gate's alone: `.ci/run`. All three also compute the sum of a crate's files once,
 where `rt` does so once for each way that leads down to the crate: for `rpq_run` that is minutes.
 """
 import argparse
@@ -21,6 +28,7 @@ import importlib.util
 import os
 import shutil
 import sys
+import time
 
 KIT = os.path.dirname(os.path.realpath(shutil.which("rt") or "/opt/rattle/bin/rt"))
 
@@ -160,6 +168,55 @@ def give(kept, clone):
     return 0
 
 
+def with_those_below(crates, names):
+    """The crates of these names and all below them, or all crates where no name is given."""
+    wanted = set(names)
+    for crate in crates:
+        if crate.name in names:
+            wanted.update(it.name for it in crate.below())
+    return [it for it in crates if it.name in wanted or not names]
+
+
+def checked(rt, crate, given):
+    """Checks the crate over kept work, and builds its library. Says how that went, in a line."""
+    lacking = [it.name for it in crate.below() if not given[it.name, "proof"]]
+    if lacking:
+        rt.say("%s: not checked, since %s isn't proved" % (crate.name, lacking[0]))
+        return False
+    started = time.time()
+    os.makedirs(crate.folder + "/out", exist_ok=True)
+    with open(crate.folder + "/out/check.log", "w") as crate.out:
+        if crate.is_program:
+            words = [*crate.words(["--jobs", "1"]), *rt.rtlib.KEPT, "--progress"]
+            status = crate.call(rt.rtlib.RATTLE, "check", *words)
+        else:
+            status = crate.build_rlib(["--jobs", "1"], anew=False)
+    said = "proved" if status == 0 else "NOT PROVED: %s/out/check.log" % crate.folder
+    rt.say("%s: %s (%.0f s)" % (crate.name, said, time.time() - started))
+    return status == 0
+
+
+def check(lanes, names):
+    rt = loaded("rt_main", KIT + "/rt")
+    sum_once(rt.rtlib.Crate)
+    rt.rtlib.guarded()
+    os.environ["RT_JOBS"] = str(lanes)
+    crates = with_those_below(rt.rtlib.crates_below(os.getcwd()), names)
+    held = rt.rtlib.lock(crates)
+    tasks = {
+        (it.name, "proof"): (
+            [(below.name, "proof") for below in it.below()],
+            it.count(rb"\n"),
+            0,
+            lambda given, _, it=it: checked(rt, it, given),
+        )
+        for it in sorted(crates, key=lambda it: len(it.below()))
+    }
+    given = rt.in_lanes(tasks)
+    del held
+    return 0 if all(given.values()) else 1
+
+
 def main():
     parser = argparse.ArgumentParser(description=__doc__.splitlines()[0])
     commands = parser.add_subparsers(dest="command", required=True)
@@ -170,7 +227,12 @@ def main():
     giving = commands.add_parser("give")
     giving.add_argument("kept")
     giving.add_argument("clone")
+    checking = commands.add_parser("check")
+    checking.add_argument("lanes", type=int)
+    checking.add_argument("names", nargs="*")
     asked = parser.parse_args()
+    if asked.command == "check":
+        return check(asked.lanes, asked.names)
     if asked.command == "run":
         return run(os.path.abspath(asked.kept), set(asked.without), not asked.no_edits)
     return give(os.path.abspath(asked.kept), os.path.abspath(asked.clone))
