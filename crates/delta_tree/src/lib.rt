@@ -29,8 +29,6 @@ mod node;
 mod node_map;
 mod nodes;
 mod ranks;
-#[cfg(test)]
-mod tests;
 mod tree;
 
 pub use laws::{changes_of_trees, order_of_trees, paths_of_trees};

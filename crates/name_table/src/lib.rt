@@ -12,7 +12,5 @@ mod bytes_order;
 mod names;
 mod ranks;
 mod sort_key;
-#[cfg(test)]
-mod tests;
 
 pub use names::Names;

@@ -17,8 +17,6 @@ mod kept;
 mod laws;
 mod pass;
 mod rule;
-#[cfg(test)]
-mod tests;
 mod turns;
 mod view;
 

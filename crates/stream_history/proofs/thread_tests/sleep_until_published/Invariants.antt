@@ -1,6 +1,0 @@
-use Rattle.std.proofs.Common.{◌≡◌}
-use Rattle.stream_history.specs.History.{IsOpenPass}
-use Rattle.stream_history.proofs.thread_tests.sleep_until_published.Given as goal
-
-abbrev pub invariant-loop : goal.invariant-loop
-invariant-loop g l = IsOpenPass l.history l.pass × (l.pass.number ≡ l.initial.pass.number)
