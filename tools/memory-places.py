@@ -24,8 +24,6 @@ import sys
 EXCEPTIONS = {
     # The table's own fault has the slots alone, and no value of the allocator's.
     ("crates/turn_lock/src/ends.rt", "Err(Refused { slots }) => Err((only(slots), Memory)),"),
-    # A limit: positions of entries are numbers of 64 bits.
-    ("crates/path_witness/src/marks.rt", "return Err(Memory);"),
 }
 
 WORD = re.compile(r"(?<![\w:])(?:Memory|AllocError)\b(?!\s*::|\s*\w|\s*=>)")

@@ -1,6 +1,7 @@
 //! The best live entry of each edge, for each of some queries.
 
-ghost use Rattle.std.specs.Prelude.{◌≡◌, ◌++◌, ◌∷◌, [], List, Some, IfOk, OnOk, OnErr, slice_get};
+ghost use Rattle.std.specs.Prelude.{◌≡◌, ◌<◌, ◌+◌, ◌^◌, ◌++◌, ◌∷◌, [], List, Some, IfOk, OnOk};
+ghost use Rattle.std.specs.Prelude.{OnErr, slice_get};
 ghost use Rattle.rpq_base.specs.declared.data.Entry.{Entry as EntryTaken};
 ghost use Rattle.rpq_model.specs.Query.{Query};
 ghost use Rattle.path_witness.specs.Found.{IsFound};
@@ -91,20 +92,21 @@ impl Marks {
         })
     }
 
-    /// Takes one more entry. The only error is [`Memory`], after which nothing has changed.
+    /// Takes one more entry, while there are numbers left for its position. The only error is
+    /// [`Memory`], after which nothing has changed.
     ///
     /// It costs one look-up of the edge, and a deadline for each query. Now and then, after as many
     /// entries as there are edges, all edges are looked through, and those that no window holds go;
     /// so there are at most some entries more than twice as many edges as are live for a query.
     pub fn take(&mut self, entry: &Entry) -> Result<(), Memory>
+        requires { self.old.taken + 1 < 2 ^ 64 }
         ensures queries { self.new.queries ≡ self.old.queries }
+        ensures counted { OnOk result (self.new.taken ≡ self.old.taken + 1) }
         ensures taken { OnOk result ((history : List EntryTaken) → StandsFor self.old history →
             StandsFor self.new (history ++ entry.now ∷ [])) }
         ensures unchanged { OnErr result (self.new ≡ self.old) }
     {
-        let Some(position) = self.taken.checked_add(1) else {
-            return Err(Memory);
-        };
+        let position = self.taken + 1;
         let queries = self.queries.as_slice();
         take_one(self.alloc, &mut self.rows, queries, position, entry)?;
         self.taken = position;
@@ -118,6 +120,7 @@ impl Marks {
         ensures stands { (history : List EntryTaken) → StandsFor self.old history →
             StandsFor self.new history }
         ensures queries { self.new.queries ≡ self.old.queries }
+        ensures taken { self.new.taken ≡ self.old.taken }
     {
         if self.until_look > 0 {
             self.until_look -= 1;

@@ -1,10 +1,12 @@
 //! Paths of entries, and marks of edges.
 
+ghost use Rattle.std.specs.Prelude.{◌≡◌};
+
 use crate::queries::queries_of;
 use anyhow::ensure;
 use case_lines::{Fields, Output, decoded, entries_of, parts};
 use path_witness::{Mark, Marks, ShownPath, cut_loops, is_shown};
-use rpq_base::{Act, Copied, Edge, Label, Name, Pair};
+use rpq_base::{Act, Copied, Edge, Entry, Label, Name, Pair};
 use std::alloc::Global;
 use std::random::RandomSource;
 use std::sync::Arc;
@@ -35,9 +37,21 @@ pub fn answer_marks<R: RandomSource>(
     let edge = edge_of(alloc, &mut fields)?;
     let entries = entries_of(alloc, fields.rest())?;
     let mut marks = Marks::new(rt, alloc, Arc::new(alloc, queries)?)?;
-    for entry in &entries {
+    put_marks(out, &mut marks, &entries, &edge)
+}
+
+/// What the first query knows of the edge after each of the entries.
+fn put_marks(
+    out: &mut Output,
+    marks: &mut Marks,
+    entries: &[Entry],
+    edge: &Edge,
+) -> anyhow::Result<()>
+    requires { marks.old.taken ≡ 0 }
+{
+    for entry in entries {
         marks.take(entry)?;
-        put_mark(out, marks.find(0, &edge))?;
+        put_mark(out, marks.find(0, edge))?;
     }
     Ok(())
 }

@@ -1,10 +1,11 @@
 -- What the entries bring that the engine answered: their events, what is shown of them, and what
 -- the conjunctions tell.
-use Rattle.std.proofs.Common.{◌≡◌, ℕ, zero, suc, ◌+◌, ◌<◌, ◌≤◌, Bool, true, false}
+use Rattle.std.proofs.Common.{◌≡◌, ℕ, zero, suc, ◌+◌, ◌^◌, ◌<◌, ◌≤◌, Bool, true, false}
 use Rattle.std.proofs.Common.{List, [], ◌∷◌, ◌++◌, length, map, get_or, take, cond}
 use Rattle.std.proofs.Common.{Option, Some, None, slice_get}
-use Rattle.std.proofs.Common.{refl, sym, ap, subst, ◌∙◌, ⊎_elim, arith, append-nil, Vec, Global}
-use Rattle.std.specs.Prelude.{Contains}
+use Rattle.std.proofs.Common.{refl, sym, ap, subst, ◌∙◌, ⊎_elim, arith, append-nil, length-append}
+use Rattle.std.proofs.Common.{Vec, Global}
+use Rattle.std.specs.Prelude.{Contains, IfSome}
 use Rattle.std.specs.List.{All}
 use Rattle.std.proofs.lemmas.Bool.{false≢true}
 use Rattle.std.proofs.lemmas.List.Elements.{All-nil, All-cons, All-head, All-tail, All-weaker}
@@ -277,6 +278,18 @@ pub found_may_take : EventsLeadOn → (options : OptionsValue) (engine : EngineV
 found_may_take law options engine marks joins before later lists found =
     may_take_each law options.two_way (definitions engine) options.joins later before lists joins
     found.events found.joined
+
+-- marks that are there have numbers left for the entries, since the engine counts them as well
+pub few_taken : (options : OptionsValue) (engine : EngineValue) (marks : Option MarksValue)
+    (joins : Option JoinsValue) (before later : List Entry) (lists : List (List Event)) →
+    AreFound options engine marks joins before later lists → engine.position < 2 ^ 64 →
+    IfSome marks (λ (own : MarksValue). own.taken + length later < 2 ^ 64)
+few_taken options engine None joins before later lists found below = tt
+few_taken options engine (Some own) joins before later lists found below =
+    let forwards = found.forwards found.marked.0 in
+    let all : engine.position ≡ length (before ++ later) = found.stands.counted
+    ∙ ap (λ (two_way : Bool). length (walked two_way (before ++ later))) forwards in
+    omega (arith, found.marked.2.counted, all, length-append before later, below)
 
 pub steps_follow : EventsLeadOn → HaveJoinEvents → (options : OptionsValue) (engine : EngineValue)
     (old new : Option MarksValue) (joins_old joins_new : Option JoinsValue)

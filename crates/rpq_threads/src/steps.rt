@@ -1,10 +1,11 @@
 //! What entries bring: their events, the paths that show those which gain a pair, and the lines of
 //! the bindings that conjunctions lose and gain.
 
-ghost use Rattle.std.specs.Prelude.{◌≡◌, ◌++◌, List, map, All, IfOk, OnOk};
+ghost use Rattle.std.specs.Prelude.{◌≡◌, ◌<◌, ◌+◌, ◌^◌, ◌++◌, List, length, map, All, IfOk, IfSome};
+ghost use Rattle.std.specs.Prelude.{OnOk};
 ghost use Rattle.rpq_base.specs.declared.data.Entry.{Entry as EntryTaken};
 ghost use Rattle.path_engine.specs.Engine.{definitions};
-ghost use Rattle.path_witness.specs.Marks.{StandsFor as MarksStandFor};
+ghost use Rattle.path_witness.specs.Marks.{MarksValue, StandsFor as MarksStandFor};
 ghost use Rattle.rpq_text.specs.Steps.{OptionsValue, IsShown, AreShown, additions};
 ghost use Rattle.rpq_text.specs.Steps.{events_of, lines_of};
 ghost use Rattle.rpq_threads.specs.Joining.{MayTakeEach, TakesEach};
@@ -43,12 +44,14 @@ pub fn take_steps(
 {
     events_lead_on(); // these are called for their clauses
     accepted_queries_have_join_events();
+    let _position = engine.position(); // a number, so one more is left for each of the entries
     take_entries(marks, entries)?;
     make_steps(alloc, engine, marks, joins, found)
 }
 
 /// Marks that are there take the entries. The only error is [`Memory`].
 fn take_entries(marks: &mut Option<Marks>, entries: &[Entry]) -> Result<(), Memory>
+    requires { IfSome marks.old (λ (own : MarksValue). own.taken + length entries.now < 2 ^ 64) }
     ensures { OnOk result (TakesAll marks.old entries.now marks.new) }
 {
     match marks {
@@ -59,6 +62,7 @@ fn take_entries(marks: &mut Option<Marks>, entries: &[Entry]) -> Result<(), Memo
 
 /// The marks take the entries. The only error is [`Memory`].
 fn take_each(marks: &mut Marks, entries: &[Entry]) -> Result<(), Memory>
+    requires { marks.old.taken + length entries.now < 2 ^ 64 }
     ensures queries { marks.new.queries ≡ marks.old.queries }
     ensures taken { OnOk result ((history : List EntryTaken) → MarksStandFor marks.old history
         → MarksStandFor marks.new (history ++ entries.now)) }

@@ -1,12 +1,21 @@
-use Rattle.std.proofs.Common.{◌≡◌, List, All, map, Vec, Global}
+use Rattle.std.proofs.Common.{◌≡◌, ◌<◌, ◌^◌, List, All, map, Vec, Global, arith}
 use Rattle.rpq_base.specs.declared.data.Entry.{Entry}
 use Rattle.rpq_base.specs.declared.data.Event.{Event}
 use Rattle.rpq_text.specs.Steps.{OptionsValue, StepValue, events_of, lines_of}
 use Rattle.rpq_threads.specs.Joining.{TakesEach}
 use Rattle.rpq_threads.specs.Showing.{MayShow, AreShownBy, AreFound, AreStepsOf}
 use Rattle.rpq_threads.proofs.Fronts.{ok_from_three}
-use Rattle.rpq_threads.proofs.Showing.{each_given, each_may_show, found_may_take, steps_follow}
+use Rattle.rpq_threads.proofs.Showing.{each_given, each_may_show, few_taken, found_may_take}
+use Rattle.rpq_threads.proofs.Showing.{steps_follow}
 use Rattle.rpq_threads.proofs.steps.take_steps.Goals as goal
+
+pub take_entries-requires : goal.take_entries-requires
+take_entries-requires c =
+    let given = c.requires.found in
+    let engine = c.args.engine.now in
+    let below : engine.position < 2 ^ 64 = omega (arith, c.position.ensures) in
+    few_taken given.0 engine c.args.marks.now c.args.joins.now given.1 c.args.entries.now
+    (map (λ (own : Vec Event Global). own.items) c.args.found.items) given.2 below
 
 pub make_steps-requires-clause-may_show : goal.make_steps-requires-clause-may_show
 make_steps-requires-clause-may_show c =

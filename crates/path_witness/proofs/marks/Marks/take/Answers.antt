@@ -9,8 +9,7 @@ pub returns-clause-taken : goal.returns-clause-taken
 returns-clause-taken c history stands =
     let entry = c.args.entry.now in
     let before : StandsFor _ history = subst (λ (marks : MarksValue). StandsFor marks history) (sym c.self.view_is) stands in
-    let next : c.in-Some.position ≡ c.self.inside.taken + 1 = search rules in
-    let position : c.in-Some.position ≡ length history + 1 = next ∙ ap (λ (count : ℕ). count + 1) before.counted in
+    let position : c.self.inside.taken + 1 ≡ length history + 1 = ap (λ (count : ℕ). count + 1) before.counted in
     let queries_are : c.self.inside.queries.value.items ≡ c.as_slice-queries.result.now = search rules in
     let kept = c.in_ok-take_one.ensures.taken history position
     (subst (λ (queries : List Query). KeepFor queries history c.self.inside.rows.entries) queries_are before.kept) in
