@@ -1,6 +1,6 @@
 //! Texts that are read line by line.
 
-ghost use Rattle.std.specs.Prelude.{◌≡◌, ℕ, List, Result, Ok, Err, IfOk, IfErr};
+ghost use Rattle.std.specs.Prelude.{◌≡◌, ℕ, List, length, Result, Ok, Err, IfOk, IfErr};
 ghost use Rattle.text_parts.specs.Lines.{lines};
 ghost use Rattle.text_parts.specs.Reading.{reached};
 
@@ -46,6 +46,7 @@ pub fn read_lines<R: LineReader>(
     requires { R.can_read reader.now }
     ensures ok { IfOk result (λ read.
         reached (R.step reader.now) 0 start (lines bytes.now) ≡ Ok read.0) }
+    ensures count { IfOk result (λ read. read.1 ≡ length (lines bytes.now)) }
     ensures err { IfErr result (λ fault. R.told fault →
         reached (R.step reader.now) 0 start (lines bytes.now) ≡ Err fault) }
 {

@@ -1,4 +1,5 @@
-use Rattle.std.proofs.Common.{◌+◌, ap, sym, ◌∙◌, arith}
+use Rattle.std.proofs.Common.{◌+◌, ℕ, List, length, map, ap, sym, ◌∙◌, arith}
+use Rattle.text_parts.specs.Lines.{without_return}
 use Rattle.text_parts.proofs.LineByLine.{err_out, turn, stop, end}
 use Rattle.text_parts.proofs.reading.read_lines.Goals as goal
 
@@ -13,6 +14,11 @@ loop-line-preserved g c =
       so_far = turn step loop.rest.now c.in-Some.line.now c.in-Some.after.now loop.progress _ loop.count _
           loop.invariant.so_far c.in-Some.ensures.first (line ∙ c.in_ok-progress.ensures.ok);
       counted = omega (arith, shorter, counted);
+      numbered = omega (
+        arith,
+        loop.invariant.numbered,
+        ap (λ (raw : List (List ℕ)). length (map without_return raw)) c.in-Some.ensures.first,
+      );
     }
 
 pub returns-in_err-progress-clause-err : goal.returns-in_err-progress-clause-err
@@ -29,3 +35,10 @@ returns-clause-ok g c =
     let loop = c.loop-line in
     end (g.R.LineReader.step c.args.reader.now) loop.rest.now loop.progress loop.count _ loop.invariant.so_far
     c.in_default.ensures.end
+
+pub returns-clause-count : goal.returns-clause-count
+returns-clause-count g c = omega (
+  arith,
+  c.loop-line.invariant.numbered,
+  ap (λ (raw : List (List ℕ)). length (map without_return raw)) c.in_default.ensures.end,
+)

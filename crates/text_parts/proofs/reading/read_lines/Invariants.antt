@@ -9,6 +9,7 @@ invariant-loop-line g l = record {
   so_far : reached (g.R.LineReader.step l.reader) l.count l.progress (lines l.rest)
       ≡ reached (g.R.LineReader.step l.reader) 0 l.fn.start (lines l.bytes);
   counted : l.count + length l.rest ≤ length l.bytes;
+  numbered : l.count + length (lines l.rest) ≡ length (lines l.bytes);
 }
 
 -- the bytes that are left
