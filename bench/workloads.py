@@ -30,6 +30,11 @@ one query over a window that nothing leaves. It has a size:
   names-255         so many sources reach a hub, which gets forty leaves; all names have 255 bytes,
                     of which the first 249 are the same
   names-16          the same with names that are the same in the first 16 of 22 bytes
+  sources-toggled   so many sources reach a vertex, and each edge is removed and inserted again
+  states-removed    so many sources reach a vertex, and one edge is removed and inserted, so many
+                    times, where the automaton has hundreds of states
+  states-apart      so many sources reach a vertex, up to 512 of them in states of their own, and
+                    edges leave it
 
 The files are DIR/ATTACK-SIZE.txt and DIR/ATTACK.queries.
 
@@ -45,6 +50,7 @@ pair and one binding:
 """
 
 import argparse
+import itertools
 import os
 import random
 
@@ -271,6 +277,34 @@ def names_16(size):
     return long_names("n" * 16, size)
 
 
+def sources(size):
+    for number in range(size):
+        yield f"source{number} a vertex +"
+
+
+def sources_toggled(size):
+    yield from sources(size)
+    for number in range(size):
+        yield from toggled(f"source{number} a vertex", 2)
+
+
+def states_removed(size):
+    yield from sources(size)
+    yield from toggled("source0 a vertex", size)
+
+
+def states_apart(size):
+    """Sources that reach one vertex, each by another word, and edges that leave that vertex."""
+    words = ["".join(letters) for letters in itertools.product("ab", repeat=9)]
+    random.Random("states apart").shuffle(words)
+    for number in range(size):
+        path = [f"source{number}", *(f"on{number}-{place}" for place in range(8)), "vertex"]
+        for source, label, target in zip(path, words[number % len(words)], path[1:]):
+            yield f"{source} {label} {target} +"
+    for number in range(200):
+        yield f"vertex a leaf{number} +"
+
+
 # The streams that attack, each with the expression of its query and what makes its lines but for
 # their times.
 ATTACKS = {
@@ -284,6 +318,9 @@ ATTACKS = {
     "other-label": ("a+|b/c", other_label),
     "names-255": ("(a|b)*", names_255),
     "names-16": ("(a|b)*", names_16),
+    "sources-toggled": ("a", sources_toggled),
+    "states-removed": ("a/(a|b)*/a" + "/(a|b)" * 7, states_removed),
+    "states-apart": ("(a|b)*/a" + "/(a|b)" * 8, states_apart),
 }
 
 

@@ -1,5 +1,5 @@
 -- The roots that a change may touch, gathered place by place.
-use Rattle.std.proofs.Common.{◌≡◌, ◌≢◌, ℕ, ◌+◌, ◌<◌, ◌≤◌, Bool, true, false, cond, ◌==◌, ◌||◌, List, [], ◌∷◌, ◌++◌, length, Option, Some, None, refl, sym, ap, subst, ◌∙◌, ◌⊎◌, inl, inr, ⊎_elim, Contains, arith}
+use Rattle.std.proofs.Common.{◌≡◌, ◌≢◌, ℕ, ◌+◌, ◌<◌, ◌≤◌, Bool, false, cond, ◌==◌, ◌||◌, List, [], ◌∷◌, ◌++◌, length, Option, Some, None, refl, sym, ap, subst, ◌∙◌, ◌⊎◌, inl, inr, ⊎_elim, Contains, arith}
 use Rattle.std.specs.Prelude.{◌↔◌, IsSome, is_some, option_map}
 use Rattle.std.specs.Option.{option_or}
 use Rattle.std.specs.List.{IsDistinct, list_any}
@@ -15,14 +15,13 @@ use Rattle.edge_store.specs.Edges.{Edges}
 use Rattle.dfa_table.specs.DfaValue.{DfaValue, step_of}
 use Rattle.delta_tree.specs.declared.node.NodeId.{NodeId}
 use Rattle.delta_tree.specs.Nodes.{node_id, node_of, root_id}
-use Rattle.delta_tree.specs.Paths.{HangsBy}
-use Rattle.source_tree.specs.declared.change.Change.TheVariants.{Raise, Remove, Expire}
+use Rattle.source_tree.specs.declared.change.Change.TheVariants.{Raise, Expire}
 use Rattle.source_tree.specs.Ends.{SourceValue}
 use Rattle.source_index.specs.Dues.{DuesValue}
 use Rattle.source_index.specs.Holders.{HoldersValue, Holds, roots_at}
 use Rattle.source_table.specs.Sources.{AreApart, roots_of, source_in}
 use Rattle.delta_forest.specs.Keeping.{IsKept}
-use Rattle.delta_forest.specs.Candidates.{Adds, AddsSource, AreCandidates, AreInOrder, AreRaised, AreTaken, IsBareAt, IsHeldBySome, IsRaisedAt, IsRemovedAt}
+use Rattle.delta_forest.specs.Candidates.{Adds, AddsSource, AreCandidates, AreInOrder, AreRaised, AreTaken, IsBareAt, IsHeldBySome, IsRaisedAt}
 use Rattle.delta_forest.specs.declared.index.Index.{Index}
 use Rattle.delta_forest.proofs.Sources.{found_or_not, found_root, some_found}
 
@@ -256,44 +255,6 @@ module _ (dfa : DfaValue) (store : Edges) (calls : ℕ) (index : Index)
         dues = λ root unlisted. refl;
         still = refl;
       }
-
-  pub remove_candidates : (edge : EdgeId) (roots : List ℕ) →
-      AreInOrder (IsRemovedAt index.sources index.holders edge) roots →
-      AreCandidates (Remove edge) (step_of dfa) index index roots
-  remove_candidates edge roots are = record {
-    sorted = are.sorted;
-    apart = kept.apart;
-    stays = λ root source found. found;
-    only = λ root source found. inl found;
-    starts = tt;
-    elsewhere = λ root source found unlisted id hangs.
-        let sound = kept.sound root source found in
-        let stands = sound.tree id hangs.0 hangs.1 in
-        let at : id ≡ node_id edge.to id.state =
-        ap (λ (vertex : ℕ). node_id vertex id.state)
-        (sym (ap (λ (each : EdgeId). each.to) (sym hangs.2) ∙ stands.joins.ends)) in
-        let holds = (kept.held root id).1
-        (record { source = source; node = hangs.0; found = found; there = hangs.1 }) in
-        unlisted ((are.exact root).1 (
-          id.state,
-          (
-            subst (λ (each : NodeId). Holds index.holders each root) at holds,
-            (source, found, subst (HangsBy source.tree edge) at hangs),
-          ),
-        ));
-    reason = λ root member.
-        let has = (are.exact root).0 member in
-        let source = has.1.1 in
-        record {
-          source = source.0;
-          id = node_id edge.to has.0;
-          found = source.1;
-          hangs = source.2;
-        };
-    holders = refl;
-    dues = λ root unlisted. refl;
-    still = refl;
-  }
 
   pub expire_candidates : (now : ℕ) (dues : DuesValue) (roots : List ℕ) →
       AreTaken index.dues dues now roots →

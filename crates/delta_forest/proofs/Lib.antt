@@ -15,4 +15,5 @@ pub mod Unchanged
 pub mod Holding
 pub mod Chains
 pub mod Gathering
+pub mod Removals
 pub mod BestPaths

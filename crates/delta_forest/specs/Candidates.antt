@@ -82,10 +82,27 @@ abbrev pub IsHungAt : List SourceValue → EdgeId → NodeId → ℕ → Type 0
 IsHungAt sources edge id root = (source : SourceValue) × (source_in sources root ≡ Some source)
     × HangsBy source.tree edge id
 
--- and the root is held there
-abbrev pub IsHungBy : List SourceValue → HoldersValue → EdgeId → NodeId → ℕ → Type 0
-IsHungBy sources holders edge id root =
-    Holds holders id root × IsHungAt sources edge id root
+-- and the root is held at this other place
+abbrev pub IsHungBy : List SourceValue → HoldersValue → EdgeId → NodeId → NodeId → ℕ → Type 0
+IsHungBy sources holders edge place id root =
+    Holds holders place root × IsHungAt sources edge id root
+
+-- the tree of the root hangs by the edge where this ends, with the state that follows this one
+abbrev pub IsHungAfter : List SourceValue → (ℕ → ℕ → Option ℕ) → EdgeId → ℕ → ℕ → Type 0
+IsHungAfter sources step edge state root =
+    (next : ℕ) × (step state edge.label ≡ Some next)
+    × IsHungAt sources edge (node_id edge.to next) root
+
+-- so it does after the start, and the root is the vertex that the edge leaves
+abbrev pub IsHungRoot : List SourceValue → (ℕ → ℕ → Option ℕ) → EdgeId → ℕ → Type 0
+IsHungRoot sources step edge root =
+    (root ≡ edge.from) × IsHungAfter sources step edge 0 root
+
+-- or after this state, and the root is held where the edge leaves, with this state
+abbrev pub IsHungOver : List SourceValue → HoldersValue → (ℕ → ℕ → Option ℕ) → EdgeId →
+    ℕ → ℕ → Type 0
+IsHungOver sources holders step edge state root =
+    Holds holders (node_id edge.from state) root × IsHungAfter sources step edge state root
 
 -- those that the raise of an edge may touch
 abbrev pub IsRaisedAt : HoldersValue → (ℕ → ℕ → Option ℕ) → EdgeId → ℕ → Type 0
@@ -118,10 +135,32 @@ pub record AreRaised (old new : List SourceValue) (holders : HoldersValue)
   pub starts : (start : List ℕ) × StartsBy old new step edge [] start
   pub order : AreInOrder (IsRaisedAt holders step edge) roots
 
--- those that its removal may touch
+-- those that its removal may touch, by what is held where it ends
 abbrev pub IsRemovedAt : List SourceValue → HoldersValue → EdgeId → ℕ → Type 0
 IsRemovedAt sources holders edge root =
-    (state : ℕ) × IsHungBy sources holders edge (node_id edge.to state) root
+    (state : ℕ)
+    × IsHungBy sources holders edge (node_id edge.to state) (node_id edge.to state) root
+
+-- and by what is held where it leaves
+abbrev pub IsRemovedFrom : List SourceValue → HoldersValue → (ℕ → ℕ → Option ℕ) → EdgeId →
+    ℕ → Type 0
+IsRemovedFrom sources holders step edge root =
+    IsHungRoot sources step edge root
+    ⊎ ((state : ℕ) × IsHungOver sources holders step edge state root)
+
+-- those are added, by what is held at the one end or the other
+abbrev pub AddsHanging : List SourceValue → HoldersValue → (ℕ → ℕ → Option ℕ) → EdgeId →
+    List ℕ → List ℕ → Type 0
+AddsHanging sources holders step edge old new =
+    Adds old new (IsRemovedAt sources holders edge)
+    ⊎ Adds old new (IsRemovedFrom sources holders step edge)
+
+-- and are in order
+abbrev pub AreRemoved : List SourceValue → HoldersValue → (ℕ → ℕ → Option ℕ) → EdgeId →
+    List ℕ → Type 0
+AreRemoved sources holders step edge roots =
+    AreInOrder (IsRemovedAt sources holders edge) roots
+    ⊎ AreInOrder (IsRemovedFrom sources holders step edge) roots
 
 -- the roots are those whose numbers were at most the clock, in order
 pub record AreTaken (old new : DuesValue) (now : ℕ) (roots : List ℕ) : Type 0 where

@@ -1,13 +1,15 @@
 //! The roots whose trees a change may touch.
 
-ghost use Rattle.std.specs.Prelude.{◌≡◌, ◌↔◌, ◌+◌, ◌^◌, ◌<◌, ℕ, [], Contains, IsSome, IsTrue, OnOk, Some};
+ghost use Rattle.std.specs.Prelude.{◌≡◌, ◌+◌, ◌^◌, ◌<◌, ℕ, [], Contains, OnOk};
 ghost use Rattle.edge_store.specs.Edges.{Edges};
 ghost use Rattle.dfa_table.specs.DfaValue.{step_of};
 ghost use Rattle.delta_forest.specs.Changes.{RaisesSmall};
 ghost use Rattle.delta_forest.specs.Keeping.{IsKept};
-ghost use Rattle.delta_forest.specs.Candidates.{Adds, AddsSource, AreCandidates, AreInOrder, AreRaised, AreTaken, IsHeldBy, IsHeldBySome, IsHungAt, IsHungBy, IsRemovedAt, StartsBy};
+ghost use Rattle.delta_forest.specs.Candidates.{Adds, AddsSource, AreCandidates, AreInOrder, AreRaised, AreRemoved, AreTaken, IsHeldBy, IsHeldBySome, StartsBy};
 
+use crate::hanging::add_hanging;
 use crate::index::Index;
+use crate::steps::has_step;
 use delta_tree::NodeId;
 use dfa_table::Dfa;
 use edge_store::EdgeId;
@@ -39,17 +41,6 @@ fn add_source(alloc: Global, sources: &mut SourceTable, root: u32) -> Result<(),
     let source = SourceTree::new(alloc, root)?;
     sources.add(source)?;
     Ok(())
-}
-
-/// Whether the automaton has a step by the label from the state. It has none from a state that it
-/// hasn't got.
-fn has_step(dfa: &Dfa, state: u32, label: u32) -> bool
-    ensures { IsTrue result ↔ IsSome (step_of dfa.now state label) }
-{
-    if state >= dfa.states() {
-        return false;
-    }
-    dfa.step(state, label).is_some()
 }
 
 /// Adds the roots that are held where the edge leaves, with this state, if there is a step by it.
@@ -106,51 +97,6 @@ fn add_start(
     Ok(())
 }
 
-/// Whether the tree of the root hangs there by the edge.
-fn hangs(sources: &SourceTable, root: u32, id: NodeId, edge: EdgeId) -> bool
-    ensures { IsTrue result ↔ IsHungAt sources.now edge id root }
-{
-    match sources.get(root) {
-        Some(source) => source.hangs_by(id.vertex, id.state, edge),
-        None => false,
-    }
-}
-
-/// Adds the root, where its tree hangs there by the edge.
-fn add_if_hung(
-    sources: &SourceTable,
-    edge: EdgeId,
-    id: NodeId,
-    root: u32,
-    roots: &mut Vec<u32>,
-) -> Result<(), Memory>
-    ensures { OnOk result (Adds roots.old.items roots.new.items
-        (λ each. (each ≡ root) × IsHungAt sources.now edge id each)) }
-{
-    if hangs(sources, root, id, edge) {
-        roots.push(root)?;
-        return Ok(());
-    }
-    Ok(())
-}
-
-/// Adds the roots that are held at the place, where their trees hang by the edge.
-fn add_hung(
-    sources: &SourceTable,
-    holders: &Holders,
-    edge: EdgeId,
-    id: NodeId,
-    roots: &mut Vec<u32>,
-) -> Result<(), Memory>
-    ensures { OnOk result (Adds roots.old.items roots.new.items
-        (IsHungBy sources.now holders.now edge id)) }
-{
-    for root in holders.at(id) {
-        add_if_hung(sources, edge, id, *root, roots)?;
-    }
-    Ok(())
-}
-
 /// Adds those that the raise of an edge may touch.
 fn add_raised(
     alloc: Global,
@@ -171,25 +117,19 @@ fn add_raised(
     Ok(())
 }
 
-/// Adds those that its removal may touch: with each state with which a node stands where the edge
-/// ends, those whose trees hang there by it.
+/// Adds those that its removal may touch.
 fn add_removed(
     sources: &SourceTable,
     holders: &Holders,
+    dfa: &Dfa,
     edge: EdgeId,
     roots: &mut Vec<u32>,
 ) -> Result<(), Memory>
     requires { roots.old.items ≡ [] }
     ensures { OnOk result
-        (AreInOrder (IsRemovedAt sources.now holders.now edge) roots.new.items) }
+        (AreRemoved sources.now holders.now (step_of dfa.now) edge roots.new.items) }
 {
-    for state in holders.states_at(edge.to) {
-        let place = NodeId {
-            vertex: edge.to,
-            state: *state,
-        };
-        add_hung(sources, holders, edge, place, roots)?;
-    }
+    add_hanging(sources, holders, dfa, edge, roots)?;
     put_in_order(roots);
     Ok(())
 }
@@ -223,7 +163,7 @@ pub(crate) fn find_candidates(
         Change::Raise { edge, .. } => {
             add_raised(alloc, &mut index.sources, &index.holders, dfa, edge, roots)
         }
-        Change::Remove(edge) => add_removed(&index.sources, &index.holders, edge, roots),
+        Change::Remove(edge) => add_removed(&index.sources, &index.holders, dfa, edge, roots),
         Change::Expire(now) => add_expired(&mut index.dues, now, roots),
     }
 }

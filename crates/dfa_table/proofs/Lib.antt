@@ -1,3 +1,5 @@
+mod Joined
+mod Listed
 mod Rows
 pub mod Numbering
 pub mod Order

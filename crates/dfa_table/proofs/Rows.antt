@@ -6,7 +6,9 @@ use Rattle.std.proofs.lemmas.List.{get_or-take, get_or-drop, get_or_read, drop-d
 use Rattle.std.proofs.lemmas.List.Elements.{All-head, All-tail}
 use Rattle.rpq_base.specs.declared.data.Label.{Label}
 use Rattle.dfa_table.specs.DfaValue.{DfaValue, IsDfa, step_of}
+use Rattle.dfa_table.specs.Befores.{list_at, AreBefores}
 use Rattle.dfa_table.specs.Table.{rows_of, value_of_table, IsTable}
+use Rattle.dfa_table.proofs.Listed.{HasBefores, found_before}
 
 -- there are as many rows as were asked for
 pub length-rows_of : (count width : ℕ) (steps : List (Option ℕ)) → length (rows_of width count steps) ≡ count
@@ -83,10 +85,22 @@ value_of_joined items labels rows steps finals even as_many joined =
     ∙ rows_of_joined items rows (length labels) even) in
     λ i. record { labels = labels; rows = same i; finals = finals }
 
--- that table is one of an automaton where the rows are
-pub table_of_joined : {R : Type 0} (items : R → List (Option ℕ)) (labels : List Label) (rows : List R) (steps : List (Option ℕ)) (finals : List Bool) →
-    IsDfa (record { labels = labels; rows = map items rows; finals = finals }) → steps ≡ flat_map items rows → IsTable labels steps finals
-table_of_joined items labels rows steps finals valid joined = record {
-  whole = ap length joined ∙ (length_joined items rows (length labels) valid.even ∙ ap (λ n. n * length labels) (sym (valid.finals ∙ length-map rows items)));
-  valid = subst IsDfa (sym (value_of_joined items labels rows steps finals valid.even valid.finals joined)) valid;
-}
+-- that table is one of an automaton where the rows are, with the states before each state
+pub table_of_joined : {R : Type 0} (items : R → List (Option ℕ)) (labels : List Label) (rows : List R) (steps : List (Option ℕ)) (finals : List Bool) (befores : List (List (List ℕ))) →
+    IsDfa (record { labels = labels; rows = map items rows; finals = finals }) → steps ≡ flat_map items rows → AreBefores (map items rows) (length labels) befores →
+    IsTable labels steps finals befores
+table_of_joined items labels rows steps finals befores valid joined are =
+    let same = value_of_joined items labels rows steps finals valid.even valid.finals joined in
+    record {
+      whole = ap length joined ∙ (length_joined items rows (length labels) valid.even ∙ ap (λ n. n * length labels) (sym (valid.finals ∙ length-map rows items)));
+      valid = subst IsDfa (sym same) valid;
+      back = subst (λ (d : DfaValue). AreBefores d.rows (length labels) befores) (sym same) are;
+    }
+
+-- what a look-up finds among the states before each state
+pub found_in_table : (labels : List Label) (steps : List (Option ℕ)) (finals : List Bool) (befores : List (List (List ℕ))) (dfa : DfaValue) (label state : ℕ) (list : List ℕ) →
+    value_of_table labels steps finals ≡ dfa → IsTable labels steps finals befores → list ≡ list_at (get_or befores label []) state →
+    HasBefores dfa.rows label state list
+found_in_table labels steps finals befores dfa label state list is table found =
+    subst (λ (d : DfaValue). HasBefores d.rows label state list) is
+    (found_before (value_of_table labels steps finals).rows (length labels) befores label state list table.valid.even table.back found)

@@ -1,4 +1,5 @@
 pub mod DfaValue
+pub mod Befores
 pub mod Table
 pub mod Runs
 pub mod Order

@@ -1,12 +1,13 @@
 //! The table of a deterministic automaton.
 
-ghost use Rattle.std.specs.Prelude.{◌≡◌, ◌<◌, ◌*◌, ◌^◌, ◌≤◌, map, length, IfOk, IfSome};
+ghost use Rattle.std.specs.Prelude.{◌≡◌, ℕ, ◌<◌, ◌*◌, ◌^◌, ◌≤◌, ◌↔◌, map, length, AllPairs, Contains, IfOk, IfSome, Some};
 ghost use Rattle.std.specs.List.{flat_map, position};
 ghost use Rattle.std.specs.List.Sorted.{IsStrictlySortedBy};
 ghost use Rattle.rpq_base.specs.Order.{label_cmp};
 ghost use Rattle.rpq_base.specs.Same.{same_label};
 ghost use Rattle.dfa_table.specs.DfaValue.{IsDfa, value_of, step_of, place_of, is_final};
 
+use crate::befores::{Befores, find_befores, list_by};
 use rpq_base::{Label, Memory};
 use std::alloc::Global;
 use std::marker::Model;
@@ -22,6 +23,8 @@ pub struct Dfa {
     /// The rows of all states, one after another.
     steps: Vec<Option<u32>>,
     finals: Vec<bool>,
+    /// For each label the states before each state.
+    befores: Vec<Befores>,
 }
 
 impl Model for Dfa {
@@ -33,7 +36,8 @@ impl Model for Dfa {
 
     ghost view = { λ dfa. value_of_table dfa.labels.items dfa.steps.items dfa.finals.items };
 
-    ghost invariant = { λ dfa. IsTable dfa.labels.items dfa.steps.items dfa.finals.items };
+    ghost invariant = { λ dfa.
+        IsTable dfa.labels.items dfa.steps.items dfa.finals.items dfa.befores.items };
 }
 
 /// The rows, each of this width, one after another.
@@ -76,10 +80,12 @@ impl Dfa {
             dfa ≡ value_of labels.items (map (λ row. row.items) rows.items) finals.items) }
     {
         let steps = join_rows(alloc, &rows, labels.len())?;
+        let befores = find_befores(alloc, &rows, labels.len())?;
         Ok(Dfa {
             labels,
             steps,
             finals,
+            befores,
         })
     }
 
@@ -123,6 +129,17 @@ impl Dfa {
             return None;
         }
         self.steps[state as usize * width + label as usize]
+    }
+
+    /// The states from which a step by the label of this number leads to the state, in order, each
+    /// once. None where the automaton lacks the state or the label. It takes no memory, and looks
+    /// at no other state.
+    pub fn before(&self, state: u32, label: u32) -> &[u32]
+        ensures before { (each : ℕ) → Contains result.now each
+            ↔ ((each < length self.now.rows) × (step_of self.now each label ≡ Some state)) }
+        ensures rising { AllPairs ◌<◌ result.now }
+    {
+        list_by(&self.befores, label, state)
     }
 
     /// Whether the state is final.

@@ -5,3 +5,4 @@ pub mod Covering
 pub mod Listing
 pub mod Changing
 pub mod Finals
+mod OwnStates

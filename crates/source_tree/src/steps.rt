@@ -1,8 +1,8 @@
 //! What each change does to the tree.
 
-ghost use Rattle.std.specs.Prelude.{◌^◌, ◌<◌, ℕ, All, IfOk, OnOk};
+ghost use Rattle.std.specs.Prelude.{◌≡◌, ◌^◌, ◌<◌, ℕ, All, Contains, IfOk, OnOk};
 ghost use Rattle.delta_tree.specs.Changes.{AreBelow, AreShifts, shift_ids};
-ghost use Rattle.tree_insert.specs.Trees.{IsLater, IsRisen, Keeps, WasOptimal};
+ghost use Rattle.tree_insert.specs.Trees.{CoversStates, IsLater, IsRisen, Keeps, WasOptimal};
 ghost use Rattle.tree_delete.specs.Removal.{KeepsApart, WasOptimalWith};
 ghost use Rattle.source_tree.specs.Product.{ProductValue, AreFinals, AreHeld, IsOptimalOn, steps_of, values_of};
 ghost use Rattle.source_tree.specs.Searching.{IsBlankFor};
@@ -13,7 +13,7 @@ ghost use Rattle.source_tree.specs.declared.change.Change.TheVariants.{Raise, Re
 use crate::change::Change;
 use crate::product::ProductGraph;
 use crate::report::{Report, report_search, report_shifts};
-use delta_tree::{Shift, Tree};
+use delta_tree::{NodeId, Shift, Tree};
 use edge_store::{EdgeId, Steps};
 use rpq_base::Memory;
 use std::alloc::Global;
@@ -22,8 +22,34 @@ use std::sync::ledger::{Blank, Ledger};
 use tree_delete::tree_remove_with;
 use tree_insert::Search;
 
-/// The search after the raise of an edge, whose steps nobody asks for.
+/// Adds the state of the node, where it is one of the vertex.
+fn add_if_there(states: &mut Vec<u32>, id: NodeId, vertex: u32) -> Result<(), Memory>
+    ensures kept { OnOk result ((state : ℕ) →
+        Contains states.old.items state → Contains states.new.items state) }
+    ensures added { OnOk result (id.vertex ≡ vertex → Contains states.new.items id.state) }
+{
+    if id.vertex == vertex {
+        states.push(id.state)?;
+    }
+    Ok(())
+}
+
+/// The states with which nodes of the tree stand at the vertex, found by going through its nodes.
+fn own_states(alloc: Global, tree: &Tree, vertex: u32) -> Result<Vec<u32>, Memory>
+    ensures { IfOk result (λ states. CoversStates tree.now vertex states.items) }
+{
+    let mut states = Vec::new(alloc);
+    for k in 0..tree.len() {
+        add_if_there(&mut states, tree.node_at(k), vertex)?;
+    }
+    Ok(states)
+}
+
+/// The search after the raise of an edge, whose steps nobody asks for. It begins at the states with
+/// which some tree has a node where the edge leaves, or, where the tree's own nodes are fewer than
+/// these, at the states of its own.
 fn search_raised<L: Ledger>(
+    alloc: Global,
     search: &mut Search,
     tree: &mut Tree,
     product: &ProductGraph<'_>,
@@ -41,12 +67,17 @@ fn search_raised<L: Ledger>(
     ensures shifts { OnOk result (AreShifts tree.old tree.new search.new.shifts) }
 {
     let mut steps: Steps<L> = Steps::new(blank);
-    let states = product.states_at(edge.from);
-    search.raise(tree, product.store, product.dfa, edge, states, &mut steps)
+    let held = product.states_at(edge.from);
+    if tree.len() < held.len() {
+        let own = own_states(alloc, tree, edge.from)?;
+        return search.raise(tree, product.store, product.dfa, edge, &own, &mut steps);
+    }
+    search.raise(tree, product.store, product.dfa, edge, held, &mut steps)
 }
 
 /// Makes the tree optimal after the raise of an edge. The search has the shifts.
 fn raise_edge(
+    alloc: Global,
     search: &mut Search,
     tree: &mut Tree,
     product: &ProductGraph<'_>,
@@ -59,7 +90,7 @@ fn raise_edge(
         tree.old tree.new search.new.shifts) }
     ensures later { IsLater tree.old tree.new }
 {
-    search_raised::<Brand>(search, tree, product, edge, Blank::new(1))
+    search_raised::<Brand>(alloc, search, tree, product, edge, Blank::new(1))
 }
 
 /// The search after the removal of an edge, whose steps nobody asks for.
@@ -140,7 +171,7 @@ pub(crate) fn change_tree(
 {
     match change {
         Change::Raise { edge, .. } => {
-            raise_edge(search, tree, product, edge)?;
+            raise_edge(alloc, search, tree, product, edge)?;
             report_search(tree, product, search, report)
         }
         Change::Remove(edge) => {

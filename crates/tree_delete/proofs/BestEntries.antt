@@ -3,7 +3,7 @@ use Rattle.std.proofs.Common.{◌≡◌, ℕ, ◌≤◌, ◌<◌, ◌+◌, ◌�
 use Rattle.std.specs.Prelude.{All, IfSome, is_some}
 use Rattle.std.proofs.lemmas.Bool.{cases_eq}
 use Rattle.std.proofs.lemmas.Option.{same_Some, slice_get_read, slice_get_within, get_or_from_slice_get}
-use Rattle.std.proofs.lemmas.List.{append-nil}
+use Rattle.std.proofs.lemmas.List.{append-nil, get_or_default}
 use Rattle.std.proofs.lemmas.List.Elements.{All-push, Contains-append_left, Contains-push}
 use Rattle.edge_store.specs.declared.edge.EdgeId.{EdgeId}
 use Rattle.edge_store.specs.declared.edge.HalfEdge.{HalfEdge}
@@ -37,30 +37,73 @@ pub if_weaker : (result : Option Entry) (P Q : Entry → Type 0) →
 if_weaker None P Q more is = tt
 if_weaker (Some entry) P Q more is = more entry is
 
--- ---- by one edge, from the first states
+-- ---- by one edge, from the first of some states
 
-abbrev pub IsMostBelow : (ℕ → ℕ → Option ℕ) → TreeValue → NodeId → EdgeId → ℕ → Option Entry → ℕ →
-    Type 0
-IsMostBelow step tree id edge value best bound =
-    (before number : ℕ) → before < bound → number ≤ value →
-    Carries tree (node_id edge.from before) number → step before edge.label ≡ Some id.state →
-    IsAtLeast number (value_in best)
+abbrev pub IsMostFrom : (ℕ → ℕ → Option ℕ) → TreeValue → NodeId → EdgeId → ℕ → List ℕ →
+    Option Entry → ℕ → Type 0
+IsMostFrom step tree id edge value states best bound =
+    (place number : ℕ) → place < bound → number ≤ value →
+    Carries tree (node_id edge.from (get_or states place 0)) number →
+    step (get_or states place 0) edge.label ≡ Some id.state → IsAtLeast number (value_in best)
 
-pub most_one_more : (step : ℕ → ℕ → Option ℕ) (tree : TreeValue) (id : NodeId) (edge : EdgeId)
-    (value : ℕ) (best more : Option Entry) (bound : ℕ) →
-    IsMostBelow step tree id edge value best bound →
-    ((number : ℕ) → IsAtLeast number (value_in best) → IsAtLeast number (value_in more)) →
-    ((number : ℕ) → number ≤ value → Carries tree (node_id edge.from bound) number →
-    step bound edge.label ≡ Some id.state → IsAtLeast number (value_in more)) →
-    IsMostBelow step tree id edge value more (bound + 1)
-most_one_more step tree id edge value best more bound most kept one before number below low carries
-    leads = ⊎_elim
-    (λ (same : before ≡ bound). one number low
-    (subst (λ (s : ℕ). Carries tree (node_id edge.from s) number) same carries)
-    (ap (λ (s : ℕ). step s edge.label) (sym same) ∙ leads))
-    (λ (apart : before ≡ bound → ⊥). kept number
-    (most before number (omega (arith, apart)) low carries leads))
-    (cases_eq before bound)
+module _ (step : ℕ → ℕ → Option ℕ) (tree : TreeValue) (id : NodeId) (edge : EdgeId) (value : ℕ)
+    (states : List ℕ) where
+  pub most_one_more : (best more : Option Entry) (bound : ℕ) →
+      IsMostFrom step tree id edge value states best bound →
+      ((number : ℕ) → IsAtLeast number (value_in best) → IsAtLeast number (value_in more)) →
+      ((number : ℕ) → number ≤ value → Carries tree (node_id edge.from (get_or states bound 0))
+      number → step (get_or states bound 0) edge.label ≡ Some id.state →
+      IsAtLeast number (value_in more)) →
+      IsMostFrom step tree id edge value states more (bound + 1)
+  most_one_more best more bound most kept one place number below low carries leads = ⊎_elim
+      (λ (same : place ≡ bound). one number low
+      (subst (λ (p : ℕ). Carries tree (node_id edge.from (get_or states p 0)) number) same carries)
+      (ap (λ (p : ℕ). step (get_or states p 0) edge.label) (sym same) ∙ leads))
+      (λ (apart : place ≡ bound → ⊥). kept number
+      (most place number (omega (arith, apart)) low carries leads))
+      (cases_eq place bound)
+
+  -- all of them
+  pub most_of_all : (best : Option Entry) (bound before number : ℕ) → length states ≤ bound →
+      IsMostFrom step tree id edge value states best bound → Contains states before →
+      number ≤ value → Carries tree (node_id edge.from before) number →
+      step before edge.label ≡ Some id.state → IsAtLeast number (value_in best)
+  most_of_all best bound before number all most there low carries leads =
+      let is : get_or states there.0 0 ≡ before =
+      get_or_default states there.0 0 before there.1 ∙ there.2 in
+      most there.0 number (omega (arith, there.1, all)) low
+      (subst (λ (state : ℕ). Carries tree (node_id edge.from state) number) (sym is) carries)
+      (ap (λ (state : ℕ). step state edge.label) is ∙ leads)
+
+-- ---- by an edge
+
+module _ (step : ℕ → ℕ → Option ℕ) (tree : TreeValue) (id : NodeId) where
+  -- an entry by an edge that is there is a valid one
+  pub entry_of_edge : (values : EdgeId → Option ℕ) (edge : EdgeId) (value : ℕ) (entry : Entry) →
+      edge.to ≡ id.vertex → values edge ≡ Some value → IsEntryBy step tree id edge value entry →
+      IsEntry values step tree id entry
+  entry_of_edge values edge value entry ends there by =
+      let here : values entry.step.edge ≡ Some value = ap values by.edge_is ∙ there in
+      record {
+        valid = record {
+          from = ⊎_elim (λ (root : entry.step.from ≡ root_id tree). inl root)
+              (λ (node : (node : Node) × (node_of tree entry.step.from ≡ Some node) ×
+              (entry.value ≤ node.value)). inr (ap is_some node.1)) by.carries;
+          edge = ap is_some here;
+          joins = record {
+            leaves = ap (λ (e : EdgeId). e.from) by.edge_is ∙ sym by.from;
+            ends = ap (λ (e : EdgeId). e.to) by.edge_is ∙
+                (ends ∙ ap (λ (at : NodeId). at.vertex) (sym by.to));
+          };
+          leads = ap (λ (e : EdgeId). step entry.step.from.state e.label) by.edge_is ∙
+              (by.leads ∙ ap (λ (at : NodeId). Some at.state) (sym by.to));
+        };
+        to = by.to;
+        gives = record {
+          from = by.carries;
+          edge = at_least (values entry.step.edge) entry.value value here by.lower;
+        };
+      }
 
 -- ---- by the first edges that end at the vertex
 
@@ -127,28 +170,7 @@ module _ (step : ℕ → ℕ → Option ℕ) (tree : TreeValue) (id : NodeId) wh
         ) in
         let there : value_of store edge ≡ Some each.value =
         (gives.exact (in_entry each).0 each.value).0 has in
-        let here : value_of store entry.step.edge ≡ Some each.value =
-        ap (value_of store) by.edge_is ∙ there in
-        record {
-          valid = record {
-            from = ⊎_elim (λ (root : entry.step.from ≡ root_id tree). inl root)
-                (λ (node : (node : Node) × (node_of tree entry.step.from ≡ Some node) ×
-                (entry.value ≤ node.value)). inr (ap is_some node.1)) by.carries;
-            edge = ap is_some here;
-            joins = record {
-              leaves = ap (λ (e : EdgeId). e.from) by.edge_is ∙ sym by.from;
-              ends = ap (λ (e : EdgeId). e.to) by.edge_is ∙ ap (λ (at : NodeId). at.vertex)
-                  (sym by.to);
-            };
-            leads = ap (λ (e : EdgeId). step entry.step.from.state e.label) by.edge_is ∙
-                (by.leads ∙ ap (λ (at : NodeId). Some at.state) (sym by.to));
-          };
-          to = by.to;
-          gives = record {
-            from = by.carries;
-            edge = at_least (value_of store entry.step.edge) entry.value each.value here by.lower;
-          };
-        }
+        entry_of_edge step tree id (value_of store) edge each.value entry refl there by
 
 -- ---- of the first nodes
 

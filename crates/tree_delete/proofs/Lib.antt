@@ -1,4 +1,5 @@
 mod BestEntries
 mod CutTrees
 mod Finding
+mod FromNodes
 mod Told

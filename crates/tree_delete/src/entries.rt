@@ -1,7 +1,7 @@
 //! The best entries of the nodes that were cut.
 
 ghost use Rattle.std.specs.Prelude.{◌≡◌, ℕ, ◌+◌, ◌<◌, ◌≤◌, ◌++◌, length, All, IfOk, IfSome};
-ghost use Rattle.std.specs.Prelude.{OnOk, Some};
+ghost use Rattle.std.specs.Prelude.{IsTrue, OnOk, Some};
 ghost use Rattle.edge_store.specs.declared.edge.EdgeId.{EdgeId};
 ghost use Rattle.edge_store.specs.Edges.{ins_of, value_of};
 ghost use Rattle.dfa_table.specs.DfaValue.{step_of};
@@ -13,6 +13,7 @@ ghost use Rattle.tree_delete.specs.Entries.{CanEnter, HasEntries, IsEntry, IsEnt
 ghost use Rattle.tree_delete.specs.Entries.{count_ins, steps_in, value_in};
 
 use crate::entry::{Entry, better};
+use crate::from_nodes::best_from_nodes;
 use delta_tree::{NodeId, Shift, Tree, Try};
 use dfa_table::Dfa;
 use edge_store::{EdgeId, EdgeStore, Steps};
@@ -22,7 +23,7 @@ use std::sync::ledger::Ledger;
 use tree_insert::greatest_from;
 
 /// The entry by an edge of this value from the state, where there is one.
-fn entry_from(
+pub(crate) fn entry_from(
     tree: &Tree,
     dfa: &Dfa,
     root: NodeId,
@@ -52,7 +53,7 @@ fn entry_from(
     })
 }
 
-/// The best entry by an edge of this value.
+/// The best entry by an edge of this value, from the states whose step leads to the place.
 fn entry_by(
     tree: &Tree,
     dfa: &Dfa,
@@ -68,14 +69,15 @@ fn entry_by(
         step_of dfa.now before edge.label ≡ Some id.state → IsAtLeast number (value_in result) }
 {
     let mut best = None;
-    for before in 0..dfa.states() {
-        best = better(best, entry_from(tree, dfa, root, id, edge, value, before));
+    let states = dfa.before(id.state, edge.label);
+    for before in states {
+        best = better(best, entry_from(tree, dfa, root, id, edge, value, *before));
     }
     best
 }
 
 /// The best entry of a node by the edges that end at its vertex, with a step for each edge.
-fn best_entry<L: Ledger>(
+fn best_by_edges<L: Ledger>(
     tree: &Tree,
     store: &EdgeStore,
     dfa: &Dfa,
@@ -103,6 +105,39 @@ fn best_entry<L: Ledger>(
         best = better(best, entry_by(tree, dfa, root, id, edge, each.value));
     }
     best
+}
+
+/// Whether the nodes of the tree, with a look-up for each label, are gone through sooner than this
+/// many edges.
+fn has_few_nodes(tree: &Tree, dfa: &Dfa, edges: usize) -> bool
+    ensures { IsTrue result → length tree.now.nodes < edges }
+{
+    let nodes = tree.len();
+    nodes < edges && nodes.saturating_mul(dfa.labels().len()) < edges
+}
+
+/// The best entry of a node, from the nodes of the tree or by the edges that end at its vertex,
+/// whichever are fewer. It takes at most a step for each of these edges.
+fn best_entry<L: Ledger>(
+    tree: &Tree,
+    store: &EdgeStore,
+    dfa: &Dfa,
+    root: NodeId,
+    id: NodeId,
+    steps: &mut Steps<L>,
+) -> Option<Entry>
+    requires { root ≡ root_id tree.now }
+    ensures entry { IfSome result
+        (IsEntry (value_of store.now) (step_of dfa.now) tree.now id) }
+    ensures most { (edge : EdgeId) (before number : ℕ) →
+        CanEnter (value_of store.now) (step_of dfa.now) tree.now id edge before number →
+        IsAtLeast number (value_in result) }
+    ensures counted { steps.new ≤ steps.old + length (ins_of store.now id.vertex) }
+{
+    if has_few_nodes(tree, dfa, store.ins(id.vertex).len()) {
+        return best_from_nodes(tree, store, dfa, root, id, steps);
+    }
+    best_by_edges(tree, store, dfa, root, id, steps)
 }
 
 /// Adds the step of the entry, where there is one.

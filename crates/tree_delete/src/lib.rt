@@ -4,10 +4,11 @@
 //! again after [`tree_remove`], and the nodes on whose path the edge didn't stand keep their place
 //! and their stamp. The nodes on whose path it stood are cut: first those that hang by the edge,
 //! then, along the edges that leave a node that is cut, its children. For each of them the best way
-//! back from a node that stayed is sought among the edges that end at its vertex, and a search from
-//! these puts back what other paths reach. So a removal costs what it cuts, however many other
-//! nodes there are: a step for each node that is cut and for each edge that ends at it, two for
-//! each edge that leaves it, and none where the edge stood on no path. [`tree_remove_with`] reports
+//! back from a node that stayed is sought among the edges that end at its vertex, or from the nodes
+//! of the tree where these are fewer, and a search from these puts back what other paths reach. So a
+//! removal costs what it cuts, however many other nodes there are: at most a step for each node that
+//! is cut and for each edge that ends at it, two for each edge that leaves it, and none where the
+//! edge stood on no path. [`tree_remove_with`] reports
 //! the places of the nodes that were cut, with their values before and after, and no call is needed
 //! where no node hangs by the edge ([`removal_elsewhere_keeps_optimal`]).
 #![tactic(auto)]
@@ -16,6 +17,7 @@ mod below;
 mod calls;
 mod entries;
 mod entry;
+mod from_nodes;
 mod laws;
 
 pub use calls::{tree_remove, tree_remove_with};

@@ -1,40 +1,22 @@
-use Rattle.std.proofs.Common.{◌≡◌, ℕ, ◌+◌, ◌<◌, List, [], length, take, get_or, subst, Contains, arith}
-use Rattle.std.proofs.lemmas.List.{get_or_default, take_all}
-use Rattle.rpq_base.proofs.Members.{next_one}
-use Rattle.delta_tree.specs.Nodes.{node_id}
-use Rattle.delta_forest.specs.Candidates.{Adds, IsHungBy, IsRemovedAt}
-use Rattle.delta_forest.proofs.Gathering.{adds_both, adds_like, at_some_state, next_state, ordered_like}
+use Rattle.std.proofs.Common.{ℕ, List, [], subst, inl, inr, ⊎_elim}
+use Rattle.dfa_table.specs.DfaValue.{step_of}
+use Rattle.delta_forest.specs.Candidates.{Adds, AddsHanging, IsRemovedAt, IsRemovedFrom}
+use Rattle.delta_forest.proofs.Gathering.{ordered_like}
 use Rattle.delta_forest.proofs.candidates.add_removed.Goals as goal
-
-pub loop-state-preserved : goal.loop-state-preserved
-loop-state-preserved c =
-    let items = c.states_at-state-items.result.now in
-    let place = c.loop-state.state-index in
-    let state : ℕ = get_or items place 0 in
-    let within : place < length items = omega (arith, c.loop-state-test.true) in
-    let is : state ≡ get_or items place state = get_or_default items place 0 state within in
-    let kind : ℕ → ℕ → Type 0 = λ at.
-    IsHungBy c.args.sources.now c.args.holders.now c.args.edge (node_id c.args.edge.to at) in
-    adds_both [] c.loop-state.roots.items c.add_hung.new.roots.items
-    (λ root. (at : ℕ) × Contains (take place items) at × kind at root) (kind state)
-    (λ root. (at : ℕ) × Contains (take (place + 1) items) at × kind at root)
-    c.loop-state.invariant c.in_ok-add_hung.ensures
-    (next_state (take place items) (take (place + 1) items) state kind
-    (next_one items place state within is))
 
 pub returns : goal.returns
 returns c =
-    let items = c.states_at-state-items.result.now in
-    let kind : ℕ → ℕ → Type 0 = λ at.
-    IsHungBy c.args.sources.now c.args.holders.now c.args.edge (node_id c.args.edge.to at) in
-    ordered_like c.put_in_order.new.roots.items c.loop-state.roots.items
-    (IsRemovedAt c.args.sources.now c.args.holders.now c.args.edge) c.put_in_order.ensures
-    (adds_like [] c.loop-state.roots.items
-    (λ root. (at : ℕ) × Contains items at × kind at root)
-    (IsRemovedAt c.args.sources.now c.args.holders.now c.args.edge)
-    (subst (λ (states : List ℕ). Adds [] c.loop-state.roots.items
-    (λ root. (at : ℕ) × Contains states at × kind at root))
-    (take_all c.loop-state.state-index items (omega (arith, c.loop-state-test.false)))
-    c.loop-state.invariant)
-    (at_some_state c.args.holders.now c.args.edge.to items kind
-    c.states_at-state-items.ensures.exact (λ state root hung. hung.0)))
+    let sources = c.args.sources.now in
+    let holders = c.args.holders.now in
+    let step = step_of c.args.dfa.now in
+    let edge = c.args.edge in
+    let found = c.add_hanging.new.roots.items in
+    let roots = c.put_in_order.new.roots.items in
+    ⊎_elim
+    (λ (adds : Adds [] found (IsRemovedAt sources holders edge)).
+    inl (ordered_like roots found (IsRemovedAt sources holders edge) c.put_in_order.ensures adds))
+    (λ (adds : Adds [] found (IsRemovedFrom sources holders step edge)).
+    inr (ordered_like roots found (IsRemovedFrom sources holders step edge)
+    c.put_in_order.ensures adds))
+    (subst (λ (before : List ℕ). AddsHanging sources holders step edge before found) c.requires
+    c.in_ok-add_hanging.ensures)

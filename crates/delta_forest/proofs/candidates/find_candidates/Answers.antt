@@ -5,7 +5,8 @@ use Rattle.dfa_table.specs.DfaValue.{step_of}
 use Rattle.source_tree.specs.declared.change.Change.{Change}
 use Rattle.delta_forest.specs.Candidates.{AreCandidates}
 use Rattle.delta_forest.specs.declared.index.Index.{Index}
-use Rattle.delta_forest.proofs.Gathering.{expire_candidates, raise_candidates, remove_candidates}
+use Rattle.delta_forest.proofs.Gathering.{expire_candidates, raise_candidates}
+use Rattle.delta_forest.proofs.Removals.{remove_candidates}
 use Rattle.delta_forest.proofs.candidates.find_candidates.Goals as goal
 
 pub returns-in-Raise : goal.returns-in-Raise

@@ -1,4 +1,4 @@
-use Rattle.std.proofs.Common.{◌≡◌, ◌+◌, take}
+use Rattle.std.proofs.Common.{◌+◌, ◌≤◌, take}
 use Rattle.std.specs.Prelude.{All}
 use Rattle.edge_store.specs.Edges.{value_of}
 use Rattle.delta_tree.specs.Changes.{shift_ids}
@@ -13,6 +13,6 @@ invariant-loop-shift g l = record {
   valid : All (IsValid (value_of l.store) (step_of l.dfa) l.tree) l.tries.items;
   best : HasEntriesFirst (value_of l.store) (step_of l.dfa) l.tree (shift_ids l.cut) l.tries.items
       l.shift-index;
-  count : l.steps ≡ l.initial.steps + count_ins l.store
+  count : l.steps ≤ l.initial.steps + count_ins l.store
       (take l.shift-index (shift_ids l.cut));
 }

@@ -1,11 +1,11 @@
 use Rattle.std.specs.Prelude.{IfSome}
 use Rattle.dfa_table.specs.DfaValue.{step_of}
 use Rattle.tree_delete.specs.Entries.{IsEntryBy}
-use Rattle.tree_delete.proofs.BestEntries.{IsMostBelow}
+use Rattle.tree_delete.proofs.BestEntries.{IsMostFrom}
 use Rattle.tree_delete.proofs.entries.entry_by.Given as goal
 
 abbrev pub invariant-loop-before : goal.invariant-loop-before
 invariant-loop-before l = record {
   entry : IfSome l.best (IsEntryBy (step_of l.dfa) l.tree l.id l.edge l.value);
-  most : IsMostBelow (step_of l.dfa) l.tree l.id l.edge l.value l.best l.before;
+  most : IsMostFrom (step_of l.dfa) l.tree l.id l.edge l.value l.states l.best l.before-index;
 }

@@ -4,7 +4,7 @@ use Rattle.edge_store.specs.Edges.{ins_of, value_of}
 use Rattle.dfa_table.specs.DfaValue.{step_of}
 use Rattle.tree_delete.specs.Entries.{IsEntry}
 use Rattle.tree_delete.proofs.BestEntries.{IsMostFirst}
-use Rattle.tree_delete.proofs.entries.best_entry.Given as goal
+use Rattle.tree_delete.proofs.entries.best_by_edges.Given as goal
 
 abbrev pub invariant-loop-k : goal.invariant-loop-k
 invariant-loop-k g l = record {

@@ -1,6 +1,6 @@
 use Rattle.std.proofs.Common.{take, Contains}
 use Rattle.delta_forest.specs.Candidates.{Adds, IsHungAt}
-use Rattle.delta_forest.proofs.candidates.add_hung.Given as goal
+use Rattle.delta_forest.proofs.hanging.add_hung.Given as goal
 
 -- those of the roots so far whose trees hang there are added
 abbrev pub invariant-loop-root : goal.invariant-loop-root

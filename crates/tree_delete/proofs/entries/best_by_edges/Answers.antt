@@ -4,7 +4,7 @@ use Rattle.edge_store.specs.Edges.{in_entry, ins_of, value_of}
 use Rattle.dfa_table.specs.DfaValue.{step_of}
 use Rattle.tree_delete.specs.Entries.{IsEntry, IsEntryBy}
 use Rattle.tree_delete.proofs.BestEntries.{if_either, if_weaker, first_one_more, first_all, entry_of_walk}
-use Rattle.tree_delete.proofs.entries.best_entry.Goals as goal
+use Rattle.tree_delete.proofs.entries.best_by_edges.Goals as goal
 
 pub loop-k-preserved : goal.loop-k-preserved
 loop-k-preserved g c =

@@ -3,7 +3,7 @@ use Rattle.std.proofs.lemmas.List.{get_or_default, take_all}
 use Rattle.rpq_base.proofs.Members.{next_one}
 use Rattle.delta_forest.specs.Candidates.{Adds, IsHungAt}
 use Rattle.delta_forest.proofs.Gathering.{adds_both, next_hung}
-use Rattle.delta_forest.proofs.candidates.add_hung.Goals as goal
+use Rattle.delta_forest.proofs.hanging.add_hung.Goals as goal
 
 pub loop-root-preserved : goal.loop-root-preserved
 loop-root-preserved c =

@@ -1,0 +1,101 @@
+//! The best entry of a node that was cut, looked for from the nodes of its tree.
+
+ghost use Rattle.std.specs.Prelude.{◌≡◌, ℕ, ◌+◌, ◌<◌, length, IfSome};
+ghost use Rattle.edge_store.specs.declared.edge.EdgeId.{EdgeId};
+ghost use Rattle.edge_store.specs.Edges.{value_of};
+ghost use Rattle.dfa_table.specs.DfaValue.{step_of};
+ghost use Rattle.delta_tree.specs.Nodes.{root_id};
+ghost use Rattle.tree_insert.specs.Best.{IsAtLeast};
+ghost use Rattle.tree_delete.specs.Entries.{CanEnter, IsEntry, value_in};
+
+use crate::entries::entry_from;
+use crate::entry::{Entry, better};
+use delta_tree::{NodeId, Tree};
+use dfa_table::Dfa;
+use edge_store::{EdgeId, EdgeStore, Steps};
+use std::sync::ledger::Ledger;
+
+/// The entry by the edge from the state, where the edge is there and its step leads to the node.
+fn entry_along(
+    tree: &Tree,
+    store: &EdgeStore,
+    dfa: &Dfa,
+    root: NodeId,
+    id: NodeId,
+    edge: EdgeId,
+    before: u32,
+) -> Option<Entry>
+    requires root { root ≡ root_id tree.now }
+    requires state { before < length dfa.now.rows }
+    requires ends { edge.to ≡ id.vertex }
+    ensures entry { IfSome result
+        (IsEntry (value_of store.now) (step_of dfa.now) tree.now id) }
+    ensures most { (number : ℕ) →
+        CanEnter (value_of store.now) (step_of dfa.now) tree.now id edge before number →
+        IsAtLeast number (value_in result) }
+{
+    if dfa.step(before, edge.label) != Some(id.state) {
+        return None;
+    }
+    let value = store.value(edge)?;
+    entry_from(tree, dfa, root, id, edge, value, before)
+}
+
+/// The best entry from the place, by one look-up for each label that leads from it to the node.
+fn best_from(
+    tree: &Tree,
+    store: &EdgeStore,
+    dfa: &Dfa,
+    root: NodeId,
+    id: NodeId,
+    from: NodeId,
+) -> Option<Entry>
+    requires { root ≡ root_id tree.now }
+    ensures entry { IfSome result
+        (IsEntry (value_of store.now) (step_of dfa.now) tree.now id) }
+    ensures most { (edge : EdgeId) (number : ℕ) → edge.from ≡ from.vertex →
+        CanEnter (value_of store.now) (step_of dfa.now) tree.now id edge from.state number →
+        IsAtLeast number (value_in result) }
+{
+    if from.state >= dfa.states() {
+        return None;
+    }
+    let mut best = None;
+    for label in 0..dfa.labels().len() as u32 {
+        let edge = EdgeId {
+            from: from.vertex,
+            label,
+            to: id.vertex,
+        };
+        let entry = entry_along(tree, store, dfa, root, id, edge, from.state);
+        best = better(best, entry);
+    }
+    best
+}
+
+/// The best entry of a node from the root and the nodes of the tree, with a step for each of them.
+pub(crate) fn best_from_nodes<L: Ledger>(
+    tree: &Tree,
+    store: &EdgeStore,
+    dfa: &Dfa,
+    root: NodeId,
+    id: NodeId,
+    steps: &mut Steps<L>,
+) -> Option<Entry>
+    requires { root ≡ root_id tree.now }
+    ensures entry { IfSome result
+        (IsEntry (value_of store.now) (step_of dfa.now) tree.now id) }
+    ensures most { (edge : EdgeId) (before number : ℕ) →
+        CanEnter (value_of store.now) (step_of dfa.now) tree.now id edge before number →
+        IsAtLeast number (value_in result) }
+    ensures counted { steps.new ≡ steps.old + length tree.now.nodes + 1 }
+{
+    steps.tick();
+    let mut best = best_from(tree, store, dfa, root, id, root);
+    for k in 0..tree.len() {
+        steps.tick();
+        let entry = best_from(tree, store, dfa, root, id, tree.node_at(k));
+        best = better(best, entry);
+    }
+    best
+}
