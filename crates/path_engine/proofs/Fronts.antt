@@ -24,7 +24,7 @@ use Rattle.path_engine.specs.declared.ends.Ends.{Ends}
 use Rattle.path_engine.specs.declared.front.Share.{Share}
 use Rattle.path_engine.specs.Engine.{EngineValue, IsIndexFor, StandsFor, definitions}
 use Rattle.path_engine.specs.Answering.{AreEndsFor, HasAnswered, HasHistory}
-use Rattle.path_engine.specs.Front.{AreFirstEnds, AreAllFirstEnds}
+use Rattle.path_engine.specs.Front.{AreAllEndsFor, AreAllFirstEnds, AreFirstEnds}
 use Rattle.path_engine.specs.Front.{AreGathered, AreReady, HasAnsweredAll, HasFed, HasHistoryFor}
 use Rattle.path_engine.specs.Front.{HaveAnsweredAll, HaveFed, joined, put_at}
 use Rattle.path_engine.specs.Feeding.{FeedsFront}
@@ -125,15 +125,18 @@ zip_both R (first ∷ xs) (second ∷ ys) zero x y all inside = all.0
 zip_both R (first ∷ xs) (second ∷ ys) (suc place) x y all inside =
     zip_both R xs ys place x y all.1 (omega (arith, inside))
 
-pub zip_each : {A B C : Type 0} (R : C → A → B → Type 0) (cs : List C) (xs : List A) (ys : List B)
-    (place : ℕ) (c : C) → place < length cs → c ≡ get_or cs place c →
-    AllZip (λ x y. All (λ each. R each x y) cs) xs ys → AllZip (R c) xs ys
-zip_each R cs [] [] place c inside is all = tt
-zip_each R cs [] (y ∷ ys) place c inside is all = absurd all
-zip_each R cs (x ∷ xs) [] place c inside is all = absurd all
-zip_each {A} {B} {C} R cs (x ∷ xs) (y ∷ ys) place c inside is all = (
-  subst (λ (each : C). R each x y) (sym is) (all.0 place c inside),
-  zip_each R cs xs ys place c inside is all.1,
+-- the numbers of the entries' edges, for one of the queries
+pub ends_at : (names : List (List ℕ)) (queries : List CompiledValue) (entries : List Entry)
+    (ends : List (Option Ends)) (number : ℕ) (query : CompiledValue) → number < length queries →
+    query ≡ get_or queries number query → AreAllEndsFor names queries entries ends →
+    AllZip (λ (entry : Entry) (own : Option Ends).
+    AreEndsFor names number query.dfa entry.tuple.act own) entries ends
+ends_at names queries [] [] number query inside is all = tt
+ends_at names queries [] (own ∷ ends) number query inside is all = absurd all
+ends_at names queries (entry ∷ entries) [] number query inside is all = absurd all
+ends_at names queries (entry ∷ entries) (own ∷ ends) number query inside is all = (
+  all.0 number query inside is,
+  ends_at names queries entries ends number query inside is all.1,
 )
 
 -- ---- one query, entry after entry
@@ -495,28 +498,17 @@ front_numbers names (entry ∷ entries) queries olds news (own ∷ events) answe
 
 -- ---- names that grew
 
-pub ends_of_more : (names more : List (List ℕ)) (dfa : DfaValue) (act : Act)
-    (ends : Option Ends) → KeepsNumbers names more → AreFirstEnds names dfa act ends →
-    AreFirstEnds more dfa act ends
-ends_of_more names more dfa (Insert edge until) (Some ends) keeps are = record {
+pub ends_of_more : (names more : List (List ℕ)) (number : ℕ) (dfa : DfaValue) (act : Act)
+    (ends : Option Ends) → KeepsNumbers names more → AreFirstEnds names number dfa act ends →
+    AreFirstEnds more number dfa act ends
+ends_of_more names more number dfa (Insert edge until) (Some ends) keeps are = record {
   from = keeps edge.from ends.from are.from;
   to = keeps edge.to ends.to are.to;
+  label = are.label;
 }
-ends_of_more names more dfa (Insert edge until) None keeps are = are
-ends_of_more names more dfa (Delete edge) (Some ends) keeps are = record {
-  from = keeps edge.from ends.from are.from;
-  to = keeps edge.to ends.to are.to;
-}
-ends_of_more names more dfa (Delete edge) None keeps are = tt
-ends_of_more names more dfa Tick ends keeps are = tt
-
-pub first_of : (names : List (List ℕ)) (dfa : DfaValue) (act : Act) (ends : Option Ends) →
-    AreEndsFor names dfa act ends → AreFirstEnds names dfa act ends
-first_of names dfa (Insert edge until) (Some ends) are = are
-first_of names dfa (Insert edge until) None are = are
-first_of names dfa (Delete edge) (Some ends) are = are
-first_of names dfa (Delete edge) None are = tt
-first_of names dfa Tick ends are = tt
+ends_of_more names more number dfa (Insert edge until) None keeps are = are
+ends_of_more names more number dfa (Delete edge) ends keeps are = tt
+ends_of_more names more number dfa Tick ends keeps are = tt
 
 pub all_ends_more : (names more : List (List ℕ)) (queries : List CompiledValue)
     (entries : List Entry) (ends : List (Option Ends)) → KeepsNumbers names more →
@@ -525,8 +517,9 @@ all_ends_more names more queries [] [] keeps are = tt
 all_ends_more names more queries [] (own ∷ ends) keeps are = absurd are
 all_ends_more names more queries (entry ∷ entries) [] keeps are = absurd are
 all_ends_more names more queries (entry ∷ entries) (own ∷ ends) keeps are = (
-  (λ k d within. ends_of_more names more (get_or queries k d).dfa entry.tuple.act own keeps
-      (are.0 k d within)),
+  (λ number query inside is.
+      ends_of_more names more number query.dfa entry.tuple.act own keeps
+      (are.0 number query inside is)),
   all_ends_more names more queries entries ends keeps are.1,
 )
 

@@ -6,6 +6,7 @@ pub mod Kept
 pub mod Answered
 pub mod Each
 pub mod Choosing
+pub mod LabelRows
 pub mod Rows
 pub mod Shown
 pub mod Starting

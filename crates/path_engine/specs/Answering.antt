@@ -1,6 +1,7 @@
 -- How an entry is answered for one query. No public contract cites this file.
 use Rattle.std.specs.Prelude.{◌≡◌, ◌⊎◌, ℕ, ◌+◌, ◌^◌, ◌<◌, ◌≤◌, max, Bool, false}
-use Rattle.std.specs.Prelude.{List, [], ◌∷◌, ◌++◌, length, All, Option, Some, None, if◌then◌else◌}
+use Rattle.std.specs.Prelude.{List, [], ◌∷◌, ◌++◌, length, slice_index_or, All}
+use Rattle.std.specs.Prelude.{Option, Some, None, if◌then◌else◌}
 use Rattle.rpq_base.specs.declared.data.Edge.{Edge}
 use Rattle.rpq_base.specs.declared.data.Act.{Act}
 use Rattle.rpq_base.specs.declared.data.Act.TheVariants.{Insert, Delete, Tick}
@@ -25,25 +26,45 @@ use Rattle.path_engine.specs.Engine.{IsIndexFor}
 use Rattle.path_engine.specs.Keeping.{KeepsForest}
 use Rattle.path_engine.specs.Showing.{LeavesFresh}
 
--- the numbers of the edge's vertices
-pub record AreEndsOf (names : List (List ℕ)) (edge : Edge) (ends : Ends) : Type 0 where
+-- the numbers of the edge's vertices, and these of its label
+pub record AreEndsOf (names : List (List ℕ)) (edge : Edge) (numbers : List (Option ℕ))
+    (ends : Ends) : Type 0 where
   pub from : number_of names edge.from ≡ Some ends.from
   pub to : number_of names edge.to ≡ Some ends.to
+  pub labels : ends.labels.now ≡ numbers
 
--- the numbers of the vertices of the act's edge; none where an insert's label is strange to the
--- automaton, where a vertex of a delete has no number, or where there is no edge
-abbrev pub AreEndsFor : List (List ℕ) → DfaValue → Act → Option Ends → Type 0
-AreEndsFor names dfa (Insert edge until) (Some ends) = AreEndsOf names edge ends
-AreEndsFor names dfa (Insert edge until) None = place_of dfa edge.label ≡ None
-AreEndsFor names dfa (Delete edge) (Some ends) = AreEndsOf names edge ends
-AreEndsFor names dfa (Delete edge) None = (ends : Ends) → AreEndsOf names edge ends → ⊥
-AreEndsFor names dfa Tick ends = Unit {0}
+-- the numbers of the edge's vertices, and what they say of its label to the query with this number,
+-- which has this automaton
+pub record AreEndsIn (names : List (List ℕ)) (number : ℕ) (dfa : DfaValue) (edge : Edge)
+    (ends : Ends) : Type 0 where
+  pub from : number_of names edge.from ≡ Some ends.from
+  pub to : number_of names edge.to ≡ Some ends.to
+  pub label : slice_index_or ends.labels.now number None ≡ place_of dfa edge.label
 
--- the edge by numbers: those of its vertices and of its label
-pub record IsNumbered (dfa : DfaValue) (ends : Option Ends) (edge : Edge) (id : EdgeId)
-    : Type 0 where
-  pub vertices : ends ≡ Some (record { from = id.from; to = id.to })
-  pub label : place_of dfa edge.label ≡ Some id.label
+-- the numbers of the act's edge, as they are for the query with this number, which has this
+-- automaton; none where an insert's label is strange to the automaton, where a vertex or the label
+-- of a delete has no number, or where there is no edge
+abbrev pub AreEndsFor : List (List ℕ) → ℕ → DfaValue → Act → Option Ends → Type 0
+AreEndsFor names number dfa (Insert edge until) (Some ends) = AreEndsIn names number dfa edge ends
+AreEndsFor names number dfa (Insert edge until) None = place_of dfa edge.label ≡ None
+AreEndsFor names number dfa (Delete edge) (Some ends) = AreEndsIn names number dfa edge ends
+AreEndsFor names number dfa (Delete edge) None = (id : EdgeId) → HasNumbers names dfa edge id → ⊥
+AreEndsFor names number dfa Tick ends = Unit {0}
+
+-- they are so for each of these queries
+abbrev pub AreEndsForEach : List (List ℕ) → List CompiledValue → Act → Option Ends → Type 0
+AreEndsForEach names queries act ends = (number : ℕ) (query : CompiledValue) →
+    number < length queries → query ≡ slice_index_or queries number query →
+    AreEndsFor names number query.dfa act ends
+
+-- the act's edge by the numbers of an automaton; none where an insert's label is strange to it,
+-- where a delete's edge has no numbers, or where there is no edge
+abbrev pub IsEdgeFor : List (List ℕ) → DfaValue → Act → Option EdgeId → Type 0
+IsEdgeFor names dfa (Insert edge until) (Some id) = HasNumbers names dfa edge id
+IsEdgeFor names dfa (Insert edge until) None = place_of dfa edge.label ≡ None
+IsEdgeFor names dfa (Delete edge) (Some id) = HasNumbers names dfa edge id
+IsEdgeFor names dfa (Delete edge) None = (id : EdgeId) → HasNumbers names dfa edge id → ⊥
+IsEdgeFor names dfa Tick id = Unit {0}
 
 -- an insert's edge is raised to its deadline, which is above the clock
 pub record IsRaise (names : List (List ℕ)) (dfa : DfaValue) (clock : ClockValue) (time : ℕ)

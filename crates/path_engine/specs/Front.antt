@@ -1,7 +1,7 @@
 -- How the entries of a front are answered. No public contract cites this file.
 use Rattle.std.specs.Prelude.{◌≡◌, ℕ, zero, suc, ◌+◌, ◌^◌, ◌<◌, ◌≤◌}
 use Rattle.std.specs.Prelude.{List, [], ◌∷◌, ◌++◌, length, map, slice_index_or}
-use Rattle.std.specs.Prelude.{All, Option, Some, None, Ok, IfOk}
+use Rattle.std.specs.Prelude.{Option, Ok, IfOk}
 use Rattle.std.specs.Global.{Global}
 use Rattle.std.specs.declared.vec.Vec.{Vec}
 use Rattle.std.specs.List.{AllZip}
@@ -9,38 +9,40 @@ use Rattle.rpq_base.specs.declared.data.Act.{Act}
 use Rattle.rpq_base.specs.declared.data.Act.TheVariants.{Insert, Delete, Tick}
 use Rattle.rpq_base.specs.declared.data.Entry.{Entry}
 use Rattle.rpq_base.specs.declared.data.Event.{Event}
-use Rattle.dfa_table.specs.DfaValue.{DfaValue, place_of}
+use Rattle.dfa_table.specs.DfaValue.{DfaValue}
 use Rattle.query_file.specs.Compiled.{CompiledValue}
 use Rattle.path_engine.specs.declared.index.Index.{Index}
 use Rattle.path_engine.specs.declared.ends.Ends.{Ends}
 use Rattle.path_engine.specs.declared.front.Share.{Share}
 use Rattle.path_engine.specs.Engine.{IsIndexFor}
-use Rattle.path_engine.specs.Answering.{AreEndsFor, AreEndsOf, HasAnswered, HaveAnswered}
+use Rattle.path_engine.specs.Answering.{AreEndsFor, AreEndsForEach, HasAnswered, HaveAnswered}
 
--- the numbers of the vertices of the act's edge as they were found when fewer names had one: more
--- names leave this so
-abbrev pub AreFirstEnds : List (List ℕ) → DfaValue → Act → Option Ends → Type 0
-AreFirstEnds names dfa (Insert edge until) (Some ends) = AreEndsOf names edge ends
-AreFirstEnds names dfa (Insert edge until) None = place_of dfa edge.label ≡ None
-AreFirstEnds names dfa (Delete edge) (Some ends) = AreEndsOf names edge ends
-AreFirstEnds names dfa (Delete edge) None = Unit {0}
-AreFirstEnds names dfa Tick ends = Unit {0}
+-- the numbers of an insert's edge, and anything for another act: more names leave this so
+abbrev pub AreFirstEnds : List (List ℕ) → ℕ → DfaValue → Act → Option Ends → Type 0
+AreFirstEnds names number dfa (Insert edge until) ends =
+    AreEndsFor names number dfa (Insert edge until) ends
+AreFirstEnds names number dfa (Delete edge) ends = Unit {0}
+AreFirstEnds names number dfa Tick ends = Unit {0}
 
--- these are so for each entry and query
+-- they are so for each of these queries
+abbrev pub AreFirstEndsForEach : List (List ℕ) → List CompiledValue → Act → Option Ends → Type 0
+AreFirstEndsForEach names queries act ends = (number : ℕ) (query : CompiledValue) →
+    number < length queries → query ≡ slice_index_or queries number query →
+    AreFirstEnds names number query.dfa act ends
+
+-- and for each entry
 abbrev pub AreAllFirstEnds : List (List ℕ) → List CompiledValue → List Entry →
     List (Option Ends) → Type 0
 AreAllFirstEnds names queries entries ends =
     AllZip (λ (entry : Entry) (own : Option Ends).
-    All (λ (query : CompiledValue). AreFirstEnds names query.dfa entry.tuple.act own) queries)
-    entries ends
+    AreFirstEndsForEach names queries entry.tuple.act own) entries ends
 
--- the numbers of the vertices of each entry's edge, for each query
+-- the numbers of each entry's edge, for each query
 abbrev pub AreAllEndsFor : List (List ℕ) → List CompiledValue → List Entry →
     List (Option Ends) → Type 0
 AreAllEndsFor names queries entries ends =
     AllZip (λ (entry : Entry) (own : Option Ends).
-    All (λ (query : CompiledValue). AreEndsFor names query.dfa entry.tuple.act own) queries)
-    entries ends
+    AreEndsForEach names queries entry.tuple.act own) entries ends
 
 -- the index is that of the query over some history that is short with so many entries more
 pub record HasHistoryFor (more : ℕ) (query : CompiledValue) (names : List (List ℕ))

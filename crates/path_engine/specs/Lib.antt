@@ -3,6 +3,7 @@ pub mod Engine
 pub mod Keeping
 pub mod Feeding
 pub mod Laws
+pub mod Labels
 pub mod Answering
 pub mod Front
 pub mod Sound

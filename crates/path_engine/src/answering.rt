@@ -1,18 +1,21 @@
 //! An entry for each query: first what the clock reaches goes, and then the entry's edge comes or
 //! goes.
 
-ghost use Rattle.std.specs.Prelude.{◌≡◌, ◌≤◌, ◌<◌, ◌^◌, ◌-◌, ◌++◌, ◌⊎◌, ℕ, List, length, All};
-ghost use Rattle.std.specs.Prelude.{IfOk, IfNone, IfSome, OnOk, None, Some, false};
+ghost use Rattle.std.specs.Prelude.{◌≡◌, ◌≤◌, ◌<◌, ◌^◌, ◌-◌, ◌++◌, ℕ, List, length};
+ghost use Rattle.std.specs.Prelude.{slice_index_or, IfOk, OnOk, None, false};
 ghost use Rattle.std.specs.List.{AllZip};
-ghost use Rattle.dfa_table.specs.DfaValue.{place_of};
+ghost use Rattle.dfa_table.specs.DfaValue.{DfaValue};
 ghost use Rattle.delta_forest.specs.Changes.{RaisesSmall};
 ghost use Rattle.name_table.specs.Names.{AreSmall};
 ghost use Rattle.query_file.specs.Compiled.{IsCompiled};
-ghost use Rattle.path_engine.specs.Answering.{AreEndsFor, HasApplied, HasAnswered, HasHistory};
-ghost use Rattle.path_engine.specs.Answering.{HasStepped, HaveAnswered, IsNumbered, Suits, log_if};
+ghost use Rattle.path_engine.specs.Answering.{AreEndsFor, AreEndsForEach, HasApplied, HasAnswered};
+ghost use Rattle.path_engine.specs.Answering.{HasHistory, HasStepped, HaveAnswered, IsEdgeFor};
+ghost use Rattle.path_engine.specs.Answering.{Suits, log_if};
 ghost use Rattle.path_engine.specs.Laws.{Laws};
 ghost use Rattle.path_engine.specs.Showing.{LeavesFresh};
+ghost use Rattle.rpq_base.specs.declared.data.Act.{Act as ActTaken};
 ghost use Rattle.rpq_base.specs.declared.data.Act.TheVariants.{Insert, Delete};
+ghost use Rattle.rpq_base.specs.declared.data.Edge.{Edge as EdgeTaken};
 ghost use Rattle.window_clock.specs.Clock.{ClockValue};
 
 use crate::ends::Ends;
@@ -20,13 +23,12 @@ use crate::index::Index;
 use crate::stale::Stale;
 use containment_laws::accepted_queries_have_answers;
 use delta_forest::{Change, EndChange, Forest, each_has_an_end, ends_are_one, kept_is_best};
-use dfa_table::Dfa;
 use edge_store::EdgeId;
 use end_events::events_between;
 use index_laws::{index_keeps_bests, index_tells_answers, stores_follow};
 use name_table::Names;
 use query_file::Compiled;
-use rpq_base::{Act, Edge, Entry, Event, Memory, Workers};
+use rpq_base::{Act, Entry, Event, Memory, Workers};
 use rpq_io::{Context, Gate};
 use rpq_model::Mode;
 use std::alloc::Global;
@@ -47,15 +49,14 @@ pub(crate) fn answer_each<R: Threads + Sync, G: Gate>(
     queries: &[Compiled],
     indexes: &mut [Index],
     names: &Names,
-    ends: Option<Ends>,
+    ends: Option<Ends<'_>>,
     entry: &Entry,
 ) -> Result<Vec<Event>, Memory>
     requires few { length queries.now ≤ 64 }
     requires as_many { length queries.now ≡ length indexes.old }
     requires indexes { AllZip (λ query index. HasHistory query names.now index)
         queries.now indexes.old }
-    requires ends { All (λ query. AreEndsFor names.now query.dfa entry.now.tuple.act ends)
-        queries.now }
+    requires ends { AreEndsForEach names.now queries.now entry.now.tuple.act ends }
     ensures { IfOk result (λ events. HaveAnswered names.now entry.now 0 queries.now indexes.old
         indexes.new events.items) }
 {
@@ -86,21 +87,51 @@ pub(crate) fn answer<R: Threads + Sync, G: Gate>(
     number: u32,
     index: &mut Index,
     names: &Names,
-    ends: Option<Ends>,
+    ends: Option<Ends<'_>>,
     entry: &Entry,
 ) -> Result<Vec<Event>, Memory>
     requires index { HasHistory query.now names.now index.old }
-    requires ends { AreEndsFor names.now query.now.dfa entry.now.tuple.act ends }
+    requires ends { AreEndsFor names.now number query.now.dfa entry.now.tuple.act ends }
     ensures { IfOk result (λ events. HasAnswered names.now entry.now number query.now index.old
         index.new events.items) }
 {
     let mode = mode_of(query);
     names.keeps_numbers_small(); // called for its clause
-    let logs = step(crew, index, ends, entry)?;
+    let id = edge_for(number, ends);
+    let logs = step(crew, index, id, entry)?;
     laws();
     let alloc = crew.context.alloc;
     let second = second_log(&logs, &index.forest);
     events_between(alloc, number, mode, names, &logs.first, second)
+}
+
+/// The edge by the numbers that it has for the query with this number, where its vertices and its
+/// label have some.
+fn edge_for(number: u32, ends: Option<Ends<'_>>) -> Option<EdgeId>
+    ensures { (names : List (List ℕ)) (dfa : DfaValue) (act : ActTaken) →
+        AreEndsFor names number dfa act ends.entry → IsEdgeFor names dfa act result }
+{
+    match ends {
+        None => None,
+        Some(ends) => match label_for(ends.labels, number) {
+            None => None,
+            Some(label) => Some(EdgeId {
+                from: ends.from,
+                label,
+                to: ends.to,
+            }),
+        },
+    }
+}
+
+/// The number that a label with these numbers has for the query with this number, if it has one.
+fn label_for(labels: &[Option<u32>], number: u32) -> Option<u32>
+    ensures { result ≡ slice_index_or labels.now number None }
+{
+    if number as usize >= labels.len() {
+        return None;
+    }
+    labels[number as usize]
 }
 
 /// Which paths the query takes. Its contract also has what the types keep of a query.
@@ -142,19 +173,19 @@ fn second_log<'a>(logs: &Logs, forest: &'a Forest) -> &'a [EndChange]
     if logs.second { forest.log() } else { &[] }
 }
 
-/// Takes the entry into an index.
+/// Takes the entry, whose edge has these numbers, into an index.
 fn step<R: Threads + Sync, G: Gate>(
     crew: &Crew<'_, R, G>,
     index: &mut Index,
-    ends: Option<Ends>,
+    id: Option<EdgeId>,
     entry: &Entry,
 ) -> Result<Logs, Memory>
     requires unbroken { index.old.forest.broken ≡ false }
     requires calls { index.old.forest.calls < 2 ^ 40 }
     requires small { (names : List (List ℕ)) × AreSmall names
-        × AreEndsFor names index.old.forest.dfa entry.now.tuple.act ends }
+        × IsEdgeFor names index.old.forest.dfa entry.now.tuple.act id }
     ensures { IfOk result (λ logs. (names : List (List ℕ)) →
-        AreEndsFor names index.old.forest.dfa entry.now.tuple.act ends →
+        IsEdgeFor names index.old.forest.dfa entry.now.tuple.act id →
         HasStepped names entry.now index.old index.new logs.first.items
         (log_if logs.second index.new.forest)) }
 {
@@ -166,7 +197,7 @@ fn step<R: Threads + Sync, G: Gate>(
         Change::Expire(now),
     )?;
     let first = log_of(crew.context.alloc, &index.forest)?;
-    match change_for(&index.forest, &index.clock, now, ends, entry) {
+    match change_for(&index.clock, now, id, entry) {
         Some(change) => {
             apply(crew, &mut index.forest, &mut index.stale, change)?;
             Ok(Logs {
@@ -206,79 +237,55 @@ fn log_of(alloc: Global, forest: &Forest) -> Result<Vec<EndChange>, Memory>
     Ok(Vec::from_slice(alloc, forest.log())?)
 }
 
-/// The change that the entry makes at the clock, if it makes one.
-fn change_for(
-    forest: &Forest,
-    clock: &WindowClock,
-    now: u64,
-    ends: Option<Ends>,
-    entry: &Entry,
-) -> Option<Change>
+/// The change that the entry, whose edge has these numbers, makes at the clock, if it makes one.
+fn change_for(clock: &WindowClock, now: u64, id: Option<EdgeId>, entry: &Entry) -> Option<Change>
     requires { now ≡ clock.now.clock }
-    ensures { (names : List (List ℕ)) →
-        AreEndsFor names forest.now.dfa entry.now.tuple.act ends →
-        Suits names forest.now.dfa clock.now entry.now.tuple.time entry.now.tuple.act result }
+    ensures { (names : List (List ℕ)) (dfa : DfaValue) →
+        IsEdgeFor names dfa entry.now.tuple.act id →
+        Suits names dfa clock.now entry.now.tuple.time entry.now.tuple.act result }
 {
-    let dfa = forest.dfa();
     match &entry.tuple.act {
-        Act::Insert { edge, until } => {
-            raise_for(dfa, clock, now, ends, edge, entry.tuple.time, *until)
-        }
-        Act::Delete(edge) => remove_for(dfa, ends, edge),
+        Act::Insert { until, .. } => raise_for(clock, now, id, entry.tuple.time, *until),
+        Act::Delete(_) => remove_for(id),
         Act::Tick => None,
     }
 }
 
 /// The raise of an inserted edge, which may have an end of its own.
 fn raise_for(
-    dfa: &Dfa,
     clock: &WindowClock,
     now: u64,
-    ends: Option<Ends>,
-    edge: &Edge,
+    id: Option<EdgeId>,
     time: u64,
     until: Option<u64>,
 ) -> Option<Change>
     requires now { now ≡ clock.now.clock }
     requires time { time ≤ 2 ^ 62 - 1 }
-    ensures { (names : List (List ℕ)) →
-        AreEndsFor names dfa.now (Insert edge.now until) ends →
-        Suits names dfa.now clock.now time (Insert edge.now until) result }
+    ensures { (names : List (List ℕ)) (dfa : DfaValue) (edge : EdgeTaken) →
+        IsEdgeFor names dfa (Insert edge until) id →
+        Suits names dfa clock.now time (Insert edge until) result }
 {
-    let value = clock.entry_deadline(time, until);
-    match number_of(dfa, ends, edge) {
-        Some(edge) if value > now => Some(Change::Raise { edge, value }),
-        _ => None,
+    match id {
+        None => None,
+        Some(edge) => {
+            let value = clock.entry_deadline(time, until);
+            if value > now {
+                Some(Change::Raise { edge, value })
+            } else {
+                None
+            }
+        }
     }
 }
 
 /// The removal of a deleted edge.
-fn remove_for(dfa: &Dfa, ends: Option<Ends>, edge: &Edge) -> Option<Change>
-    ensures { (names : List (List ℕ)) →
-        AreEndsFor names dfa.now (Delete edge.now) ends →
-        (clock : ClockValue) (time : ℕ) →
-        Suits names dfa.now clock time (Delete edge.now) result }
+fn remove_for(id: Option<EdgeId>) -> Option<Change>
+    ensures { (names : List (List ℕ)) (dfa : DfaValue) (edge : EdgeTaken) →
+        IsEdgeFor names dfa (Delete edge) id →
+        (clock : ClockValue) (time : ℕ) → Suits names dfa clock time (Delete edge) result }
 {
-    match number_of(dfa, ends, edge) {
+    match id {
         Some(edge) => Some(Change::Remove(edge)),
         None => None,
-    }
-}
-
-/// The edge by numbers, where its vertices and its label have some.
-fn number_of(dfa: &Dfa, ends: Option<Ends>, edge: &Edge) -> Option<EdgeId>
-    ensures some { IfSome result (λ id. IsNumbered dfa.now ends edge.now id) }
-    ensures none { IfNone result ((ends ≡ None) ⊎ (place_of dfa.now edge.now.label ≡ None)) }
-{
-    match ends {
-        None => None,
-        Some(ends) => match dfa.label_number(&edge.label) {
-            None => None,
-            Some(label) => Some(EdgeId {
-                from: ends.from,
-                label,
-                to: ends.to,
-            }),
-        },
     }
 }

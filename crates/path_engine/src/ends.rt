@@ -1,163 +1,201 @@
-//! The numbers of an edge's vertices.
+//! The numbers of an edge: those of its vertices, and for each query that of its label.
 
-ghost use Rattle.std.specs.Prelude.{◌≡◌, ◌+◌, ◌-◌, ◌*◌, ◌^◌, ◌<◌, ◌≤◌, ℕ, length, All, None, Some};
-ghost use Rattle.std.specs.Prelude.{◌↔◌, IfOk, IfNone, IfSome, OnOk, false};
+ghost use Rattle.std.specs.Prelude.{◌≡◌, ◌+◌, ◌-◌, ◌*◌, ◌^◌, ◌<◌, ◌≤◌, ℕ, List, length, All, Some};
+ghost use Rattle.std.specs.Prelude.{IfNone, IfOk, IfSome, OnOk};
+ghost use Rattle.rpq_base.specs.declared.data.Act.TheVariants.{Delete};
 ghost use Rattle.rpq_base.specs.declared.data.Entry.{Entry as EntryTaken};
-ghost use Rattle.dfa_table.specs.DfaValue.{DfaValue, place_of};
 ghost use Rattle.name_table.specs.Names.{KeepsNumbers, number_of};
 ghost use Rattle.index_laws.specs.Numbered.{AreNumbersOf};
-ghost use Rattle.path_engine.specs.Answering.{AreEndsFor, AreEndsOf};
-ghost use Rattle.path_engine.specs.Front.{AreAllEndsFor, AreAllFirstEnds, AreFirstEnds};
+ghost use Rattle.query_file.specs.Compiled.{CompiledValue};
+ghost use Rattle.path_engine.specs.Answering.{AreEndsForEach, AreEndsOf};
+ghost use Rattle.path_engine.specs.Front.{AreAllEndsFor, AreAllFirstEnds, AreFirstEndsForEach};
 ghost use Rattle.path_engine.specs.Keeping.{BringsNoName};
+ghost use Rattle.path_engine.specs.Labels.{IsTableOf};
 
+use crate::labels::{LabelTable, numbers_of};
 use name_table::Names;
-use query_file::Compiled;
-use rpq_base::{Act, Edge, Entry, Label, Memory, Name};
+use rpq_base::{Act, Edge, Entry, Memory, Name};
 use std::alloc::Global;
 
-/// The numbers of the two vertices of an edge.
+/// The numbers of two vertices.
 #[derive(Clone, Copy, Debug, PartialEq, Eq)]
-pub struct Ends {
+pub struct Vertices {
     pub from: u32,
     pub to: u32,
 }
 
-/// The numbers of the vertices of the act's edge, if there is one: an insert whose label some query
-/// knows numbers its vertices, a delete looks them up. Keeps count of the names.
-pub(crate) fn ends_for(
+/// The numbers of an edge: those of its two vertices, and for each query the number that its label
+/// has in the query's automaton, or none.
+#[derive(Clone, Copy)]
+pub struct Ends<'a> {
+    pub from: u32,
+    pub to: u32,
+    pub labels: &'a [Option<u32>],
+}
+
+/// The numbers of the act's edge, if there is one: an insert whose label some query knows numbers
+/// its vertices, a delete looks them up. Keeps count of the names.
+pub(crate) fn ends_for<'a>(
     names: &mut Names,
     named: &mut u32,
-    queries: &[Compiled],
+    labels: &'a LabelTable,
     act: &Act,
-) -> Result<Option<Ends>, Memory>
+) -> Result<Option<Ends<'a>>, Memory>
     requires few { length names.old < 2 ^ 32 - 3 }
     requires named { named.old ≡ length names.old }
-    ensures ends { IfOk result (λ ends.
-        All (λ query. AreEndsFor names.new query.dfa act.now ends) queries.now) }
+    ensures ends { IfOk result (λ ends. (queries : List CompiledValue) →
+        IsTableOf queries labels.now → AreEndsForEach names.new queries act.now ends) }
     ensures kept { OnOk result (KeepsNumbers names.old names.new) }
-    ensures same { OnOk result (BringsNoName act.now queries.now → names.new ≡ names.old) }
+    ensures same { OnOk result ((queries : List CompiledValue) → IsTableOf queries labels.now →
+        BringsNoName act.now queries → names.new ≡ names.old) }
     ensures grown { OnOk result (length names.new ≤ length names.old + 2) }
     ensures named { named.new ≡ length names.new }
 {
-    match act {
-        Act::Insert { edge, .. } => {
-            if knows(queries, &edge.label) {
-                Ok(Some(number_ends(names, named, edge)?))
-            } else {
-                Ok(None)
-            }
-        }
-        Act::Delete(edge) => Ok(find_ends(names, edge)),
-        Act::Tick => Ok(None),
-    }
+    let first = first_of(names, named, labels, act)?;
+    Ok(last_of(names, labels, act, first))
 }
 
-/// The numbers of the vertices of each entry's edge, by the names that have numbers once all
-/// inserts among the entries have theirs. Keeps count of the names.
-pub(crate) fn ends_for_all(
+/// The numbers of each entry's edge, by the names that have numbers once all inserts among the
+/// entries have theirs. Keeps count of the names.
+pub(crate) fn ends_for_all<'a>(
     alloc: Global,
     names: &mut Names,
     named: &mut u32,
-    queries: &[Compiled],
+    labels: &'a LabelTable,
     entries: &[Entry],
-) -> Result<Vec<Option<Ends>>, Memory>
+) -> Result<Vec<Option<Ends<'a>>>, Memory>
     requires few { length names.old + 2 * length entries.now < 2 ^ 32 - 3 }
     requires named { named.old ≡ length names.old }
-    ensures ends { IfOk result (λ ends.
-        AreAllEndsFor names.new queries.now entries.now ends.items) }
+    ensures ends { IfOk result (λ ends. (queries : List CompiledValue) →
+        IsTableOf queries labels.now → AreAllEndsFor names.new queries entries.now ends.items) }
     ensures kept { OnOk result (KeepsNumbers names.old names.new) }
-    ensures same { OnOk result (All (λ (entry : EntryTaken).
-        BringsNoName entry.tuple.act queries.now) entries.now → names.new ≡ names.old) }
+    ensures same { OnOk result ((queries : List CompiledValue) → IsTableOf queries labels.now →
+        All (λ (entry : EntryTaken). BringsNoName entry.tuple.act queries) entries.now →
+        names.new ≡ names.old) }
     ensures grown { OnOk result (length names.new ≤ length names.old + 2 * length entries.now) }
     ensures named { named.new ≡ length names.new }
 {
-    let first = first_ends(alloc, names, named, queries, entries)?;
-    last_ends(alloc, names, queries, entries, &first)
+    let first = first_ends(alloc, names, named, labels, entries)?;
+    last_ends(alloc, names, labels, entries, &first)
 }
 
-/// The numbers of the vertices of each entry's edge as they are found one after another, where
-/// inserts number theirs.
-fn first_ends(
+/// The numbers of each entry's edge as they are found one after another, where inserts number
+/// theirs, and deletes have none yet.
+fn first_ends<'a>(
     alloc: Global,
     names: &mut Names,
     named: &mut u32,
-    queries: &[Compiled],
+    labels: &'a LabelTable,
     entries: &[Entry],
-) -> Result<Vec<Option<Ends>>, Memory>
+) -> Result<Vec<Option<Ends<'a>>>, Memory>
     requires few { length names.old + 2 * length entries.now < 2 ^ 32 - 3 }
     requires named { named.old ≡ length names.old }
-    ensures ends { IfOk result (λ ends.
-        AreAllFirstEnds names.new queries.now entries.now ends.items) }
+    ensures as_many { IfOk result (λ ends. length ends.items ≡ length entries.now) }
+    ensures ends { IfOk result (λ ends. (queries : List CompiledValue) →
+        IsTableOf queries labels.now → AreAllFirstEnds names.new queries entries.now ends.items) }
     ensures kept { OnOk result (KeepsNumbers names.old names.new) }
-    ensures same { OnOk result (All (λ (entry : EntryTaken).
-        BringsNoName entry.tuple.act queries.now) entries.now → names.new ≡ names.old) }
+    ensures same { OnOk result ((queries : List CompiledValue) → IsTableOf queries labels.now →
+        All (λ (entry : EntryTaken). BringsNoName entry.tuple.act queries) entries.now →
+        names.new ≡ names.old) }
     ensures grown { OnOk result (length names.new ≤ length names.old + 2 * length entries.now) }
     ensures named { named.new ≡ length names.new }
 {
     let mut found = Vec::new(alloc);
     for entry in entries {
-        let ends = ends_for(names, named, queries, &entry.tuple.act)?;
+        let ends = first_of(names, named, labels, &entry.tuple.act)?;
         found.push(ends)?;
     }
     Ok(found)
 }
 
-/// The same, by the names that have numbers now.
-fn last_ends(
+/// The numbers of an insert's edge, whose vertices are numbered where some query knows its label.
+/// Those of a delete are looked up later.
+fn first_of<'a>(
+    names: &mut Names,
+    named: &mut u32,
+    labels: &'a LabelTable,
+    act: &Act,
+) -> Result<Option<Ends<'a>>, Memory>
+    requires few { length names.old < 2 ^ 32 - 3 }
+    requires named { named.old ≡ length names.old }
+    ensures ends { IfOk result (λ ends. (queries : List CompiledValue) →
+        IsTableOf queries labels.now → AreFirstEndsForEach names.new queries act.now ends) }
+    ensures kept { OnOk result (KeepsNumbers names.old names.new) }
+    ensures same { OnOk result ((queries : List CompiledValue) → IsTableOf queries labels.now →
+        BringsNoName act.now queries → names.new ≡ names.old) }
+    ensures grown { OnOk result (length names.new ≤ length names.old + 2) }
+    ensures named { named.new ≡ length names.new }
+{
+    match act {
+        Act::Insert { edge, .. } => match numbers_of(labels, &edge.label) {
+            Some(numbers) => Ok(Some(number_ends(names, named, edge, numbers)?)),
+            None => Ok(None),
+        },
+        Act::Delete(_) => Ok(None),
+        Act::Tick => Ok(None),
+    }
+}
+
+/// The numbers of each entry's edge, by the names that have numbers now.
+fn last_ends<'a>(
     alloc: Global,
     names: &Names,
-    queries: &[Compiled],
+    labels: &'a LabelTable,
     entries: &[Entry],
-    first: &[Option<Ends>],
-) -> Result<Vec<Option<Ends>>, Memory>
-    requires { AreAllFirstEnds names.now queries.now entries.now first.now }
-    ensures { IfOk result (λ ends. AreAllEndsFor names.now queries.now entries.now ends.items) }
+    first: &[Option<Ends<'a>>],
+) -> Result<Vec<Option<Ends<'a>>>, Memory>
+    requires { length first.now ≡ length entries.now }
+    ensures { IfOk result (λ ends. (queries : List CompiledValue) → IsTableOf queries labels.now →
+        AreAllFirstEnds names.now queries entries.now first.now →
+        AreAllEndsFor names.now queries entries.now ends.items) }
 {
     let mut found = Vec::new(alloc);
     for (place, entry) in entries.iter().enumerate() {
-        found.push(last_of(names, &entry.tuple.act, first[place]))?;
+        found.push(last_of(names, labels, &entry.tuple.act, first[place]))?;
     }
     Ok(found)
 }
 
-/// The numbers of the vertices of the act's edge, by the names that have numbers now: those found
-/// first stand, and a delete without any looks again.
-fn last_of(names: &Names, act: &Act, first: Option<Ends>) -> Option<Ends>
-    ensures { (dfa : DfaValue) → AreFirstEnds names.now dfa act.now first →
-        AreEndsFor names.now dfa act.now result }
+/// The numbers of the act's edge, by the names that have numbers now: those of an insert stand, and
+/// those of a delete are looked up.
+fn last_of<'a>(
+    names: &Names,
+    labels: &'a LabelTable,
+    act: &Act,
+    first: Option<Ends<'a>>,
+) -> Option<Ends<'a>>
+    ensures { (queries : List CompiledValue) → IsTableOf queries labels.now →
+        AreFirstEndsForEach names.now queries act.now first.entry →
+        AreEndsForEach names.now queries act.now result }
 {
     match act {
-        Act::Delete(edge) => find_ends(names, edge),
+        Act::Delete(edge) => find_ends(names, labels, edge),
         Act::Insert { .. } => first,
         Act::Tick => first,
     }
 }
 
-/// Whether some query's automaton has the label.
-fn knows(queries: &[Compiled], label: &Label) -> bool
-    ensures { (result ≡ false)
-        ↔ All (λ query. place_of query.dfa label.now ≡ None) queries.now }
-{
-    for query in queries {
-        if query.dfa.label_number(label).is_some() {
-            return true;
-        }
-    }
-    false
-}
-
-/// The numbers of the edge's vertices, which new ones get now.
-fn number_ends(names: &mut Names, named: &mut u32, edge: &Edge) -> Result<Ends, Memory>
+/// The numbers of the edge whose label has these. New vertices get theirs now.
+fn number_ends<'a>(
+    names: &mut Names,
+    named: &mut u32,
+    edge: &Edge,
+    numbers: &'a [Option<u32>],
+) -> Result<Ends<'a>, Memory>
     requires few { length names.old < 2 ^ 32 - 3 }
     requires named { named.old ≡ length names.old }
-    ensures ends { IfOk result (AreEndsOf names.new edge.now) }
+    ensures ends { IfOk result (AreEndsOf names.new edge.now numbers.now) }
     ensures kept { OnOk result (KeepsNumbers names.old names.new) }
     ensures grown { OnOk result (length names.new ≤ length names.old + 2) }
     ensures named { named.new ≡ length names.new }
 {
     let from = number_name(names, named, &edge.from)?;
     let to = number_name(names, named, &edge.to)?;
-    Ok(Ends { from, to })
+    Ok(Ends {
+        from,
+        to,
+        labels: numbers,
+    })
 }
 
 /// The number of the name, which a new one gets now.
@@ -176,23 +214,33 @@ fn number_name(names: &mut Names, named: &mut u32, name: &Name) -> Result<u32, M
     Ok(number)
 }
 
-/// The numbers of the edge's vertices, where both have one.
-fn find_ends(names: &Names, edge: &Edge) -> Option<Ends>
-    ensures some { IfSome result (AreEndsOf names.now edge.now) }
-    ensures none { IfNone result ((ends : Ends) → AreEndsOf names.now edge.now ends → ⊥) }
+/// The numbers of a deleted edge, where its vertices have some and some query knows its label.
+fn find_ends<'a>(names: &Names, labels: &'a LabelTable, edge: &Edge) -> Option<Ends<'a>>
+    ensures { (queries : List CompiledValue) → IsTableOf queries labels.now →
+        AreEndsForEach names.now queries (Delete edge.now) result }
 {
-    ends_between(names, &edge.from, &edge.to)
+    match numbers_of(labels, &edge.label) {
+        None => None,
+        Some(numbers) => match ends_between(names, &edge.from, &edge.to) {
+            None => None,
+            Some(vertices) => Some(Ends {
+                from: vertices.from,
+                to: vertices.to,
+                labels: numbers,
+            }),
+        },
+    }
 }
 
 /// The numbers of the two vertices, where both have one.
-pub(crate) fn ends_between(names: &Names, from: &Name, to: &Name) -> Option<Ends>
+pub(crate) fn ends_between(names: &Names, from: &Name, to: &Name) -> Option<Vertices>
     ensures some { IfSome result (λ ends.
         AreNumbersOf names.now from.now to.now ends.from ends.to) }
     ensures none { IfNone result ((root vertex : ℕ) →
         AreNumbersOf names.now from.now to.now root vertex → ⊥) }
 {
     match (names.find(from), names.find(to)) {
-        (Some(from), Some(to)) => Some(Ends { from, to }),
+        (Some(from), Some(to)) => Some(Vertices { from, to }),
         _ => None,
     }
 }

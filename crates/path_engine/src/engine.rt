@@ -17,6 +17,7 @@ use crate::ends::{ends_for, ends_for_all};
 use crate::fault::FeedFault;
 use crate::front::{answer_front, told_in};
 use crate::index::{Index, indexes_of};
+use crate::labels::{LabelTable, table_of};
 use crate::paths::path_for;
 use crate::rebuilding::feed_all;
 use crate::showing::rows_of_each;
@@ -42,6 +43,8 @@ use std::thread::Threads;
 pub struct Engine {
     alloc: Global,
     queries: Vec<Compiled>,
+    /// The labels of the queries, with their numbers.
+    labels: LabelTable,
     /// The number of entries that were answered.
     position: u64,
     /// Whether an entry was begun and not answered to its end.
@@ -59,6 +62,7 @@ impl Drop for Engine {
         let Engine {
             alloc: _alloc,
             queries: _queries,
+            labels: _labels,
             position: _position,
             spent: _spent,
             names: _names,
@@ -92,7 +96,7 @@ impl Model for Engine {
       spent = engine.spent;
       names = engine.names;
       indexes = engine.indexes.items;
-    }) engine.named };
+    }) engine.named engine.labels };
 }
 
 impl Engine {
@@ -110,9 +114,11 @@ impl Engine {
     {
         let indexes = indexes_of(alloc, &queries)?;
         let names = Names::new(rt, alloc)?;
+        let labels = table_of(alloc, &queries)?;
         Ok(Engine {
             alloc,
             queries,
+            labels,
             position: 0,
             spent: false,
             names,
@@ -172,7 +178,7 @@ impl Engine {
         stores_follow(); // called for its clauses
         self.spent = true; // until the entry is answered to its end
         let act = &entry.tuple.act;
-        let ends = ends_for(&mut self.names, &mut self.named, &self.queries, act)?;
+        let ends = ends_for(&mut self.names, &mut self.named, &self.labels, act)?;
         let alloc = self.alloc;
         let context = Context { rt, alloc, gate };
         let crew = Crew {
@@ -248,7 +254,7 @@ impl Engine {
             alloc,
             &mut self.names,
             &mut self.named,
-            &self.queries,
+            &self.labels,
             entries,
         )?;
         let context = Context { rt, alloc, gate };

@@ -36,7 +36,7 @@ pub(crate) fn answer_front<R: Threads + Sync, G: Gate>(
     queries: &[Compiled],
     indexes: &mut Vec<Index>,
     names: &Names,
-    ends: &[Option<Ends>],
+    ends: &[Option<Ends<'_>>],
     entries: &[Entry],
 ) -> Result<Vec<Vec<Event>>, Memory>
     requires some_queries { 1 ≤ length queries.now }
@@ -74,7 +74,7 @@ fn feed_shares<R: Threads + Sync, G: Gate>(
     queries: &[Compiled],
     shares: &mut [Share],
     names: &Names,
-    ends: &[Option<Ends>],
+    ends: &[Option<Ends<'_>>],
     entries: &[Entry],
 )
     requires few { length queries.now ≤ 64 }
@@ -99,7 +99,7 @@ fn feed_chunks<R: Threads + Sync, G: Gate>(
     queries: &[Compiled],
     shares: &mut [Share],
     names: &Names,
-    ends: &[Option<Ends>],
+    ends: &[Option<Ends<'_>>],
     entries: &[Entry],
 )
     requires some { 0 < size }
@@ -147,7 +147,7 @@ fn feed_part<R: Threads + Sync, G: Gate>(
     start: usize,
     part: &mut [Share],
     names: &Names,
-    ends: &[Option<Ends>],
+    ends: &[Option<Ends<'_>>],
     entries: &[Entry],
 )
     requires few { length queries.now ≤ 64 }
@@ -170,12 +170,12 @@ fn feed_one<R: Threads + Sync, G: Gate>(
     number: u32,
     share: &mut Share,
     names: &Names,
-    ends: &[Option<Ends>],
+    ends: &[Option<Ends<'_>>],
     entries: &[Entry],
 )
     requires index { HasHistoryFor (length entries.now) query.now names.now share.old.index }
     requires ends { AllZip (λ (entry : EntryTaken) own.
-        AreEndsFor names.now query.now.dfa entry.tuple.act own) entries.now ends.now }
+        AreEndsFor names.now number query.now.dfa entry.tuple.act own) entries.now ends.now }
     ensures { HasFed names.now entries.now number query.now share.old share.new }
 {
     share.owns = answer_all(crew, query, number, &mut share.index, names, ends, entries);
@@ -188,12 +188,12 @@ fn answer_all<R: Threads + Sync, G: Gate>(
     number: u32,
     index: &mut Index,
     names: &Names,
-    ends: &[Option<Ends>],
+    ends: &[Option<Ends<'_>>],
     entries: &[Entry],
 ) -> Result<Vec<Vec<Event>>, Memory>
     requires index { HasHistoryFor (length entries.now) query.now names.now index.old }
     requires ends { AllZip (λ (entry : EntryTaken) own.
-        AreEndsFor names.now query.now.dfa entry.tuple.act own) entries.now ends.now }
+        AreEndsFor names.now number query.now.dfa entry.tuple.act own) entries.now ends.now }
     ensures { IfOk result (λ owns. HasAnsweredAll names.now entries.now number query.now
         index.old index.new (map (λ own. own.items) owns.items)) }
 {

@@ -20,6 +20,9 @@
 //! with the view before. The invariant says that a row whose root isn't stale is what the forest
 //! shows. Until the first view of an engine with names, all roots are stale and nothing is kept.
 //!
+//! The label of an entry's edge is looked up once, in a table of the labels of all queries: its row
+//! has for each query the number of the label in the query's automaton.
+//!
 //! The queries depend on each other by the names alone. So a front first gives numbers to all names
 //! that its entries bring, and then each query takes the whole front before the next query does, or
 //! beside it by another worker. An index then stays in its processor's cache for a whole front, and
@@ -34,6 +37,7 @@ mod engine;
 mod fault;
 mod front;
 mod index;
+mod labels;
 mod paths;
 mod rebuilding;
 mod showing;

@@ -2,7 +2,7 @@ use Rattle.std.proofs.Common.{◌≡◌, ◌+◌, List, get_or, slice_index_or, 
 use Rattle.rpq_base.specs.declared.data.Event.{Event}
 use Rattle.query_file.specs.Compiled.{CompiledValue}
 use Rattle.path_engine.specs.declared.index.Index.{Index}
-use Rattle.path_engine.specs.Answering.{AreEndsFor, HasHistory}
+use Rattle.path_engine.specs.Answering.{HasHistory}
 use Rattle.path_engine.proofs.Each.{IsDone, done_more, done_all, zip_at}
 use Rattle.path_engine.proofs.answering.answer_each.Goals as goal
 
@@ -24,14 +24,8 @@ answer-requires-clause-index g c = λ lifetimes within.
 
 pub answer-requires-clause-ends : goal.answer-requires-clause-ends
 answer-requires-clause-ends g c = λ lifetimes within.
-    let queries = c.args.queries.now in
-    let place = c.loop-place.place in
-    let names = c.args.names.now in
-    let query = c.index-queries-place.result in
-    subst (λ (each : CompiledValue).
-    AreEndsFor names each.dfa c.args.entry.now.tuple.act c.args.ends)
-    (sym c.index-queries-place.is)
-    (c.requires.ends place query (omega (arith, c.requires.as_many, c.loop-place-test.true)))
+    c.requires.ends c.loop-place.place c.index-queries-place.result
+    (omega (arith, c.requires.as_many, c.loop-place-test.true)) c.index-queries-place.is
 
 pub loop-place-preserved : goal.loop-place-preserved
 loop-place-preserved g c =

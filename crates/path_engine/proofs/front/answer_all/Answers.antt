@@ -11,8 +11,8 @@ use Rattle.path_engine.specs.Front.{HasAnsweredAll}
 use Rattle.path_engine.proofs.Fronts.{history_at, items_of, items_push, one_more, zip_both}
 use Rattle.path_engine.proofs.front.answer_all.Goals as goal
 
-abbrev Suit : List (List ℕ) → DfaValue → Entry → Option Ends → Type 0
-Suit names dfa entry own = AreEndsFor names dfa entry.tuple.act own
+abbrev Suit : List (List ℕ) → ℕ → DfaValue → Entry → Option Ends → Type 0
+Suit names number dfa entry own = AreEndsFor names number dfa entry.tuple.act own
 
 pub loop-place-init : goal.loop-place-init
 loop-place-init g c =
@@ -25,8 +25,8 @@ pub bounds-ends-place : goal.bounds-ends-place
 bounds-ends-place g c =
     omega (
       arith,
-      AllZip-long (Suit c.args.names.now c.args.query.now.dfa) c.args.entries.now c.args.ends.now
-          c.requires.ends,
+      AllZip-long (Suit c.args.names.now c.args.number c.args.query.now.dfa) c.args.entries.now
+          c.args.ends.now c.requires.ends,
       c.loop-place-test.true,
     )
 
@@ -39,11 +39,11 @@ answer-requires-clause-index g c κs within =
 pub answer-requires-clause-ends : goal.answer-requires-clause-ends
 answer-requires-clause-ends g c κs within =
     subst (λ (each : Entry).
-    Suit c.args.names.now c.args.query.now.dfa each
+    Suit c.args.names.now c.args.number c.args.query.now.dfa each
     (slice_index_or c.args.ends.now c.loop-place.place None))
     (sym c.index-entries-place.is)
-    (zip_both (Suit c.args.names.now c.args.query.now.dfa) c.args.entries.now c.args.ends.now
-    c.loop-place.place c.index-entries-place.result None c.requires.ends c.loop-place-test.true)
+    (zip_both (Suit c.args.names.now c.args.number c.args.query.now.dfa) c.args.entries.now
+    c.args.ends.now c.loop-place.place c.index-entries-place.result None c.requires.ends c.loop-place-test.true)
 
 pub loop-place-preserved : goal.loop-place-preserved
 loop-place-preserved g c =

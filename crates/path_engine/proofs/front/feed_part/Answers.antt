@@ -1,13 +1,10 @@
-use Rattle.std.proofs.Common.{◌≡◌, ◌+◌, ◌<◌, ℕ, length, get_or, slice_index_or, Option}
+use Rattle.std.proofs.Common.{◌≡◌, ◌+◌, ◌<◌, ℕ, length, get_or, slice_index_or}
 use Rattle.std.proofs.Common.{refl, sym, subst, ◌∙◌, arith, length-set, get_or-set_other}
 use Rattle.std.proofs.lemmas.List.{get_or_default}
-use Rattle.rpq_base.specs.declared.data.Entry.{Entry}
 use Rattle.query_file.specs.Compiled.{CompiledValue}
-use Rattle.path_engine.specs.declared.ends.Ends.{Ends}
 use Rattle.path_engine.specs.declared.front.Share.{Share}
-use Rattle.path_engine.specs.Answering.{AreEndsFor}
 use Rattle.path_engine.specs.Front.{HasFed, HasHistoryFor}
-use Rattle.path_engine.proofs.Fronts.{each_more, zip_each}
+use Rattle.path_engine.proofs.Fronts.{each_more, ends_at}
 use Rattle.path_engine.proofs.front.feed_part.Goals as goal
 
 pub loop-offset-init : goal.loop-offset-init
@@ -30,10 +27,8 @@ feed_one-requires-clause-index g c κs within =
 
 pub feed_one-requires-clause-ends : goal.feed_one-requires-clause-ends
 feed_one-requires-clause-ends g c κs within =
-    zip_each (λ (query : CompiledValue) (entry : Entry) (own : Option Ends).
-    AreEndsFor c.args.names.now query.dfa entry.tuple.act own) c.args.queries.now
-    c.args.entries.now c.args.ends.now (c.args.start + c.loop-offset.offset)
-    c.index-queries-place.result
+    ends_at c.args.names.now c.args.queries.now c.args.entries.now c.args.ends.now
+    (c.args.start + c.loop-offset.offset) c.index-queries-place.result
     (omega (arith, c.requires.within, c.loop-offset-test.true))
     c.index-queries-place.is c.requires.ends
 

@@ -1,13 +1,12 @@
-use Rattle.std.proofs.Common.{◌≡◌, ℕ, ◌+◌, false, List, ◌++◌, length}
+use Rattle.std.proofs.Common.{ℕ, ◌+◌, false, List, Option, ◌++◌, length}
 use Rattle.std.proofs.Common.{refl, sym, ap, subst, arith}
-use Rattle.std.specs.List.{All, AllZip}
-use Rattle.rpq_base.specs.declared.data.Entry.{Entry}
+use Rattle.std.specs.List.{AllZip}
 use Rattle.query_file.specs.Compiled.{CompiledValue}
 use Rattle.path_engine.specs.declared.index.Index.{Index}
-use Rattle.path_engine.specs.Front.{HasHistoryFor, HaveAnsweredAll}
+use Rattle.path_engine.specs.declared.ends.Ends.{Ends}
+use Rattle.path_engine.specs.Front.{AreAllEndsFor, HasHistoryFor, HaveAnsweredAll}
 use Rattle.path_engine.specs.Engine.{EngineValue}
 use Rattle.path_engine.specs.Feeding.{FeedsFront}
-use Rattle.path_engine.specs.Keeping.{BringsNoName}
 use Rattle.path_engine.proofs.Fronts.{front_fed, front_fed_stands, histories_for, items_of}
 use Rattle.path_engine.proofs.engine.Engine.answer_entries.Given.{Over}
 use Rattle.path_engine.proofs.engine.Engine.answer_entries.Goals as goal
@@ -31,10 +30,21 @@ answer_front-requires-clause-indexes g c = λ lifetimes within.
     let names = c.ends_for_all.new.names in
     let found = c.self.invariant.stands c.if-self.false in
     subst (λ (queries : List CompiledValue). Have (length c.args.entries.now) names queries old.indexes)
-    (sym {A = List CompiledValue} c.deref-2.ensures.value)
+    (sym {A = List CompiledValue} c.deref.ensures.value)
     (histories_for c.stores_follow.ensures old found.0 names (length c.args.entries.now) found.1
     (omega (arith, ap (λ (engine : EngineValue). engine.position) c.self.view_is, c.requires.short))
     c.in_ok-ends.ensures.kept)
+
+pub answer_front-requires-clause-ends : goal.answer_front-requires-clause-ends
+answer_front-requires-clause-ends g c = λ lifetimes within.
+    let names = c.ends_for_all.new.names in
+    let entries = c.args.entries.now in
+    subst (λ (queries : List CompiledValue).
+    AreAllEndsFor names queries entries c.deref-2.result.now)
+    (sym {A = List CompiledValue} c.deref.ensures.value)
+    (subst (AreAllEndsFor names c.self.inside.queries.items entries)
+    (sym {A = List (Option Ends)} c.deref-2.ensures.value)
+    (c.in_ok-ends.ensures.ends c.self.inside.queries.items c.self.invariant.table))
 
 -- the engine before the call
 abbrev before : (g : Over) → goal.After-drop-ends-2 g → EngineValue
@@ -65,7 +75,7 @@ answered g c =
     subst (λ (each : List CompiledValue).
     HaveAnsweredAll c.ends_for_all.new.names c.args.entries.now 0 each
     c.self.inside.indexes.items c.answer_front.new.indexes.items
-    (items_of c.in_ok-events.events.items)) c.deref-2.ensures.value c.in_ok-events.ensures
+    (items_of c.in_ok-events.events.items)) c.deref.ensures.value c.in_ok-events.ensures
 
 pub invariant_of-self-2 : goal.invariant_of-self-2
 invariant_of-self-2 g c =
@@ -73,6 +83,7 @@ invariant_of-self-2 g c =
     record {
       some = c.self.invariant.some;
       few = c.self.invariant.few;
+      table = c.self.invariant.table;
       named = c.in_ok-ends.ensures.named;
       short = omega (
         arith,
@@ -94,7 +105,4 @@ returns-clause-feeds g c =
     subst (λ (engine : EngineValue). FeedsFront engine entries (after g c) events) c.self.view_is
     (front_fed c.stores_follow.ensures (before g c) (after g c) entries events refl refl refl
     c.in_ok-ends.ensures.kept c.in_ok-ends.ensures.grown (answered g c)
-    (subst (λ (queries : List CompiledValue).
-    All (λ (each : Entry). BringsNoName each.tuple.act queries) entries →
-    c.ends_for_all.new.names ≡ c.self.inside.names)
-    c.deref.ensures.value c.in_ok-ends.ensures.same))
+    (c.in_ok-ends.ensures.same c.self.inside.queries.items c.self.invariant.table))

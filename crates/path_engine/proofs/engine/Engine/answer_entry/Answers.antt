@@ -4,7 +4,7 @@ use Rattle.std.proofs.lemmas.Slice.Zip.{AllZip-long}
 use Rattle.rpq_base.specs.declared.data.Entry.{Entry}
 use Rattle.query_file.specs.Compiled.{CompiledValue}
 use Rattle.path_engine.specs.declared.index.Index.{Index}
-use Rattle.path_engine.specs.Answering.{HasHistory, HaveAnswered}
+use Rattle.path_engine.specs.Answering.{AreEndsForEach, HasHistory, HaveAnswered}
 use Rattle.path_engine.specs.Engine.{EngineValue}
 use Rattle.path_engine.specs.Feeding.{Feeds}
 use Rattle.path_engine.specs.Keeping.{BringsNoName}
@@ -15,7 +15,7 @@ use Rattle.path_engine.proofs.engine.Engine.answer_entry.Goals as goal
 
 -- the queries have their indexes before they answer
 have : (g : Over) (c : goal.After-answer_each-arg-1 g) →
-    HaveHistories c.ends_for.new.names c.deref-2.result.now c.deref_mut.result.now
+    HaveHistories c.ends_for.new.names c.deref.result.now c.deref_mut.result.now
 have g c =
     let inside = c.self.inside in
     let old : EngineValue = record {
@@ -28,7 +28,7 @@ have g c =
     let names = c.ends_for.new.names in
     let found = c.self.invariant.stands c.if-self.false in
     subst (λ (queries : List CompiledValue). HaveHistories names queries c.deref_mut.result.now)
-    (sym {A = List CompiledValue} c.deref-2.ensures.value)
+    (sym {A = List CompiledValue} c.deref.ensures.value)
     (subst (HaveHistories names old.queries) (sym {A = List Index} c.deref_mut.ensures.value)
     (histories c.stores_follow.ensures old found.0 names found.1 c.self.invariant.short
     c.in_ok-ends.ensures.kept))
@@ -37,10 +37,21 @@ pub answer_each-requires-clause-as_many : goal.answer_each-requires-clause-as_ma
 answer_each-requires-clause-as_many g c = λ lifetimes within.
     sym (AllZip-long
     (λ (query : CompiledValue) (index : Index). HasHistory query c.ends_for.new.names index)
-    c.deref-2.result.now c.deref_mut.result.now (have g c))
+    c.deref.result.now c.deref_mut.result.now (have g c))
 
 pub answer_each-requires-clause-indexes : goal.answer_each-requires-clause-indexes
 answer_each-requires-clause-indexes g c = λ lifetimes within. have g c
+
+pub answer_each-requires-clause-ends : goal.answer_each-requires-clause-ends
+answer_each-requires-clause-ends g c = λ lifetimes within.
+    let names = c.ends_for.new.names in
+    let ends = c.in_ok-ends.ends in
+    subst (λ (queries : List CompiledValue).
+    AreEndsForEach names queries c.args.entry.now.tuple.act ends)
+    (sym {A = List CompiledValue} c.deref.ensures.value)
+    (subst (λ (each : Entry).
+    AreEndsForEach names c.self.inside.queries.items each.tuple.act ends) c.entry.view_is
+    (c.in_ok-ends.ensures.ends c.self.inside.queries.items c.self.invariant.table))
 
 -- the engine before the call
 abbrev before : (g : Over) → goal.After-self-4-1 g → EngineValue
@@ -82,7 +93,7 @@ answered g c =
     let queries = inside.queries.items in
     let olds = inside.indexes.items in
     let first = subst (λ (each : List CompiledValue).
-    HaveAnswered names entry 0 each c.deref_mut.result.now news events) c.deref-2.ensures.value
+    HaveAnswered names entry 0 each c.deref_mut.result.now news events) c.deref.ensures.value
     c.in_ok-events.ensures in
     let given : HaveAnswered names entry 0 queries olds news events =
     subst (λ (each : List Index). HaveAnswered names entry 0 queries each news events)
@@ -98,6 +109,7 @@ invariant_of-self-2 g c =
     record {
       some = c.self.invariant.some;
       few = c.self.invariant.few;
+      table = c.self.invariant.table;
       named = c.in_ok-ends.ensures.named;
       short = omega (
         arith,
@@ -119,9 +131,8 @@ returns-clause-feeds g c =
     (fed c.stores_follow.ensures (before g c) (after g c) c.args.entry.now
     c.in_ok-events.events.items refl refl refl c.in_ok-ends.ensures.kept
     c.in_ok-ends.ensures.grown (answered g c)
-    (subst (λ (queries : List CompiledValue).
-    BringsNoName c.args.entry.now.tuple.act queries → c.ends_for.new.names ≡ c.self.inside.names)
-    c.deref.ensures.value
     (subst (λ (each : Entry).
-    BringsNoName each.tuple.act c.deref.result.now → c.ends_for.new.names ≡ c.self.inside.names)
-    c.entry.view_is c.in_ok-ends.ensures.same)))
+    BringsNoName each.tuple.act c.self.inside.queries.items →
+    c.ends_for.new.names ≡ c.self.inside.names)
+    c.entry.view_is
+    (c.in_ok-ends.ensures.same c.self.inside.queries.items c.self.invariant.table)))

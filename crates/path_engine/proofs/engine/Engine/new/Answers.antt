@@ -1,6 +1,7 @@
 use Rattle.std.proofs.Common.{ℕ, false, List, [], length, ap, refl, sym, subst, arith}
 use Rattle.query_file.specs.Compiled.{CompiledValue}
 use Rattle.path_engine.specs.Engine.{EngineValue, StandsFor}
+use Rattle.path_engine.specs.Labels.{IsTableOf}
 use Rattle.path_engine.proofs.Each.{AreIndexes}
 use Rattle.path_engine.proofs.Feeding.{starts}
 use Rattle.path_engine.proofs.engine.Engine.new.Goals as goal
@@ -21,6 +22,8 @@ invariant_of-result g c =
     record {
       some = c.requires.some;
       few = c.requires.few;
+      table = subst (λ (queries : List CompiledValue). IsTableOf queries c.in_ok-labels.labels)
+          c.deref-2.ensures.value c.in_ok-labels.ensures;
       named = sym (ap (λ (all : List (List ℕ)). length all) c.in_ok-names.ensures);
       short = omega arith;
       stands = λ unspent. ([], stands);

@@ -85,6 +85,7 @@ invariant_of-self c =
     record {
       some = c.self.invariant.some;
       few = c.self.invariant.few;
+      table = c.self.invariant.table;
       named = c.self.invariant.named;
       short = c.self.invariant.short;
       stands = λ unspent.

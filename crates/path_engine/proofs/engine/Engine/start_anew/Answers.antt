@@ -21,6 +21,7 @@ invariant_of-self-2 c =
     record {
       some = c.self.invariant.some;
       few = c.self.invariant.few;
+      table = c.self.invariant.table;
       named = sym (ap (λ (all : List (List ℕ)). length all) c.clear.ensures);
       short = omega arith;
       stands = λ unspent. ([], stands);
