@@ -1,7 +1,8 @@
-use Rattle.std.proofs.Common.{◌+◌, Some, length, arith, rules}
+use Rattle.std.proofs.Common.{◌+◌, List, Some, length, subst, sym, arith, rules}
 use Rattle.std.specs.List.{All}
 use Rattle.std.proofs.lemmas.List.Elements.{All-pop}
 use Rattle.ask_text.specs.Ranges.{IsInRange}
+use Rattle.rpq_model.specs.Query.{Query}
 use Rattle.rpq_workers.specs.Readers.{HaveReplied}
 use Rattle.rpq_workers.proofs.Replying.{replied_more}
 use Rattle.rpq_threads.proofs.beside.+feed_beside+fn-feed_beside-rest.Goals as goal
@@ -56,3 +57,12 @@ beside_session-beside-requires-clause-rest g t c κs within =
         ),
       ),
     )
+
+-- the asks of the last session are about the queries
+pub beside_session-beside-requires-clause-asks : goal.beside_session-beside-requires-clause-asks
+beside_session-beside-requires-clause-asks g t c κs within =
+    let asked = All-pop (All (IsInRange (length c.args.shared.now.history.now.terms.queries)))
+    c.args.waiting.sessions.items c.next_session-next.new.sessions.items
+    (Some c.in-Some.session) c.in-Some.ensures.sessions c.requires.waiting.asks in
+    subst (λ (queries : List Query). All (IsInRange (length queries)) c.in-Some.session)
+    (sym c.requires.queries) asked.1

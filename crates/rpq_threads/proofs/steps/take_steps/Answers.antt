@@ -13,7 +13,7 @@ pub take_entries-requires : goal.take_entries-requires
 take_entries-requires c =
     let given = c.requires.found in
     let engine = c.args.engine.now in
-    let below : engine.position < 2 ^ 64 = omega (arith, c.position.ensures) in
+    let below : engine.position < 2 ^ 64 = omega (arith, c.position-position.ensures) in
     few_taken given.0 engine c.args.marks.now c.args.joins.now given.1 c.args.entries.now
     (map (λ (own : Vec Event Global). own.items) c.args.found.items) given.2 below
 
