@@ -1,5 +1,5 @@
 -- Bounds on the values of a row.
-use Rattle.std.proofs.Common.{◌≡◌, ◌≤◌, ◌∷◌, ℕ, Bool, true, false, cond, max, List, [], length, get_or, None, Some, refl, sym, ap, ◌∙◌, arith}
+use Rattle.std.proofs.Common.{◌≡◌, ◌≤◌, ◌∷◌, ◌++◌, ℕ, Bool, true, false, cond, max, List, [], length, get_or, None, Some, refl, sym, ap, ◌∙◌, arith}
 use Rattle.std.proofs.lemmas.List.Elements.{All-from_get_or, Contains-get_or}
 use Rattle.std.proofs.lemmas.Map.Views.{lookup-from_Contains}
 use Rattle.std.proofs.lemmas.Option.{same_Some}
@@ -61,9 +61,10 @@ below_none [] most none half found there = absurd cc
 below_none (entry ∷ entries) most some half found there = absurd (omega (arith, some))
 
 -- so no entry of a row is above its bound
-pub at_most : (entries : List (HalfEdge × ℕ)) (most : ℕ) → IsRow entries most →
-    AreAtMost most entries
-at_most entries most is =
+pub at_most : (few more : List (HalfEdge × ℕ)) (most : ℕ) → IsRow few more most →
+    AreAtMost most (few ++ more)
+at_most few more most is =
+    let entries = few ++ more in
     All-from_get_or (λ (entry : HalfEdge × ℕ). entry.1 ≤ most) entries none (λ place within.
     is.below (get_or entries place none).0 (get_or entries place none).1
     (lookup-from_Contains same_half_laws (get_or entries place none).0

@@ -1,3 +1,4 @@
+mod BlockBounds
 mod Bounds
 mod Halves
 mod Noted

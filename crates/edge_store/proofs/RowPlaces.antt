@@ -74,7 +74,7 @@ set_both [] more at entry value within is = absurd (omega (arith, within))
 set_both (x ∷ few) more zero entry value within is = ap (λ (e : HalfEdge × ℕ). (e.0, value) ∷ (few ++ more)) is
 set_both (x ∷ few) more (suc at) entry value within is = ap (λ l. x ∷ l) (set_both few more at entry value (omega (arith, within)) is)
 
-pub set_value : (few more : List (HalfEdge × ℕ)) (half : HalfEdge) (at : ℕ) (entry : HalfEdge × ℕ) (value : ℕ) → IsDistinct same_half (keys_of (few ++ more)) →
+set_value : (few more : List (HalfEdge × ℕ)) (half : HalfEdge) (at : ℕ) (entry : HalfEdge × ℕ) (value : ℕ) → IsDistinct same_half (keys_of (few ++ more)) →
     position (λ (each : HalfEdge × ℕ). same_half half each.0) few ≡ Some at → entry ≡ get_or few at entry →
     (other : HalfEdge) → lookup (same_half other) (slice_set few at (entry.0, value) ++ more)
     ≡ cond (same_half half other) (Some value) (lookup (same_half other) (few ++ more))
@@ -92,12 +92,41 @@ set_value few more half at entry value distinct found is other =
     slice_get_front (x ∷ few) more zero entry is = is
     slice_get_front (x ∷ few) more (suc at) entry is = slice_get_front few more at entry is
 
-pub set_distinct : (few more : List (HalfEdge × ℕ)) (at : ℕ) (entry : HalfEdge × ℕ) (value : ℕ) → IsDistinct same_half (keys_of (few ++ more)) →
+set_distinct : (few more : List (HalfEdge × ℕ)) (at : ℕ) (entry : HalfEdge × ℕ) (value : ℕ) → IsDistinct same_half (keys_of (few ++ more)) →
     at < length few → entry ≡ get_or few at entry → IsDistinct same_half (keys_of (slice_set few at (entry.0, value) ++ more))
 set_distinct few more at entry value distinct within is =
     let m : IndexMap HalfEdge ℕ ℕ = hash_map (few ++ more) 0 0 in
     subst (IsDistinct same_half)
     (sym (ap keys_of (set_both few more at entry value within is) ∙ keys-with_value_at m at value)) distinct
+
+-- the same, where the half edge is written with the value
+entry_at : (few : List (HalfEdge × ℕ)) (half : HalfEdge) (at : ℕ) →
+    position (λ (each : HalfEdge × ℕ). same_half half each.0) few ≡ Some at → at < length few →
+    (entry : HalfEdge × ℕ) × (entry ≡ get_or few at entry) × (half ≡ entry.0)
+entry_at few half at found within =
+    let entry : HalfEdge × ℕ = get_or few at (half, 0) in
+    let is : entry ≡ get_or few at entry = get_or_default few at (half, 0) entry within in
+    (entry, is, (place_key few half at entry found is).1)
+
+pub set_half : (few more : List (HalfEdge × ℕ)) (half : HalfEdge) (at value : ℕ) →
+    IsDistinct same_half (keys_of (few ++ more)) →
+    position (λ (each : HalfEdge × ℕ). same_half half each.0) few ≡ Some at → at < length few →
+    (other : HalfEdge) → lookup (same_half other) (slice_set few at (half, value) ++ more)
+    ≡ cond (same_half half other) (Some value) (lookup (same_half other) (few ++ more))
+set_half few more half at value distinct found within other =
+    let there = entry_at few half at found within in
+    ap (λ (h : HalfEdge). lookup (same_half other) (slice_set few at (h, value) ++ more)) there.2
+    ∙ set_value few more half at there.0 value distinct found there.1 other
+
+pub set_half_distinct : (few more : List (HalfEdge × ℕ)) (half : HalfEdge) (at value : ℕ) →
+    IsDistinct same_half (keys_of (few ++ more)) →
+    position (λ (each : HalfEdge × ℕ). same_half half each.0) few ≡ Some at → at < length few →
+    IsDistinct same_half (keys_of (slice_set few at (half, value) ++ more))
+set_half_distinct few more half at value distinct found within =
+    let there = entry_at few half at found within in
+    subst (λ (h : HalfEdge). IsDistinct same_half (keys_of (slice_set few at (h, value) ++ more)))
+    (sym there.2)
+    (set_distinct few more at there.0 value distinct within there.1)
 
 -- ---- an entry that comes in
 

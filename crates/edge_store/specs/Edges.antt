@@ -1,6 +1,6 @@
 -- A store of edges as contracts see it: a finite map from edges to values, and the order in which
 -- a walk gives the edges of a vertex.
-use Rattle.std.specs.Prelude.{◌≡◌, ℕ, ◌+◌, ◌^◌, ◌<◌, ◌≤◌, Bool, ◌&&◌, ◌==◌, cond, max, nat_lt, List, [], All, Option, None, Some, ◌↔◌, Contains, slice_index_or}
+use Rattle.std.specs.Prelude.{◌≡◌, ℕ, ◌+◌, ◌^◌, ◌<◌, ◌≤◌, Bool, ◌&&◌, ◌==◌, cond, max, nat_lt, List, [], All, Option, None, Some, ◌↔◌, Contains, slice_get, slice_index_or}
 use Rattle.std.specs.List.{IsDistinct}
 use Rattle.std.specs.Map.{lookup, keys_of}
 use Rattle.edge_store.specs.declared.edge.EdgeId.{EdgeId}
@@ -104,6 +104,12 @@ in_entry edge = (record { label = edge.label; far = edge.from }, edge.value)
 -- no edge of a walk has a value above the bound
 abbrev pub AreAtMost : ℕ → List (HalfEdge × ℕ) → Type 0
 AreAtMost most entries = All (λ (entry : HalfEdge × ℕ). entry.1 ≤ most) entries
+
+-- no edge from the one place of a walk to before the other has a value above the number
+abbrev pub AreAtMostWithin : ℕ → List (HalfEdge × ℕ) → ℕ → ℕ → Type 0
+AreAtMostWithin number entries from to =
+    (place : ℕ) (entry : HalfEdge × ℕ) → from ≤ place → place < to →
+    slice_get entries place ≡ Some entry → entry.1 ≤ number
 
 -- the walk gives exactly the edges that leave the vertex, with their values, each at one place
 pub record GivesOuts (store : Edges) (vertex : ℕ) : Type 0 where

@@ -1,3 +1,4 @@
+pub mod Blocks
 pub mod Dues
 pub mod Edges
 pub mod Row

@@ -1,5 +1,5 @@
 -- The edges of one vertex, on one side.
-use Rattle.std.specs.Prelude.{◌≡◌, ℕ, ◌-◌, ◌<◌, ◌≤◌, ◌⊎◌, true, cond, is_some, nat_lt, List, [], length, Option, None, Some}
+use Rattle.std.specs.Prelude.{◌≡◌, ℕ, ◌-◌, ◌<◌, ◌≤◌, ◌⊎◌, true, cond, is_some, nat_lt, List, [], ◌++◌, length, Option, None, Some}
 use Rattle.std.specs.Borrow.{Bor}
 use Rattle.std.specs.List.{IsDistinct}
 use Rattle.std.specs.Map.{keys_of, lookup}
@@ -16,11 +16,13 @@ abbrev pub walk_of : Option (Bor RowValue) → List (HalfEdge × ℕ)
 walk_of None = []
 walk_of (Some row) = row.now.entries
 
--- no edge stands at two places, and none has a value above the bound
-pub record IsRow (entries : List (HalfEdge × ℕ)) (most : ℕ) : Type 0 where
-  pub once : IsDistinct same_half (keys_of entries)
+-- the list is short, no edge stands at two places of it and the map, and none has a value above
+-- the bound
+pub record IsRow (few more : List (HalfEdge × ℕ)) (most : ℕ) : Type 0 where
+  pub short : length few ≤ 16
+  pub once : IsDistinct same_half (keys_of (few ++ more))
   pub below : (half : HalfEdge) (value : ℕ) →
-      lookup (same_half half) entries ≡ Some value → value ≤ most
+      lookup (same_half half) (few ++ more) ≡ Some value → value ≤ most
 
 -- the room of a row: that of its list until this has 16 edges, and then that of its map
 abbrev pub room_of : List (HalfEdge × ℕ) → ℕ → ℕ → ℕ

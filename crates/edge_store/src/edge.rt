@@ -35,7 +35,7 @@ impl EdgeId {
 }
 
 /// An edge as one of its vertices sees it: its label, and the vertex at the far end.
-#[derive(Clone, Copy, Debug, PartialEq, Eq, Hash)]
+#[derive(Clone, Copy, Debug, Default, PartialEq, Eq, Hash)]
 pub struct HalfEdge {
     pub label: u32,
     pub far: u32,

@@ -1,24 +1,24 @@
-//! Edges of one vertex that are found by hash.
+//! The edges of one vertex that are found by hash, where it has such edges.
 
-ghost use Rattle.std.specs.Prelude.{◌≡◌, ◌<◌, ◌^◌, ◌⊎◌, [], true, length, cond, is_some, OnOk, None, Some, slice_get};
+ghost use Rattle.std.specs.Prelude.{◌≡◌, ◌<◌, ◌≤◌, ◌^◌, ◌⊎◌, [], true, max, length, cond, is_some, OnOk, None, Some, slice_get};
 ghost use Rattle.std.specs.Map.{lookup};
 ghost use Rattle.indexmap.specs.IndexMap.{insert_entry, swap_remove_entry};
 ghost use Rattle.edge_store.specs.declared.edge.HalfEdge.{HalfEdge};
-ghost use Rattle.edge_store.specs.Edges.{same_half};
+ghost use Rattle.edge_store.specs.Edges.{AreAtMostWithin, same_half};
 
 use crate::edge::HalfEdge;
-use indexmap::IndexMap;
+use crate::edge_table::EdgeTable;
 use rpq_base::Memory;
 use std::alloc::Global;
 use std::marker::Model;
 
-/// Edges of a vertex with their values. The map is made with the first room and goes with the last
-/// edge, since nearly all vertices have too few edges to need it.
+/// Edges of a vertex with their values. The table is made with the first room and goes with the
+/// last edge, since nearly all vertices have too few edges to need it.
 ///
 /// Contracts see it as a row.
 #[derive(Drop)]
 pub(crate) struct EdgeMap {
-    map: Option<Box<IndexMap<HalfEdge, u64>>>,
+    table: Option<Box<EdgeTable>>,
 }
 
 impl Model for EdgeMap {
@@ -28,11 +28,10 @@ impl Model for EdgeMap {
 
     ghost use Rattle.std.specs.Prelude.{[]};
     ghost use Rattle.std.specs.Option.{option_map_or};
-    ghost use Rattle.indexmap.specs.IndexMap.{spare};
 
     ghost view = { λ edges. record {
-      entries = option_map_or (λ map. map.value.entries) edges.map [];
-      room = option_map_or (λ map. spare map.value) edges.map 0;
+      entries = option_map_or (λ table. table.value.entries) edges.table [];
+      room = option_map_or (λ table. table.value.room) edges.table 0;
     } };
 }
 
@@ -41,15 +40,15 @@ impl EdgeMap {
     pub(crate) fn new() -> EdgeMap
         ensures { result.entries ≡ [] }
     {
-        EdgeMap { map: None }
+        EdgeMap { table: None }
     }
 
     /// The value of an edge.
     pub(crate) fn get(&self, half: HalfEdge) -> Option<u64>
         ensures { result ≡ lookup (same_half half) self.now.entries }
     {
-        match &self.map {
-            Some(map) => map.get(&half).copied(),
+        match &self.table {
+            Some(table) => table.get(half),
             None => None,
         }
     }
@@ -66,8 +65,8 @@ impl EdgeMap {
         ensures count { result ≡ length self.now.entries }
         ensures small { result < 2 ^ 63 }
     {
-        match &self.map {
-            Some(map) => map.len(),
+        match &self.table {
+            Some(table) => table.len(),
             None => 0,
         }
     }
@@ -77,9 +76,22 @@ impl EdgeMap {
         requires { place < length self.now.entries }
         ensures { slice_get self.now.entries place ≡ Some result }
     {
-        match &self.map {
-            Some(map) => entry_at(map, place),
+        match &self.table {
+            Some(table) => table.at(place),
             None => unreachable!(),
+        }
+    }
+
+    /// From this place on the first one whose edge may have a value above the number.
+    pub(crate) fn next_above(&self, place: usize, number: u64) -> usize
+        ensures onward { place ≤ result }
+        ensures within { result ≤ max place (length self.now.entries) }
+        ensures skipped { AreAtMostWithin number self.now.entries place result }
+        ensures small { length self.now.entries < 2 ^ 63 }
+    {
+        match &self.table {
+            Some(table) => table.next_above(place, number),
+            None => place,
         }
     }
 
@@ -88,12 +100,12 @@ impl EdgeMap {
         ensures same { self.new.entries ≡ self.old.entries }
         ensures ok { OnOk result (0 < self.new.room) }
     {
-        match &mut self.map {
-            Some(map) => map.reserve(1)?,
+        match &mut self.table {
+            Some(table) => table.reserve()?,
             None => {
-                let mut map = IndexMap::new(alloc);
-                map.reserve(1)?;
-                self.map = Some(Box::new(alloc, map)?);
+                let mut table = EdgeTable::new(alloc);
+                table.reserve()?;
+                self.table = Some(Box::new(alloc, table)?);
             }
         }
         Ok(())
@@ -107,11 +119,8 @@ impl EdgeMap {
         ensures update { (other : HalfEdge) → lookup (same_half other) self.new.entries
             ≡ cond (same_half half other) (Some value) (lookup (same_half other) self.old.entries) }
     {
-        match &mut self.map {
-            Some(map) => {
-                // The edge is there or has room, so it can't be refused.
-                let _ = map.insert(half, value);
-            }
+        match &mut self.table {
+            Some(table) => table.put(half, value),
             None => unreachable!(),
         }
     }
@@ -123,8 +132,8 @@ impl EdgeMap {
         ensures rest { (other : HalfEdge) → lookup (same_half other) self.new.entries
             ≡ cond (same_half half other) None (lookup (same_half other) self.old.entries) }
     {
-        match &mut self.map {
-            Some(map) => map.swap_remove(&half),
+        match &mut self.table {
+            Some(table) => table.take(half),
             None => None,
         }
     }
@@ -134,18 +143,7 @@ impl EdgeMap {
         ensures { self.new.entries ≡ self.old.entries }
     {
         if self.len() == 0 {
-            self.map = None;
+            self.table = None;
         }
-    }
-}
-
-/// The edge of the map at this place.
-fn entry_at(map: &IndexMap<HalfEdge, u64>, place: usize) -> (HalfEdge, u64)
-    requires { place < length map.now.entries }
-    ensures { slice_get map.now.entries place ≡ Some result }
-{
-    match map.get_index(place) {
-        Some((half, value)) => (*half, *value),
-        None => unreachable!(),
     }
 }

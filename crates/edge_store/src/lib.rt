@@ -9,6 +9,8 @@
 //! A walk looks its vertex up once, and then costs a step in a slice or in a map for each edge. It
 //! also answers a bound on the values of its edges without a step, so that a walk can be left out
 //! which would find no value above another. The bound takes eight bytes for each vertex with edges.
+//! At a vertex of many edges each 32 of them have a bound of their own, by which a walk can go on
+//! to the next edge whose value may be above another.
 //!
 //! A raise and a removal cost a look-up at each of the two vertices: through a short list, and by
 //! hash at a vertex of many edges. `expire` costs one comparison where no edge goes, and else a
@@ -16,8 +18,10 @@
 //! most edges have left is given back.
 #![tactic(auto)]
 
+mod blocks;
 mod edge;
 mod edge_map;
+mod edge_table;
 mod owners;
 mod row;
 mod rows;

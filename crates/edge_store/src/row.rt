@@ -1,33 +1,31 @@
 //! The edges of one vertex, on one side.
 
-ghost use Rattle.std.specs.Prelude.{◌≡◌, ◌<◌, [], length, cond, IfSome, OnOk, None, Some, slice_get, vec_len, vec_capacity};
+ghost use Rattle.std.specs.Prelude.{◌≡◌, ◌<◌, ◌≤◌, [], max, length, cond, IfSome, OnOk, None, Some, slice_get, slice_set};
 ghost use Rattle.std.specs.List.{IsDistinct, position};
 ghost use Rattle.std.specs.Map.{keys_of, lookup};
 ghost use Rattle.edge_store.specs.declared.edge.HalfEdge.{HalfEdge};
-ghost use Rattle.edge_store.specs.Edges.{AreAtMost, same_half};
+ghost use Rattle.edge_store.specs.Edges.{AreAtMost, AreAtMostWithin, same_half};
 ghost use Rattle.edge_store.specs.Row.{Takes};
 
 use crate::edge::HalfEdge;
 use crate::edge_map::EdgeMap;
 use rpq_base::Memory;
+use smallvec::SmallVec;
 use std::alloc::Global;
 use std::marker::Model;
 
 /// The most edges that stand in the list of a row.
 const FEW: usize = 16;
 
-/// The edges for which a list has room at first. An empty list keeps as much, so that an edge that
-/// comes and goes takes no memory.
-const FIRST: usize = 2;
-
 /// The edges of a vertex with their values. The first ones stand in a list and are found by going
-/// through it, which is faster than a hash; the others stand in a map.
+/// through it, which is faster than a hash; the others stand in a map. Most rows stay very short:
+/// a list of two edges takes no memory of its own.
 ///
 /// Contracts see it as all edges in the order of a walk, and the number of edges for which there is
 /// room.
 #[derive(Drop)]
 pub(crate) struct Row {
-    few: Vec<(HalfEdge, u64)>,
+    few: SmallVec<(HalfEdge, u64), 2>,
     more: EdgeMap,
     /// The greatest value that was put since the row had no edge.
     most: u64,
@@ -40,14 +38,13 @@ impl Model for Row {
 
     ghost use Rattle.std.specs.Prelude.{◌++◌};
     ghost use Rattle.edge_store.specs.Row.{IsRow, room_of};
-    ghost use Rattle.std.specs.Vec.{vec_capacity};
 
     ghost view = { λ row. record {
       entries = row.few.items ++ row.more.entries;
-      room = room_of row.few.items (vec_capacity row.few) row.more.room;
+      room = room_of row.few.items row.few.capacity row.more.room;
     } };
 
-    ghost invariant = { λ row. IsRow (row.few.items ++ row.more.entries) row.most };
+    ghost invariant = { λ row. IsRow row.few.items row.more.entries row.most };
 }
 
 /// The place of an edge among those of a list.
@@ -58,16 +55,14 @@ fn place(few: &[(HalfEdge, u64)], half: HalfEdge) -> Option<usize>
     few.iter().position(|entry| half == entry.0)
 }
 
-/// Room for one more edge in a list: two places at first, and then twice as many as before, since
-/// most lists stay very short.
-fn make_room(few: &mut Vec<(HalfEdge, u64)>) -> Result<(), Memory>
-    ensures same { few.new.items ≡ few.old.items }
-    ensures ok { OnOk result (vec_len few.new < vec_capacity few.new) }
+/// Puts another entry at this place of a list.
+fn set(few: &mut SmallVec<(HalfEdge, u64), 2>, at: usize, entry: (HalfEdge, u64))
+    requires { at < length few.old.items }
+    ensures { few.new.items ≡ slice_set few.old.items at entry }
 {
-    if few.len() == few.capacity() {
-        few.reserve_exact(few.len().max(FIRST))?;
+    if let Some(there) = few.get_mut(at) {
+        *there = entry;
     }
-    Ok(())
 }
 
 impl Row {
@@ -76,7 +71,7 @@ impl Row {
         ensures { result.entries ≡ [] }
     {
         Row {
-            few: Vec::new(alloc),
+            few: SmallVec::new(alloc),
             more: EdgeMap::new(),
             most: 0,
         }
@@ -86,8 +81,8 @@ impl Row {
     pub(crate) fn get(&self, half: HalfEdge) -> Option<u64>
         ensures { result ≡ lookup (same_half half) self.now.entries }
     {
-        match place(&self.few, half) {
-            Some(at) => Some(self.few[at].1),
+        match place(self.few.as_slice(), half) {
+            Some(at) => Some(self.few.as_slice()[at].1),
             None => self.more.get(half),
         }
     }
@@ -120,9 +115,23 @@ impl Row {
     {
         let few = self.few.len();
         if place < few {
-            return self.few[place];
+            return self.few.as_slice()[place];
         }
         self.more.at(place - few)
+    }
+
+    /// From this place on the first one whose edge may have a value above the number. Those of the
+    /// list all may.
+    pub(crate) fn next_above(&self, place: usize, number: u64) -> usize
+        ensures onward { place ≤ result }
+        ensures within { result ≤ max place (length self.now.entries) }
+        ensures skipped { AreAtMostWithin number self.now.entries place result }
+    {
+        let few = self.few.len();
+        if place < few {
+            return place;
+        }
+        few + self.more.next_above(place - few, number)
     }
 
     /// Room for one more edge.
@@ -131,7 +140,7 @@ impl Row {
         ensures ok { OnOk result (0 < self.new.room) }
     {
         if self.few.len() < FEW {
-            make_room(&mut self.few)?;
+            self.few.reserve(1)?;
         } else {
             self.more.reserve(alloc)?;
         }
@@ -145,13 +154,13 @@ impl Row {
             ≡ cond (same_half half other) (Some value) (lookup (same_half other) self.old.entries) }
     {
         self.most = self.most.max(value);
-        if let Some(at) = place(&self.few, half) {
-            self.few[at].1 = value;
+        if let Some(at) = place(self.few.as_slice(), half) {
+            set(&mut self.few, at, (half, value));
             return;
         }
-        // The edge is new, so there is room, and this can't be refused.
+        // The edge is new, so there is room for it.
         if self.few.len() < FEW && !self.more.contains(half) {
-            let _ = self.few.push((half, value));
+            self.few.push_reserved((half, value));
             return;
         }
         self.more.put(half, value);
@@ -176,7 +185,7 @@ impl Row {
         ensures rest { (other : HalfEdge) → lookup (same_half other) self.new.entries
             ≡ cond (same_half half other) None (lookup (same_half other) self.old.entries) }
     {
-        match place(&self.few, half) {
+        match place(self.few.as_slice(), half) {
             Some(at) => Some(self.few.swap_remove(at).1),
             None => self.more.take(half),
         }
@@ -195,7 +204,7 @@ impl Row {
     fn give_back(&mut self)
         ensures { self.new.entries ≡ self.old.entries }
     {
-        if self.few.is_empty() && self.few.capacity() > FIRST {
+        if self.few.is_empty() {
             self.few.shrink_to_fit();
         }
         self.more.give_back();

@@ -90,11 +90,15 @@ fn bare_owner(slots: &[u32], rows: &[Row], owners: &Owners, at: usize) -> Option
     None
 }
 
-/// A row without edges among the next few places: the vertex that has it, and its place.
+/// A row without edges among the next few places: the vertex that has it, and its place. Where no
+/// row is without edges, none is looked at.
 fn find_bare(slots: &[u32], rows: &[Row], owners: &mut Owners) -> Option<(u32, usize)>
     requires { IsSide slots.now (length rows.now) }
     ensures { IfSome result (λ found. IsBareAt slots.now rows.now found.1 found.0) }
 {
+    if !owners.has_bare() {
+        return None;
+    }
     for _ in 0..TRIES {
         let at = owners.next_place();
         if let Some(owner) = bare_owner(slots, rows, owners, at) {
@@ -290,7 +294,12 @@ impl Rows {
         ensures { Writes (rows_of self.old) (rows_of self.new) vertex half (Some value) }
     {
         match locate(&self.slots, vertex) {
-            Some(at) => self.rows[at].put(half, value),
+            Some(at) => {
+                let row = &mut self.rows[at];
+                let before = row.len();
+                row.put(half, value);
+                self.owners.note_edges(before, row.len());
+            }
             None => unreachable!(),
         }
     }
@@ -312,7 +321,13 @@ impl Rows {
         ensures rest { Writes (rows_of self.old) (rows_of self.new) vertex half None }
     {
         match locate(&self.slots, vertex) {
-            Some(at) => self.rows[at].take(half),
+            Some(at) => {
+                let row = &mut self.rows[at];
+                let before = row.len();
+                let value = row.take(half);
+                self.owners.note_edges(before, row.len());
+                value
+            }
             None => None,
         }
     }

@@ -1,6 +1,6 @@
 -- The tries by the edges that leave a node.
 use Rattle.std.proofs.Common.{◌≡◌, ℕ, ◌≤◌, ◌<◌, ◌+◌, ⊎_elim, List, length, Option, Some, refl, sym, ap, subst, ◌∙◌, arith, Contains, slice_get}
-use Rattle.std.proofs.lemmas.Bool.{cases_eq}
+use Rattle.std.proofs.lemmas.Bool.{cases_eq, cases_lt}
 use Rattle.std.proofs.lemmas.List.Elements.{All-contains}
 use Rattle.std.proofs.lemmas.Option.{same_Some, slice_get_read, slice_get_within, get_or_from_slice_get}
 use Rattle.edge_store.specs.declared.edge.EdgeId.{EdgeId}
@@ -49,6 +49,25 @@ module _ (dfa : DfaValue) (tree : TreeValue) (id : NodeId) (value : ℕ) (before
       (λ (apart : place ≡ k → ⊥). served_more tree waits more (node_id half.far state) number kept
       (served place half here number state (omega (arith, apart)) there low lower new leads))
       (cases_eq place k)
+
+  -- none of the edges is looked at yet
+  pub none_served : (waits : List Waiting) → AreServedUpTo dfa tree waits id value before outs 0
+  none_served waits place half here number state below there low lower new leads =
+      absurd (omega (arith, below))
+
+  -- edges whose value the node had before could give as much then already
+  pub served_beyond : (waits : List Waiting) (k next : ℕ) →
+      AreServedUpTo dfa tree waits id value before outs k →
+      ((each : ℕ) (entry : HalfEdge × ℕ) → k ≤ each → each < next →
+      slice_get outs each ≡ Some entry → IsAtLeast entry.1 before) →
+      AreServedUpTo dfa tree waits id value before outs next
+  served_beyond waits k next served beyond place half here number state below there low lower new
+      leads = ⊎_elim
+      (λ (early : place < k).
+      served place half here number state early there low lower new leads)
+      (λ (late : k ≤ place).
+      absurd (new (weaker before here number (beyond place (half, here) late below there) lower)))
+      (cases_lt place k)
 
 module _ (store : Edges) (dfa : DfaValue) (id : NodeId) (value : ℕ)
     (gives : GivesOuts store id.vertex) where

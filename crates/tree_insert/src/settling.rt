@@ -1,10 +1,12 @@
 //! Taking the tries that wait until none is left.
 
-ghost use Rattle.std.specs.Prelude.{◌≡◌, ℕ, ◌+◌, ◌^◌, ◌<◌, ◌≤◌, [], ◌∷◌, length, All, OnOk, Some};
+ghost use Rattle.std.specs.Prelude.{◌≡◌, ℕ, ◌+◌, ◌^◌, ◌<◌, ◌≤◌, [], ◌∷◌, max, length, All, OnOk, Some, slice_get};
 ghost use Rattle.dfa_table.specs.DfaValue.{step_of};
+ghost use Rattle.edge_store.specs.declared.edge.HalfEdge.{HalfEdge};
 ghost use Rattle.edge_store.specs.Edges.{outs_of, value_of};
 ghost use Rattle.delta_tree.specs.Nodes.{TreeValue};
 ghost use Rattle.delta_tree.specs.Changes.{AreShifts, shift_ids};
+ghost use Rattle.tree_insert.specs.Best.{IsAtLeast};
 ghost use Rattle.tree_insert.specs.Trees.{CountsOuts, IsRisen};
 ghost use Rattle.tree_insert.specs.Waiting.{Gains};
 ghost use Rattle.tree_insert.specs.UnderWay.{AreFirm, AreServed, CanBegin, IsCounted, IsReady};
@@ -16,13 +18,28 @@ use crate::search::Search;
 use crate::waiting::{Rise, Waiting};
 use delta_tree::Tree;
 use dfa_table::Dfa;
-use edge_store::{EdgeStore, Steps};
+use edge_store::{EdgeStore, Outs, Steps};
 use rpq_base::Memory;
 use std::sync::ledger::Ledger;
 
-/// Offers the tries by the edges that leave a node that rose, and counts a step for each edge.
-/// Where no edge has a value above the one that the node had before, each could give as much then
-/// already, and none is looked at.
+/// From this place on the first one whose edge may have a value above the one before. Where there
+/// was none before, each edge may.
+fn next_place(outs: &Outs<'_>, place: usize, before: Option<u64>) -> usize
+    ensures onward { place ≤ result }
+    ensures within { result ≤ max place (length outs.now) }
+    ensures skipped { (each : ℕ) (entry : HalfEdge × ℕ) → place ≤ each → each < result →
+        slice_get outs.now each ≡ Some entry → IsAtLeast entry.1 before }
+{
+    match before {
+        Some(number) => outs.next_above(place, number),
+        None => place,
+    }
+}
+
+/// Offers the tries by the edges that leave a node that rose, and counts a step for each edge that
+/// it looks at. An edge whose value isn't above the one that the node had before could give as much
+/// then already: where this is so of all edges, none is looked at, and where it is so of a whole
+/// block of them, none of the block.
 fn offer_outs<L: Ledger>(
     search: &mut Search,
     tree: &Tree,
@@ -44,9 +61,12 @@ fn offer_outs<L: Ledger>(
     if !is_below(rise.before, outs.most()) {
         return Ok(());
     }
-    for k in 0..outs.len() {
+    let len = outs.len();
+    let mut k = next_place(&outs, 0, rise.before);
+    while k < len {
         let out = outs.at(k, steps);
         offer_out(search, tree, dfa, rise, out)?;
+        k = next_place(&outs, k + 1, rise.before);
     }
     Ok(())
 }

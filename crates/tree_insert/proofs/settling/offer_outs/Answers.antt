@@ -1,9 +1,9 @@
-use Rattle.std.proofs.Common.{◌≡◌, ◌∙◌, Some, length, slice_get, sym, ap, subst, arith}
+use Rattle.std.proofs.Common.{◌≡◌, ◌+◌, ◌∙◌, Some, length, slice_get, sym, ap, subst, arith, rules}
 use Rattle.edge_store.specs.Edges.{value_of, out_entry, outs_of, AreAtMost}
 use Rattle.tree_insert.specs.UnderWay.{IsOut, Leaves}
 use Rattle.tree_insert.specs.Waiting.{Gains}
 use Rattle.tree_insert.proofs.UnderWay.{gains_kind, gains_twice}
-use Rattle.tree_insert.proofs.Outs.{served_one_more, served_all, served_before, leaves_of_out}
+use Rattle.tree_insert.proofs.Outs.{none_served, served_beyond, served_one_more, served_all, served_before, leaves_of_out}
 use Rattle.tree_insert.proofs.settling.offer_outs.Given.{Over}
 use Rattle.tree_insert.proofs.settling.offer_outs.Goals as goal
 use Rattle.tree_insert.proofs.settling.offer_outs.Goals.{After-offer_out}
@@ -48,22 +48,71 @@ returns-in_err-offer_out-clause-counted g c =
       arith,
       c.at-out.ensures.counted,
       c.loop-k.invariant.count,
-      c.len-k-end.ensures,
+      c.len-len.ensures,
       ap length c.outs-outs.ensures.edges,
     )
+
+pub loop-k-init : goal.loop-k-init
+loop-k-init g c =
+    record {
+      gains = search rules;
+      served = served_beyond c.args.dfa.now c.args.tree.now c.args.rise.id c.args.rise.value
+          c.args.rise.before (outs_of c.args.store.now c.args.rise.id.vertex)
+          c.args.search.now.waiting 0 c.next_place-k.result
+          (none_served c.args.dfa.now c.args.tree.now c.args.rise.id c.args.rise.value
+          c.args.rise.before (outs_of c.args.store.now c.args.rise.id.vertex)
+          c.args.search.now.waiting)
+          (λ each entry from below there.
+          c.next_place-k.ensures.skipped each entry from below
+          (ap (λ outs. slice_get outs each) c.outs-outs.ensures.edges ∙ there));
+      within = omega (
+        arith,
+        c.next_place-k.ensures.within,
+        ap length c.outs-outs.ensures.edges,
+      );
+      count = omega arith;
+    }
 
 pub loop-k-preserved : goal.loop-k-preserved
 loop-k-preserved g c =
     let after = (goal.at.loop-k-preserved g c).After-offer_out in
     record {
       gains = gains_more g after;
-      served = served_one_more c.args.dfa.now c.args.tree.now c.args.rise.id c.args.rise.value
+      served = served_beyond c.args.dfa.now c.args.tree.now c.args.rise.id c.args.rise.value
+          c.args.rise.before (outs_of c.args.store.now c.args.rise.id.vertex)
+          c.offer_out.new.search.waiting (c.loop-k.k + 1) c.next_place-k-in-loop-k.result
+          (served_one_more c.args.dfa.now c.args.tree.now c.args.rise.id c.args.rise.value
           c.args.rise.before (outs_of c.args.store.now c.args.rise.id.vertex)
           c.loop-k.search.waiting c.offer_out.new.search.waiting c.loop-k.k c.at-out.result
           c.loop-k.invariant.served c.offer_out.ensures.gains.kept (there g after)
-          c.in_ok-offer_out.ensures.served;
-      count = omega (arith, c.at-out.ensures.counted, c.loop-k.invariant.count);
+          c.in_ok-offer_out.ensures.served)
+          (λ each entry from below there.
+          c.next_place-k-in-loop-k.ensures.skipped each entry from below
+          (ap (λ outs. slice_get outs each) c.outs-outs.ensures.edges ∙ there));
+      within = omega (
+        arith,
+        c.next_place-k-in-loop-k.ensures.within,
+        c.loop-k-test.true,
+        c.len-len.ensures,
+        ap length c.outs-outs.ensures.edges,
+      );
+      count = omega (
+        arith,
+        c.at-out.ensures.counted,
+        c.loop-k.invariant.count,
+        c.next_place-k-in-loop-k.ensures.onward,
+      );
     }
+
+pub loop-k-smaller : goal.loop-k-smaller
+loop-k-smaller g c =
+    omega (
+      arith,
+      c.next_place-k-in-loop-k.ensures.onward,
+      c.loop-k-test.true,
+      c.len-len.ensures,
+      ap length c.outs-outs.ensures.edges,
+    )
 
 pub returns-clause-served : goal.returns-clause-served
 returns-clause-served g c =
@@ -75,15 +124,9 @@ returns-clause-served g c =
       arith,
       below,
       c.loop-k-test.false,
-      c.len-k-end.ensures,
+      c.len-len.ensures,
       ap length c.outs-outs.ensures.edges,
     )) there low lower new leads)
 
 pub returns-clause-counted : goal.returns-clause-counted
-returns-clause-counted g c =
-    omega (
-      arith,
-      c.loop-k.invariant.count,
-      c.len-k-end.ensures,
-      ap length c.outs-outs.ensures.edges,
-    )
+returns-clause-counted g c = omega (arith, c.loop-k.invariant.count, c.loop-k.invariant.within)

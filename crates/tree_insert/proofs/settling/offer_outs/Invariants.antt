@@ -1,4 +1,4 @@
-use Rattle.std.proofs.Common.{◌≡◌, ◌+◌}
+use Rattle.std.proofs.Common.{◌+◌, ◌-◌, ◌≤◌, length}
 use Rattle.edge_store.specs.Edges.{outs_of, value_of}
 use Rattle.tree_insert.specs.Waiting.{Gains}
 use Rattle.tree_insert.specs.UnderWay.{Leaves}
@@ -10,5 +10,9 @@ invariant-loop-k g l = record {
   gains : Gains l.initial.search l.search (Leaves (value_of l.store) l.dfa l.rise.id l.rise.value);
   served : AreServedUpTo l.dfa l.tree l.search.waiting l.rise.id l.rise.value l.rise.before
       (outs_of l.store l.rise.id.vertex) l.k;
-  count : l.steps ≡ l.initial.steps + l.k;
+  within : l.k ≤ length (outs_of l.store l.rise.id.vertex);
+  count : l.steps ≤ l.initial.steps + l.k;
 }
+
+abbrev pub decreases-loop-k : goal.decreases-loop-k
+decreases-loop-k g l = length (outs_of l.store l.rise.id.vertex) - l.k

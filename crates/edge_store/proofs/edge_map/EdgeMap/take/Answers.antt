@@ -14,15 +14,15 @@ pub returns-clause-rest : goal.returns-clause-rest
 returns-clause-rest c other = elim c.match-self.branch [
   | in-Some w ↦
       ap (λ inside. lookup (same_half other)
-      (option_map_or (λ boxed. boxed.value.entries) inside.map [])) w.self-inside-is
-      ∙ w.swap_remove.ensures.updates.0 other
+      (option_map_or (λ boxed. boxed.value.entries) inside.table [])) w.self-inside-is
+      ∙ w.take.ensures.rest other
       ∙ ap (λ entries. cond (same_half c.args.half other) None (lookup (same_half other) entries))
       (ap (λ map. map.entries) w.deref_mut.ensures.value
       ∙ sym (ap (λ map. option_map_or (λ boxed. boxed.value.entries) map []) w.in-Some.is)
       ∙ ap (λ row. row.entries) c.self.view_is)
   | in-None w ↦
       ap (λ inside. lookup (same_half other)
-      (option_map_or (λ boxed. boxed.value.entries) inside.map [])) w.self-inside-is
+      (option_map_or (λ boxed. boxed.value.entries) inside.table [])) w.self-inside-is
       ∙ ap (λ map. lookup (same_half other)
       (option_map_or (λ boxed. boxed.value.entries) map [])) w.in-None.is
       ∙ none_left (same_half c.args.half other) None refl

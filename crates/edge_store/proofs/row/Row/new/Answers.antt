@@ -1,4 +1,4 @@
-use Rattle.std.proofs.Common.{◌≡◌, ◌++◌, [], length, sym, ap, ap₂, subst}
+use Rattle.std.proofs.Common.{◌≡◌, ◌++◌, [], length, sym, ap, ap₂, subst, arith}
 use Rattle.std.specs.List.{IsDistinct}
 use Rattle.std.specs.Map.{keys_of}
 use Rattle.edge_store.specs.Edges.{same_half}
@@ -12,6 +12,7 @@ none c = ap₂ (λ few more. few ++ more) c.new.ensures.items c.new-2.ensures
 pub invariant_of-result : goal.invariant_of-result
 unfolding IsDistinct
 invariant_of-result c = record {
+  short = omega (arith, ap length c.new.ensures.items);
   once = subst (λ entries. IsDistinct same_half (keys_of entries)) (sym (none c)) tt;
   below = below_none (c.new.result.items ++ c.new-2.result.entries) 0 (ap length (none c));
 }
