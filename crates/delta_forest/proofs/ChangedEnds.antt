@@ -1,5 +1,5 @@
--- The ends that a change changed.
-use Rattle.std.proofs.Common.{◌≡◌, ◌≢◌, ℕ, Bool, true, false, cond, List, [], filter, Option, Some, None, sym, ap, subst, ◌∙◌, inr, ⊎_elim, Contains, arith}
+-- The ends that a change takes away or brings.
+use Rattle.std.proofs.Common.{◌≡◌, ℕ, Bool, true, false, cond, List, [], filter, Option, Some, None, sym, ap, subst, ◌∙◌, inr, ⊎_elim, Contains, arith}
 use Rattle.std.specs.Prelude.{AllPairs, flat_map, option_map}
 use Rattle.std.specs.Option.{unwrap_or}
 use Rattle.std.proofs.lemmas.List.Kept.{AllPairs-from_increasing}
@@ -9,9 +9,10 @@ use Rattle.edge_store.specs.Edges.{Edges}
 use Rattle.dfa_table.specs.DfaValue.{DfaValue}
 use Rattle.source_tree.specs.declared.change.Change.{Change}
 use Rattle.source_tree.specs.declared.change.EndChange.{EndChange}
-use Rattle.source_tree.specs.Ends.{SourceValue, end_change, end_in}
+use Rattle.source_tree.specs.Ends.{HasOutcome, SourceValue, end_in}
 use Rattle.source_tree.specs.Product.{AreFinals, product_of}
 use Rattle.source_tree.specs.Taking.{HasTaken}
+use Rattle.source_tree.proofs.Outcomes.{none_kept}
 use Rattle.source_table.specs.Sources.{source_in}
 use Rattle.delta_forest.specs.Forest.{ForestValue, IsEnd, IsFinalValue}
 use Rattle.delta_forest.specs.Changes.{AreEndChangesOf}
@@ -127,13 +128,12 @@ module _ {change : Change} {dfa : DfaValue} {finals : List ℕ} {calls : ℕ} {o
       let is = logged root each listed member in
       let log = (took_listed root is.source is.found listed).log in
       let entry = (log.exact each).0 is.member in
-      ap (λ (one : EndChange). one.root) entry.0 ∙ before_root root is.source is.found
+      entry.0 ∙ before_root root is.source is.found
 
-  real : (each : EndChange) → Contains (flat_map (log_at table) roots) each →
-      IsEnd before_it each.root each.vertex each.before
-      × IsEnd after_it each.root each.vertex each.after
-      × (each.before ≢ each.after)
-  real each member =
+  real : (each : EndChange) (before later : Option ℕ) →
+      IsEnd before_it each.root each.vertex before → IsEnd after_it each.root each.vertex later →
+      Contains (flat_map (log_at table) roots) each → HasOutcome each.outcome before later
+  real each before later first second member =
       let at = (joined_members (log_at table) roots each).0 member in
       let root = at.0 in
       let is = logged root each at.1 at.2 in
@@ -141,66 +141,73 @@ module _ {change : Change} {dfa : DfaValue} {finals : List ℕ} {calls : ℕ} {o
       let log = (took_listed root is.source is.found at.1).log in
       let entry = (log.exact each).0 is.member in
       let root_is : root ≡ each.root = sym (logged_root root each at.1 at.2) in
-      let before_is : end_in finals was.before.tree each.vertex ≡ each.before =
-      sym (ap (λ (one : EndChange). one.before) entry.0) in
-      let after_is : end_in finals is.source.tree each.vertex ≡ each.after =
-      sym (ap (λ (one : EndChange). one.after) entry.0) in (
-        subst (λ (end : Option ℕ). IsEnd before_it each.root each.vertex end) before_is
-            (subst (λ (one : ℕ). IsEnd before_it one each.vertex
-            (end_in finals was.before.tree each.vertex)) root_is
-            (old_end root is.source is.found each.vertex)),
-        subst (λ (end : Option ℕ). IsEnd after_it each.root each.vertex end) after_is
-            (subst (λ (one : ℕ). IsEnd after_it one each.vertex
-            (end_in finals is.source.tree each.vertex)) root_is
-            (new_end root is.source is.found each.vertex)),
-        λ same. entry.1 (before_is ∙ (same ∙ sym after_is)),
-      )
+      let before_is : end_in finals was.before.tree each.vertex ≡ before =
+      ends_are_one before_it each.root each.vertex (end_in finals was.before.tree each.vertex)
+      before (subst (λ (one : ℕ). IsEnd before_it one each.vertex
+      (end_in finals was.before.tree each.vertex)) root_is
+      (old_end root is.source is.found each.vertex)) first in
+      let later_is : end_in finals is.source.tree each.vertex ≡ later =
+      ends_are_one after_it each.root each.vertex (end_in finals is.source.tree each.vertex)
+      later (subst (λ (one : ℕ). IsEnd after_it one each.vertex
+      (end_in finals is.source.tree each.vertex)) root_is
+      (new_end root is.source is.found each.vertex)) second in
+      subst (λ (end : Option ℕ). HasOutcome each.outcome end later) before_is
+      (subst (λ (end : Option ℕ). HasOutcome each.outcome
+      (end_in finals was.before.tree each.vertex) end) later_is entry.1)
 
-  all : (root vertex : ℕ) (before later : Option ℕ) → IsEnd before_it root vertex before →
-      IsEnd after_it root vertex later → before ≢ later →
-      Contains (flat_map (log_at table) roots) (end_change root vertex before later)
-  all root vertex before later first second differ = ⊎_elim
-      (λ (member : Contains (filter (touched_at table) roots) root).
+  all : (each : EndChange) (before later : Option ℕ) →
+      IsEnd before_it each.root each.vertex before → IsEnd after_it each.root each.vertex later →
+      HasOutcome each.outcome before later → Contains (flat_map (log_at table) roots) each
+  all each before later first second has = ⊎_elim
+      (λ (member : Contains (filter (touched_at table) roots) each.root).
+      let root = each.root in
       let at = touched_is follows root member in
       let was = after follows root at.source at.found in
       let log = (took follows root at).log in
-      let before_is = ends_are_one before_it root vertex before
-      (end_in finals was.before.tree vertex) first (old_end root at.source at.found vertex)
-      in
-      let later_is = ends_are_one after_it root vertex later
-      (end_in finals at.source.tree vertex) second (new_end root at.source at.found vertex)
-      in
-      let root_is = before_root root at.source at.found in
-      let entry : end_change root vertex before later
-      ≡ end_change was.before.tree.root vertex (end_in finals was.before.tree vertex)
-      (end_in finals at.source.tree vertex) =
-      λ i. end_change (sym root_is i) vertex (before_is i) (later_is i) in
-      (joined_members (log_at table) roots (end_change root vertex before later)).1 (
+      let before_is : before ≡ end_in finals was.before.tree each.vertex =
+      ends_are_one before_it root each.vertex before
+      (end_in finals was.before.tree each.vertex) first
+      (old_end root at.source at.found each.vertex) in
+      let later_is : later ≡ end_in finals at.source.tree each.vertex =
+      ends_are_one after_it root each.vertex later
+      (end_in finals at.source.tree each.vertex) second
+      (new_end root at.source at.found each.vertex) in
+      let here = subst (λ (end : Option ℕ). HasOutcome each.outcome end
+      (end_in finals at.source.tree each.vertex)) before_is
+      (subst (λ (end : Option ℕ). HasOutcome each.outcome before end) later_is has) in
+      (joined_members (log_at table) roots each).1 (
         root,
         at.listed,
-        subst (λ (log : List EndChange).
-            Contains log (end_change root vertex before later))
+        subst (λ (log : List EndChange). Contains log each)
             (sym (log_found root at.source at.found ∙ all_log at.source at.some))
-            ((log.exact (end_change root vertex before later)).1 (
-              entry,
-              λ same. differ (before_is ∙ (same ∙ sym later_is)),
-            )),
+            ((log.exact each).1 (sym (before_root root at.source at.found), here)),
       ))
-      (λ (none : Contains (filter (touched_at table) roots) root → ⊥).
-      absurd (differ (ends_are_one before_it root vertex before later first
-      (greatest_like later (IsFinalValue after_it root vertex)
-      (IsFinalValue before_it root vertex)
+      (λ (none : Contains (filter (touched_at table) roots) each.root → ⊥).
+      absurd (none_kept each.outcome before later
+      (ends_are_one before_it each.root each.vertex before later first
+      (greatest_like later (IsFinalValue after_it each.root each.vertex)
+      (IsFinalValue before_it each.root each.vertex)
       (λ number. (
-        (λ has. (has.0, has.1, sym (others_kept follows root vertex has.0 none) ∙ has.2)),
-        (λ has. (has.0, has.1, others_kept follows root vertex has.0 none ∙ has.2)),
-      )) second))))
-      (listed_or_not (filter (touched_at table) roots) root)
+        (λ has_it. (
+          has_it.0,
+          has_it.1,
+          sym (others_kept follows each.root each.vertex has_it.0 none) ∙ has_it.2,
+        )),
+        (λ has_it. (
+          has_it.0,
+          has_it.1,
+          others_kept follows each.root each.vertex has_it.0 none ∙ has_it.2,
+        )),
+      )) second)) has))
+      (listed_or_not (filter (touched_at table) roots) each.root)
 
   pub are_end_changes : AreEndChangesOf before_it after_it
       (flat_map (log_at table) roots)
   are_end_changes = record {
-    real = real;
-    all = all;
+    exact = λ each before later first second. (
+      real each before later first second,
+      all each before later first second,
+    );
     once = logs_once (log_at table) roots
         (AllPairs-from_increasing roots (IsStrictlyIncreasing-from_sorted roots follows.are.sorted))
         (λ root listed. once_at root listed)

@@ -19,6 +19,7 @@ use Rattle.source_tree.specs.declared.change.Change.TheVariants.{Raise, Remove, 
 use Rattle.source_tree.specs.declared.change.EndChange.{EndChange}
 use Rattle.source_tree.specs.Ends.{SourceValue}
 use Rattle.source_tree.specs.Taking.{KeepsNodes}
+use Rattle.source_tree.proofs.Outcomes.{none_kept}
 use Rattle.delta_forest.specs.Forest.{ForestValue}
 use Rattle.delta_forest.specs.Changes.{Applies, AreEndChangesOf, AreTouched, KeepsTrees, TakesChange}
 use Rattle.delta_forest.specs.Keeping.{IsKept, forest_with}
@@ -118,9 +119,11 @@ module _ (change : Change) (dfa : DfaValue) (calls : ℕ) (old new : Edges) (ind
 
     no_ends : AreEndChangesOf before_it after_it []
     no_ends = record {
-      real = λ each member. absurd (none_in each member);
-      all = λ root vertex before after was is differ.
-          absurd (differ (ends_are_one before_it root vertex before after was is));
+      exact = λ each before after was is. (
+        (λ member. absurd (none_in each member)),
+        (λ has. absurd (none_kept each.outcome before after
+            (ends_are_one before_it each.root each.vertex before after was is) has)),
+      );
       once = λ i j d less within. absurd (omega (arith, within));
     }
 

@@ -8,7 +8,7 @@ use Rattle.source_tree.specs.declared.change.Change.{Change}
 use Rattle.source_tree.specs.declared.change.Change.TheVariants.{Raise, Remove, Expire}
 use Rattle.source_tree.specs.declared.change.EndChange.{EndChange}
 use Rattle.source_tree.specs.declared.change.Reached.{Reached}
-use Rattle.source_tree.specs.Ends.{end_change}
+use Rattle.source_tree.specs.Ends.{HasOutcome}
 use Rattle.source_tree.specs.Taking.{KeepsNodes}
 use Rattle.delta_forest.specs.Forest.{ForestValue, IsEnd, IsIndexed, kept, tree_of}
 
@@ -53,20 +53,17 @@ pub record AreTouched (change : Change) (old new : ForestValue) (roots : List �
   pub others : (root vertex state : ℕ) → (Contains roots root → ⊥) →
       kept new root vertex state ≡ kept old root vertex state
 
--- the list has exactly the ends that changed, each root and vertex once
+-- the list has exactly the ends that went or came, each root and vertex once
 pub record AreEndChangesOf (old new : ForestValue) (log : List EndChange) : Type 0 where
-  pub real : (each : EndChange) → Contains log each →
-      IsEnd old each.root each.vertex each.before × IsEnd new each.root each.vertex each.after
-      × (each.before ≢ each.after)
-  pub all : (root vertex : ℕ) (before after : Option ℕ) →
-      IsEnd old root vertex before → IsEnd new root vertex after → before ≢ after →
-      Contains log (end_change root vertex before after)
+  pub exact : (each : EndChange) (before after : Option ℕ) →
+      IsEnd old each.root each.vertex before → IsEnd new each.root each.vertex after →
+      Contains log each ↔ HasOutcome each.outcome before after
   pub once : AllPairs (λ (first second : EndChange).
       (first.root ≢ second.root) ⊎ (first.vertex ≢ second.vertex)) log
 
 -- a forest took a change: its store did, its trees have the best paths of the store, what the
 -- change doesn't touch is as it was, and the forest reports the touched roots and exactly the
--- changed ends
+-- ends that came or went
 pub record Applies (change : Change) (old new : ForestValue) : Type 0 where
   pub store : TakesChange change old.store new.store
   pub indexed : IsIndexed new

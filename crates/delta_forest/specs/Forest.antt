@@ -11,7 +11,7 @@ use Rattle.tree_insert.specs.Trees.{IsOptimal}
 use Rattle.source_tree.specs.declared.change.EndChange.{EndChange}
 
 -- an automaton; a store of edges; the trees over it; the number of changes; whether memory ran out;
--- and of the last change the roots whose trees it touched, and the ends that it changed
+-- and of the last change the roots whose trees it touched, and the ends that came or went
 pub record ForestValue : Type 0 where
   pub dfa : DfaValue
   pub store : Edges

@@ -31,7 +31,7 @@ pub record HoldsAnew (old new : HoldersValue) (root : ℕ) (held : Bool) (ids : 
 abbrev pub moved_of : SourceValue → List NodeId
 moved_of source = cond source.touched source.moved []
 
--- the ends that the last change changed, where it touched the source
+-- the ends that came or went with the last change, where it touched the source
 abbrev pub log_of : SourceValue → List EndChange
 log_of source = cond source.touched source.log []
 
@@ -46,7 +46,7 @@ abbrev pub touched_at : List SourceValue → ℕ → Bool
 touched_at sources root =
     unwrap_or (option_map (λ (each : SourceValue). each.touched) (source_in sources root)) false
 
--- the ends that it changed there
+-- the ends that came or went there
 abbrev pub log_at : List SourceValue → ℕ → List EndChange
 log_at sources root = unwrap_or (option_map log_of (source_in sources root)) []
 
@@ -85,7 +85,7 @@ pub record AreSettled (change : Change) (old new : Index) (roots : List ℕ) : T
   pub absent : (root : ℕ) → source_in old.sources root ≡ None → IsLeft old new root
   pub left : (root : ℕ) → (Contains roots root → ⊥) → IsLeft old new root
 
--- of the last change, the roots that it touched and the ends that it changed
+-- of the last change, the roots that it touched and the ends that came or went
 pub record AreFound (sources : List SourceValue) (roots : List ℕ) (found : Findings)
     : Type 0 where
   pub touched : found.touched.items ≡ filter (touched_at sources) roots

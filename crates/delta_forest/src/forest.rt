@@ -247,7 +247,7 @@ impl Forest {
         &self.state.found.touched
     }
 
-    /// The ends that the last change changed, in no order.
+    /// The ends that came or went with the last change, in no order.
     pub fn log(&self) -> &[EndChange]
         ensures { result.now ≡ self.now.log }
     {

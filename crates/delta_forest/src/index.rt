@@ -14,7 +14,7 @@ pub(crate) struct Index {
     pub(crate) dues: Dues,
 }
 
-/// Of the last change, the roots whose trees it touched, and the ends that it changed.
+/// Of the last change, the roots whose trees it touched, and the ends that came or went.
 #[derive(Drop)]
 pub(crate) struct Findings {
     pub(crate) touched: Vec<u32>,

@@ -4,11 +4,12 @@
 //! and state the best of the store: up to when some path from the source leads there
 //! ([`Forest::kept`]), and by which path ([`Forest::path`]). The contract for the layer above: what
 //! is kept is the best, for every number of workers ([`kept_is_best`]); what a change doesn't touch
-//! keeps its place and its stamp; and the list of the ends that a change changed is exact. A change
-//! costs what it touches: a raise goes to the trees that have a node where the edge leaves, a
-//! removal to those that have one where it leaves or where it ends, whichever are fewer, and an
-//! expiry to those with a node whose time has come. Source: the Delta index of Pacaci, Bonifati and
-//! Özsu, SIGMOD 2020; that a node has the greatest deadline is this project's own rule.
+//! keeps its place and its stamp; and the list of the ends that come or go with a change is exact.
+//! A change costs what it touches: a raise goes to the trees that have a node where the edge
+//! leaves, a removal to those that have one where it leaves or where it ends, whichever are fewer,
+//! and an expiry to those with a node whose time has come. Source: the Delta index of Pacaci,
+//! Bonifati and Özsu, SIGMOD 2020; that a node has the greatest deadline is this project's own
+//! rule.
 #![tactic(auto)]
 
 mod advancing;
@@ -22,4 +23,4 @@ mod steps;
 
 pub use forest::Forest;
 pub use laws::{each_has_an_end, ends_are_one, kept_is_best};
-pub use source_tree::{Change, EndChange, Reached};
+pub use source_tree::{Change, EndChange, Outcome, Reached};

@@ -16,7 +16,7 @@ use Rattle.rpq_model.proofs.Composing.{first_added, in_turn, then_added}
 use Rattle.name_table.specs.Names.{number_of}
 use Rattle.source_tree.specs.declared.change.EndChange.{EndChange}
 use Rattle.end_events.specs.declared.pairs.NumberedPair.{NumberedPair}
-use Rattle.end_events.specs.declared.pairs.Outcome.{Outcome}
+use Rattle.source_tree.specs.declared.change.Outcome.{Outcome}
 use Rattle.end_events.specs.Pairs.{gives_event, pair_at, pairs_at, AreGiven, AreNumbered, Gathers, IsGiven, IsNumbered}
 
 -- names with one number are one

@@ -1,4 +1,4 @@
--- From the pairs that two lists of changed ends give to the events: a pair that is both lost and gained is as it was.
+-- From the pairs that two lists of changes of ends give to the events: a pair that is both lost and gained is as it was.
 use Rattle.std.proofs.Common.{◌≡◌, ℕ, not, List, Option, None, Some, is_some, refl, sym, ap, ap₂, ◌∙◌, ◌⊎◌, inl, inr, ⊎_elim}
 use Rattle.std.specs.Prelude.{◌↔◌, Contains, IsSome}
 use Rattle.std.specs.List.Sorted.{IsStrictlySortedBy}
@@ -17,7 +17,7 @@ use Rattle.rpq_model.proofs.Pairs.{has}
 use Rattle.source_tree.specs.declared.change.EndChange.{EndChange}
 use Rattle.end_events.specs.Changes.{Ends, AreChangesOf, IsLoss, AreLosses, AreEventsBetween}
 use Rattle.rpq_model.specs.Relations.{AreExactly}
-use Rattle.end_events.specs.declared.pairs.Outcome.TheVariants.{Lost, Gained}
+use Rattle.source_tree.specs.declared.change.Outcome.TheVariants.{Lost, Gained}
 use Rattle.end_events.specs.Pairs.{IsGiven}
 use Rattle.end_events.proofs.Losses.{lost_is_loss, gained_is_loss}
 

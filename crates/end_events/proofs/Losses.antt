@@ -1,5 +1,5 @@
--- What changed ends give, told by the ends: the losses from the ends before to those after, and the gains.
-use Rattle.std.proofs.Common.{◌≡◌, ◌≢◌, ℕ, Bool, true, false, not, ◌&&◌, ◌==◌, List, Option, None, Some, is_some, is_none, refl, sym, ap, ap₂, ◌∙◌}
+-- What changes of ends give, told by the ends: the losses from the ends before to those after, and the gains.
+use Rattle.std.proofs.Common.{◌≡◌, ◌≢◌, ℕ, true, not, ◌==◌, List, None, Some, refl, sym, ap, subst, ◌∙◌}
 use Rattle.std.specs.Prelude.{◌↔◌, IsSome}
 use Rattle.std.proofs.lemmas.Bool.{false≢true, both_ways, not-true, and_parts, false_from_ne_true, eqb-true, eq-eqb}
 use Rattle.std.proofs.lemmas.Option.{same_Some}
@@ -8,10 +8,11 @@ use Rattle.rpq_model.specs.declared.mode.Mode.{Mode}
 use Rattle.rpq_model.specs.declared.mode.Mode.TheVariants.{Arbitrary, Simple}
 use Rattle.name_table.specs.Names.{number_of}
 use Rattle.source_tree.specs.declared.change.EndChange.{EndChange}
-use Rattle.source_tree.specs.Ends.{end_change}
+use Rattle.source_tree.specs.declared.change.Outcome.{Outcome}
+use Rattle.source_tree.specs.declared.change.Outcome.TheVariants.{Lost, Gained}
+use Rattle.source_tree.specs.Ends.{HasOutcome, end_change, is_gain}
 use Rattle.end_events.specs.Changes.{Ends, AreChangesOf, IsLoss, counts}
-use Rattle.end_events.specs.declared.pairs.Outcome.TheVariants.{Lost, Gained}
-use Rattle.end_events.specs.Pairs.{is_loss, IsGiven}
+use Rattle.end_events.specs.Pairs.{IsGiven}
 use Rattle.end_events.proofs.Adding.{one_name}
 
 -- ---- the test
@@ -26,48 +27,36 @@ pub apart_counts : (mode : Mode) (root vertex : ℕ) → (mode ≡ Simple → ro
 apart_counts Arbitrary root vertex differ = refl
 apart_counts Simple root vertex differ = ap not (false_from_ne_true (root == vertex) (λ e. differ refl (eqb-true root vertex e)))
 
--- there is no number
-none_from : (found : Option ℕ) → is_none found ≡ true → found ≡ None
-none_from None e = refl
-none_from (Some n) e = absurd (false≢true e)
+-- an end that doesn't come goes
+lost_from : (outcome : Outcome) → not (is_gain outcome) ≡ true → outcome ≡ Lost
+lost_from Lost is = refl
+lost_from Gained is = absurd (false≢true is)
 
--- three tests hold
-all_three : (a b c : Bool) → a ≡ true → b ≡ true → c ≡ true → (a && b && c) ≡ true
-all_three true true true p q r = refl
-all_three true true false p q r = r
-all_three true false c p q r = absurd (false≢true q)
-all_three false b c p q r = absurd (false≢true p)
+gained_from : (outcome : Outcome) → is_gain outcome ≡ true → outcome ≡ Gained
+gained_from Lost is = absurd (false≢true is)
+gained_from Gained is = refl
 
--- a pair that passes the test is lost
+-- a pair that counts is lost where its end goes
 loss_from : (mode : Mode) (names : List (List ℕ)) (first last : Ends) (pair : Pair) (root vertex : ℕ) →
     number_of names pair.from ≡ Some root → number_of names pair.to ≡ Some vertex →
-    is_loss mode root vertex (first root vertex) (last root vertex) ≡ true → IsLoss mode names first last pair
-loss_from mode names first last pair root vertex from to test =
-    let outer = and_parts (counts mode root vertex && is_some (first root vertex)) (is_none (last root vertex)) test in
-    let inner = and_parts (counts mode root vertex) (is_some (first root vertex)) outer.0 in
-    record {
-      root = root;
-      vertex = vertex;
-      from = from;
-      to = to;
-      apart = λ e same. numbers_apart mode root vertex inner.0 e (same_Some root vertex (sym from ∙ (ap (number_of names) same ∙ to)));
-      had = inner.1;
-      gone = none_from (last root vertex) outer.1;
-    }
+    counts mode root vertex ≡ true → IsSome (first root vertex) → last root vertex ≡ None →
+    IsLoss mode names first last pair
+loss_from mode names first last pair root vertex from to count had gone = record {
+  root = root;
+  vertex = vertex;
+  from = from;
+  to = to;
+  apart = λ e same. numbers_apart mode root vertex count e (same_Some root vertex (sym from ∙ (ap (number_of names) same ∙ to)));
+  had = had;
+  gone = gone;
+}
 
--- and a loss passes it
-loss_test : (mode : Mode) (names : List (List ℕ)) (first last : Ends) (pair : Pair) (loss : IsLoss mode names first last pair) →
-    is_loss mode loss.root loss.vertex (first loss.root loss.vertex) (last loss.root loss.vertex) ≡ true
-loss_test mode names first last pair loss =
-    all_three (counts mode loss.root loss.vertex) (is_some (first loss.root loss.vertex)) (is_none (last loss.root loss.vertex))
-    (apart_counts mode loss.root loss.vertex (λ e same. loss.apart e
-    (one_name names pair.from pair.to loss.root loss.from (loss.to ∙ ap (λ n. Some n) (sym same)))))
-    loss.had
-    (ap is_none loss.gone)
-
--- ends that are there on one side alone differ
-differ : (had lacking : Option ℕ) → IsSome had → lacking ≡ None → had ≢ lacking
-differ had lacking there none same = both_ways (is_some had) (ap is_some (same ∙ none)) there
+-- and a loss counts
+loss_counts : (mode : Mode) (names : List (List ℕ)) (first last : Ends) (pair : Pair) (loss : IsLoss mode names first last pair) →
+    counts mode loss.root loss.vertex ≡ true
+loss_counts mode names first last pair loss =
+    apart_counts mode loss.root loss.vertex (λ e same. loss.apart e
+    (one_name names pair.from pair.to loss.root loss.from (loss.to ∙ ap (λ n. Some n) (sym same))))
 
 -- ---- the lists
 
@@ -77,22 +66,20 @@ pub lost_is_loss : (mode : Mode) (names : List (List ℕ)) (before after : Ends)
 lost_is_loss mode names before after log are pair = (
   (λ given.
       let each = given.each in
-      let is = ((are each).0 given.member).0 in
-      loss_from mode names before after pair each.root each.vertex given.from given.to
-      (ap₂ (is_loss mode each.root each.vertex)
-      (ap (λ (change : EndChange). change.before) (sym is))
-      (ap (λ (change : EndChange). change.after) (sym is))
-      ∙ given.gives)),
+      let had = before each.root each.vertex in
+      let has = after each.root each.vertex in
+      let parts = and_parts (not (is_gain each.outcome)) (counts mode each.root each.vertex) given.gives in
+      let ends : HasOutcome Lost had has =
+      subst (λ (outcome : Outcome). HasOutcome outcome had has) (lost_from each.outcome parts.0) ((are each).0 given.member) in
+      loss_from mode names before after pair each.root each.vertex given.from given.to parts.1 ends.0 ends.1),
   (λ loss.
-      let had = before loss.root loss.vertex in
-      let gone = after loss.root loss.vertex in
-      let each = end_change loss.root loss.vertex had gone in
+      let each = end_change loss.root loss.vertex Lost in
       record {
         each = each;
-        member = (are each).1 (refl, differ had gone loss.had loss.gone);
+        member = (are each).1 (loss.had, loss.gone);
         from = loss.from;
         to = loss.to;
-        gives = loss_test mode names before after pair loss;
+        gives = loss_counts mode names before after pair loss;
       }),
 )
 
@@ -102,21 +89,19 @@ pub gained_is_loss : (mode : Mode) (names : List (List ℕ)) (before after : End
 gained_is_loss mode names before after log are pair = (
   (λ given.
       let each = given.each in
-      let is = ((are each).0 given.member).0 in
-      loss_from mode names after before pair each.root each.vertex given.from given.to
-      (ap₂ (is_loss mode each.root each.vertex)
-      (ap (λ (change : EndChange). change.after) (sym is))
-      (ap (λ (change : EndChange). change.before) (sym is))
-      ∙ given.gives)),
+      let had = before each.root each.vertex in
+      let has = after each.root each.vertex in
+      let parts = and_parts (is_gain each.outcome) (counts mode each.root each.vertex) given.gives in
+      let ends : HasOutcome Gained had has =
+      subst (λ (outcome : Outcome). HasOutcome outcome had has) (gained_from each.outcome parts.0) ((are each).0 given.member) in
+      loss_from mode names after before pair each.root each.vertex given.from given.to parts.1 ends.1 ends.0),
   (λ loss.
-      let had = after loss.root loss.vertex in
-      let gone = before loss.root loss.vertex in
-      let each = end_change loss.root loss.vertex gone had in
+      let each = end_change loss.root loss.vertex Gained in
       record {
         each = each;
-        member = (are each).1 (refl, λ same. differ had gone loss.had loss.gone (sym same));
+        member = (are each).1 (loss.gone, loss.had);
         from = loss.from;
         to = loss.to;
-        gives = loss_test mode names after before pair loss;
+        gives = loss_counts mode names after before pair loss;
       }),
 )

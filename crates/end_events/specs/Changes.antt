@@ -10,18 +10,16 @@ use Rattle.rpq_model.specs.declared.mode.Mode.TheVariants.{Arbitrary, Simple}
 use Rattle.rpq_model.specs.Events.{event}
 use Rattle.name_table.specs.Names.{number_of}
 use Rattle.source_tree.specs.declared.change.EndChange.{EndChange}
-use Rattle.source_tree.specs.Ends.{end_change}
+use Rattle.source_tree.specs.Ends.{HasOutcome}
 
 -- the ends of vertices, as seen from roots, by numbers
 abbrev pub Ends : Type 0
 Ends = ℕ → ℕ → Option ℕ
 
--- the list has exactly the ends that changed between these, each with both
+-- the list has exactly the ends that went or came between these
 abbrev pub AreChangesOf : Ends → Ends → List EndChange → Type 0
 AreChangesOf before after log = (each : EndChange) → Contains log each
-    ↔ ((each ≡ end_change each.root each.vertex (before each.root each.vertex)
-    (after each.root each.vertex))
-    × (before each.root each.vertex ≢ after each.root each.vertex))
+    ↔ HasOutcome each.outcome (before each.root each.vertex) (after each.root each.vertex)
 
 -- the numbers in the list are those of names
 abbrev pub AreNamed : List (List ℕ) → List EndChange → Type 0

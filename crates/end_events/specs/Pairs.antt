@@ -1,30 +1,22 @@
--- The pairs that lists of changed ends take away or bring. No public contract cites this file.
-use Rattle.std.specs.Prelude.{◌≡◌, ◌⊎◌, ℕ, ◌<◌, Bool, true, false, ◌&&◌, List, length, map, All}
-use Rattle.std.specs.Prelude.{Contains, Option, Some, is_some, is_none}
+-- The pairs that lists of changes of ends take away or bring. No public contract cites this file.
+use Rattle.std.specs.Prelude.{◌≡◌, ◌⊎◌, ℕ, ◌<◌, Bool, true, not, ◌&&◌, List, length, map, All}
+use Rattle.std.specs.Prelude.{Contains, Some}
 use Rattle.rpq_base.specs.declared.data.Pair.{Pair}
 use Rattle.rpq_model.specs.declared.mode.Mode.{Mode}
 use Rattle.rpq_model.specs.Relations.{Adds, AreExactly}
 use Rattle.name_table.specs.Keys.{beginning, AreBytes}
 use Rattle.name_table.specs.Names.{name_at, number_of}
 use Rattle.source_tree.specs.declared.change.EndChange.{EndChange}
+use Rattle.source_tree.specs.declared.change.Outcome.{Outcome}
+use Rattle.source_tree.specs.declared.change.Outcome.TheVariants.{Lost, Gained}
+use Rattle.source_tree.specs.Ends.{is_gain}
 use Rattle.end_events.specs.declared.pairs.NumberedPair.{NumberedPair}
-use Rattle.end_events.specs.declared.pairs.Outcome.{Outcome}
-use Rattle.end_events.specs.declared.pairs.Outcome.TheVariants.{Lost, Gained}
 use Rattle.end_events.specs.Changes.{counts}
 
--- whether a pair with these numbers counts, and has an end at first and none at last
-abbrev pub is_loss : Mode → ℕ → ℕ → Option ℕ → Option ℕ → Bool
-is_loss mode root vertex first last = counts mode root vertex && is_some first && is_none last
-
--- whether a pair with this outcome is gained
-abbrev pub is_gain : Outcome → Bool
-is_gain Lost = false
-is_gain Gained = true
-
--- whether a change takes away the end of a pair that counts, or brings it
+-- whether a change has this outcome, and its pair counts
 abbrev pub gives_event : Mode → Outcome → EndChange → Bool
-gives_event mode Lost each = is_loss mode each.root each.vertex each.before each.after
-gives_event mode Gained each = is_loss mode each.root each.vertex each.after each.before
+gives_event mode Lost each = not (is_gain each.outcome) && counts mode each.root each.vertex
+gives_event mode Gained each = is_gain each.outcome && counts mode each.root each.vertex
 
 -- a change in the list gives an event of the pair
 pub record IsGiven (mode : Mode) (outcome : Outcome) (names : List (List ℕ)) (log : List EndChange)

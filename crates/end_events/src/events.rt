@@ -1,4 +1,4 @@
-//! Events from changed ends.
+//! Events from ends that come or go.
 
 ghost use Rattle.std.specs.Prelude.{◌≡◌, ◌++◌, map, IfOk, OnOk};
 ghost use Rattle.std.specs.List.{list_any};
@@ -7,24 +7,24 @@ ghost use Rattle.rpq_base.specs.Order.{pair_cmp};
 ghost use Rattle.rpq_base.specs.Same.{same_pair};
 ghost use Rattle.rpq_model.specs.Events.{event, without};
 ghost use Rattle.end_events.specs.Changes.{AreChangesOf, AreEventsBetween, AreNamed, Ends};
-ghost use Rattle.end_events.specs.Pairs.{is_gain, pair_at, pairs_at, AreNumbered, IsNumbered};
+ghost use Rattle.end_events.specs.Pairs.{pair_at, pairs_at, AreNumbered, IsNumbered};
+ghost use Rattle.source_tree.specs.Ends.{is_gain};
 
-use crate::pairs::{NumberedPair, Outcome, given_pairs, pair_order};
+use crate::pairs::{NumberedPair, given_pairs, pair_order};
 use name_table::Names;
 use rpq_base::{Copied, Event, Memory, Pair};
 use rpq_model::Mode;
-use source_tree::EndChange;
+use source_tree::{EndChange, Outcome};
 use std::alloc::Global;
 
-/// The events that two changes bring, one after the other, whose changed ends these are, for the
-/// query with this number and mode. A query that takes simple paths has none for pairs of a vertex
-/// with itself. The only error is [`Memory`].
+/// The events that two changes bring, one after the other, with which these ends go or come, for
+/// the query with this number and mode. A query that takes simple paths has none for pairs of a
+/// vertex with itself. The only error is [`Memory`].
 ///
 /// A pair changes at most twice, so one whose end both goes and comes is as it was before. Each
-/// list is gone through twice, first for the count; the pairs whose ends go or come are put in
-/// order by the beginnings of their names, and where these are the same by the names' ranks or all
-/// their bytes; an event then copies its two names. Where no end goes or comes, nothing is
-/// allocated.
+/// list is gone through twice, first for the count; the pairs are put in order by the beginnings of
+/// their names, and where these are the same by the names' ranks or all their bytes; an event then
+/// copies its two names. Where no end goes or comes, nothing is allocated.
 pub fn events_between(
     alloc: Global,
     query: u32,

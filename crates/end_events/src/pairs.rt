@@ -1,19 +1,19 @@
-//! The pairs that lists of changed ends take away or bring.
+//! The pairs that lists of changes of ends take away or bring.
 
 ghost use Rattle.std.specs.Prelude.{◌≡◌, ◌<◌, ◌↔◌, ◌∷◌, [], length, Contains, IfOk, OnOk};
 ghost use Rattle.std.specs.List.Sorted.{IsPermutation, IsSorted, IsStrictlySortedBy};
 ghost use Rattle.rpq_base.specs.declared.data.Pair.{Pair};
 ghost use Rattle.rpq_base.specs.Order.{pair_cmp};
 ghost use Rattle.end_events.specs.Changes.{AreNamed, counts};
-ghost use Rattle.end_events.specs.declared.pairs.Outcome.TheVariants.{Gained, Lost};
 ghost use Rattle.end_events.specs.Order.{keyed_cmp, numbered_cmp};
-ghost use Rattle.end_events.specs.Pairs.{gives_event, is_gain, is_loss, pairs_at};
+ghost use Rattle.end_events.specs.Pairs.{gives_event, pairs_at};
 ghost use Rattle.end_events.specs.Pairs.{AreGiven, AreNumbered, Gathers, IsNumbered};
+ghost use Rattle.source_tree.specs.declared.change.Outcome.TheVariants.{Gained, Lost};
 
 use name_table::Names;
 use rpq_base::Memory;
 use rpq_model::Mode;
-use source_tree::EndChange;
+use source_tree::{EndChange, Outcome};
 use std::alloc::Global;
 use std::cmp::Ordering;
 
@@ -25,27 +25,6 @@ pub(crate) struct NumberedPair {
     /// The beginnings of both names, which are looked up once and mostly tell the order of pairs.
     pub root_key: u64,
     pub vertex_key: u64,
-}
-
-/// What a change does to a pair that counts.
-#[derive(Clone, Copy)]
-pub(crate) enum Outcome {
-    /// It takes away the pair's end.
-    Lost,
-    /// It brings the pair an end.
-    Gained,
-}
-
-impl Outcome {
-    /// Whether the pair is gained.
-    pub(crate) fn is_gain(self) -> bool
-        ensures { result ≡ is_gain self }
-    {
-        match self {
-            Self::Lost => false,
-            Self::Gained => true,
-        }
-    }
 }
 
 /// The pairs whose ends go, and those whose ends come.
@@ -101,20 +80,13 @@ pub fn counts(mode: Mode, root: u32, vertex: u32) -> bool
     }
 }
 
-/// Whether the pair of the change counts, and has an end at first and none at last.
-fn is_loss(mode: Mode, each: &EndChange, first: Option<u64>, last: Option<u64>) -> bool
-    ensures { result ≡ is_loss mode each.now.root each.now.vertex first last }
-{
-    counts(mode, each.root, each.vertex) && first.is_some() && last.is_none()
-}
-
-/// Whether the change has this outcome for a pair that counts.
+/// Whether the change has this outcome, and its pair counts.
 fn gives_event(mode: Mode, outcome: Outcome, each: &EndChange) -> bool
     ensures { result ≡ gives_event mode outcome each.now }
 {
     match outcome {
-        Outcome::Lost => is_loss(mode, each, each.before, each.after),
-        Outcome::Gained => is_loss(mode, each, each.after, each.before),
+        Outcome::Lost => !each.outcome.is_gain() && counts(mode, each.root, each.vertex),
+        Outcome::Gained => each.outcome.is_gain() && counts(mode, each.root, each.vertex),
     }
 }
 

@@ -114,7 +114,8 @@ module _ (laws : Laws) (names : List (List ℕ)) (entry : Entry) (query : Compil
 
     pub first_named : AreNamed names first
     first_named =
-        log_named names old.forest middle first old_names middle_names stepped.expired.changed
+        log_named laws.have names old.forest middle first old_names middle_names
+        stepped.expired.changed
 
     by_change : (change : Option Change) → MayHaveApplied change middle new.forest second →
         AreNamed names second
@@ -124,7 +125,7 @@ module _ (laws : Laws) (names : List (List ℕ)) (entry : Entry) (query : Compil
         (each.root < length names)
         × (each.vertex < length names)))
     by_change (Some change) applied =
-        log_named names middle new.forest second middle_names new_names applied.changed
+        log_named laws.have names middle new.forest second middle_names new_names applied.changed
 
     pub second_named : AreNamed names second
     second_named = by_change stepped.change stepped.changed

@@ -25,9 +25,10 @@ use Rattle.rpq_model.specs.Query.{Query, path_query}
 use Rattle.rpq_model.proofs.ByMembers.{without_members}
 use Rattle.name_table.specs.Names.{number_of}
 use Rattle.source_tree.specs.declared.change.EndChange.{EndChange}
+use Rattle.source_tree.proofs.Outcomes.{none_kept}
 use Rattle.delta_forest.specs.Forest.{ForestValue, IsEnd, IsIndexed, kept}
 use Rattle.delta_forest.specs.Changes.{AreEndChangesOf}
-use Rattle.delta_forest.specs.Laws.{EndsAreOne}
+use Rattle.delta_forest.specs.Laws.{EachHasAnEnd, EndsAreOne}
 use Rattle.end_events.specs.Changes.{Ends, AreChangesOf, AreNamed, AreEventsBetween, AreLosses, IsLoss}
 use Rattle.containment_laws.specs.Accepted.{IsAccepted, AcceptedHaveAnswers}
 use Rattle.index_laws.specs.Numbered.{AreNumbersOf, IsFree}
@@ -88,7 +89,7 @@ have_names keeps query history names forest is = λ root vertex state value ther
       taken names vertex (λ free. never (bests.free root vertex state (inr free))),
     )
 
--- the changed ends are those of named vertices
+-- the ends that come or go are those of named vertices
 end_named : (names : List (List ℕ)) (forest : ForestValue) (root vertex end : ℕ) →
     HaveNames names forest → IsEnd forest root vertex (Some end) →
     (root < length names) × (vertex < length names)
@@ -108,15 +109,18 @@ one_named names old new root vertex first second None (Some end) before_is after
 one_named names old new root vertex first second None None before_is after_is differ =
     absurd (differ refl)
 
-pub log_named : (names : List (List ℕ)) (old new : ForestValue) (log : List EndChange) →
-    HaveNames names old → HaveNames names new → AreEndChangesOf old new log → AreNamed names log
-log_named names old new log first second are =
+pub log_named : EachHasAnEnd → (names : List (List ℕ)) (old new : ForestValue)
+    (log : List EndChange) → HaveNames names old → HaveNames names new →
+    AreEndChangesOf old new log → AreNamed names log
+log_named have names old new log first second are =
     All-weaker (Contains log)
     (λ (each : EndChange). (each.root < length names) × (each.vertex < length names))
     (λ each member.
-    let real = are.real each member in
-    one_named names old new each.root each.vertex first second each.before each.after real.0
-    real.1 real.2)
+    let before = have old each.root each.vertex in
+    let after = have new each.root each.vertex in
+    let has = (are.exact each before.0 after.0 before.1 after.1).0 member in
+    one_named names old new each.root each.vertex first second before.0 after.0 before.1 after.1
+    (λ same. none_kept each.outcome before.0 after.0 same has))
     log (All-contains_itself log)
 
 -- ---- ends
@@ -135,25 +139,8 @@ module _ (one : EndsAreOne) (have : HaveEnds) where
       AreChangesOf (ends_of old before) (ends_of new after) log
   are_changes old new before after log are = λ each.
       let first = have old before each.root each.vertex in
-      let last = have new after each.root each.vertex in (
-        (λ member.
-            let real = are.real each member in
-            let was : each.before ≡ first.0 =
-            one old each.root each.vertex each.before first.0 real.0 first.1 in
-            let is : each.after ≡ last.0 =
-            one new each.root each.vertex each.after last.0 real.1 last.1 in (
-              (λ i. record {
-                root = each.root;
-                vertex = each.vertex;
-                before = was i;
-                after = is i;
-              }),
-              (λ stays. real.2 (was ∙ (stays ∙ sym is))),
-            )),
-        (λ changed.
-            subst (Contains log) (sym changed.0)
-            (are.all each.root each.vertex first.0 last.0 first.1 last.1 changed.1)),
-      )
+      let last = have new after each.root each.vertex in
+      are.exact each first.0 last.0 first.1 last.1
 
   -- where nothing changed
   pub no_changes : (old new : ForestValue) (before : IsIndexed old) (after : IsIndexed new) →
@@ -164,8 +151,8 @@ module _ (one : EndsAreOne) (have : HaveEnds) where
       let moved = subst (λ (forest : ForestValue). IsEnd forest each.root each.vertex last.0)
       unchanged last.1 in (
         (λ member. absurd (none_in each member)),
-        (λ changed.
-            absurd (changed.1 (one old each.root each.vertex first.0 last.0 first.1 moved))),
+        (λ has. absurd (none_kept each.outcome first.0 last.0
+            (one old each.root each.vertex first.0 last.0 first.1 moved) has)),
       )
 
 -- ---- events

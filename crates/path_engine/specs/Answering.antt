@@ -93,7 +93,7 @@ Suits names dfa clock time (Delete edge) (Some (Expire now)) = ⊥
 Suits names dfa clock time Tick None = Unit {0}
 Suits names dfa clock time Tick (Some change) = ⊥
 
--- the forest took the change, which changed these ends
+-- the forest took the change, with which these ends came or went
 pub record HasApplied (change : Change) (old new : ForestValue) (log : List EndChange)
     : Type 0 where
   pub store : TakesChange change old.store new.store
@@ -109,13 +109,13 @@ abbrev pub MayHaveApplied : Option Change → ForestValue → ForestValue → Li
 MayHaveApplied None old new log = (new ≡ old) × (log ≡ [])
 MayHaveApplied (Some change) old new log = HasApplied change old new log
 
--- the ends that the last change of a forest changed, if it is asked for
+-- the ends that came or went with the last change of a forest, if they are asked for
 abbrev pub log_if : Bool → ForestValue → List EndChange
 log_if asked forest = if asked then forest.log else []
 
 -- the clock went on, the forest expired and then took the change that suits the entry; these are
--- the ends that changed by the one and by the other; the rows are as they were, and what was
--- touched is stale
+-- the ends that came or went with the one and with the other; the rows are as they were, and what
+-- was touched is stale
 pub record HasStepped (names : List (List ℕ)) (entry : Entry) (old new : Index)
     (first second : List EndChange) : Type 0 where
   pub window : IsSameWindow old.clock new.clock

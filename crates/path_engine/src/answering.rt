@@ -158,15 +158,15 @@ fn laws()
     accepted_queries_have_answers();
 }
 
-/// The ends that the first of the two changes of an entry changed, and whether there was a second,
-/// whose ends the forest tells as those of its last change.
+/// The ends that came or went with the first of the two changes of an entry, and whether there was
+/// a second, whose ends the forest tells as those of its last change.
 #[derive(Drop)]
 pub struct Logs {
     pub first: Vec<EndChange>,
     pub second: bool,
 }
 
-/// The ends that the second change changed, if there was one.
+/// The ends that came or went with the second change, if there was one.
 fn second_log<'a>(logs: &Logs, forest: &'a Forest) -> &'a [EndChange]
     ensures { result.now ≡ log_if logs.now.second forest.now }
 {
@@ -230,7 +230,7 @@ fn apply<R: Threads + Sync, G: Gate>(
     Ok(())
 }
 
-/// The ends that the last change of a forest changed, by a copy.
+/// The ends that came or went with the last change of a forest, by a copy.
 fn log_of(alloc: Global, forest: &Forest) -> Result<Vec<EndChange>, Memory>
     ensures { IfOk result (λ log. log.items ≡ forest.now.log) }
 {

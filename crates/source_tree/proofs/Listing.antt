@@ -21,9 +21,8 @@ use Rattle.delta_tree.proofs.Ids.{some_is_one, value_has_node}
 use Rattle.tree_insert.proofs.Members.{contains_cases, contains_head, contains_tail, contains_none}
 use Rattle.source_tree.specs.Ends.{AreReached, end_in}
 use Rattle.source_tree.specs.Listing.{AddsValue, HaveValues, IsValue, order_of}
-use Rattle.source_tree.specs.Telling.{IsAtMost, values_at}
 use Rattle.source_tree.specs.declared.change.Reached.{Reached}
-use Rattle.source_tree.proofs.Covering.{covers_all, greatest_from}
+use Rattle.source_tree.proofs.Covering.{IsAtMost, covers_all, greatest_from, values_at}
 
 -- ---- the places
 

@@ -1,6 +1,6 @@
--- Lists of shifts, and the ends that they change.
+-- Lists of shifts, and the ends that they take away or bring.
 use Rattle.std.proofs.Common.{◌≡◌, ◌≢◌, ◌==◌, ◌⊎◌, inl, inr, ℕ, ◌+◌, ◌<◌, ◌≤◌, Bool, true, false, List, [], ◌∷◌, ◌++◌, length, drop, get_or, Option, None, Some, option_map, refl, sym, ap, ap₂, subst, ◌∙◌, Contains, true≢false, eq-eqb, slice_get, arith}
-use Rattle.std.specs.Prelude.{◌↔◌, All}
+use Rattle.std.specs.Prelude.{◌↔◌, All, is_some}
 use Rattle.std.specs.List.{IsDistinct}
 use Rattle.std.proofs.lemmas.Bool.{eqb-true}
 use Rattle.std.proofs.lemmas.List.{get_or-drop, get_or_default, length-drop, map-append}
@@ -14,9 +14,10 @@ use Rattle.delta_tree.specs.Nodes.{TreeValue, node_id, same_node, value_of}
 use Rattle.delta_tree.specs.Changes.{AreShifts, IsShift, shift_ids}
 use Rattle.delta_tree.proofs.Ids.{same_node_laws, some_is_one}
 use Rattle.tree_insert.proofs.Members.{contains_head, contains_tail, contains_cases, contains_none}
-use Rattle.source_tree.specs.Ends.{AreEndChanges, end_change, end_in, later}
-use Rattle.source_tree.specs.Telling.{IsByVertex, IsRun, Logs}
+use Rattle.source_tree.specs.Ends.{AreEndChanges, end_in, later}
+use Rattle.source_tree.specs.Telling.{IsByVertex, IsRun, Logs, outcome_of}
 use Rattle.source_tree.specs.declared.change.EndChange.{EndChange}
+use Rattle.source_tree.specs.declared.change.Outcome.{Outcome}
 use Rattle.source_tree.proofs.Telling.{IsTelling, telling_starts, telling_ends, telling_like, telling_step}
 
 -- ---- the shifts of a list
@@ -67,13 +68,15 @@ listed_right run rest id there = subst (λ (ids : List NodeId). Contains ids id)
 
 -- ---- ends
 
--- ends of a vertex by nodes of the same values
-same_end : (finals : List ℕ) (old new : TreeValue) (vertex : ℕ) →
-    ((state : ℕ) → value_of old (node_id vertex state) ≡ value_of new (node_id vertex state)) →
+-- ends of a vertex where each final state has the same value
+pub same_end : (finals : List ℕ) (old new : TreeValue) (vertex : ℕ) →
+    ((state : ℕ) → Contains finals state →
+    value_of old (node_id vertex state) ≡ value_of new (node_id vertex state)) →
     end_in finals old vertex ≡ end_in finals new vertex
 same_end [] old new vertex same = refl
 same_end (state ∷ rest) old new vertex same =
-    ap₂ later (same state) (same_end rest old new vertex same)
+    ap₂ later (same state (contains_head state rest))
+    (same_end rest old new vertex (λ each final. same each (contains_tail state rest each final)))
 
 later_none : (end : Option ℕ) → later end None ≡ end
 later_none None = refl
@@ -84,15 +87,6 @@ pub same_value : (old new : TreeValue) (shifts : List Shift) → AreShifts old n
     (id : NodeId) → (Contains (shift_ids shifts) id → ⊥) → value_of old id ≡ value_of new id
 same_value old new shifts are id apart =
     ap (option_map (λ (node : Node). node.value)) (sym (are.others id apart))
-
--- the value of a place of which there is no shift
-pub value_beside : (old new : TreeValue) (run : List Shift) (id : NodeId) →
-    IsRun old new id.vertex run → All (λ (each : Shift). each.id ≢ id) run →
-    value_of new id ≡ value_of old id
-value_beside old new run id is apart = is.others id.state
-    (λ there.
-    let found = has_shift run id there in
-    All-contains (λ (each : Shift). each.id ≢ id) run found.shift apart found.there found.is)
 
 -- ---- where one state is final
 
@@ -137,7 +131,8 @@ module _ (root state : ℕ) (old new : TreeValue) where
     }
 
     module _ (is : shift.id.state ≡ state) (next : List EndChange)
-        (logs : Logs log next (end_change root shift.id.vertex shift.before shift.after)) where
+        (logs : Logs root shift.id.vertex (outcome_of (is_some shift.before)
+        (is_some shift.after)) log next) where
       abbrev vertex : ℕ
       vertex = shift.id.vertex
 
@@ -174,7 +169,7 @@ module _ (root state : ℕ) (old new : TreeValue) where
         contains_tail shift.id (shift_ids left) (node_id each state),
       )
 
-      -- the shift is that of the end of its vertex
+      -- the shift tells the end of its vertex
       pub one_more : TellsOne root state old new left next
       one_more = record {
         telling = telling_step root (end_in finals old) (end_in finals new)
@@ -182,7 +177,9 @@ module _ (root state : ℕ) (old new : TreeValue) where
             (subst (Contains (shift_ids (shift ∷ left))) place
             (contains_head shift.id (shift_ids left)))
             once_more next
-            (subst (Logs log next) (ap₂ (end_change root vertex) before_is after_is) logs);
+            (subst (λ (outcome : Option Outcome). Logs root vertex outcome log next)
+            (ap₂ (λ (had has : Option ℕ). outcome_of (is_some had) (is_some has))
+            before_is after_is) logs);
         values = All-tail (IsShift old new) shift left tells.values;
         once = IsDistinct-tail same_node shift.id (shift_ids left) tells.once;
       }
@@ -209,7 +206,7 @@ module _ (root : ℕ) (finals : List ℕ) (old new : TreeValue) where
   runs_start shifts are order = record {
     telling = telling_starts root (end_in finals old) (end_in finals new) (WaitsAny shifts)
         (λ vertex apart. same_end finals old new vertex
-        (λ state. same_value old new shifts are (node_id vertex state)
+        (λ state final. same_value old new shifts are (node_id vertex state)
         (λ there. apart (state, there))));
     values = are.values;
     order = order;
@@ -269,10 +266,10 @@ module _ (root : ℕ) (finals : List ℕ) (old new : TreeValue) where
         (sym (eqb-true vertex each is)) there))
     another each left false other = refl
 
-    -- the vertex is told, if its end is another
+    -- the vertex is told, if its end comes or goes
     pub runs_more : (next : List EndChange) →
-        Logs log next (end_change root vertex (end_in finals old vertex)
-        (end_in finals new vertex)) →
+        Logs root vertex (outcome_of (is_some (end_in finals old vertex))
+        (is_some (end_in finals new vertex))) log next →
         All (IsShift old new) rest → IsByVertex rest → TellsRuns root finals old new rest next
     runs_more next logs values order = record {
       telling = telling_step root (end_in finals old) (end_in finals new)

@@ -69,7 +69,8 @@ pub record IsReady (change : Change) (product : ProductValue) (source : SourceVa
   pub held : AreHeld product.holders source.tree
 
 -- a source took the change: its tree is optimal and keeps what the change doesn't touch; it reports
--- whether the change touched it, the places where nodes came or went, and exactly the changed ends
+-- whether the change touched it, and exactly the places where nodes came or went and the ends that
+-- did
 pub record HasTaken (change : Change) (product : ProductValue) (old new : SourceValue)
     : Type 0 where
   pub optimal : IsOptimalOn product new.tree

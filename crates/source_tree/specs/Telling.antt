@@ -1,16 +1,19 @@
 -- How a source tells what a change did to its tree. No contract outside the crate cites this file.
-use Rattle.std.specs.Prelude.{◌≡◌, ◌≢◌, ◌⊎◌, ◌≤◌, ⊤, ℕ, Bool, true, false, List, [], ◌∷◌, ◌++◌, length, filter, All, Contains, Option, None, Some}
+use Rattle.std.specs.Prelude.{◌≡◌, ◌≢◌, ◌↔◌, ℕ, Bool, true, false, ◌||◌, List, [], ◌∷◌, ◌++◌, length, filter}
+use Rattle.std.specs.Prelude.{All, Any, Contains, IsTrue, Option, None, Some, IsSome, is_some}
+use Rattle.std.specs.List.{list_any}
 use Rattle.std.specs.List.Sorted.{IsNonDecreasingBy}
 use Rattle.delta_tree.specs.declared.node.NodeId.{NodeId}
 use Rattle.delta_tree.specs.declared.node.Shift.{Shift}
-use Rattle.delta_tree.specs.Nodes.{TreeValue, node_id, value_of}
+use Rattle.delta_tree.specs.Nodes.{TreeValue, node_id, same_node, value_of}
 use Rattle.delta_tree.specs.Changes.{AreShifts, IsShift, shift_ids}
-use Rattle.source_index.specs.Holders.{HoldersValue, roots_at}
-use Rattle.source_tree.specs.Ends.{AreEndChanges, end_in, later}
+use Rattle.source_tree.specs.Ends.{AreEndChanges, end_change, end_in}
 use Rattle.source_tree.specs.Product.{ProductValue, IsOptimalOn}
 use Rattle.source_tree.specs.Taking.{AreMoved, IsTouched, KeepsNodes, TellsTouched}
 use Rattle.source_tree.specs.declared.change.Change.{Change}
 use Rattle.source_tree.specs.declared.change.EndChange.{EndChange}
+use Rattle.source_tree.specs.declared.change.Outcome.{Outcome}
+use Rattle.source_tree.specs.declared.change.Outcome.TheVariants.{Lost, Gained}
 
 -- ---- what a change does to a tree alone
 
@@ -39,7 +42,7 @@ moves (Some before) (Some after) = false
 abbrev pub moved_ids : List Shift → List NodeId
 moved_ids shifts = shift_ids (filter (λ (each : Shift). moves each.before each.after) shifts)
 
--- the places where nodes came or went, the changed ends, and whether the tree was touched
+-- the places where nodes came or went, the ends that did, and whether the tree was touched
 pub record Tells (change : Change) (finals : List ℕ) (old new : TreeValue)
     (ids : List NodeId) (changes : List EndChange) (whether : Bool) : Type 0 where
   pub touched : TellsTouched change old new whether
@@ -63,43 +66,54 @@ pub record IsRun (old new : TreeValue) (vertex : ℕ) (run : List Shift) : Type 
   pub others : (state : ℕ) → (Contains (shift_ids run) (node_id vertex state) → ⊥) →
       value_of new (node_id vertex state) ≡ value_of old (node_id vertex state)
 
--- the two ends, and with them two values of this state, where it is final
-abbrev pub Widens : List ℕ → ℕ → Option ℕ × Option ℕ → Option ℕ × Option ℕ →
-    Option ℕ × Option ℕ → Type 0
-Widens finals state ends values new =
-    (Contains finals state → new ≡ (later ends.0 values.0, later ends.1 values.1))
-    × ((Contains finals state → ⊥) → new ≡ ends)
+-- the state is final, and there is a value
+pub record IsFinalWith (finals : List ℕ) (state : ℕ) (value : Option ℕ) : Type 0 where
+  pub final : Contains finals state
+  pub some : IsSome value
 
--- the one number is at most the other, where it is there
-abbrev pub IsAtMost : Option ℕ → Option ℕ → Type 0
-IsAtMost None end = ⊤
-IsAtMost (Some value) None = ⊥
-IsAtMost (Some value) (Some end) = value ≤ end
+-- this value is there for some shift of a final state
+abbrev pub AnyFinal : List ℕ → (Shift → Option ℕ) → List Shift → Type 0
+AnyFinal finals value shifts =
+    Any (λ (each : Shift). IsFinalWith finals each.id.state (value each)) shifts
 
--- the end is the value of a final state, where it is there, and at least that of each final state
--- that was seen
-pub record Covers (finals : List ℕ) (values : ℕ → Option ℕ) (Seen : ℕ → Type 0)
-    (end : Option ℕ) : Type 0 where
-  pub from : (value : ℕ) → end ≡ Some value →
-      (state : ℕ) × Contains finals state × (values state ≡ Some value)
-  pub most : (state : ℕ) → Contains finals state → Seen state → IsAtMost (values state) end
+-- by these shifts a final state had a node before where the one is true, and has one after where
+-- the other is
+pub record TellShifted (finals : List ℕ) (shifts : List Shift) (ends : Bool × Bool)
+    : Type 0 where
+  pub before : IsTrue ends.0 ↔ AnyFinal finals (λ (each : Shift). each.before) shifts
+  pub after : IsTrue ends.1 ↔ AnyFinal finals (λ (each : Shift). each.after) shifts
 
--- the values of a vertex by its states
-abbrev pub values_at : TreeValue → ℕ → ℕ → Option ℕ
-values_at tree vertex state = value_of tree (node_id vertex state)
+-- so they do with a shift more, if its state is final
+abbrev pub Widens : List ℕ → Shift → Bool × Bool → Bool × Bool → Type 0
+Widens finals shift ends new =
+    (Contains finals shift.id.state →
+    new ≡ (ends.0 || is_some shift.before, ends.1 || is_some shift.after))
+    × ((Contains finals shift.id.state → ⊥) → new ≡ ends)
 
--- so the ends before and after do
-pub record CoverBoth (finals : List ℕ) (old new : TreeValue) (vertex : ℕ) (Seen : ℕ → Type 0)
-    (ends : Option ℕ × Option ℕ) : Type 0 where
-  pub before : Covers finals (values_at old vertex) Seen ends.0
-  pub after : Covers finals (values_at new vertex) Seen ends.1
+-- whether one of the shifts is of the place
+abbrev pub has_place : List Shift → NodeId → Bool
+has_place shifts id = list_any (λ (each : Shift). same_node each.id id) shifts
 
--- some root is held at the vertex with the state
-abbrev pub IsHeldAt : HoldersValue → ℕ → ℕ → Type 0
-IsHeldAt holders vertex state = roots_at holders (node_id vertex state) ≢ []
+-- a node of the vertex stands at the place, with a final state, and none of the shifts is of it
+pub record IsBeside (finals : List ℕ) (tree : TreeValue) (vertex : ℕ) (run : List Shift)
+    (id : NodeId) : Type 0 where
+  pub there : id.vertex ≡ vertex
+  pub final : Contains finals id.state
+  pub apart : Contains (shift_ids run) id → ⊥
+  pub stands : IsSome (value_of tree id)
 
--- the log has the change of an end more, if it is one
-abbrev pub Logs : List EndChange → List EndChange → EndChange → Type 0
-Logs old new change =
-    ((change.before ≡ change.after) × (new ≡ old))
-    ⊎ ((change.before ≢ change.after) × (new ≡ old ++ change ∷ []))
+-- there is such a node
+abbrev pub HasBeside : List ℕ → TreeValue → ℕ → List Shift → Type 0
+HasBeside finals tree vertex run = (id : NodeId) × IsBeside finals tree vertex run id
+
+-- what becomes of an end, by whether there is one before and whether there is one after
+abbrev pub outcome_of : Bool → Bool → Option Outcome
+outcome_of true true = None
+outcome_of true false = Some Lost
+outcome_of false true = Some Gained
+outcome_of false false = None
+
+-- the log has the end of the vertex with its outcome more, if it comes or goes
+abbrev pub Logs : ℕ → ℕ → Option Outcome → List EndChange → List EndChange → Type 0
+Logs root vertex None old new = new ≡ old
+Logs root vertex (Some outcome) old new = new ≡ old ++ end_change root vertex outcome ∷ []

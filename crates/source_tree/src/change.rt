@@ -1,5 +1,8 @@
 //! Changes of a store of edges, and of ends.
 
+ghost use Rattle.std.specs.Prelude.{◌≡◌};
+ghost use Rattle.source_tree.specs.Ends.{is_gain};
+
 use edge_store::EdgeId;
 
 /// A change of a store of edges with values.
@@ -14,13 +17,33 @@ pub enum Change {
     Expire(u64),
 }
 
-/// A change of the end of a vertex, as seen from a root; none where the vertex has no end.
+/// What becomes of an end that comes or goes.
+#[derive(Clone, Copy, Debug, PartialEq, Eq)]
+pub enum Outcome {
+    /// It was there before, and isn't after.
+    Lost,
+    /// It wasn't there before, and is after.
+    Gained,
+}
+
+impl Outcome {
+    /// Whether the end comes.
+    pub fn is_gain(self) -> bool
+        ensures { result ≡ is_gain self }
+    {
+        match self {
+            Self::Lost => false,
+            Self::Gained => true,
+        }
+    }
+}
+
+/// An end that comes or goes: that of a vertex, as seen from a root.
 #[derive(Clone, Copy, Debug, PartialEq, Eq)]
 pub struct EndChange {
     pub root: u32,
     pub vertex: u32,
-    pub before: Option<u64>,
-    pub after: Option<u64>,
+    pub outcome: Outcome,
 }
 
 /// A vertex that a root reaches, with its end.

@@ -1,156 +1,201 @@
-//! The ends of the vertices, and the log of their changes.
+//! The ends that a change takes away or brings, and the log of them.
 
-ghost use Rattle.std.specs.Prelude.{◌≡◌, ◌≢◌, ◌↔◌, ◌<◌, ◌≤◌, ◌∷◌, [], length, slice_index_or, take, All, IsTrue, OnOk};
-ghost use Rattle.delta_tree.specs.Nodes.{TreeValue, value_of};
+ghost use Rattle.std.specs.Prelude.{◌≡◌, ◌≢◌, ◌↔◌, ◌<◌, ◌≤◌, ◌∷◌, ℕ, [], length, slice_index_or, take, is_some};
+ghost use Rattle.std.specs.Prelude.{All, Any, IsTrue, OnOk};
+ghost use Rattle.delta_tree.specs.Nodes.{TreeValue, node_id};
 ghost use Rattle.delta_tree.specs.Changes.{AreShifts};
 ghost use Rattle.delta_tree.specs.declared.node.Shift.{Shift};
-ghost use Rattle.source_tree.specs.Ends.{AreEndChanges, end_change, end_in, later};
+ghost use Rattle.source_tree.specs.Ends.{AreEndChanges, end_in};
 ghost use Rattle.source_tree.specs.Product.{AreFinals, AreHeld};
-ghost use Rattle.source_tree.specs.Telling.{CoverBoth, IsByVertex, IsHeldAt, IsInOrder, IsRun, Logs, Widens};
+ghost use Rattle.source_tree.specs.Telling.{HasBeside, IsBeside, IsByVertex, IsInOrder, IsRun, Logs};
+ghost use Rattle.source_tree.specs.Telling.{TellShifted, Widens, has_place, outcome_of};
 
-use crate::change::EndChange;
+use crate::change::{EndChange, Outcome};
 use crate::product::ProductGraph;
 use crate::room::add;
 use delta_tree::{NodeId, Shift, Tree};
 use rpq_base::Memory;
 
-/// The greater of two numbers that may be there.
-fn later(first: Option<u64>, second: Option<u64>) -> Option<u64>
-    ensures { result ≡ later first second }
+/// What becomes of an end, by whether there is one before and whether there is one after, if it
+/// comes or goes.
+fn outcome_of(had: bool, has: bool) -> Option<Outcome>
+    ensures { result ≡ outcome_of had has }
 {
-    match (first, second) {
-        (None, _) => second,
-        (_, None) => first,
-        (Some(first), Some(second)) => Some(first.max(second)),
+    match (had, has) {
+        (true, false) => Some(Outcome::Lost),
+        (false, true) => Some(Outcome::Gained),
+        _ => None,
     }
 }
 
-/// Whether they are the same number, or neither is there.
-fn is_same(first: Option<u64>, second: Option<u64>) -> bool
-    ensures { IsTrue result ↔ (first ≡ second) }
+/// What becomes of the end of the shift's vertex, if it comes or goes, where its state alone is
+/// final.
+fn outcome_by(shift: Shift) -> Option<Outcome>
+    ensures { result ≡ outcome_of (is_some shift.before) (is_some shift.after) }
 {
-    first == second
+    outcome_of(shift.before.is_some(), shift.after.is_some())
 }
 
-/// The values at the place before and after. These are the shifts of its vertex: where none is of
-/// the place, the value was the same before.
-fn values_at(tree: &Tree, run: &[Shift], id: NodeId) -> (Option<u64>, Option<u64>)
-    ensures { (old : TreeValue) → IsRun old tree.now id.vertex run.now →
-        result ≡ (value_of old id, value_of tree.now id) }
-{
-    for shift in run {
-        if shift.id == id {
-            return (shift.before, shift.after);
-        }
-    }
-    let value = tree.value_of(id.vertex, id.state);
-    (value, value)
-}
-
-/// The ends with the values of one state more, where it is final. Then a look-up is made, if there
-/// is no shift.
-fn with_state(
-    tree: &Tree,
-    product: &ProductGraph<'_>,
-    run: &[Shift],
-    id: NodeId,
-    ends: (Option<u64>, Option<u64>),
-) -> (Option<u64>, Option<u64>)
+/// Whether a final state had a node before, and whether one has a node after, with a shift more.
+fn with_shift(product: &ProductGraph<'_>, shift: Shift, ends: (bool, bool)) -> (bool, bool)
     requires finals { AreFinals product.now.dfa product.now.finals }
-    ensures { (old : TreeValue) → IsRun old tree.now id.vertex run.now →
-        Widens product.now.finals id.state ends (value_of old id, value_of tree.now id) result }
-{
-    if !product.is_final(id.state) {
-        return ends;
-    }
-    let values = values_at(tree, run, id);
-    (later(ends.0, values.0), later(ends.1, values.1))
-}
-
-/// The ends with the values of a shift, where its state is final.
-fn with_shift(
-    product: &ProductGraph<'_>,
-    shift: Shift,
-    ends: (Option<u64>, Option<u64>),
-) -> (Option<u64>, Option<u64>)
-    requires finals { AreFinals product.now.dfa product.now.finals }
-    ensures { Widens product.now.finals shift.id.state ends (shift.before, shift.after) result }
+    ensures { Widens product.now.finals shift ends result }
 {
     if !product.is_final(shift.id.state) {
         return ends;
     }
-    (later(ends.0, shift.before), later(ends.1, shift.after))
+    let before = shift.before.is_some();
+    let after = shift.after.is_some();
+    (ends.0 || before, ends.1 || after)
 }
 
-/// The greatest values before and after of the vertex's final states with which some tree had a
-/// node before. These are the shifts of the vertex.
-fn held_ends(
-    tree: &Tree,
-    product: &ProductGraph<'_>,
-    vertex: u32,
-    run: &[Shift],
-) -> (Option<u64>, Option<u64>)
+/// Whether, by these shifts, a final state had a node before, and whether one has a node after.
+fn shifted_ends(product: &ProductGraph<'_>, run: &[Shift]) -> (bool, bool)
     requires finals { AreFinals product.now.dfa product.now.finals }
-    ensures { (old : TreeValue) → IsRun old tree.now vertex run.now →
-        CoverBoth product.now.finals old tree.now vertex
-        (IsHeldAt product.now.holders vertex) result }
+    ensures { TellShifted product.now.finals run.now result }
 {
-    let states = product.states_at(vertex);
-    let mut ends = (None, None);
-    for state in states {
-        let id = NodeId {
-            vertex,
-            state: *state,
-        };
-        ends = with_state(tree, product, run, id, ends);
-    }
-    ends
-}
-
-/// The ends of the vertex before and after, where these are its shifts. A node that stands now
-/// stood before, so that its state is held, or it has a shift.
-fn ends_of(
-    tree: &Tree,
-    product: &ProductGraph<'_>,
-    vertex: u32,
-    run: &[Shift],
-) -> (Option<u64>, Option<u64>)
-    requires finals { AreFinals product.now.dfa product.now.finals }
-    ensures { (old : TreeValue) → IsRun old tree.now vertex run.now →
-        AreHeld product.now.holders old →
-        result ≡ (end_in product.now.finals old vertex, end_in product.now.finals tree.now vertex) }
-{
-    let mut ends = held_ends(tree, product, vertex, run);
+    let mut ends = (false, false);
     for shift in run {
         ends = with_shift(product, *shift, ends);
     }
     ends
 }
 
-/// Logs the change of an end, where it is another than before.
+/// Whether one of the shifts is of this place.
+fn has_place(run: &[Shift], id: NodeId) -> bool
+    ensures { result ≡ has_place run.now id }
+{
+    run.iter().any(|shift| shift.id == id)
+}
+
+/// Whether a node with a final state stands at this place, which is one of the vertex, and none of
+/// the shifts is of it. This takes a look-up where the rest is so.
+fn is_beside(
+    tree: &Tree,
+    product: &ProductGraph<'_>,
+    vertex: u32,
+    run: &[Shift],
+    id: NodeId,
+) -> bool
+    requires finals { AreFinals product.now.dfa product.now.finals }
+    ensures { IsTrue result ↔ IsBeside product.now.finals tree.now vertex run.now id }
+{
+    if id.vertex != vertex {
+        return false;
+    }
+    if !product.is_final(id.state) {
+        return false;
+    }
+    if has_place(run, id) {
+        return false;
+    }
+    tree.value_of(id.vertex, id.state).is_some()
+}
+
+/// Whether there is such a node with one of these states.
+fn stands_with(
+    tree: &Tree,
+    product: &ProductGraph<'_>,
+    vertex: u32,
+    run: &[Shift],
+    states: &[u32],
+) -> bool
+    requires finals { AreFinals product.now.dfa product.now.finals }
+    ensures { IsTrue result ↔ Any (λ (state : ℕ).
+        IsBeside product.now.finals tree.now vertex run.now (node_id vertex state)) states.now }
+{
+    for state in states {
+        let id = NodeId {
+            vertex,
+            state: *state,
+        };
+        if is_beside(tree, product, vertex, run, id) {
+            return true;
+        }
+    }
+    false
+}
+
+/// Whether there is such a node among those of the tree.
+fn stands_in(tree: &Tree, product: &ProductGraph<'_>, vertex: u32, run: &[Shift]) -> bool
+    requires finals { AreFinals product.now.dfa product.now.finals }
+    ensures { IsTrue result ↔ HasBeside product.now.finals tree.now vertex run.now }
+{
+    for k in 0..tree.len() {
+        let id = tree.node_at(k);
+        if is_beside(tree, product, vertex, run, id) {
+            return true;
+        }
+    }
+    false
+}
+
+/// Whether the vertex has a node with a final state that none of its shifts is of, so that it stood
+/// before too. Its state is one with which some tree had a node there before. Where the tree has
+/// fewer nodes than there are such states, these are gone over.
+fn stands_beside(tree: &Tree, product: &ProductGraph<'_>, vertex: u32, run: &[Shift]) -> bool
+    requires finals { AreFinals product.now.dfa product.now.finals }
+    ensures { (old : TreeValue) → IsRun old tree.now vertex run.now →
+        AreHeld product.now.holders old →
+        IsTrue result ↔ HasBeside product.now.finals tree.now vertex run.now }
+{
+    let states = product.states_at(vertex);
+    let held = states.len();
+    let own = tree.len();
+    if own < held {
+        return stands_in(tree, product, vertex, run);
+    }
+    stands_with(tree, product, vertex, run, states)
+}
+
+/// What becomes of the end of the vertex, if it comes or goes, where these are its shifts. Where
+/// they don't tell that it stays, another node with a final state, which none of them is of, does.
+fn outcome_at(
+    tree: &Tree,
+    product: &ProductGraph<'_>,
+    vertex: u32,
+    run: &[Shift],
+) -> Option<Outcome>
+    requires finals { AreFinals product.now.dfa product.now.finals }
+    ensures { (old : TreeValue) → IsRun old tree.now vertex run.now →
+        AreHeld product.now.holders old →
+        result ≡ outcome_of (is_some (end_in product.now.finals old vertex))
+        (is_some (end_in product.now.finals tree.now vertex)) }
+{
+    let ends = shifted_ends(product, run);
+    let Some(outcome) = outcome_of(ends.0, ends.1) else {
+        return None;
+    };
+    if stands_beside(tree, product, vertex, run) {
+        return None;
+    }
+    Some(outcome)
+}
+
+/// Logs the end of the vertex with its outcome, if it comes or goes.
 fn log_end(
     log: &mut Vec<EndChange>,
     root: u32,
     vertex: u32,
-    before: Option<u64>,
-    after: Option<u64>,
+    outcome: Option<Outcome>,
 ) -> Result<(), Memory>
-    ensures { OnOk result (Logs log.old.items log.new.items
-        (end_change root vertex before after)) }
+    ensures { OnOk result (Logs root vertex outcome log.old.items log.new.items) }
 {
-    if is_same(before, after) {
-        return Ok(());
+    match outcome {
+        Some(outcome) => add(
+            log,
+            EndChange {
+                root,
+                vertex,
+                outcome,
+            },
+        ),
+        None => Ok(()),
     }
-    let change = EndChange {
-        root,
-        vertex,
-        before,
-        after,
-    };
-    add(log, change)
 }
 
-/// Logs the changed ends where this state alone is final: each shift with it is one of a vertex.
+/// Logs the ends that come or go where this state alone is final: each shift with it is one of a
+/// vertex.
 fn log_by_one(
     root: u32,
     state: u32,
@@ -163,7 +208,7 @@ fn log_by_one(
 {
     for shift in shifts {
         if shift.id.state == state {
-            log_end(log, root, shift.id.vertex, shift.before, shift.after)?;
+            log_end(log, root, shift.id.vertex, outcome_by(*shift))?;
         }
     }
     Ok(())
@@ -183,7 +228,7 @@ fn run_len(vertex: u32, shifts: &[Shift]) -> usize
     len
 }
 
-/// Logs the changed ends, where the shifts of a vertex stand side by side.
+/// Logs the ends that come or go, where the shifts of a vertex stand side by side.
 fn log_by_runs(
     tree: &Tree,
     product: &ProductGraph<'_>,
@@ -200,14 +245,15 @@ fn log_by_runs(
     while let Some(first) = rest.first() {
         let vertex = first.id.vertex;
         let (run, after) = rest.split_at(run_len(vertex, rest));
-        let ends = ends_of(tree, product, vertex, run);
-        log_end(log, tree.root(), vertex, ends.0, ends.1)?;
+        let outcome = outcome_at(tree, product, vertex, run);
+        log_end(log, tree.root(), vertex, outcome)?;
         rest = after;
     }
     Ok(())
 }
 
-/// Logs the changed ends into an empty list. Where one state is final, this takes no look-up.
+/// Logs the ends that come or go into an empty list. Where one state is final, this takes no
+/// look-up.
 pub(crate) fn log_ends(
     tree: &Tree,
     product: &ProductGraph<'_>,

@@ -20,7 +20,7 @@ use tree_insert::Search;
 pub(crate) struct Report {
     /// The places where nodes came or went.
     pub moved: Vec<NodeId>,
-    /// The ends that changed.
+    /// The ends that came or went.
     pub log: Vec<EndChange>,
     /// Whether the tree was touched.
     pub touched: bool,

@@ -133,7 +133,7 @@ impl SourceTree {
         &self.report.moved
     }
 
-    /// The ends that the last change changed.
+    /// The ends that came or went with the last change.
     pub fn log(&self) -> &[EndChange]
         ensures { result.now ≡ self.now.log }
     {

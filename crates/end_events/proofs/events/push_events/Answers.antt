@@ -5,7 +5,8 @@ use Rattle.rpq_base.specs.declared.data.Pair.{Pair}
 use Rattle.rpq_model.specs.Events.{event, without}
 use Rattle.rpq_model.proofs.Merging.{given_more, given_same}
 use Rattle.end_events.specs.declared.pairs.NumberedPair.{NumberedPair}
-use Rattle.end_events.specs.Pairs.{is_gain, pair_at, pairs_at}
+use Rattle.source_tree.specs.Ends.{is_gain}
+use Rattle.end_events.specs.Pairs.{pair_at, pairs_at}
 use Rattle.end_events.proofs.Numbered.{no_pair}
 use Rattle.end_events.proofs.events.push_events.Goals as goal
 use Rattle.end_events.proofs.events.push_events.Goals.{then-not-is_among+in_ok-event_of+in_ok-push, else-not-is_among}

@@ -1,6 +1,7 @@
 use Rattle.std.proofs.Common.{◌≡◌, ◌++◌, map, take}
 use Rattle.rpq_model.specs.Events.{event, without}
-use Rattle.end_events.specs.Pairs.{is_gain, pairs_at}
+use Rattle.source_tree.specs.Ends.{is_gain}
+use Rattle.end_events.specs.Pairs.{pairs_at}
 use Rattle.end_events.proofs.events.push_events.Given as goal
 
 -- the events of the pairs so far are added

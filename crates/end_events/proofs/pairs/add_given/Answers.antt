@@ -1,8 +1,8 @@
-use Rattle.std.proofs.Common.{◌+◌, List, None, get_or, take, subst}
+use Rattle.std.proofs.Common.{◌+◌, List, get_or, take, subst}
 use Rattle.std.proofs.lemmas.List.{get_or_default, take_all}
 use Rattle.rpq_base.proofs.Members.{next_one}
 use Rattle.source_tree.specs.declared.change.EndChange.{EndChange}
-use Rattle.end_events.specs.declared.pairs.Outcome.TheVariants.{Lost, Gained}
+use Rattle.source_tree.specs.declared.change.Outcome.TheVariants.{Lost, Gained}
 use Rattle.end_events.specs.Pairs.{Gathers}
 use Rattle.end_events.proofs.Adding.{gathers_none, gathers_more}
 use Rattle.end_events.proofs.pairs.add_given.Goals as goal
@@ -19,7 +19,7 @@ loop-each-preserved c =
     let names = c.args.names.now in
     let changes = c.args.changes.now in
     let index = c.loop-each.each-index in
-    let each : EndChange = get_or changes index (record { root = 0; vertex = 0; before = None; after = None }) in
+    let each : EndChange = get_or changes index (record { root = 0; vertex = 0; outcome = Lost }) in
     let before = take index changes in
     let after = take (index + 1) changes in
     let one = next_one changes index each c.loop-each-test.true (get_or_default changes index _ each c.loop-each-test.true) in (

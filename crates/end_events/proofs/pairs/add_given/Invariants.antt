@@ -1,5 +1,5 @@
 use Rattle.std.proofs.Common.{take}
-use Rattle.end_events.specs.declared.pairs.Outcome.TheVariants.{Lost, Gained}
+use Rattle.source_tree.specs.declared.change.Outcome.TheVariants.{Lost, Gained}
 use Rattle.end_events.specs.Pairs.{Gathers}
 use Rattle.end_events.proofs.pairs.add_given.Given as goal
 

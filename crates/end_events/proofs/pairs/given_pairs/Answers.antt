@@ -1,4 +1,4 @@
-use Rattle.end_events.specs.declared.pairs.Outcome.TheVariants.{Lost, Gained}
+use Rattle.source_tree.specs.declared.change.Outcome.TheVariants.{Lost, Gained}
 use Rattle.end_events.proofs.Adding.{are_given, none_numbered}
 use Rattle.end_events.proofs.pairs.given_pairs.Goals as goal
 

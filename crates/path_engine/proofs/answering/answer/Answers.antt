@@ -10,7 +10,7 @@ use Rattle.path_engine.proofs.Answered.{answered_if, first_named, second_named}
 use Rattle.path_engine.proofs.answering.answer.Given.{Over}
 use Rattle.path_engine.proofs.answering.answer.Goals as goal
 
--- the ends that the second change changed
+-- the ends that came or went with the second change
 abbrev second : (g : Over) → goal.After-deref g → List EndChange
 second g c = log_if c.in_ok-logs.logs.second c.step.new.index.forest
 

@@ -1,12 +1,14 @@
-use Rattle.std.proofs.Common.{List, drop, take, sym, ap, subst}
+use Rattle.std.proofs.Common.{ℕ, List, Option, drop, take, sym, ap, subst}
+use Rattle.std.specs.Prelude.{is_some}
 use Rattle.std.proofs.lemmas.List.{take-append-drop}
 use Rattle.std.proofs.lemmas.List.Elements.{All-take, All-drop}
 use Rattle.std.proofs.lemmas.List.Sorted.{IsNonDecreasingBy-drop}
 use Rattle.delta_tree.specs.declared.node.Shift.{Shift}
 use Rattle.delta_tree.specs.Changes.{IsShift}
-use Rattle.source_tree.specs.Ends.{end_change}
-use Rattle.source_tree.specs.Telling.{IsRun, Logs}
+use Rattle.source_tree.specs.Ends.{end_in}
+use Rattle.source_tree.specs.Telling.{IsRun, Logs, outcome_of}
 use Rattle.source_tree.specs.declared.change.EndChange.{EndChange}
+use Rattle.source_tree.specs.declared.change.Outcome.{Outcome}
 use Rattle.source_tree.proofs.Shifts.{TellsRuns, WaitsAny, first_is, has_first, is_listed, is_run, none_behind, none_first, runs_end, runs_more, runs_start}
 use Rattle.source_tree.proofs.ends.log_by_runs.Goals as goal
 
@@ -42,11 +44,14 @@ loop-first-preserved c old are held order empty =
     let those = c.run_len.ensures.run in
     let run = is_run root finals old tree vertex (take len left) (drop len left) log those none
     waits whole (All-take (IsShift old tree) len left tells.values) in
-    let ends = c.ends_of-ends.ensures old
+    let outcome = c.outcome_at-outcome.ensures old
     (subst (IsRun old tree vertex) (sym c.split_at.ensures.front) run) held in
-    let logs = subst (λ (change : EndChange). Logs log next change)
-    (λ i. end_change (c.root.ensures.root i) vertex ((ends i).0) ((ends i).1))
-    c.in_ok-log_end.ensures in
+    let logs = subst (λ (each : ℕ). Logs each vertex
+    (outcome_of (is_some (end_in finals old vertex)) (is_some (end_in finals tree vertex)))
+    log next)
+    c.root.ensures.root
+    (subst (λ (each : Option Outcome). Logs c.root.result vertex each log next) outcome
+    c.in_ok-log_end.ensures) in
     subst (λ (shifts : List Shift). TellsRuns root finals old tree shifts next)
     (sym c.split_at.ensures.back)
     (runs_more root finals old tree vertex (take len left) (drop len left) log those none
