@@ -4,9 +4,10 @@ use Rattle.std.proofs.Common.{set, refl, sym, ap, ap₂, subst, ◌∙◌, appen
 use Rattle.std.specs.List.{All, AllZip}
 use Rattle.std.specs.Prelude.{IfOk, OnOk, Result, Ok, Err}
 use Rattle.std.proofs.Common.{⊎_elim, get_or-set_other, get_or-set_same}
-use Rattle.std.proofs.lemmas.Bool.{cases_order}
+use Rattle.std.proofs.lemmas.Bool.{cases_lt, cases_order}
 use Rattle.std.proofs.Common.{Vec, Global}
-use Rattle.std.proofs.lemmas.List.{length-map, map-append}
+use Rattle.std.proofs.lemmas.List.{get_or_push, get_or_append_left, length-map, map-append}
+use Rattle.std.proofs.lemmas.List.Elements.{AllZip-get_or}
 use Rattle.std.proofs.lemmas.Slice.Zip.{AllZip-long}
 use Rattle.std.proofs.lemmas.List.{append-nil}
 use Rattle.rpq_base.specs.declared.data.Act.{Act}
@@ -25,8 +26,8 @@ use Rattle.path_engine.specs.declared.front.Share.{Share}
 use Rattle.path_engine.specs.Engine.{EngineValue, IsIndexFor, StandsFor, definitions}
 use Rattle.path_engine.specs.Answering.{AreEndsFor, HasAnswered, HasHistory}
 use Rattle.path_engine.specs.Front.{AreAllEndsFor, AreAllFirstEnds, AreFirstEnds}
-use Rattle.path_engine.specs.Front.{AreGathered, AreReady, HasAnsweredAll, HasFed, HasHistoryFor}
-use Rattle.path_engine.specs.Front.{HaveAnsweredAll, HaveFed, joined, put_at}
+use Rattle.path_engine.specs.Front.{AreGathered, AreInPlace, AreReady, HasAnsweredAll, HasFed}
+use Rattle.path_engine.specs.Front.{HasHistoryFor, HaveAnsweredAll, HaveFed, IsFed, joined, put_at}
 use Rattle.path_engine.specs.Feeding.{FeedsFront}
 use Rattle.path_engine.specs.Keeping.{BringsNoName, KeepsForest, KeepsForestAll}
 use Rattle.path_engine.specs.Keeping.{KeepsPlacesAll}
@@ -269,11 +270,39 @@ ready_at more names (first ∷ queries) (share ∷ shares) (suc place) query d h
 pub are_ready : (more : ℕ) (names : List (List ℕ)) (queries : List CompiledValue)
     (shares : List Share) →
     AllZip (λ (query : CompiledValue) (index : Index). HasHistoryFor more query names index)
-    queries (map index_of shares) → AreReady more queries names 0 shares
-are_ready more names queries shares have offset query d below is =
-    let at : 0 + offset ≡ offset = omega arith in
-    ready_at more names queries shares offset query d have below
-    (subst (λ (place : ℕ). query ≡ get_or queries place query) at is)
+    queries (map index_of shares) → AreInPlace shares → AreReady more queries names shares
+are_ready more names queries shares have own k d below =
+    let long : length (map index_of shares) ≡ length queries =
+    AllZip-long
+    (λ (query : CompiledValue) (index : Index). HasHistoryFor more query names index) queries
+    (map index_of shares) have in
+    record {
+      inside = omega (arith, own k d below, below, long, length-map shares index_of);
+      index = λ query is.
+          ready_at more names queries shares k query d have below
+          (subst (λ (place : ℕ). query ≡ get_or queries place query) (own k d below) is);
+    }
+
+-- one share more, with the next number
+pub in_place_more : (shares all : List Share) (share : Share) → all ≡ shares ++ share ∷ [] →
+    share.place ≡ length shares → AreInPlace shares → AreInPlace all
+in_place_more shares all share is next own k d below =
+    subst (λ (each : List Share). (get_or each k d).place ≡ k) (sym is)
+    (⊎_elim
+    (λ less.
+    ap (λ (each : Share). each.place) (get_or_append_left shares (share ∷ []) d k less)
+    ∙ own k d less)
+    (λ more.
+    let last : length shares ≡ k =
+    omega (
+      arith,
+      more,
+      below,
+      ap (λ (each : List Share). length each) is,
+      length-append shares (share ∷ []),
+    ) in
+    ap (λ (each : Share). each.place) (get_or_push shares share d k last) ∙ (next ∙ last))
+    (cases_lt k (length shares)))
 
 -- there are as many shares as queries
 pub as_many_shares : (more : ℕ) (names : List (List ℕ)) (queries : List CompiledValue)
@@ -341,11 +370,14 @@ fed_rest names entries number query queries old new olds news fed k each d below
     (fed (suc k) each d (omega (arith, below)) is)
 
 fed_all : (names : List (List ℕ)) (entries : List Entry) (queries : List CompiledValue)
-    (olds news : List Share) → HaveFed queries names entries 0 olds news →
+    (olds news : List Share) → AreInPlace olds → HaveFed queries names entries olds news →
     Fed names entries 0 queries olds news
-fed_all names entries queries olds news fed k query d below is =
-    let at : k ≡ 0 + k = omega arith in
-    fed k query d below (subst (λ (place : ℕ). query ≡ get_or queries place query) at is)
+fed_all names entries queries olds news own have k query d below is =
+    let one = AllZip-get_or (IsFed queries names entries) olds news k d d have below in
+    let at : (get_or olds k d).place ≡ 0 + k = omega (arith, own k d below) in
+    subst (λ (place : ℕ). HasFed names entries place query (get_or olds k d) (get_or news k d)) at
+    (one.fed query
+    (subst (λ (place : ℕ). query ≡ get_or queries place query) (sym (own k d below)) is))
 
 gathered_rest : (names : List (List ℕ)) (entries : List Entry) (number : ℕ)
     (queries : List CompiledValue) (olds news : List Share) (before events : List (List Event)) →
@@ -384,17 +416,18 @@ gathered_rest names entries number (query ∷ queries) (old ∷ olds) (new ∷ n
 -- the events of all shares are those of the queries
 pub gathered : (names : List (List ℕ)) (entries : List Entry) (queries : List CompiledValue)
     (olds news : List Share) (events : List (List Event)) → 1 ≤ length queries →
-    length queries ≡ length olds → length news ≡ length olds →
-    HaveFed queries names entries 0 olds news → AreGathered [] news events →
+    length queries ≡ length olds → AreInPlace olds →
+    HaveFed queries names entries olds news → AreGathered [] news events →
     HaveAnsweredAll names entries 0 queries (map index_of olds) (map index_of news) events
-gathered names entries [] olds news events some many as_many have are = absurd (omega (arith, some))
-gathered names entries (query ∷ queries) [] news events some many as_many have are =
+gathered names entries [] olds news events some many own have are = absurd (omega (arith, some))
+gathered names entries (query ∷ queries) [] news events some many own have are =
     absurd (omega (arith, many))
-gathered names entries (query ∷ queries) (old ∷ olds) [] events some many as_many have are =
-    absurd (omega (arith, as_many))
-gathered names entries (query ∷ queries) (old ∷ olds) (new ∷ news) events some many as_many have
+gathered names entries (query ∷ queries) (old ∷ olds) [] events some many own have are =
+    absurd have
+gathered names entries (query ∷ queries) (old ∷ olds) (new ∷ news) events some many own have
     are =
-    let fed = fed_all names entries (query ∷ queries) (old ∷ olds) (new ∷ news) have in
+    let fed = fed_all names entries (query ∷ queries) (old ∷ olds) (new ∷ news) own have in
+    let as_many = AllZip-long (IsFed (query ∷ queries) names entries) olds news have.1 in
     let owns : List (List Event) = items_of are.0.items in
     let has = fed_first names entries 0 query queries old new olds news are.0 fed are.1 in
     let long = answered_all_long names entries 0 query old.index new.index owns has in

@@ -13,5 +13,6 @@ pub mod Starting
 pub mod Still
 pub mod Feeding
 pub mod Fronts
+pub mod Dealing
 pub mod Anew
 pub mod BestPaths

@@ -4,7 +4,7 @@ use Rattle.std.specs.Prelude.{List, [], ◌∷◌, ◌++◌, length, map, slice_
 use Rattle.std.specs.Prelude.{Option, Ok, IfOk}
 use Rattle.std.specs.Global.{Global}
 use Rattle.std.specs.declared.vec.Vec.{Vec}
-use Rattle.std.specs.List.{AllZip}
+use Rattle.std.specs.List.{All, AllZip}
 use Rattle.rpq_base.specs.declared.data.Act.{Act}
 use Rattle.rpq_base.specs.declared.data.Act.TheVariants.{Insert, Delete, Tick}
 use Rattle.rpq_base.specs.declared.data.Entry.{Entry}
@@ -86,12 +86,21 @@ put_at place [] own = own ∷ []
 put_at zero (first ∷ rest) own = (first ++ own) ∷ rest
 put_at (suc place) (first ∷ rest) own = first ∷ put_at place rest own
 
--- the share at each place has the index of the query from this place on, which may take so many
--- entries
-abbrev pub AreReady : ℕ → List CompiledValue → List (List ℕ) → ℕ → List Share → Type 0
-AreReady more queries names start shares = (offset : ℕ) (query : CompiledValue) (d : Share) →
-    offset < length shares → query ≡ slice_index_or queries (start + offset) query →
-    HasHistoryFor more query names (slice_index_or shares offset d).index
+-- the share is of one of the queries and has its index, which may take so many entries
+pub record IsReady (more : ℕ) (queries : List CompiledValue) (names : List (List ℕ))
+    (share : Share) : Type 0 where
+  pub inside : share.place < length queries
+  pub index : (query : CompiledValue) → query ≡ slice_index_or queries share.place query →
+      HasHistoryFor more query names share.index
+
+-- so is each of the shares
+abbrev pub AreReady : ℕ → List CompiledValue → List (List ℕ) → List Share → Type 0
+AreReady more queries names shares = All (IsReady more queries names) shares
+
+-- the share at each place is of the query with this number
+abbrev pub AreInPlace : List Share → Type 0
+AreInPlace shares = (k : ℕ) (d : Share) → k < length shares →
+    (slice_index_or shares k d).place ≡ k
 
 -- the query with this number took the entries into the index of the share, and these are the events
 -- of each, unless memory ran out
@@ -100,14 +109,17 @@ HasFed names entries number query old new =
     IfOk new.owns (λ owns. HasAnsweredAll names entries number query old.index new.index
     (map (λ own. own.items) owns.items))
 
--- so did each of the queries from this place on
-abbrev pub HaveFed : List CompiledValue → List (List ℕ) → List Entry → ℕ → List Share →
+-- the query of the share took the entries into it
+pub record IsFed (queries : List CompiledValue) (names : List (List ℕ)) (entries : List Entry)
+    (old new : Share) : Type 0 where
+  pub place : new.place ≡ old.place
+  pub fed : (query : CompiledValue) → query ≡ slice_index_or queries old.place query →
+      HasFed names entries old.place query old new
+
+-- so did the query of each of the shares
+abbrev pub HaveFed : List CompiledValue → List (List ℕ) → List Entry → List Share →
     List Share → Type 0
-HaveFed queries names entries start olds news =
-    (offset : ℕ) (query : CompiledValue) (d : Share) → offset < length olds →
-    query ≡ slice_index_or queries (start + offset) query →
-    HasFed names entries (start + offset) query (slice_index_or olds offset d)
-    (slice_index_or news offset d)
+HaveFed queries names entries olds news = AllZip (IsFed queries names entries) olds news
 
 -- each share has events of each entry, and these are those before with those of the shares behind,
 -- one share after another

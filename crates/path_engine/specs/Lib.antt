@@ -6,6 +6,7 @@ pub mod Laws
 pub mod Labels
 pub mod Answering
 pub mod Front
+pub mod Parts
 pub mod Sound
 pub mod Showing
 pub mod Paths

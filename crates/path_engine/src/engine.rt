@@ -55,6 +55,9 @@ pub struct Engine {
     named: u32,
     /// For each query its index.
     indexes: Vec<Index>,
+    /// What each query took of the last front: by it the queries of the next one are dealt to the
+    /// workers. No clause speaks of it, since it decides time alone.
+    costs: Vec<u64>,
 }
 
 impl Drop for Engine {
@@ -68,6 +71,7 @@ impl Drop for Engine {
             names: _names,
             named: _named,
             indexes: _indexes,
+            costs: _costs,
         } = self;
     }
 }
@@ -124,6 +128,7 @@ impl Engine {
             names,
             named: 0,
             indexes,
+            costs: Vec::new(alloc),
         })
     }
 
@@ -203,9 +208,10 @@ impl Engine {
     ///
     /// The errors are those of [`Engine::feed`], and after [`FeedFault::Memory`] no entry of the
     /// front counts as answered. It costs what the entries change in the forest of each query.
-    /// Where there is more than one of queries, entries and workers, each worker has as many
-    /// queries as the others, next to each other, and takes the whole front into them. It passes
-    /// the gate first. Else the workers share large changes, as in [`Engine::feed`].
+    /// Where there is more than one of queries, entries and workers, the queries are dealt to the
+    /// workers by what each took of the front before, and a worker takes the whole front into its
+    /// queries. It passes the gate first. Else the workers share large changes, as in
+    /// [`Engine::feed`].
     pub fn feed_front<R: Threads + Sync, G: Gate>(
         &mut self,
         rt: &R,
@@ -266,6 +272,7 @@ impl Engine {
             &crew,
             &self.queries,
             &mut self.indexes,
+            &mut self.costs,
             &self.names,
             &ends,
             entries,

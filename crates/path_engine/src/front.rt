@@ -1,17 +1,20 @@
 //! The entries of a front: each query takes all of them, one after another, before the next query
-//! does, or beside it by a worker of its own.
+//! does, or beside it by another worker.
 
-ghost use Rattle.std.specs.Prelude.{◌≡◌, ◌+◌, ◌/◌, ◌<◌, ◌≤◌, [], length, map, IfOk, OnOk};
+ghost use Rattle.std.specs.Prelude.{◌≡◌, ◌≤◌, [], length, map, IfOk, OnOk};
 ghost use Rattle.std.specs.List.{AllZip};
 ghost use Rattle.rpq_base.specs.declared.data.Entry.{Entry as EntryTaken};
 ghost use Rattle.path_engine.specs.Answering.{AreEndsFor};
-ghost use Rattle.path_engine.specs.Front.{AreAllEndsFor, AreGathered, AreReady, HasAnsweredAll};
-ghost use Rattle.path_engine.specs.Front.{HasFed, HasHistoryFor, HaveAnsweredAll, HaveFed};
-ghost use Rattle.path_engine.specs.Front.{joined, put_at};
+ghost use Rattle.path_engine.specs.Front.{AreAllEndsFor, AreGathered, AreInPlace, AreReady};
+ghost use Rattle.path_engine.specs.Front.{HasAnsweredAll, HasHistoryFor, HaveAnsweredAll, HaveFed};
+ghost use Rattle.path_engine.specs.Front.{IsFed, IsReady, joined, put_at};
+ghost use Rattle.path_engine.specs.Parts.{AreReadyParts, HaveFedParts};
 
 use crate::answering::{Crew, answer, push_all};
 use crate::ends::Ends;
 use crate::index::Index;
+use crate::parts::{Part, deal, in_order};
+use delta_forest::Forest;
 use name_table::Names;
 use query_file::Compiled;
 use rpq_base::{Entry, Event, Memory, Workers};
@@ -25,16 +28,25 @@ use std::thread::Threads;
 /// where memory ran out.
 #[derive(Drop)]
 pub struct Share {
+    /// The number of the query.
+    pub place: u32,
+    /// What the query took of the front before, and of this one once it was fed. No clause speaks
+    /// of it, since it decides time alone.
+    pub cost: u64,
     pub index: Index,
     pub owns: Result<Vec<Vec<Event>>, Memory>,
 }
 
 /// Answers the entries for each query, and gives the events of each entry, those of the first query
 /// first. Where memory runs out, indexes may be missing afterwards.
+///
+/// The costs are what the queries took of the front before, as far as they are known, and of this
+/// one afterwards.
 pub(crate) fn answer_front<R: Threads + Sync, G: Gate>(
     crew: &Crew<'_, R, G>,
     queries: &[Compiled],
     indexes: &mut Vec<Index>,
+    costs: &mut Vec<u64>,
     names: &Names,
     ends: &[Option<Ends<'_>>],
     entries: &[Entry],
@@ -49,22 +61,51 @@ pub(crate) fn answer_front<R: Threads + Sync, G: Gate>(
 {
     let alloc = crew.context.alloc;
     let taken = replace(indexes, Vec::new(alloc));
-    let mut shares = shares_of(alloc, taken)?;
-    feed_shares(crew, queries, &mut shares, names, ends, entries);
-    let events = gather(alloc, shares, indexes)?;
+    let shares = shares_of(alloc, taken, costs)?;
+    let fed = feed_shares(crew, queries, shares, names, ends, entries)?;
+    note_costs(costs, &fed)?;
+    let events = gather(alloc, fed, indexes)?;
     Ok(events)
 }
 
-/// The shares of the queries before they take the entries.
-fn shares_of(alloc: Global, indexes: Vec<Index>) -> Result<Vec<Share>, Memory>
-    ensures { IfOk result (λ shares. map (λ share. share.index) shares.items ≡ indexes.items) }
+/// The shares of the queries before they take the entries, with what they took of the front before.
+fn shares_of(alloc: Global, indexes: Vec<Index>, costs: &[u64]) -> Result<Vec<Share>, Memory>
+    requires few { length indexes.items ≤ 64 }
+    ensures indexes { IfOk result (λ shares.
+        map (λ share. share.index) shares.items ≡ indexes.items) }
+    ensures places { IfOk result (λ shares. AreInPlace shares.items) }
 {
     let mut shares = Vec::with_capacity(alloc, indexes.len())?;
+    let mut place: u32 = 0;
     for index in indexes {
-        let owns = Ok(Vec::new(alloc));
-        shares.push(Share { index, owns })?;
+        let share = share_of(alloc, place, index, costs);
+        shares.push(share)?;
+        place += 1;
     }
     Ok(shares)
+}
+
+/// The share of the query with this number before it takes the entries.
+fn share_of(alloc: Global, place: u32, index: Index, costs: &[u64]) -> Share
+    ensures place { result.place ≡ place }
+    ensures index { result.index ≡ index }
+{
+    let cost = cost_at(costs, place);
+    let owns = Ok(Vec::new(alloc));
+    Share {
+        place,
+        cost,
+        index,
+        owns,
+    }
+}
+
+/// The cost at this place, or none where it isn't known.
+fn cost_at(costs: &[u64], place: u32) -> u64 {
+    match costs.get(place as usize) {
+        Some(cost) => *cost,
+        None => 0,
+    }
 }
 
 /// Feeds the entries to each query's share. More than one query and one entry are shared out among
@@ -72,137 +113,172 @@ fn shares_of(alloc: Global, indexes: Vec<Index>) -> Result<Vec<Share>, Memory>
 fn feed_shares<R: Threads + Sync, G: Gate>(
     crew: &Crew<'_, R, G>,
     queries: &[Compiled],
-    shares: &mut [Share],
+    mut shares: Vec<Share>,
     names: &Names,
     ends: &[Option<Ends<'_>>],
     entries: &[Entry],
-)
-    requires few { length queries.now ≤ 64 }
-    requires within { length shares.old ≤ length queries.now }
-    requires ready { AreReady (length entries.now) queries.now names.now 0 shares.old }
+) -> Result<Vec<Share>, Memory>
+    requires places { AreInPlace shares.items }
+    requires ready { AreReady (length entries.now) queries.now names.now shares.items }
     requires ends { AreAllEndsFor names.now queries.now entries.now ends.now }
-    ensures { HaveFed queries.now names.now entries.now 0 shares.old shares.new }
+    ensures { IfOk result (λ fed. HaveFed queries.now names.now entries.now shares.items
+        fed.items) }
 {
     if crew.workers.number() > 1 && shares.len() > 1 && entries.len() > 1 {
-        let size = shares.len().div_ceil(crew.workers.number() as usize);
-        feed_chunks(crew.context, size, queries, shares, names, ends, entries);
+        share_out(crew, queries, shares, names, ends, entries)
     } else {
-        feed_part(crew, queries, 0, shares, names, ends, entries);
+        feed_part(crew, queries, &mut shares, names, ends, entries);
+        Ok(shares)
     }
 }
 
-/// Feeds the entries to the shares in chunks of this size, each by a worker that passes the gate
-/// first.
-fn feed_chunks<R: Threads + Sync, G: Gate>(
-    context: &Context<'_, R, G>,
-    size: usize,
+/// Feeds the entries to the shares by some workers, among whom they are dealt by what their queries
+/// took of the front before. Gives them in their order.
+fn share_out<R: Threads + Sync, G: Gate>(
+    crew: &Crew<'_, R, G>,
     queries: &[Compiled],
-    shares: &mut [Share],
+    shares: Vec<Share>,
+    names: &Names,
+    ends: &[Option<Ends<'_>>],
+    entries: &[Entry],
+) -> Result<Vec<Share>, Memory>
+    requires places { AreInPlace shares.items }
+    requires ready { AreReady (length entries.now) queries.now names.now shares.items }
+    requires ends { AreAllEndsFor names.now queries.now entries.now ends.now }
+    ensures { IfOk result (λ fed. HaveFed queries.now names.now entries.now shares.items
+        fed.items) }
+{
+    let alloc = crew.context.alloc;
+    let mut parts = deal(alloc, shares, crew.workers)?;
+    feed_parts(crew.context, queries, &mut parts, names, ends, entries);
+    let fed = in_order(alloc, parts)?;
+    Ok(fed)
+}
+
+/// Feeds the entries to the shares of each part, by a worker of its own that passes the gate first.
+fn feed_parts<R: Threads + Sync, G: Gate>(
+    context: &Context<'_, R, G>,
+    queries: &[Compiled],
+    parts: &mut [Part],
     names: &Names,
     ends: &[Option<Ends<'_>>],
     entries: &[Entry],
 )
-    requires some { 0 < size }
-    requires few { length queries.now ≤ 64 }
-    requires within { length shares.old ≤ length queries.now }
-    requires ready { AreReady (length entries.now) queries.now names.now 0 shares.old }
+    requires ready { AreReadyParts (length entries.now) queries.now names.now parts.old }
     requires ends { AreAllEndsFor names.now queries.now entries.now ends.now }
-    ensures { HaveFed queries.now names.now entries.now 0 shares.old shares.new }
+    ensures { HaveFedParts queries.now names.now entries.now parts.old parts.new }
 {
-    thread::for_each_chunk_mut(
+    let threads = parts.len().max(1);
+    thread::for_each_mut(
         context.rt,
-        shares,
-        size,
-        &|start: usize, part: &mut [Share]|
-            requires { (0 < size) × (length queries.now ≤ 64)
-                × (start + length part.now ≤ length queries.now)
-                × AreReady (length entries.now) queries.now names.now start part.now
+        parts,
+        threads,
+        &|_place: usize, part: &mut Part|
+            requires { AreReady (length entries.now) queries.now names.now part.now.shares.items
                 × AreAllEndsFor names.now queries.now entries.now ends.now }
-            ensures { HaveFed queries.entry.now names.entry.now entries.entry.now start
-                part.entry.now part.exit.now }
+            ensures { HaveFed queries.entry.now names.entry.now entries.entry.now
+                part.entry.now.shares.items part.exit.now.shares.items }
         {
-            context.gate.pass(Who::Queries(worker_of(start, size)));
+            context.gate.pass(Who::Queries(part.number));
             let alone = Crew {
                 context,
                 workers: Workers::one(),
             };
-            feed_part(&alone, queries, start, part, names, ends, entries);
+            feed_part(&alone, queries, &mut part.shares, names, ends, entries);
         },
     );
 }
 
-/// The number of the worker, from 1, whose chunk begins at this place. The chunks have this size.
-fn worker_of(start: usize, size: usize) -> u32
-    requires some { 0 < size }
-    requires few { start ≤ 64 }
-    ensures { result ≡ start / size + 1 }
-{
-    (start / size) as u32 + 1
-}
-
-/// Feeds the entries to the shares of the queries from this place on, one after another.
+/// Feeds the entries to each of the shares, one after another.
 fn feed_part<R: Threads + Sync, G: Gate>(
     crew: &Crew<'_, R, G>,
     queries: &[Compiled],
-    start: usize,
-    part: &mut [Share],
+    shares: &mut Vec<Share>,
     names: &Names,
     ends: &[Option<Ends<'_>>],
     entries: &[Entry],
 )
-    requires few { length queries.now ≤ 64 }
-    requires within { start + length part.old ≤ length queries.now }
-    requires ready { AreReady (length entries.now) queries.now names.now start part.old }
+    requires ready { AreReady (length entries.now) queries.now names.now shares.old.items }
     requires ends { AreAllEndsFor names.now queries.now entries.now ends.now }
-    ensures { HaveFed queries.now names.now entries.now start part.old part.new }
+    ensures { HaveFed queries.now names.now entries.now shares.old.items shares.new.items }
 {
-    for (offset, share) in part.iter_mut().enumerate() {
-        let place = start + offset;
-        let query = &queries[place];
-        feed_one(crew, query, place as u32, share, names, ends, entries);
+    for share in shares.iter_mut() {
+        feed_one(crew, queries, share, names, ends, entries);
     }
 }
 
-/// Feeds the entries to the share of a query, under its number.
+/// Feeds the entries to a share.
 fn feed_one<R: Threads + Sync, G: Gate>(
     crew: &Crew<'_, R, G>,
-    query: &Compiled,
-    number: u32,
+    queries: &[Compiled],
     share: &mut Share,
     names: &Names,
     ends: &[Option<Ends<'_>>],
     entries: &[Entry],
 )
-    requires index { HasHistoryFor (length entries.now) query.now names.now share.old.index }
-    requires ends { AllZip (λ (entry : EntryTaken) own.
-        AreEndsFor names.now number query.now.dfa entry.tuple.act own) entries.now ends.now }
-    ensures { HasFed names.now entries.now number query.now share.old share.new }
+    requires ready { IsReady (length entries.now) queries.now names.now share.old }
+    requires ends { AreAllEndsFor names.now queries.now entries.now ends.now }
+    ensures { IsFed queries.now names.now entries.now share.old share.new }
 {
-    share.owns = answer_all(crew, query, number, &mut share.index, names, ends, entries);
+    let query = &queries[share.place as usize];
+    let owns = answer_all(crew, query, share, names, ends, entries);
+    share.owns = owns;
 }
 
-/// Answers the entries for a query, under its number, and gives the events of each.
+/// Answers the entries for the query of a share, gives the events of each, and counts what they
+/// cost.
 fn answer_all<R: Threads + Sync, G: Gate>(
     crew: &Crew<'_, R, G>,
     query: &Compiled,
-    number: u32,
-    index: &mut Index,
+    share: &mut Share,
     names: &Names,
     ends: &[Option<Ends<'_>>],
     entries: &[Entry],
 ) -> Result<Vec<Vec<Event>>, Memory>
-    requires index { HasHistoryFor (length entries.now) query.now names.now index.old }
+    requires index { HasHistoryFor (length entries.now) query.now names.now share.old.index }
     requires ends { AllZip (λ (entry : EntryTaken) own.
-        AreEndsFor names.now number query.now.dfa entry.tuple.act own) entries.now ends.now }
-    ensures { IfOk result (λ owns. HasAnsweredAll names.now entries.now number query.now
-        index.old index.new (map (λ own. own.items) owns.items)) }
+        AreEndsFor names.now share.old.place query.now.dfa entry.tuple.act own)
+        entries.now ends.now }
+    ensures answered { IfOk result (λ owns. HasAnsweredAll names.now entries.now share.old.place
+        query.now share.old.index share.new.index (map (λ own. own.items) owns.items)) }
+    ensures place { share.new.place ≡ share.old.place }
 {
+    let number = share.place;
+    share.cost = 0;
     let mut owns = Vec::with_capacity(crew.context.alloc, entries.len())?;
     for (place, entry) in entries.iter().enumerate() {
-        let own = answer(crew, query, number, index, names, ends[place], entry)?;
+        let own = answer(
+            crew,
+            query,
+            number,
+            &mut share.index,
+            names,
+            ends[place],
+            entry,
+        )?;
+        share.cost = share
+            .cost
+            .saturating_add(cost_of(&share.index.forest, &own));
         owns.push(own)?;
     }
     Ok(owns)
+}
+
+/// What an entry cost the query whose forest took it last: one for the entry, one for each tree that
+/// its last change touched, and one for each of its events.
+fn cost_of(forest: &Forest, own: &[Event]) -> u64 {
+    let trees = forest.touched().len() as u64;
+    let events = own.len() as u64;
+    trees.saturating_add(events).saturating_add(1)
+}
+
+/// Notes what each query took of the front.
+fn note_costs(costs: &mut Vec<u64>, shares: &[Share]) -> Result<(), Memory> {
+    costs.clear();
+    for share in shares {
+        costs.push(share.cost)?;
+    }
+    Ok(())
 }
 
 /// Puts the indexes of the shares into their list, and gives the events of each entry, those of the
@@ -220,7 +296,12 @@ fn gather(
 {
     let mut events = Vec::new(alloc);
     for share in shares {
-        let Share { index, owns } = share;
+        let Share {
+            place: _place,
+            cost: _cost,
+            index,
+            owns,
+        } = share;
         indexes.push(index)?;
         append_each(&mut events, owns?)?;
     }

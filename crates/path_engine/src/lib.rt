@@ -26,7 +26,8 @@
 //! The queries depend on each other by the names alone. So a front first gives numbers to all names
 //! that its entries bring, and then each query takes the whole front before the next query does, or
 //! beside it by another worker. An index then stays in its processor's cache for a whole front, and
-//! threads are started once a front and not once an entry. In the end the events are put together
+//! threads are started once a front and not once an entry. The queries are dealt to the workers by
+//! what each took of the front before, the dearest first. In the end the events are put together
 //! entry by entry.
 #![tactic(auto)]
 
@@ -38,6 +39,7 @@ mod fault;
 mod front;
 mod index;
 mod labels;
+mod parts;
 mod paths;
 mod rebuilding;
 mod showing;

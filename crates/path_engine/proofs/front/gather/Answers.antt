@@ -1,4 +1,4 @@
-use Rattle.std.proofs.Common.{◌+◌, ◌++◌, ◌∷◌, [], List, length, map, Vec, Global, refl}
+use Rattle.std.proofs.Common.{◌++◌, ◌∷◌, [], List, length, map, Vec, Global, refl}
 use Rattle.std.proofs.Common.{sym, ap, subst, ◌∙◌, append_assoc, arith}
 use Rattle.std.proofs.lemmas.List.{append-nil}
 use Rattle.rpq_base.specs.declared.data.Event.{Event}
