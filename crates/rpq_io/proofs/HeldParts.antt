@@ -1,8 +1,9 @@
 -- Bytes from one place to another in a list.
-use Rattle.std.proofs.Common.{◌≡◌, ℕ, ◌+◌, ◌≤◌, List, ◌++◌, length, take, drop, sym, ap, ap₂, ◌∙◌}
-use Rattle.std.proofs.Common.{arith, length-take-le, drop-drop}
+use Rattle.std.proofs.Common.{◌≡◌, ℕ, ◌+◌, ◌-◌, ◌<◌, ◌≤◌, ◌⊎◌, inl, inr, min, List, [], ◌++◌, length}
+use Rattle.std.proofs.Common.{take, drop, sym, ap, ap₂, ◌∙◌, arith, length-take-le, drop-drop, take-take}
 use Rattle.std.specs.List.{slice_range}
-use Rattle.std.proofs.lemmas.List.{take_at, drop-append-le}
+use Rattle.std.proofs.lemmas.Bool.{cases_lt}
+use Rattle.std.proofs.lemmas.List.{take_at, drop-append-le, drop_all}
 use Rattle.std.proofs.lemmas.List.Edits.{length-between}
 use Rattle.std.proofs.lemmas.Slice.{between_is}
 use Rattle.std.proofs.Math.Seq.{take-add}
@@ -30,6 +31,38 @@ pub part_without : (bytes : List ℕ) (start end count : ℕ)
     → slice_range bytes (start + count) end ≡ drop count (slice_range bytes start end)
 part_without bytes start end count =
     between_is bytes (start + count) end ∙ sym (drop-drop count start (take end bytes)) ∙ ap (drop count) (sym (between_is bytes start end))
+
+-- no bytes from a place to itself
+part_nil : (bytes : List ℕ) (place : ℕ) → place ≤ length bytes → slice_range bytes place place ≡ []
+part_nil bytes place within =
+    between_is bytes place place
+    ∙ drop_all place (take place bytes) (omega (arith, length-take-le place bytes within))
+
+-- the same, where the part may have fewer bytes
+pub part_behind : (bytes : List ℕ) (start end count next : ℕ) → end ≤ length bytes
+    → next ≡ min end (start + count)
+    → slice_range bytes next end ≡ drop count (slice_range bytes start end)
+part_behind bytes start end count next within is = by (cases_lt end (start + count))
+  where
+    by : (end < start + count) ⊎ (start + count ≤ end)
+        → slice_range bytes next end ≡ drop count (slice_range bytes start end)
+    by (inl few) =
+        let last : next ≡ end = omega arith in
+        let short : length (slice_range bytes start end) ≤ count =
+        omega (arith, length-between bytes start end within) in
+        ap (λ place. slice_range bytes place end) last ∙ part_nil bytes end within
+        ∙ sym (drop_all count (slice_range bytes start end) short)
+    by (inr more) =
+        let later : next ≡ start + count = omega arith in
+        ap (λ place. slice_range bytes place end) later ∙ part_without bytes start end count
+
+-- the first bytes of a part
+pub part_front : (bytes : List ℕ) (start end count : ℕ) → start + count ≤ end
+    → slice_range bytes start (start + count) ≡ take count (slice_range bytes start end)
+part_front bytes start end count within =
+    let same : start + count - start ≡ count = omega arith in
+    ap (λ many. take many (drop start bytes)) same
+    ∙ sym (take-take count (end - start) (drop start bytes) (omega arith))
 
 -- a part that is cut out has as many bytes as it says
 pub part_length : (bytes : List ℕ) (start count : ℕ) → start + count ≤ length bytes

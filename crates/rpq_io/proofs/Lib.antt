@@ -2,6 +2,7 @@ pub mod Bytes
 pub mod Counting
 mod CutLines
 mod Finding
+mod FoundLines
 mod HeldParts
 mod LongLines
 mod Names

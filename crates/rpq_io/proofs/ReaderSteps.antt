@@ -1,44 +1,70 @@
 -- What a reader of lines answers by the bytes that it holds.
-use Rattle.std.proofs.Common.{◌≡◌, ℕ, ◌+◌, ◌<◌, ◌≤◌, ◌⊎◌, Bool, true, false, List, ◌∷◌, ◌++◌}
-use Rattle.std.proofs.Common.{length, take, drop, inl, inr, refl, sym, ap, ◌∙◌, subst, arith}
+use Rattle.std.proofs.Common.{◌≡◌, ◌≢◌, ℕ, ◌+◌, ◌<◌, ◌≤◌, ◌⊎◌, Bool, true, false, List, []}
+use Rattle.std.proofs.Common.{length, take, drop, inl, inr, refl, ap, subst, arith}
 use Rattle.std.proofs.Common.{length-take-le}
 use Rattle.std.proofs.lemmas.Bool.{cases_lt}
 use Rattle.std.proofs.lemmas.List.{take_all, drop_all}
 use Rattle.text_parts.specs.Lines.{IsLine, line_length, without_return}
 use Rattle.text_parts.proofs.LineLengths.{line_length_within, first_line_whole, first_line_cut}
+use Rattle.rpq_io.specs.Outcomes.{AllowsLine}
 use Rattle.rpq_io.specs.Reader.{ReaderState, HoldsNoAnswer, CutsLine, IsLongStream}
+use Rattle.rpq_io.proofs.TextAhead.{has_byte}
 
--- the line up to the first line feed
-pub cut_at_feed : (line_limit : ℕ) (is_at_end : Bool) (bytes rest line : List ℕ) (place : ℕ)
-    → place ≡ line_length bytes
-    → place < length bytes → place ≤ line_limit → line ≡ without_return (take place bytes)
-    → rest ≡ drop (place + 1) bytes
-    → CutsLine line_limit is_at_end bytes rest line
-cut_at_feed line_limit is_at_end bytes rest line place is_place within fits dropped after = record {
-  raw = take place bytes;
-  whole = subst (λ (first : ℕ). IsLine (take first bytes)) (sym is_place) (first_line_whole bytes);
-  fits = omega (arith, length-take-le place bytes (omega arith));
-  dropped = dropped;
-  cut = inl (first_line_cut bytes (omega arith) ∙ ap (λ first. take first bytes ++ 10 ∷ drop (first + 1) bytes) (sym is_place)
-      ∙ ap (λ others. take place bytes ++ 10 ∷ others) (sym after));
+-- where a line can be given of some bytes there are some
+pub allowed_some : (line_limit : ℕ) (is_at_end : Bool) (bytes : List ℕ)
+    → AllowsLine line_limit is_at_end bytes → 0 < length bytes
+allowed_some line_limit is_at_end bytes allows = by allows.whole
+  where
+    by : (line_length bytes < length bytes) ⊎ ((is_at_end ≡ true) × (bytes ≢ []))
+        → 0 < length bytes
+    by (inl within) = omega arith
+    by (inr rest) = has_byte bytes rest.1
+
+-- the line up to the first line feed, and the bytes behind that
+cut_at_feed : (line_limit : ℕ) (is_at_end : Bool) (bytes : List ℕ)
+    → line_length bytes < length bytes → line_length bytes ≤ line_limit
+    → CutsLine line_limit is_at_end bytes (drop (line_length bytes + 1) bytes)
+    (without_return (take (line_length bytes) bytes))
+cut_at_feed line_limit is_at_end bytes within fits = record {
+  raw = take (line_length bytes) bytes;
+  whole = first_line_whole bytes;
+  fits = omega (arith, length-take-le (line_length bytes) bytes (omega arith));
+  dropped = refl;
+  cut = inl (first_line_cut bytes within);
 }
 
--- the line up to the end
-pub cut_at_end : (line_limit : ℕ) (is_at_end : Bool) (bytes rest line : List ℕ) (place : ℕ)
-    → place ≡ line_length bytes
-    → length bytes ≤ place → 0 < place → place ≤ line_limit → is_at_end ≡ true
-    → line ≡ without_return (take place bytes) → rest ≡ drop place bytes
-    → CutsLine line_limit is_at_end bytes rest line
-cut_at_end line_limit is_at_end bytes rest line place is_place whole some fits told dropped after =
-    let all : take place bytes ≡ bytes = take_all place bytes whole in
+-- the line up to the end, and no bytes
+cut_at_end : (line_limit : ℕ) (is_at_end : Bool) (bytes : List ℕ)
+    → length bytes ≤ line_length bytes → 0 < length bytes → line_length bytes ≤ line_limit
+    → is_at_end ≡ true
+    → CutsLine line_limit is_at_end bytes (drop (line_length bytes + 1) bytes)
+    (without_return (take (line_length bytes) bytes))
+cut_at_end line_limit is_at_end bytes whole some fits told =
+    let all : take (line_length bytes) bytes ≡ bytes = take_all (line_length bytes) bytes whole in
     record {
       raw = bytes;
-      whole = subst IsLine (ap (λ first. take first bytes) (sym is_place) ∙ all)
-          (first_line_whole bytes);
-      fits = omega (arith, line_length_within bytes);
-      dropped = dropped ∙ ap without_return all;
-      cut = inr (told, (λ none. omega (arith, ap length none, line_length_within bytes)), refl, after ∙ drop_all place bytes whole);
+      whole = subst IsLine all (first_line_whole bytes);
+      fits = omega arith;
+      dropped = ap without_return all;
+      cut = inr (told, (λ none. omega (arith, ap length none)), refl, drop_all (line_length bytes + 1) bytes (omega arith));
     }
+
+-- the first line of some bytes, where it can be given, and the bytes behind it
+pub cut_allowed : (line_limit : ℕ) (is_at_end : Bool) (bytes : List ℕ)
+    → AllowsLine line_limit is_at_end bytes
+    → CutsLine line_limit is_at_end bytes (drop (line_length bytes + 1) bytes)
+    (without_return (take (line_length bytes) bytes))
+cut_allowed line_limit is_at_end bytes allows =
+    by (cases_lt (line_length bytes) (length bytes)) allows.whole
+  where
+    by : (line_length bytes < length bytes) ⊎ (length bytes ≤ line_length bytes)
+        → (line_length bytes < length bytes) ⊎ ((is_at_end ≡ true) × (bytes ≢ []))
+        → CutsLine line_limit is_at_end bytes (drop (line_length bytes + 1) bytes)
+        (without_return (take (line_length bytes) bytes))
+    by (inl within) whole = cut_at_feed line_limit is_at_end bytes within allows.fits
+    by (inr all) (inl within) = absurd (omega arith)
+    by (inr all) (inr rest) =
+        cut_at_end line_limit is_at_end bytes all (has_byte bytes rest.1) allows.fits rest.0
 
 -- a reader that holds an answer, though no line and no end, took all that it may
 pub long_stream : {S : Type 0} (reader : ReaderState S) → ¬ HoldsNoAnswer reader

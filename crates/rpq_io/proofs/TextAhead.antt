@@ -1,13 +1,12 @@
 -- The text that is still to be given as lines, after a call.
-use Rattle.std.proofs.Common.{◌≡◌, ◌≢◌, ℕ, ◌<◌, ◌⊎◌, inl, inr, Bool, true, List, [], ◌∷◌, ◌++◌}
+use Rattle.std.proofs.Common.{◌≡◌, ◌≢◌, ℕ, ◌+◌, ◌<◌, ◌⊎◌, inl, inr, Bool, true, List, [], ◌∷◌, ◌++◌}
 use Rattle.std.proofs.Common.{Option, Some, None, IfSome, length, refl, arith, sym, ap, ◌∙◌, subst}
 use Rattle.std.proofs.Common.{append_assoc, append-nil}
 use Rattle.std.specs.Option.{IsSomeAnd}
 use Rattle.std.specs.Io.KnownBytes.{prepend_known}
 use Rattle.text_parts.specs.Lines.{raw_lines, line_length}
-use Rattle.rpq_io.specs.Held.{GivesHeld}
-use Rattle.rpq_io.specs.Reader.{ReaderState, text_ahead, Had, CutsLine, TakesNothing, StaysSound}
-use Rattle.rpq_io.specs.Reader.{GivesLine, IsFirstLine, HasLongLine}
+use Rattle.rpq_io.specs.Reader.{ReaderState, text_ahead, Had, CutsLine, TakesNothing, GivesLine}
+use Rattle.rpq_io.specs.Reader.{IsFirstLine, HasLongLine, LosesNothing, IsAtEnd}
 use Rattle.rpq_io.proofs.Bytes.{prepend_known-prepend}
 use Rattle.text_parts.proofs.Cuts.{raw_lines_nil, raw_lines_first, raw_lines_only}
 use Rattle.rpq_io.proofs.LongLines.{long_line}
@@ -22,7 +21,7 @@ text_had left old new bytes had =
     ∙ ap (λ front. prepend_known front (left new.source)) (sym had.joined)
 
 -- a list that isn't empty has a first byte
-has_byte : (bytes : List ℕ) → bytes ≢ [] → 0 < length bytes
+pub has_byte : (bytes : List ℕ) → bytes ≢ [] → 0 < length bytes
 has_byte [] some = absurd (some refl)
 has_byte (byte ∷ bytes) some = omega arith
 
@@ -57,20 +56,20 @@ cut_text line_limit is_at_end bytes rest line after cuts over = by cuts.cut
 
 -- steps that lost nothing, and then a line of the bytes that they left, gave the first line of the
 -- text ahead
-line_of_text : {S : Type 0} (left : S → Option (List ℕ)) (has_told_end : S → Bool)
-    (old middle new : ReaderState S) (line : List ℕ)
+line_of_text : {S : Type 0} (left : S → Option (List ℕ)) (old middle new : ReaderState S)
+    (line : List ℕ)
     → Had left old middle middle.held_bytes → middle.line_limit ≡ old.line_limit
     → TakesNothing middle new
-    → StaysSound left has_told_end middle new
+    → (new.is_at_end ≡ true → IfSome (left new.source) (λ rest. rest ≡ []))
     → CutsLine middle.line_limit middle.is_at_end middle.held_bytes new.held_bytes line
     → IfSome (text_ahead left old)
     (λ text. IsSomeAnd (text_ahead left new)
     (λ rest. IsFirstLine old.line_limit line text rest))
-line_of_text left has_told_end old middle new line had limit same sound cuts =
+line_of_text left old middle new line had limit same over cuts =
     subst (λ ahead. IfSome ahead (λ text. IsSomeAnd (text_ahead left new)
     (λ rest. IsFirstLine old.line_limit line text rest)))
     (sym (text_had left old middle middle.held_bytes had ∙ ap (λ source. prepend_known middle.held_bytes (left source)) (sym same.source)))
-    (by (left new.source) sound.over)
+    (by (left new.source) over)
   where
     by : (after : Option (List ℕ)) → (new.is_at_end ≡ true → IfSome after (λ rest. rest ≡ []))
         → IfSome (prepend_known middle.held_bytes after)
@@ -83,13 +82,15 @@ line_of_text left has_told_end old middle new line had limit same sound cuts =
         (cut_text middle.line_limit middle.is_at_end middle.held_bytes new.held_bytes line after cuts (λ told. over (same.end ∙ told)))
 
 -- the same, with what else a call says that gave it
-pub gives_line : {S : Type 0} (left : S → Option (List ℕ)) (has_told_end : S → Bool)
-    (old middle new : ReaderState S) (line : List ℕ)
+pub cut_line : {S : Type 0} (left : S → Option (List ℕ)) (old middle new : ReaderState S)
+    (line : List ℕ)
     → Had left old middle middle.held_bytes → middle.line_limit ≡ old.line_limit
-    → middle.line_count ≡ old.line_count
-    → TakesNothing middle new → StaysSound left has_told_end middle new
-    → GivesHeld middle new line → GivesLine left old new line
-gives_line left has_told_end old middle new line had limit count same sound gives = record {
+    → TakesNothing middle new
+    → (new.is_at_end ≡ true → IfSome (left new.source) (λ rest. rest ≡ []))
+    → CutsLine middle.line_limit middle.is_at_end middle.held_bytes new.held_bytes line
+    → new.line_count ≡ old.line_count + 1
+    → GivesLine left old new line
+cut_line left old middle new line had limit same over cuts count = record {
   bytes = middle.held_bytes;
   had = record {
     more = had.more;
@@ -99,10 +100,37 @@ gives_line left has_told_end old middle new line had limit count same sound give
   };
   cut = subst (λ most. CutsLine most new.is_at_end middle.held_bytes new.held_bytes line) limit
       (subst (λ told. CutsLine middle.line_limit told middle.held_bytes new.held_bytes line)
-      (sym same.end) gives.cut);
-  counted = omega (arith, gives.counted);
-  text = line_of_text left has_told_end old middle new line had limit same sound gives.cut;
+      (sym same.end) cuts);
+  counted = count;
+  text = line_of_text left old middle new line had limit same over cuts;
 }
+
+-- steps after which all the bytes that they had are held lost nothing
+pub loses_nothing : {S : Type 0} (left : S → Option (List ℕ)) (old new : ReaderState S)
+    → Had left old new new.held_bytes → new.line_count ≡ old.line_count
+    → LosesNothing left old new
+loses_nothing left old new had count =
+    record { had = had; counted = count; text = sym (text_had left old new new.held_bytes had) }
+
+-- steps after which the end is told and no byte is held had none
+pub finds_end : {S : Type 0} (left : S → Option (List ℕ)) (old new : ReaderState S)
+    → Had left old new new.held_bytes → new.line_count ≡ old.line_count
+    → new.is_at_end ≡ true → new.held_bytes ≡ []
+    → IfSome (left new.source) (λ rest. rest ≡ [])
+    → IsAtEnd left old new
+finds_end left old new had count told empty over = record {
+  told = told;
+  had = subst (λ bytes. Had left old new bytes) empty had;
+  none = empty;
+  counted = count;
+  text = subst (λ ahead. IfSome ahead (λ text. text ≡ []))
+      (sym (text_had left old new new.held_bytes had)) (by (left new.source) over);
+}
+  where
+    by : (after : Option (List ℕ)) → IfSome after (λ rest. rest ≡ [])
+        → IfSome (prepend_known new.held_bytes after) (λ text. text ≡ [])
+    by None over = tt
+    by (Some rest) over = ap (λ front. front ++ rest) empty ∙ over
 
 -- steps that lost nothing and hold a line longer than may be found it first in the text ahead
 pub long_line_of_text : {S : Type 0} (left : S → Option (List ℕ)) (old middle : ReaderState S)

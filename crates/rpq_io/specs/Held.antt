@@ -1,26 +1,32 @@
 -- The bytes that a reader of lines holds. No public contract cites these.
 use Rattle.std.specs.Prelude.{◌≡◌, ◌≢◌, ℕ, ◌+◌, ◌-◌, ◌<◌, ◌≤◌, Bool, true, List, [], ◌++◌, length}
-use Rattle.std.specs.Prelude.{take, drop, slice_range, Option, IfSome, if◌then◌else◌}
+use Rattle.std.specs.Prelude.{drop, slice_range, Option, IfSome, if◌then◌else◌}
 use Rattle.std.specs.Prelude.{Result, Ok, Err, OnErr, IsErr}
 use Rattle.std.specs.Io.KnownBytes.{prepend_known}
-use Rattle.text_parts.specs.Lines.{line_length, without_return}
+use Rattle.text_parts.specs.Lines.{line_length}
 use Rattle.rpq_io.specs.Counts.{CountsFault}
-use Rattle.rpq_io.specs.Reader.{ReaderState, CutsLine, IsLongStream}
+use Rattle.rpq_io.specs.Reader.{ReaderState, IsLongStream, TakesNothing}
 use Rattle.rpq_io.specs.Reads.{tells_end}
 use Rattle.rpq_io.specs.declared.fault.LineFault.{LineFault}
-use Rattle.rpq_io.specs.declared.fault.LineFault.TheVariants.{Read, LongLine, LongStream}
+use Rattle.rpq_io.specs.declared.fault.LineFault.TheVariants.{Read, Memory, LongLine, LongStream}
 
--- the bytes held, how many can be read behind them, and how many can be held at most
+-- the bytes held, how many can be read behind them, how many can be held at most, and the line that
+-- was removed last, where no byte was moved or read since
 pub record HeldBytes : Type 0 where
   pub bytes : List ℕ
   pub room : ℕ
   pub size : ℕ
+  pub removed : List ℕ
 
--- the bytes held stand from one place to another, and the length of their first line is known
-pub record IsLaidOut (bytes : List ℕ) (start end known : ℕ) : Type 0 where
+-- the bytes held stand from one place to another, the length of their first line is known, and so
+-- are the places of the line that was removed last
+pub record IsLaidOut (bytes : List ℕ) (start end known removed_start removed_end : ℕ)
+    : Type 0 where
   pub order : start ≤ end
   pub within : end ≤ length bytes
   pub line : known ≡ line_length (slice_range bytes start end)
+  pub removed_order : removed_start ≤ removed_end
+  pub removed_within : removed_end ≤ length bytes
 
 -- this many bytes were taken and are held behind those held before
 pub record Grows (count : ℕ) (old new : List ℕ) (before after : Option (List ℕ)) : Type 0 where
@@ -59,23 +65,19 @@ pub record IsTold (is_at_end has_told_end : Bool) (left : Option (List ℕ))
 abbrev pub reads_left : {S : Type 0} → ReaderState S → ℕ
 reads_left reader = reader.byte_limit - reader.taken_count + (if reader.is_at_end then 0 else 1)
 
--- a copy of the first bytes held, so many, without a carriage return at their end, was given as a
--- line, and the first bytes held, so many, were let go
-pub record GivesFront {S : Type 0} (line_length count : ℕ) (old new : ReaderState S)
-    (line : List ℕ) : Type 0 where
-  pub copied : line ≡ without_return (take line_length old.held_bytes)
-  pub held : new.held_bytes ≡ drop count old.held_bytes
-  pub counted : new.line_count ≡ old.line_count + 1
-
--- why no line of the bytes held was given: no read failed; the first is longer than may be; or as
--- many bytes were taken as may be
+-- why no line of the bytes held can be given: the first is longer than may be, or as many bytes
+-- were taken as may be; no read failed, and no memory was asked for
 pub record IsFaultOfHeld {S A : Type 0} (reader : ReaderState S)
     (result : Result A LineFault) : Type 0 where
   pub read : result ≢ Err Read
+  pub memory : result ≢ Err Memory
   pub long_line : result ≡ Err LongLine → reader.line_limit < line_length reader.held_bytes
   pub long_stream : result ≡ Err LongStream → IsLongStream reader
 
--- a line of the bytes held was given, and the bytes after it are held
-pub record GivesHeld {S : Type 0} (old new : ReaderState S) (line : List ℕ) : Type 0 where
-  pub cut : CutsLine old.line_limit old.is_at_end old.held_bytes new.held_bytes line
+-- the first line of the bytes held was removed, with its line feed if it has one, and counted
+pub record RemovesLine {S : Type 0} (old new : ReaderState S) : Type 0 where
+  pub held : new.held_bytes ≡ drop (line_length old.held_bytes + 1) old.held_bytes
   pub counted : new.line_count ≡ old.line_count + 1
+  pub taken : TakesNothing old new
+  pub line_limit : new.line_limit ≡ old.line_limit
+  pub byte_limit : new.byte_limit ≡ old.byte_limit

@@ -1,9 +1,11 @@
 -- A reader of lines, and what its calls do.
 use Rattle.std.specs.Prelude.{◌≡◌, ◌≢◌, ℕ, ◌+◌, ◌<◌, ◌≤◌, Bool, true, false, List, [], ◌∷◌, ◌++◌}
-use Rattle.std.specs.Prelude.{length, Option, IfSome, ◌⊎◌, Result, Err}
+use Rattle.std.specs.Prelude.{length, Option, IfSome, IfNone, ◌⊎◌, Result, Err, IfOk, OnErr}
+use Rattle.std.specs.Borrow.{Bor}
 use Rattle.std.specs.Option.{IsSomeAnd}
 use Rattle.std.specs.Io.KnownBytes.{prepend_known}
 use Rattle.text_parts.specs.Lines.{line_feed, IsLine, raw_lines, line_length, without_return}
+use Rattle.rpq_io.specs.Counts.{CountsFault}
 use Rattle.rpq_io.specs.declared.fault.LineFault.{LineFault}
 use Rattle.rpq_io.specs.declared.fault.LineFault.TheVariants.{Read, LongLine, LongStream}
 
@@ -134,3 +136,16 @@ pub record StaysSound {S : Type 0} (left : S → Option (List ℕ)) (has_told_en
   pub told : has_told_end new.source ≡ new.is_at_end
   pub over : new.is_at_end ≡ true → IfSome (left new.source) (λ rest. rest ≡ [])
   pub before_limit : new.is_at_end ≡ true → new.taken_count < new.byte_limit
+
+-- what a call did that lends its line, seen once the line isn't lent any more: the facts of a call
+-- that gives its line
+pub record HasLent {S : Type 0} (left : S → Option (List ℕ)) (has_told_end : S → Bool)
+    (faults : S → ℕ) (old : ReaderState S) (result : Result (Option (Bor (List ℕ))) LineFault)
+    (new : ReaderState S) : Type 0 where
+  pub line : IfOk result (λ answer. IfSome answer (λ lent. GivesLine left old new lent.now))
+  pub none : IfOk result (λ answer. IfNone answer (IsAtEnd left old new))
+  pub err : OnErr result (LosesNothing left old new)
+  pub faults_counted : CountsFault (result ≡ Err Read) (faults old.source) (faults new.source)
+  pub cause : ShowsCause left old new result
+  pub unread : ¬ HoldsNoAnswer old → TakesNothing old new
+  pub sound : StaysSound left has_told_end old new

@@ -4,8 +4,8 @@
 //! The layer above rests on one contract: a failed read, write or opening is answered exactly where
 //! its count rose, so none is passed over in silence or tried again, and a failed read or write
 //! moved nothing. [`read_all`] gives all the bytes of a source, whatever pieces it gives,
-//! [`LineReader`] gives its lines as they come, and [`put_all`] writes all bytes, or a proper
-//! prefix of them and a fault.
+//! [`LineReader`] gives or lends its lines as they come, and [`put_all`] writes all bytes, or a
+//! proper prefix of them and a fault.
 //!
 //! What a call may do to the counts of faults, by its answer ("stays" and "rises" as in
 //! `specs/Counts`; no other count changes):
@@ -24,6 +24,8 @@
 //! | | `Read` | rises |
 //! | [`LineReader::next_line`] | `Ok`, `LongLine`, `LongStream`, `Memory` | the reads: stays |
 //! | | `Read` | rises |
+//! | [`LineReader::lend_line`] | `Ok`, `LongLine`, `LongStream` | the reads: stays |
+//! | | `Read` | rises |
 //! | [`put_all`] | `Ok` | the writes of its sink: stays |
 //! | | `Err` | rises |
 //!
@@ -31,7 +33,8 @@
 //! they were made to do: which calls fail, how many bytes one moves, how much room there is. The
 //! adapters over std hand on exactly what std's reader or writer gave and took; what files of the
 //! host hold isn't told, and that an opening to read leaves a file as it is is trusted. Each byte
-//! is copied once by [`read_all`], twice at most by [`LineReader`] and not at all by [`put_all`].
+//! is copied once by [`read_all`], twice at most by [`LineReader`], once at most where it lends its
+//! lines, and not at all by [`put_all`].
 #![tactic(auto)]
 
 mod context;

@@ -18,14 +18,16 @@ use text_parts::line_length;
 pub const PIECE: usize = 4096;
 
 /// Bytes in their order, some of them given and the others held, of which it knows the length of
-/// the first line. Contracts see the bytes held, how many more can be read behind them, and how
-/// many it can hold at most.
+/// the first line. Contracts see the bytes held, how many more can be read behind them, how many it
+/// can hold at most, and the line that was removed last.
 #[derive(Drop)]
 pub struct LineBuffer {
     bytes: Vec<u8>,
     start: usize,
     end: usize,
     line_length: usize,
+    removed_start: usize,
+    removed_end: usize,
 }
 
 impl Model for LineBuffer {
@@ -38,10 +40,12 @@ impl Model for LineBuffer {
       bytes = slice_range buffer.bytes.items buffer.start buffer.end;
       room = length buffer.bytes.items - buffer.end;
       size = length buffer.bytes.items;
+      removed = slice_range buffer.bytes.items buffer.removed_start buffer.removed_end;
     } };
 
     ghost invariant = { λ buffer.
-        IsLaidOut buffer.bytes.items buffer.start buffer.end buffer.line_length };
+        IsLaidOut buffer.bytes.items buffer.start buffer.end buffer.line_length
+        buffer.removed_start buffer.removed_end };
 }
 
 impl LineBuffer {
@@ -55,6 +59,8 @@ impl LineBuffer {
             start: 0,
             end: 0,
             line_length: 0,
+            removed_start: 0,
+            removed_end: 0,
         })
     }
 
@@ -67,28 +73,50 @@ impl LineBuffer {
 
     /// The length of the first line of the bytes held.
     pub fn line_length(&self) -> usize
-        ensures { result ≡ line_length self.now.bytes }
+        ensures line { result ≡ line_length self.now.bytes }
+        ensures within { result ≤ length self.now.bytes }
     {
         self.line_length
     }
 
+    /// The first line of the bytes held.
+    pub fn first_line(&self) -> &[u8]
+        ensures { result.now ≡ take (line_length self.now.bytes) self.now.bytes }
+    {
+        self.front(self.line_length())
+    }
+
     /// The first `count` bytes held.
-    pub fn front(&self, count: usize) -> &[u8]
+    fn front(&self, count: usize) -> &[u8]
         requires { count ≤ length self.now.bytes }
         ensures { result.now ≡ take count self.now.bytes }
     {
         &self.bytes.as_slice()[self.start..self.start + count]
     }
 
-    /// Lets go of the first `count` bytes held. Each byte is looked at once until the next line
-    /// feed is found.
-    pub fn remove_front(&mut self, count: usize)
-        requires { count ≤ length self.old.bytes }
-        ensures bytes { self.new.bytes ≡ drop count self.old.bytes }
+    /// Lets go of the first line of the bytes held, and of its line feed if it has one. The line
+    /// stays where it is until bytes are moved or read. Each byte is looked at once until the next
+    /// line feed is found.
+    pub fn remove_line(&mut self)
+        requires { 0 < length self.old.bytes }
+        ensures line { self.new.removed ≡ take (line_length self.old.bytes) self.old.bytes }
+        ensures bytes { self.new.bytes ≡ drop (line_length self.old.bytes + 1) self.old.bytes }
+        ensures fewer { length self.new.bytes < length self.old.bytes }
         ensures size { self.new.size ≡ self.old.size }
     {
-        self.start += count;
+        let line = self.line_length();
+        let line_end = self.start + line;
+        self.removed_start = self.start;
+        self.removed_end = line_end;
+        self.start = self.end.min(line_end + 1);
         self.line_length = line_length_from(&self.bytes.as_slice()[self.start..self.end], 0);
+    }
+
+    /// The line that was removed last.
+    pub fn removed_line(&self) -> &[u8]
+        ensures { result.now ≡ self.now.removed }
+    {
+        &self.bytes.as_slice()[self.removed_start..self.removed_end]
     }
 
     /// Moves the bytes held to the front where fewer than [`PIECE`] could be read behind them.

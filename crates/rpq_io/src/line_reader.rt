@@ -1,18 +1,18 @@
 //! The lines of a source.
 
-ghost use Rattle.std.specs.Prelude.{[], ◌≡◌, ◌<◌, ◌≤◌, ◌↔◌, length, true};
+ghost use Rattle.std.specs.Prelude.{[], ◌≡◌, ◌≢◌, ◌<◌, ◌≤◌, ◌↔◌, length, true};
 ghost use Rattle.std.specs.Prelude.{false, IsTrue, IfOk, OnErr, IfErr, IsErr, OnOk, IfSome, IfNone};
 ghost use Rattle.rpq_io.specs.Counts.{CountsFault};
-ghost use Rattle.rpq_io.specs.Held.{reads_left, GivesFront, GivesHeld, IsFaultOfHeld};
+ghost use Rattle.rpq_io.specs.Held.{reads_left, IsFaultOfHeld};
+ghost use Rattle.rpq_io.specs.Outcomes.{AllowsLine};
 ghost use Rattle.rpq_io.specs.Reader.{HoldsNoAnswer, Had, GivesLine, IsAtEnd, LosesNothing};
-ghost use Rattle.rpq_io.specs.Reader.{ShowsCause, TakesNothing, StaysSound};
-ghost use Rattle.text_parts.specs.Lines.{line_length};
+ghost use Rattle.rpq_io.specs.Reader.{ShowsCause, TakesNothing, StaysSound, HasLent};
 
 use crate::fault::{Failed, LineFault};
 use crate::line_buffer::{LineBuffer, PIECE};
 use crate::source::Source;
 use rpq_base::Memory;
-use std::alloc::{AllocError, Global};
+use std::alloc::Global;
 use std::marker::Model;
 use text_parts::without_return;
 
@@ -53,6 +53,10 @@ impl<S: Source> Model for LineReader<S> {
 }
 
 impl<S: Source> LineReader<S> {
+    ghost use Rattle.std.specs.Borrow.{sem};
+    ghost use Rattle.std.specs.Io.BufRead.{Rests};
+    ghost use Rattle.rpq_io.specs.contracts.line_reader.LineReader.{the_row};
+
     /// A reader that has taken nothing. A line may have `line_limit` bytes, a carriage return at
     /// its end too and the line feed not, and `byte_limit` bytes may be taken in all. Its buffer is
     /// taken here. Where memory is refused the source comes back.
@@ -109,10 +113,52 @@ impl<S: Source> LineReader<S> {
         ensures unread { ¬ HoldsNoAnswer self.old → TakesNothing self.old self.new }
         ensures sound { StaysSound S.left S.has_told_end self.old self.new }
     {
+        let has_line = self.find_line()?;
+        if !has_line {
+            return Ok(None);
+        }
+        let line = Vec::from_slice(self.alloc, without_return(self.buffer.first_line()))?;
+        self.buffer.remove_line();
+        self.line_count += 1;
+        Ok(Some(line))
+    }
+
+    /// The next line as [`next_line`](LineReader::next_line) gives it, but lent until the next call
+    /// and not copied, so that no memory is asked for.
+    pub fn lend_line(&mut self) -> Result<Option<&[u8]>, LineFault>
+        ensures* lent { sem 𝓛 (Rests (the_row S.row S.Source) self.entry
+            (HasLent S.left S.has_told_end S.faults self.old result)) }
+        ensures short { IfOk result (λ answer. IfSome answer (λ line.
+            length line.now ≤ self.old.line_limit)) }
+        ensures memory { result ≢ Err LineFault.Memory }
+    {
+        let has_line = self.find_line()?;
+        if !has_line {
+            return Ok(None);
+        }
+        self.buffer.remove_line();
+        self.line_count += 1;
+        Ok(Some(without_return(self.buffer.removed_line())))
+    }
+
+    /// Reads until it holds an answer, and tells whether this is a line.
+    fn find_line(&mut self) -> Result<bool, LineFault>
+        ensures line { IfOk result (λ has_line. has_line ≡ true → AllowsLine
+            self.new.line_limit self.new.is_at_end self.new.held_bytes) }
+        ensures none { IfOk result (λ has_line. has_line ≡ false
+            → IsAtEnd S.left self.old self.new) }
+        ensures kept { LosesNothing S.left self.old self.new }
+        ensures faults { CountsFault (result ≡ Err LineFault.Read)
+            (S.faults self.old.source) (S.faults self.new.source) }
+        ensures cause { ShowsCause S.left self.old self.new result }
+        ensures unread { ¬ HoldsNoAnswer self.old → TakesNothing self.old self.new }
+        ensures sound { StaysSound S.left S.has_told_end self.old self.new }
+        ensures memory { result ≢ Err LineFault.Memory }
+    {
         while self.holds_no_answer() {
             self.fill()?;
         }
-        self.give()
+        self.has_line()
     }
 
     /// Whether it has to read on before it can answer.
@@ -145,48 +191,29 @@ impl<S: Source> LineReader<S> {
         Ok(())
     }
 
-    /// Answers by the bytes held, of which there are enough.
-    fn give(&mut self) -> Result<Option<Vec<u8>>, LineFault>
-        requires { ¬ HoldsNoAnswer self.old }
-        ensures line { IfOk result (λ answer. IfSome answer (λ line.
-            GivesHeld self.old self.new line.items)) }
-        ensures none { IfOk result (λ answer. IfNone answer
-            ((self.old.is_at_end ≡ true) × (self.old.held_bytes ≡ []) × (self.new ≡ self.old))) }
-        ensures cause { IsFaultOfHeld self.old result }
-        ensures err { OnErr result (self.new ≡ self.old) }
-        ensures taken { TakesNothing self.old self.new }
-        ensures sound { StaysSound S.left S.has_told_end self.old self.new }
+    /// Whether the answer that it holds is a line.
+    fn has_line(&self) -> Result<bool, LineFault>
+        requires { ¬ HoldsNoAnswer self.now }
+        ensures line { IfOk result (λ has_line. has_line ≡ true → AllowsLine
+            self.now.line_limit self.now.is_at_end self.now.held_bytes) }
+        ensures none { IfOk result (λ has_line. has_line ≡ false →
+            (self.now.is_at_end ≡ true) × (self.now.held_bytes ≡ [])) }
+        ensures cause { IsFaultOfHeld self.now result }
+        ensures sound { StaysSound S.left S.has_told_end self.now self.now }
     {
+        let held = self.buffer.len();
         let line = self.buffer.line_length();
         if line > self.line_limit {
             Err(LineFault::LongLine)
-        } else if line < self.buffer.len() {
-            Ok(Some(self.give_line(line, line + 1)?))
+        } else if line < held {
+            Ok(true)
         } else if !self.is_at_end {
             Err(LineFault::LongStream)
         } else if line == 0 {
-            Ok(None)
+            Ok(false)
         } else {
-            Ok(Some(self.give_line(line, line)?))
+            Ok(true)
         }
-    }
-
-    /// A copy of the first `line` bytes held, without a carriage return at their end. Lets go of
-    /// the first `count`.
-    fn give_line(&mut self, line: usize, count: usize) -> Result<Vec<u8>, AllocError>
-        requires some { 0 < count }
-        requires order { line ≤ count }
-        requires within { count ≤ length self.old.held_bytes }
-        ensures given { IfOk result (λ given.
-            GivesFront line count self.old self.new given.items) }
-        ensures err { OnErr result (self.new ≡ self.old) }
-        ensures taken { TakesNothing self.old self.new }
-        ensures sound { StaysSound S.left S.has_told_end self.old self.new }
-    {
-        let given = Vec::from_slice(self.alloc, without_return(self.buffer.front(line)))?;
-        self.buffer.remove_front(count);
-        self.line_count += 1;
-        Ok(given)
     }
 
     /// How many lines were given.

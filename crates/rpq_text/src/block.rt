@@ -127,13 +127,13 @@ fn push_entry(text: &mut Vec<u8>, n: u64, entry: &Entry) -> Result<(), Memory>
     requires { IsPlain entry.now }
     ensures { OnOk result (text.new.items ≡ text.old.items ++ entry_line n entry.now) }
 {
-    text.extend_from_slice(b"@")?;
+    text.push(b'@')?;
     push_decimal(text, n)?;
-    text.extend_from_slice(b" ")?;
+    text.push(b' ')?;
     push_decimal(text, u64::from(entry.stream))?;
-    text.extend_from_slice(b" ")?;
+    text.push(b' ')?;
     push_tuple(text, &entry.tuple)?;
-    text.extend_from_slice(b"\n")?;
+    text.push(b'\n')?;
     Ok(())
 }
 
@@ -180,7 +180,7 @@ fn push_shown(text: &mut Vec<u8>, shown: &ShownPath) -> Result<(), Memory>
     text.extend_from_slice(b"= ")?;
     push_decimal(text, shown.until)?;
     push_positions(text, &shown.positions)?;
-    text.extend_from_slice(b"\n")?;
+    text.push(b'\n')?;
     Ok(())
 }
 
@@ -190,7 +190,7 @@ fn push_positions(text: &mut Vec<u8>, positions: &[u64]) -> Result<(), Memory>
         ++ flat_map (λ position. codes " " ++ decimal position) positions.now) }
 {
     for position in positions {
-        text.extend_from_slice(b" ")?;
+        text.push(b' ')?;
         push_decimal(text, *position)?;
     }
     Ok(())
@@ -205,11 +205,12 @@ fn push_event(text: &mut Vec<u8>, queries: &[Compiled], event: &Event) -> Result
     let sign = if event.added { b"+ " } else { b"- " };
     text.extend_from_slice(sign)?;
     text.extend_from_slice(name_at(queries, event.query))?;
-    text.extend_from_slice(b" ")?;
+    text.push(b' ')?;
     text.extend_from_slice(event.pair.from.as_bytes())?;
-    text.extend_from_slice(b" ")?;
+    text.push(b' ')?;
     text.extend_from_slice(event.pair.to.as_bytes())?;
-    text.extend_from_slice(b"\n")
+    text.push(b'\n')?;
+    Ok(())
 }
 
 /// The name of the query with this number, counted from 0.

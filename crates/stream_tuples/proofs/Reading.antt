@@ -10,7 +10,6 @@ use Rattle.std.proofs.lemmas.Option.{IfSome_then}
 use Rattle.std.proofs.lemmas.List.Elements.{All-push}
 use Rattle.text_parts.specs.Lines.{IsLine, line_length, text_of, without_return}
 use Rattle.text_parts.specs.EndedLines.{ended_lines}
-use Rattle.text_parts.proofs.LineEnds.{without_return_shorter}
 use Rattle.text_parts.proofs.LineLengths.{line_length-nil, one_line}
 use Rattle.text_parts.proofs.Pieces.{text_push, ended_many, ended_only}
 use Rattle.rpq_base.specs.declared.data.Tuple.{Tuple}
@@ -330,9 +329,6 @@ module _ {S : Type 0} (left : S → Option (List ℕ)) (has_told_end : S → Boo
   module _ (line : List ℕ) (gives : GivesLine left old new line) where
     fits : length gives.cut.raw ≤ line_limit
     fits = subst (λ n. length gives.cut.raw ≤ n) sound.lines gives.cut.fits
-
-    pub short_line : length line ≤ line_limit
-    short_line = omega (arith, ap length gives.cut.dropped, without_return_shorter gives.cut.raw, fits)
 
     pub goes_forward : passed old < passed new
     goes_forward = forward gives.cut.cut

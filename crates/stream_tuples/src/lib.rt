@@ -4,7 +4,7 @@
 //! the limits of a stream it gives tuple after tuple, and at last the end. Whatever was read, the
 //! tuples so far and that end are tied to the bytes of the file (`specs/History`). What the bytes
 //! of a whole stream give is a function of them (`specs/StreamText`), and [`stream_by_parts`] says
-//! the same by the stream's lines. Each line is read once.
+//! the same by the stream's lines. Each line is read once, in the reader's buffer.
 #![tactic(auto)]
 
 mod ends;

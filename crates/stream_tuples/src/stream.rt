@@ -47,13 +47,12 @@ fn read_line<S: Source>(
         (S.faults reader.old.source) (S.faults reader.new.source) }
     ensures limits { reader.new.byte_limit ≡ reader.old.byte_limit }
 {
-    match reader.next_line() {
-        Ok(Some(line)) => tuple_of_line(alloc, &line, reader.lines()),
+    let number = reader.lines() + 1;
+    match reader.lend_line() {
+        Ok(Some(line)) => tuple_of_line(alloc, line, number),
         Ok(None) => Err(StreamEnd::Whole),
         Err(LineFault::Read) => Err(StreamEnd::Read),
-        Err(LineFault::LongLine) => Err(StreamEnd::LongLine {
-            line: reader.lines() + 1,
-        }),
+        Err(LineFault::LongLine) => Err(StreamEnd::LongLine { line: number }),
         Err(LineFault::LongStream) => Err(StreamEnd::LongStream),
         Err(LineFault::Memory) => Err(StreamEnd::Memory),
     }

@@ -93,6 +93,6 @@ fn push_field(text: &mut Vec<u8>, name: &Name) -> Result<(), AllocError>
     ensures ok { OnOk result (text.new.items ≡ text.old.items ++ codes " " ++ name.now) }
     ensures name { OnOk result (IsName name.now) }
 {
-    text.extend_from_slice(b" ")?;
+    text.push(b' ')?;
     text.extend_from_slice(name.as_bytes())
 }

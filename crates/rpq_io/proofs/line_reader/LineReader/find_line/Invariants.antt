@@ -1,7 +1,7 @@
 use Rattle.std.proofs.Common.{◌≡◌}
 use Rattle.rpq_io.specs.Held.{reads_left}
 use Rattle.rpq_io.specs.Reader.{Had, HoldsNoAnswer}
-use Rattle.rpq_io.proofs.line_reader.LineReader.next_line.Given as goal
+use Rattle.rpq_io.proofs.line_reader.LineReader.find_line.Given as goal
 
 -- what was taken so far is held behind what was held before, nothing is taken where an answer was
 -- held, and no read failed
