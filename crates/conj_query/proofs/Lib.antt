@@ -10,6 +10,8 @@ pub mod Differing
 pub mod Finding
 pub mod Vertices
 pub mod Rowing
+pub mod Sharing
+pub mod Narrowing
 pub mod Turning
 pub mod Reading
 pub mod ReadSound

@@ -11,7 +11,7 @@ use Rattle.std.proofs.lemmas.Map.Entries.{none_past_head}
 use Rattle.std.proofs.lemmas.List.Elements.{Contains-append_left, Contains-append_right, Contains-append_cases, Contains-push, Contains-push_cases}
 use Rattle.rpq_base.specs.Same.{same_name}
 use Rattle.rpq_base.specs.declared.data.Pair.{Pair}
-use Rattle.rpq_base.proofs.Members.{none_in, cons_members, HasOneMore}
+use Rattle.rpq_base.proofs.Members.{none_in, HasOneMore}
 use Rattle.conj_query.specs.Pairs.{Rows, row_of, AddsTo, TakesFrom, Sets, pair, pairs_from, pairs_of, AreSides}
 use Rattle.conj_query.proofs.Vertices.{Compared, equal, differ, compared}
 use Rattle.conj_query.proofs.Differing.{mapped}
@@ -300,29 +300,6 @@ is_there set sources targets from to sides is =
       (λ member. are.0 (subst (λ (list : List Pair). Contains list (pair from to)) (sym is) member)),
     )
 
--- one pair, if it is there
-pub one_there : (set : List Pair) (from to : List ℕ) (there : Bool) → (there ≡ true) ↔ Contains set (pair from to) → (found : List Pair) →
-    found ≡ (if there then pair from to ∷ [] else []) →
-    (one : Pair) → Contains found one ↔ (Contains set one × ((from ≡ one.from) × (to ≡ one.to)))
-one_there set from to true has found is one =
-    subst (λ (list : List Pair). Contains list one ↔ (Contains set one × ((from ≡ one.from) × (to ≡ one.to)))) (sym is) (
-      (λ member. ⊎_elim
-          (λ here. (
-            subst (Contains set) here (has.0 refl),
-            (ap (λ (each : Pair). each.from) here, ap (λ (each : Pair). each.to) here),
-          ))
-          (λ none. absurd (none_in one none))
-          ((cons_members (pair from to) [] one).0 member)),
-      (λ both. (cons_members (pair from to) [] one).1 (inl
-          (ap (λ (source : List ℕ). pair source to) both.1.0 ∙ ap (pair one.from) both.1.1))),
-    )
-one_there set from to false has found is one =
-    subst (λ (list : List Pair). Contains list one ↔ (Contains set one × ((from ≡ one.from) × (to ≡ one.to)))) (sym is) (
-      (λ member. absurd (none_in one member)),
-      (λ both. absurd (false≢true (has.1 (subst (Contains set)
-          (sym (ap (λ (source : List ℕ). pair source to) both.1.0 ∙ ap (pair one.from) both.1.1)) both.0)))),
-    )
-
 -- the pair is there after where it is added, and the others as they were
 pub own_pair : (sources targets : Rows) (one : Pair) (added : Bool) → AreSides sources targets →
     (added ≡ true) ↔ Contains (row_of sources one.from) one.to → (added ≡ true) ↔ Contains (pairs_of sources) one
@@ -402,3 +379,62 @@ source_more to before after source found more Old one step is so_far =
           (step.cases one.from both.1))
           either)),
     )
+
+-- one pair more, if it is there
+pub one_there : (set : List Pair) (from to : List ℕ) (there : Bool) → (there ≡ true) ↔ Contains set (pair from to) → (old found : List Pair) →
+    found ≡ (if there then old ++ pair from to ∷ [] else old) →
+    (one : Pair) → Contains found one ↔ (Contains old one ⊎ (Contains set one × ((from ≡ one.from) × (to ≡ one.to))))
+one_there set from to true has old found is one =
+    let now = pushed old found (pair from to) is one in (
+      (λ member. ⊎_elim
+          (λ there. inl there)
+          (λ here. inr (
+            subst (Contains set) here (has.0 refl),
+            (ap (λ (each : Pair). each.from) here, ap (λ (each : Pair). each.to) here),
+          ))
+          (now.0 member)),
+      (λ either. now.1 (⊎_elim
+          (λ there. inl there)
+          (λ both. inr (ap (λ (source : List ℕ). pair source to) both.1.0 ∙ ap (pair one.from) both.1.1))
+          either)),
+    )
+one_there set from to false has old found is one =
+    subst (λ (list : List Pair). Contains list one ↔ (Contains old one ⊎ (Contains set one × ((from ≡ one.from) × (to ≡ one.to))))) (sym is) (
+      (λ member. inl member),
+      (λ either. ⊎_elim
+          (λ there. there)
+          (λ both. absurd (false≢true (has.1 (subst (Contains set)
+          (sym (ap (λ (source : List ℕ). pair source to) both.1.0 ∙ ap (pair one.from) both.1.1)) both.0))))
+          either),
+    )
+
+-- where there were none before
+pub only_new : (old found : List Pair) (one : Pair) (New : Type 0) → old ≡ [] → Contains found one ↔ (Contains old one ⊎ New) → Contains found one ↔ New
+only_new old found one New none now = (
+  (λ member. ⊎_elim
+      (λ there. absurd (none_in one (subst (λ (list : List Pair). Contains list one) none there)))
+      (λ new. new)
+      (now.0 member)),
+  (λ new. now.1 (inr new)),
+)
+
+-- one vertex more of those among which the other end is
+pub among_more : (before after : List (List ℕ)) (vertex other : List ℕ) (Is Fit Found More : Type 0) → HasOneMore before vertex after →
+    More ↔ (Found ⊎ (Is × (Fit × (vertex ≡ other)))) → Found ↔ (Is × (Fit × Contains before other)) → More ↔ (Is × (Fit × Contains after other))
+among_more before after vertex other Is Fit Found More step now so_far = (
+  (λ more. ⊎_elim
+      (λ found. let all = so_far.0 found in (all.0, (all.1.0, step.still other all.1.1)))
+      (λ new. (new.0, (new.1.0, subst (Contains after) new.1.1 step.here)))
+      (now.0 more)),
+  (λ all. now.1 (⊎_elim
+      (λ there. inl (so_far.1 (all.0, (all.1.0, there))))
+      (λ here. inr (all.0, (all.1.0, here)))
+      (step.cases other all.1.1))),
+)
+
+-- the same in the other order
+pub both_turned : (Is First Second Found More : Type 0) → More ↔ (Found ⊎ (Is × (First × Second))) → More ↔ (Found ⊎ (Is × (Second × First)))
+both_turned Is First Second Found More now = (
+  (λ more. ⊎_elim (λ found. inl found) (λ new. inr (new.0, (new.1.1, new.1.0))) (now.0 more)),
+  (λ either. now.1 (⊎_elim (λ found. inl found) (λ new. inr (new.0, (new.1.1, new.1.0))) either)),
+)

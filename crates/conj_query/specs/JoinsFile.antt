@@ -1,5 +1,5 @@
 -- The conjunctions of a joins file, or the first fault of it, line by line.
-use Rattle.std.specs.Prelude.{ℕ, ◌+◌, ◌||◌, List, [], ◌∷◌, ◌++◌, Result, Ok, if◌then◌else◌}
+use Rattle.std.specs.Prelude.{ℕ, ◌||◌, List, [], ◌∷◌, ◌++◌, Result, Ok, if◌then◌else◌}
 use Rattle.text_parts.specs.Lines.{lines, is_blank_line, is_comment}
 use Rattle.text_parts.specs.Fields.{fields}
 use Rattle.text_parts.specs.Reading.{◌>>=◌, reached, with_number}

@@ -18,5 +18,6 @@ pub mod Laws
 pub mod Partial
 pub mod Touched
 pub mod Changed
+pub mod Overlaps
 pub mod State
 pub mod Leading

@@ -77,10 +77,13 @@ abbrev pub IsMetBy : List Pair → List (List ℕ) → JoinAtom → Type 0
 IsMetBy pairs names atom =
     (pair : Pair) × IsPairOf names atom pair × Contains pairs pair
 
--- each of the atoms is met by the pairs of its query, which are the list with its number
+-- the atom is met by the pairs of its query, which are the list with its number
+abbrev pub IsMetIn : List (List Pair) → List (List ℕ) → JoinAtom → Type 0
+IsMetIn sets names atom = IsMetBy (slice_index_or sets atom.query []) names atom
+
+-- each of the atoms is met
 abbrev pub AreMet : List (List Pair) → List (List ℕ) → List JoinAtom → Type 0
-AreMet sets names atoms = (atom : JoinAtom) → Contains atoms atom →
-    IsMetBy (slice_index_or sets atom.query []) names atom
+AreMet sets names atoms = (atom : JoinAtom) → Contains atoms atom → IsMetIn sets names atom
 
 -- what stays open when atoms are taken
 pub record ClosesAll (bound : Bound) (atoms : List JoinAtom) (more : Bound) : Type 0 where

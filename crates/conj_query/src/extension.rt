@@ -5,12 +5,14 @@ ghost use Rattle.std.specs.Prelude.{OnOk};
 ghost use Rattle.conj_query.specs.Joins.{IsPairOf};
 ghost use Rattle.conj_query.specs.declared.data.JoinAtom.{JoinAtom};
 ghost use Rattle.conj_query.specs.Partial.{Bound, Agrees, Covers, Closes, ClosesAll, atoms_at};
-ghost use Rattle.conj_query.specs.Partial.{IsMetBy, AreMet};
+ghost use Rattle.conj_query.specs.Partial.{IsMetIn, AreMet};
+ghost use Rattle.conj_query.specs.Overlaps.{Narrows};
 ghost use Rattle.conj_query.specs.Sound.{IsAtomWithin};
 
 use crate::data::JoinAtom;
-use crate::pairs::{Ends, PairSet};
+use crate::pairs::Ends;
 use crate::partial::Partial;
+use crate::query_pairs::QueryPairs;
 use rpq_base::Memory;
 use std::alloc::Global;
 
@@ -35,44 +37,54 @@ fn add_pair(
     Ok(())
 }
 
-/// Adds what is bound once the atom takes one of the pairs of its query.
-pub(crate) fn extend(
+/// Adds what is bound once the atom takes one of the pairs of its query. What meets no binding of
+/// all these atoms may lack.
+fn extend(
     out: &mut Vec<Partial>,
     alloc: Global,
-    pairs: &PairSet,
+    sets: &QueryPairs,
+    atoms: &[&JoinAtom],
     atom: &JoinAtom,
     bound: &Partial,
 ) -> Result<(), Memory>
-    requires { IsAtomWithin (length bound.now) atom.now }
-    ensures covers { OnOk result ((names : List (List ℕ)) → Covers out.new.items names
-        ↔ (Covers out.old.items names
-        ⊎ (Agrees bound.now names × IsMetBy pairs.now names atom.now))) }
+    requires within { IsAtomWithin (length bound.now) atom.now }
+    requires below { atom.now.query < length sets.now }
+    ensures covers { OnOk result ((names : List (List ℕ)) →
+        Narrows sets.now (atoms_at atoms.now) names (Covers out.old.items names
+        ⊎ (Agrees bound.now names × IsMetIn sets.now names atom.now))
+        (Covers out.new.items names)) }
     ensures closes { OnOk result ((more : Bound) → Contains out.new.items more →
         Contains out.old.items more ⊎ Closes bound.now atom.now more) }
 {
-    let found = pairs.fitting(alloc, bound.so_far(&atom.from), bound.so_far(&atom.to))?;
+    let from = bound.so_far(&atom.from);
+    let to = bound.so_far(&atom.to);
+    let found = sets.fitting(alloc, atoms, atom, from, to)?;
     for ends in &found {
         add_pair(out, alloc, bound, atom, ends)?;
     }
     Ok(())
 }
 
-/// All of these extended by the atom.
+/// All of these extended by the atom, but for what meets no binding of all these atoms.
 fn extended(
     alloc: Global,
-    pairs: &PairSet,
+    sets: &QueryPairs,
+    atoms: &[&JoinAtom],
     atom: &JoinAtom,
     partials: &[Partial],
 ) -> Result<Vec<Partial>, Memory>
-    requires { All (λ bound. IsAtomWithin (length bound) atom.now) partials.now }
-    ensures covers { IfOk result (λ all. (names : List (List ℕ)) → Covers all.items names
-        ↔ (Covers partials.now names × IsMetBy pairs.now names atom.now)) }
+    requires within { All (λ bound. IsAtomWithin (length bound) atom.now) partials.now }
+    requires below { atom.now.query < length sets.now }
+    ensures covers { IfOk result (λ all. (names : List (List ℕ)) →
+        Narrows sets.now (atoms_at atoms.now) names
+        (Covers partials.now names × IsMetIn sets.now names atom.now)
+        (Covers all.items names)) }
     ensures closes { IfOk result (λ all. (more : Bound) → Contains all.items more →
         (bound : Bound) × Contains partials.now bound × Closes bound atom.now more) }
 {
     let mut all = Vec::new(alloc);
     for bound in partials {
-        extend(&mut all, alloc, pairs, atom, bound)?;
+        extend(&mut all, alloc, sets, atoms, atom, bound)?;
     }
     Ok(all)
 }
@@ -83,7 +95,7 @@ fn extended(
 /// before it, as far as there is such an order: then each look-up knows an end.
 pub(crate) fn taken(
     alloc: Global,
-    sets: &[PairSet],
+    sets: &QueryPairs,
     atoms: &[&JoinAtom],
     bound: Partial,
 ) -> Result<Vec<Partial>, Memory>
@@ -99,7 +111,7 @@ pub(crate) fn taken(
     let mut all = Vec::new(alloc);
     all.push(bound)?;
     for atom in atoms {
-        all = extended(alloc, &sets[atom.query as usize], *atom, &all)?;
+        all = extended(alloc, sets, atoms, *atom, &all)?;
     }
     Ok(all)
 }

@@ -9,7 +9,7 @@ ghost use Rattle.conj_query.specs.Changed.{IsFound};
 use crate::binding::Binding;
 use crate::data::JoinDef;
 use crate::event::JoinEvent;
-use crate::pairs::PairSet;
+use crate::query_pairs::QueryPairs;
 use crate::touched::touched;
 use rpq_base::{Event, Memory};
 use std::alloc::Global;
@@ -39,7 +39,7 @@ fn add_bindings(
 fn add_touched(
     found: &mut Vec<JoinEvent>,
     alloc: Global,
-    sets: &[PairSet],
+    sets: &QueryPairs,
     def: &JoinDef,
     join: u32,
     added: bool,
@@ -59,7 +59,7 @@ fn add_touched(
 pub(crate) fn add_found(
     found: &mut Vec<JoinEvent>,
     alloc: Global,
-    sets: &[PairSet],
+    sets: &QueryPairs,
     defs: &[JoinDef],
     added: bool,
     events: &[Event],

@@ -11,7 +11,7 @@ use crate::change::change;
 use crate::data::JoinDef;
 use crate::event::{JoinEvent, put_in_order};
 use crate::found::add_found;
-use crate::pairs::PairSet;
+use crate::query_pairs::QueryPairs;
 use rpq_base::{Event, KeyedHash, Memory};
 use std::alloc::Global;
 use std::marker::Model;
@@ -39,7 +39,7 @@ impl From<Memory> for JoinFault {
 pub struct Joins {
     alloc: Global,
     defs: Arc<Vec<JoinDef>>,
-    sets: Vec<PairSet>,
+    sets: QueryPairs,
     spent: bool,
 }
 
@@ -63,40 +63,28 @@ impl Model for Joins {
 
     ghost view = { λ joins. record {
       joins = joins.defs.value.items;
-      pairs = joins.sets.items;
+      pairs = joins.sets;
       spent = joins.spent;
     } };
 
     ghost invariant = { λ joins. (length joins.defs.value.items ≤ 32)
-        × All (IsSound (length joins.sets.items)) joins.defs.value.items };
-}
-
-/// So many sets without pairs.
-fn no_pairs(alloc: Global, hash: KeyedHash, queries: u32) -> Result<Vec<PairSet>, Memory>
-    ensures many { IfOk result (λ sets. length sets.items ≡ queries) }
-    ensures blank { IfOk result (λ sets. All (λ pairs. pairs ≡ []) sets.items) }
-{
-    let mut sets = Vec::new(alloc);
-    for query in 0..queries {
-        sets.push(PairSet::new(alloc, hash))?;
-    }
-    Ok(sets)
+        × All (IsSound (length joins.sets)) joins.defs.value.items };
 }
 
 /// Changes the pairs by the events; what the conjunctions lose and gain.
 fn moved(
     alloc: Global,
     defs: &[JoinDef],
-    sets: &mut Vec<PairSet>,
+    sets: &mut QueryPairs,
     events: &[Event],
 ) -> Result<Vec<JoinEvent>, Memory>
     requires few { length defs.now ≤ 32 }
-    requires sound { All (IsSound (length sets.old.items)) defs.now }
-    requires may { MayCome sets.old.items events.now }
-    ensures many { length sets.new.items ≡ length sets.old.items }
-    ensures put { OnOk result (ArePut sets.old.items sets.new.items events.now) }
+    requires sound { All (IsSound (length sets.old)) defs.now }
+    requires may { MayCome sets.old events.now }
+    ensures many { length sets.new ≡ length sets.old }
+    ensures put { OnOk result (ArePut sets.old sets.new events.now) }
     ensures events { IfOk result (λ found. AreJoinEvents defs.now
-        (family sets.old.items) (family sets.new.items) found.items) }
+        (family sets.old) (family sets.new) found.items) }
 {
     let mut found = Vec::new(alloc);
     add_found(&mut found, alloc, sets, defs, false, events)?;
@@ -121,7 +109,7 @@ impl Joins {
         ensures blank { IfOk result (λ joins. All (λ pairs. pairs ≡ []) joins.pairs) }
         ensures fresh { IfOk result (λ joins. joins.spent ≡ false) }
     {
-        let sets = no_pairs(alloc, KeyedHash::new(rt), queries)?;
+        let sets = QueryPairs::new(alloc, KeyedHash::new(rt), defs.as_slice(), queries)?;
         Ok(Joins {
             alloc,
             defs,

@@ -16,14 +16,18 @@
 //! one, next always one with the fewest ends that aren't known yet. The pairs of a query are kept
 //! by source and by target, in maps whose hash has keys that a stranger who chooses the names can't
 //! foresee. An atom with both ends known is two look-ups; one with one end known is a look-up and
-//! as many steps as pairs are found. A change of a pair is four look-ups. So an event costs what it
-//! changes, and what partial bindings through its pair come to nothing; an atom that shares no
-//! variable with the others goes through all pairs of its query.
+//! as many steps as pairs are found. Where other atoms have the variable at its other end too, the
+//! vertices that stand in the columns of both are kept, and these are looked up where they are
+//! fewer than the pairs: a semi-join, one step ahead. A change of a pair is four look-ups, and some
+//! for each pair of such columns. So an event costs what it changes, and what partial bindings
+//! through its pair come to nothing; an atom that shares no variable with the others goes through
+//! all pairs of its query.
 #![tactic(auto)]
 
 mod atoms;
 mod binding;
 mod change;
+mod columns;
 mod data;
 mod event;
 mod extension;
@@ -32,9 +36,11 @@ mod found;
 mod joins;
 mod laws;
 mod line;
+mod overlap;
 mod pairs;
 mod partial;
 mod plan;
+mod query_pairs;
 mod read;
 mod rows;
 mod text;

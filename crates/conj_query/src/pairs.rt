@@ -3,8 +3,9 @@
 ghost use Rattle.std.specs.Prelude.{◌≡◌, ◌↔◌, ◌⊎◌, [], true, Contains, IfOk, OnOk};
 ghost use Rattle.rpq_base.specs.declared.data.Pair.{Pair};
 ghost use Rattle.conj_query.specs.Pairs.{pairs_of, Sets};
-ghost use Rattle.conj_query.specs.Partial.{Fits};
+ghost use Rattle.conj_query.specs.Overlaps.{StandsIn};
 
+use crate::columns::Side;
 use crate::rows::Rows;
 use crate::vertex::Vertex;
 use rpq_base::{KeyedHash, Memory, Name, Pair};
@@ -127,20 +128,114 @@ impl PairSet {
         }
     }
 
+    /// Whether the vertex is the source of a pair, by one look-up.
+    fn has_source(&self, vertex: &Name) -> bool
+        ensures { (result ≡ true) ↔ StandsIn self.now Side.Source vertex.now }
+    {
+        !self.sources.is_bare(vertex)
+    }
+
+    /// Whether the vertex is the target of a pair, by one look-up.
+    fn has_target(&self, vertex: &Name) -> bool
+        ensures { (result ≡ true) ↔ StandsIn self.now Side.Target vertex.now }
+    {
+        !self.targets.is_bare(vertex)
+    }
+
+    /// Whether the vertex stands at this side of a pair, by one look-up.
+    pub(crate) fn has_at(&self, side: Side, vertex: &Name) -> bool
+        ensures { (result ≡ true) ↔ StandsIn self.now side vertex.now }
+    {
+        match side {
+            Side::Source => self.has_source(vertex),
+            Side::Target => self.has_target(vertex),
+        }
+    }
+
+    /// How many pairs have this source.
+    pub(crate) fn target_count(&self, from: &Name) -> usize {
+        self.sources.row(from).len()
+    }
+
+    /// How many pairs have this target.
+    pub(crate) fn source_count(&self, to: &Name) -> usize {
+        self.targets.row(to).len()
+    }
+
+    /// Adds the pair with these two ends, if it is there, by two look-ups.
+    fn add_one<'a>(
+        &self,
+        found: &mut Vec<Ends<'a>>,
+        from: &'a Name,
+        to: &'a Name,
+    ) -> Result<(), Memory>
+        ensures { OnOk result ((pair : Pair) → Contains found.new.items pair
+            ↔ (Contains found.old.items pair
+            ⊎ (Contains self.now pair × ((from.now ≡ pair.from) × (to.now ≡ pair.to))))) }
+    {
+        if self.sources.has(from, to) {
+            found.push(Ends { from, to })?;
+        }
+        Ok(())
+    }
+
     /// The pair with these two ends, if it is there, by two look-ups.
-    fn one<'a>(&self, alloc: Global, from: &'a Name, to: &'a Name) -> Result<Vec<Ends<'a>>, Memory>
+    pub(crate) fn one<'a>(
+        &self,
+        alloc: Global,
+        from: &'a Name,
+        to: &'a Name,
+    ) -> Result<Vec<Ends<'a>>, Memory>
         ensures { IfOk result (λ found. (pair : Pair) → Contains found.items pair
             ↔ (Contains self.now pair × ((from.now ≡ pair.from) × (to.now ≡ pair.to)))) }
     {
         let mut found = Vec::new(alloc);
-        if self.sources.has(from, to) {
-            found.push(Ends { from, to })?;
+        self.add_one(&mut found, from, to)?;
+        Ok(found)
+    }
+
+    /// The pairs with this source and one of these targets, by two look-ups for each of them.
+    pub(crate) fn with_source_among<'a>(
+        &self,
+        alloc: Global,
+        from: &'a Name,
+        targets: &'a [Vertex],
+    ) -> Result<Vec<Ends<'a>>, Memory>
+        ensures { IfOk result (λ found. (pair : Pair) → Contains found.items pair
+            ↔ (Contains self.now pair
+            × ((from.now ≡ pair.from) × Contains targets.now pair.to))) }
+    {
+        let mut found = Vec::new(alloc);
+        for target in targets {
+            self.add_one(&mut found, from, target.name())?;
+        }
+        Ok(found)
+    }
+
+    /// The pairs with this target and one of these sources, by two look-ups for each of them.
+    pub(crate) fn with_target_among<'a>(
+        &self,
+        alloc: Global,
+        to: &'a Name,
+        sources: &'a [Vertex],
+    ) -> Result<Vec<Ends<'a>>, Memory>
+        ensures { IfOk result (λ found. (pair : Pair) → Contains found.items pair
+            ↔ (Contains self.now pair
+            × ((to.now ≡ pair.to) × Contains sources.now pair.from))) }
+    {
+        let mut found = Vec::new(alloc);
+        for source in sources {
+            self.add_one(&mut found, source.name(), to)?;
         }
         Ok(found)
     }
 
     /// The pairs with this source, by one look-up and as many steps as there are.
-    fn with_source<'a>(&'a self, alloc: Global, from: &'a Name) -> Result<Vec<Ends<'a>>, Memory>
+    pub(crate) fn with_source<'a>(
+        &'a self,
+        alloc: Global,
+        from: &'a Name,
+    ) -> Result<Vec<Ends<'a>>, Memory>
         ensures { IfOk result (λ found. (pair : Pair) → Contains found.items pair
             ↔ (Contains self.now pair × (from.now ≡ pair.from))) }
     {
@@ -150,7 +245,11 @@ impl PairSet {
     }
 
     /// The pairs with this target, by one look-up and as many steps as there are.
-    fn with_target<'a>(&'a self, alloc: Global, to: &'a Name) -> Result<Vec<Ends<'a>>, Memory>
+    pub(crate) fn with_target<'a>(
+        &'a self,
+        alloc: Global,
+        to: &'a Name,
+    ) -> Result<Vec<Ends<'a>>, Memory>
         ensures { IfOk result (λ found. (pair : Pair) → Contains found.items pair
             ↔ (Contains self.now pair × (to.now ≡ pair.to))) }
     {
@@ -160,29 +259,11 @@ impl PairSet {
     }
 
     /// All pairs.
-    fn all<'a>(&'a self, alloc: Global) -> Result<Vec<Ends<'a>>, Memory>
+    pub(crate) fn all<'a>(&'a self, alloc: Global) -> Result<Vec<Ends<'a>>, Memory>
         ensures { IfOk result (λ found. (pair : Pair) → Contains found.items pair
             ↔ Contains self.now pair) }
     {
         all_pairs(alloc, &self.sources)
-    }
-
-    /// The pairs with these ends, as far as they are known.
-    pub(crate) fn fitting<'a>(
-        &'a self,
-        alloc: Global,
-        from: Option<&'a Name>,
-        to: Option<&'a Name>,
-    ) -> Result<Vec<Ends<'a>>, Memory>
-        ensures { IfOk result (λ found. (pair : Pair) → Contains found.items pair
-            ↔ (Contains self.now pair × (Fits from.entry pair.from × Fits to.entry pair.to))) }
-    {
-        match (from, to) {
-            (Some(from), Some(to)) => self.one(alloc, from, to),
-            (Some(from), None) => self.with_source(alloc, from),
-            (None, Some(to)) => self.with_target(alloc, to),
-            (None, None) => self.all(alloc),
-        }
     }
 
     /// Puts the pair in or takes it out. Where memory runs out no pairs are left.

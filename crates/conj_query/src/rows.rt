@@ -75,6 +75,13 @@ impl Rows {
         }
     }
 
+    /// Whether the vertex has no others, by one look-up.
+    pub(crate) fn is_bare(&self, vertex: &Name) -> bool
+        ensures { (result ≡ true) ↔ (row_of self.now vertex.now ≡ []) }
+    {
+        self.row(vertex).is_empty()
+    }
+
     /// Whether the row of the vertex has the other one, by two look-ups.
     pub(crate) fn has(&self, vertex: &Name, other: &Name) -> bool
         ensures { (result ≡ true) ↔ Contains (row_of self.now vertex.now) other.now }

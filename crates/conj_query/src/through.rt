@@ -7,9 +7,9 @@ ghost use Rattle.conj_query.specs.Sound.{IsAtomWithin, Mentions};
 use crate::binding::Binding;
 use crate::data::{JoinAtom, JoinDef};
 use crate::extension::taken;
-use crate::pairs::PairSet;
 use crate::partial::Partial;
 use crate::plan::planned;
+use crate::query_pairs::QueryPairs;
 use rpq_base::{Memory, Pair};
 use std::alloc::Global;
 
@@ -30,7 +30,7 @@ fn closed(alloc: Global, partials: &[Partial]) -> Result<Vec<Binding>, Memory>
 /// their queries. One that meets the atom and others by the pair is given once.
 pub(crate) fn through(
     alloc: Global,
-    sets: &[PairSet],
+    sets: &QueryPairs,
     def: &JoinDef,
     atom: &JoinAtom,
     pair: &Pair,

@@ -8,7 +8,7 @@ ghost use Rattle.conj_query.specs.Sound.{IsSound};
 
 use crate::binding::Binding;
 use crate::data::{JoinAtom, JoinDef};
-use crate::pairs::PairSet;
+use crate::query_pairs::QueryPairs;
 use crate::through::through;
 use rpq_base::{Event, Memory};
 use std::alloc::Global;
@@ -17,7 +17,7 @@ use std::alloc::Global;
 fn add_by_atom(
     found: &mut Vec<Binding>,
     alloc: Global,
-    sets: &[PairSet],
+    sets: &QueryPairs,
     def: &JoinDef,
     atom: &JoinAtom,
     event: &Event,
@@ -39,7 +39,7 @@ fn add_by_atom(
 fn add_by_event(
     found: &mut Vec<Binding>,
     alloc: Global,
-    sets: &[PairSet],
+    sets: &QueryPairs,
     def: &JoinDef,
     event: &Event,
 ) -> Result<(), Memory>
@@ -59,7 +59,7 @@ fn add_by_event(
 fn add_if(
     found: &mut Vec<Binding>,
     alloc: Global,
-    sets: &[PairSet],
+    sets: &QueryPairs,
     def: &JoinDef,
     added: bool,
     event: &Event,
@@ -79,7 +79,7 @@ fn add_if(
 /// of a retraction. One that does by several stands there several times.
 pub(crate) fn touched(
     alloc: Global,
-    sets: &[PairSet],
+    sets: &QueryPairs,
     def: &JoinDef,
     added: bool,
     events: &[Event],

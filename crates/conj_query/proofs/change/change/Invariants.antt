@@ -4,4 +4,4 @@ use Rattle.conj_query.proofs.change.change.Given as goal
 
 -- the pairs of the events so far are put in or taken out
 abbrev pub invariant-loop-event : goal.invariant-loop-event
-invariant-loop-event l = ArePut l.fn.sets.items l.sets.items (take l.event-index l.events) × (length l.sets.items ≡ length l.fn.sets.items)
+invariant-loop-event l = ArePut l.fn.sets l.sets (take l.event-index l.events) × (length l.sets ≡ length l.fn.sets)

@@ -3,8 +3,8 @@ use Rattle.std.specs.Prelude.{◌↔◌}
 use Rattle.std.proofs.lemmas.List.{take_all}
 use Rattle.rpq_base.proofs.Members.{next_one}
 use Rattle.rpq_base.specs.declared.data.Pair.{Pair}
-use Rattle.conj_query.specs.Partial.{Agrees, Covers, Fits, IsMetBy}
-use Rattle.conj_query.proofs.Extending.{met_more, met_by_fitting}
+use Rattle.conj_query.specs.Partial.{Agrees, Covers, Fits, IsMetBy, atoms_at}
+use Rattle.conj_query.proofs.Extending.{met_more, met_by_sufficient}
 use Rattle.conj_query.proofs.extension.extend.Goals as goal
 
 pub loop-ends-preserved : goal.loop-ends-preserved
@@ -31,7 +31,7 @@ returns-clause-covers c = λ names.
     let agree = Agrees c.args.bound.now names in
     let all : take c.loop-ends.ends-index items ≡ found =
     take_all c.loop-ends.ends-index items c.loop-ends-test.false ∙ c.deref-ends-items.ensures.value in
-    met_by_fitting found c.args.pairs.now names atom old new agree
-    (λ (each : Pair). Fits c.so_far.result each.from × Fits c.so_far-2.result each.to) c.in_ok-found.ensures
-    (λ agrees pair of. (c.so_far.ensures names agrees pair.from of.from, c.so_far-2.ensures names agrees pair.to of.to))
+    met_by_sufficient c.args.sets.now (atoms_at c.args.atoms.now) atom
+    (λ (each : Pair). Fits c.so_far-from.result each.from × Fits c.so_far-to.result each.to) found names old new agree c.in_ok-found.ensures
+    (λ agrees pair of. (c.so_far-from.ensures names agrees pair.from of.from, c.so_far-to.ensures names agrees pair.to of.to))
     (subst (λ (list : List Pair). new ↔ (old ⊎ (agree × IsMetBy list names atom))) all (c.loop-ends.invariant.covers names))

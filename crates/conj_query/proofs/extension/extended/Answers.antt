@@ -1,23 +1,19 @@
 use Rattle.std.proofs.Common.{◌+◌, List, length, take, sym, subst, ⊎_elim}
-use Rattle.std.specs.Prelude.{◌↔◌, Contains}
+use Rattle.std.specs.Prelude.{Contains}
 use Rattle.std.proofs.lemmas.List.{take_all}
 use Rattle.rpq_base.proofs.Members.{none_in, next_one}
-use Rattle.conj_query.specs.Partial.{Bound, Covers, IsMetBy}
+use Rattle.conj_query.specs.Overlaps.{Narrows}
+use Rattle.conj_query.specs.Partial.{Bound, Covers, IsMetIn, atoms_at}
 use Rattle.conj_query.specs.Sound.{IsAtomWithin}
-use Rattle.conj_query.proofs.Extending.{covers_more}
+use Rattle.conj_query.proofs.Extending.{narrows_none, narrows_more}
 use Rattle.conj_query.proofs.extension.extended.Goals as goal
 
 pub loop-bound-init : goal.loop-bound-init
-loop-bound-init c =
-    let nothing : (bound : Bound) → Contains c.new-all.result.items bound → ⊥ =
-    λ bound member. none_in bound (subst (λ (items : List Bound). Contains items bound) c.new-all.ensures.items member) in
-    record {
-      covers = λ names. (
-        (λ covers. absurd (nothing covers.0 covers.1)),
-        (λ both. absurd (none_in both.0.0 both.0.1)),
-      );
-      closes = λ more member. absurd (nothing more member);
-    }
+loop-bound-init c = record {
+  covers = λ names.
+      narrows_none c.args.sets.now (atoms_at c.args.atoms.now) names c.new-all.result.items (IsMetIn c.args.sets.now names c.args.atom.now) c.new-all.ensures.items;
+  closes = λ more member. absurd (none_in more (subst (λ (items : List Bound). Contains items more) c.new-all.ensures.items member));
+}
 
 pub loop-bound-preserved : goal.loop-bound-preserved
 loop-bound-preserved c =
@@ -27,20 +23,24 @@ loop-bound-preserved c =
     let step = next_one partials index one c.loop-bound-test.true c.bound-item.is in
     record {
       covers = λ names.
-          covers_more (take index partials) (take (index + 1) partials) one names (Covers c.loop-bound.all.items names) (Covers c.extend.new.out.items names)
-          (IsMetBy c.args.pairs.now names c.args.atom.now) step (c.in_ok-extend.ensures.covers names) (c.loop-bound.invariant.covers names);
+          narrows_more c.args.sets.now (atoms_at c.args.atoms.now) names (take index partials) (take (index + 1) partials) one
+          (Covers c.loop-bound.all.items names) (Covers c.extend.new.out.items names) (IsMetIn c.args.sets.now names c.args.atom.now) step
+          (c.in_ok-extend.ensures.covers names) (c.loop-bound.invariant.covers names);
       closes = λ more member. ⊎_elim
           (λ there. let found = c.loop-bound.invariant.closes more there in (found.0, step.still found.0 found.1, found.2))
           (λ closes. (one, step.here, closes))
           (c.in_ok-extend.ensures.closes more member);
     }
 
-pub extend-requires : goal.extend-requires
-extend-requires c = subst (λ (bound : Bound). IsAtomWithin (length bound) c.args.atom.now) (sym c.bound-item.is) (c.requires c.loop-bound.bound-index c.bound-item.result c.loop-bound-test.true)
+pub extend-requires-clause-within : goal.extend-requires-clause-within
+extend-requires-clause-within c =
+    subst (λ (bound : Bound). IsAtomWithin (length bound) c.args.atom.now) (sym c.bound-item.is)
+    (c.requires.within c.loop-bound.bound-index c.bound-item.result c.loop-bound-test.true)
 
 pub returns-clause-covers : goal.returns-clause-covers
 returns-clause-covers c = λ names.
-    subst (λ (list : List Bound). Covers c.loop-bound.all.items names ↔ (Covers list names × IsMetBy c.args.pairs.now names c.args.atom.now))
+    subst (λ (list : List Bound). Narrows c.args.sets.now (atoms_at c.args.atoms.now) names
+    (Covers list names × IsMetIn c.args.sets.now names c.args.atom.now) (Covers c.loop-bound.all.items names))
     (take_all c.loop-bound.bound-index c.args.partials.now c.loop-bound-test.false) (c.loop-bound.invariant.covers names)
 
 pub returns-clause-closes : goal.returns-clause-closes

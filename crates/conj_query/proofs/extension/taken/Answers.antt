@@ -1,13 +1,13 @@
-use Rattle.std.proofs.Common.{◌≡◌, ◌+◌, ◌<◌, ℕ, List, [], ◌∷◌, ◌++◌, length, Bor, take, get_or, refl, sym, ap, subst, ◌∙◌, inl, ⊎_elim}
-use Rattle.std.specs.Prelude.{◌↔◌, Contains}
-use Rattle.std.proofs.lemmas.List.{get_or_default, take_all}
+use Rattle.std.proofs.Common.{◌≡◌, ◌+◌, ℕ, List, [], ◌∷◌, ◌++◌, Bor, take, get_or, refl, sym, ap, subst, ◌∙◌, inl, ⊎_elim}
+use Rattle.std.specs.Prelude.{Contains}
+use Rattle.std.proofs.lemmas.List.{take_all}
 use Rattle.rpq_base.proofs.Members.{none_in, cons_members, next_given}
 use Rattle.conj_query.specs.declared.data.JoinAtom.{JoinAtom}
-use Rattle.conj_query.specs.Partial.{Bound, Agrees, Covers, ClosesAll, IsMetBy, AreMet, atoms_at}
+use Rattle.conj_query.specs.Overlaps.{Narrows}
+use Rattle.conj_query.specs.Partial.{Bound, Agrees, Covers, ClosesAll, IsMetIn, AreMet, atoms_at}
 use Rattle.conj_query.specs.Sound.{IsAtomWithin}
-use Rattle.conj_query.proofs.Differing.{mapped}
 use Rattle.std.proofs.lemmas.List.Elements.{Contains-get_or}
-use Rattle.conj_query.proofs.Extending.{atoms_more, closes_more}
+use Rattle.conj_query.proofs.Extending.{atoms_more, atoms_all, closes_more, at_place}
 use Rattle.conj_query.proofs.extension.taken.Goals as goal
 
 pub loop-atom-init : goal.loop-atom-init
@@ -18,26 +18,21 @@ loop-atom-init c =
     λ each member. ⊎_elim (λ is. is) (λ none. absurd (none_in each none))
     ((cons_members bound [] each).0 (subst (λ (all : List Bound). Contains all each) items member)) in
     record {
-      covers = λ names. (
-        (λ covers. (
+      covers = λ names. record {
+        only = λ covers. (
           subst (λ (each : Bound). Agrees each names) (sym (alone covers.0 covers.1)) covers.2,
           λ atom member. absurd (none_in atom member),
-        )),
-        (λ both. (bound, subst (λ (all : List Bound). Contains all bound) (sym items) ((cons_members bound [] bound).1 (inl refl)), both.0)),
-      );
+        );
+        all = λ are both. (bound, subst (λ (all : List Bound). Contains all bound) (sym items) ((cons_members bound [] bound).1 (inl refl)), both.0);
+      };
       closes = λ more member. subst (ClosesAll bound []) (alone more member) (record {
         as_many = refl;
         leaves = λ number open_. (open_, λ atom none mentions. none_in atom none);
       });
     }
 
--- an atom that stands at a place
-at_place : (atoms : List (Bor JoinAtom)) (index : ℕ) (one : Bor JoinAtom) → index < length atoms → one ≡ get_or atoms index one →
-    Contains (atoms_at atoms) one.now
-at_place atoms index one below is = (mapped (λ (atom : Bor JoinAtom). atom.now) atoms one.now).1 (one, (index, below, sym is), refl)
-
-pub extended-requires : goal.extended-requires
-extended-requires c = λ k d below.
+pub extended-requires-clause-within : goal.extended-requires-clause-within
+extended-requires-clause-within c = λ k d below.
     let one = c.atom-item.result in
     let member = at_place c.args.atoms.now c.loop-atom.atom-index one c.loop-atom-test.true c.atom-item.is in
     let items = c.deref.result.now in
@@ -46,8 +41,8 @@ extended-requires c = λ k d below.
     let closes = c.loop-atom.invariant.closes (get_or items k d) among in
     subst (λ (count : ℕ). IsAtomWithin count one.now) (sym closes.as_many) (c.requires.within one.now member)
 
-pub bounds-sets-atom : goal.bounds-sets-atom
-bounds-sets-atom c =
+pub extended-requires-clause-below : goal.extended-requires-clause-below
+extended-requires-clause-below c =
     c.requires.below c.atom-item.result.now (at_place c.args.atoms.now c.loop-atom.atom-index c.atom-item.result c.loop-atom-test.true c.atom-item.is)
 
 pub loop-atom-preserved : goal.loop-atom-preserved
@@ -59,15 +54,11 @@ loop-atom-preserved c =
     let one = c.atom-item.result in
     let all = c.loop-atom.all.items in
     let step = next_given (λ (atom : Bor JoinAtom). atom.now) atoms index one c.loop-atom-test.true c.atom-item.is in
-    let below : one.now.query < length sets =
-    c.requires.below one.now (at_place atoms index one c.loop-atom-test.true c.atom-item.is) in
-    let pairs_are : c.index-sets-atom.result ≡ get_or sets one.now.query [] =
-    c.index-sets-atom.is ∙ get_or_default sets one.now.query c.index-sets-atom.result [] below in
     record {
       covers = λ names.
-          atoms_more (atoms_at (take index atoms)) (atoms_at (take (index + 1) atoms)) one.now sets c.index-sets-atom.result names (Covers all names) (Covers c.in_ok-all.all.items names)
-          (Agrees bound names) step pairs_are
-          (subst (λ (list : List Bound). Covers c.in_ok-all.all.items names ↔ (Covers list names × IsMetBy c.index-sets-atom.result names one.now))
+          atoms_more sets (atoms_at atoms) (atoms_at (take index atoms)) (atoms_at (take (index + 1) atoms)) one.now names (Covers all names)
+          (Covers c.in_ok-all.all.items names) (Agrees bound names) step
+          (subst (λ (list : List Bound). Narrows sets (atoms_at atoms) names (Covers list names × IsMetIn sets names one.now) (Covers c.in_ok-all.all.items names))
           c.deref.ensures.value (c.in_ok-all.ensures.covers names))
           (c.loop-atom.invariant.covers names);
       closes = λ more member.
@@ -78,8 +69,13 @@ loop-atom-preserved c =
 
 pub returns-clause-covers : goal.returns-clause-covers
 returns-clause-covers c = λ names.
-    subst (λ (list : List (Bor JoinAtom)). Covers c.loop-atom.all.items names ↔ (Agrees c.args.bound names × AreMet c.args.sets.now names (atoms_at list)))
-    (take_all c.loop-atom.atom-index c.args.atoms.now c.loop-atom-test.false) (c.loop-atom.invariant.covers names)
+    let sets = c.args.sets.now in
+    let atoms = c.args.atoms.now in
+    let all = Covers c.loop-atom.all.items names in
+    let agree = Agrees c.args.bound names in
+    atoms_all sets (atoms_at atoms) names all agree
+    (subst (λ (list : List (Bor JoinAtom)). Narrows sets (atoms_at atoms) names (agree × AreMet sets names (atoms_at list)) all)
+    (take_all c.loop-atom.atom-index atoms c.loop-atom-test.false) (c.loop-atom.invariant.covers names))
 
 pub returns-clause-closes : goal.returns-clause-closes
 returns-clause-closes c = λ more member.

@@ -6,7 +6,7 @@ use Rattle.conj_query.proofs.joins.Joins.apply.Goals as goal
 
 pub moved-requires-clause-sound : goal.moved-requires-clause-sound
 moved-requires-clause-sound c =
-    subst (λ (joins : List JoinValue). All (IsSound (length c.self.inside.sets.items)) joins)
+    subst (λ (joins : List JoinValue). All (IsSound (length c.self.inside.sets)) joins)
     (sym (c.as_slice.ensures.value ∙ ap (λ joins. joins.items) c.deref.ensures)) c.self.invariant.1
 
 pub invariant_of-self : goal.invariant_of-self

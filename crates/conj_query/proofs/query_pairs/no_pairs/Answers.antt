@@ -2,7 +2,7 @@ use Rattle.std.proofs.Common.{List, [], ◌∷◌, ◌++◌, length, ap, arith, 
 use Rattle.std.specs.Prelude.{◌≡◌}
 use Rattle.std.proofs.lemmas.List.Elements.{All-nil, All-cons, All-append, All-same}
 use Rattle.rpq_base.specs.declared.data.Pair.{Pair}
-use Rattle.conj_query.proofs.joins.no_pairs.Goals as goal
+use Rattle.conj_query.proofs.query_pairs.no_pairs.Goals as goal
 
 pub loop-query-preserved : goal.loop-query-preserved
 loop-query-preserved c =

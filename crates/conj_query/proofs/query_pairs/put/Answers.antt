@@ -1,5 +1,5 @@
 use Rattle.conj_query.proofs.Changing.{put_at}
-use Rattle.conj_query.proofs.change.change_by.Goals as goal
+use Rattle.conj_query.proofs.query_pairs.put.Goals as goal
 
 pub returns-clause-put : goal.returns-clause-put
 returns-clause-put c =
