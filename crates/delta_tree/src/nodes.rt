@@ -1,6 +1,6 @@
 //! The nodes of a tree, and the order in which they leave it.
 
-ghost use Rattle.std.specs.Prelude.{◌≡◌, ◌<◌, ◌≤◌, cond, ◌∷◌, None, Some, Contains, IfOk, IsOk, OnOk, OnErr, option_map};
+ghost use Rattle.std.specs.Prelude.{◌≡◌, ◌<◌, ◌≤◌, cond, None, Some, Contains, IfOk, IsOk, OnOk, OnErr, option_map};
 ghost use Rattle.std.specs.Option.{MatchOption};
 ghost use Rattle.due_queue.specs.Queue.{due};
 ghost use Rattle.delta_tree.specs.declared.node.NodeId.{NodeId};

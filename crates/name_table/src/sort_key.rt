@@ -1,6 +1,6 @@
 //! The sort key of a name.
 
-ghost use Rattle.std.specs.Prelude.{◌≡◌, ◌<◌, slice_index};
+ghost use Rattle.std.specs.Prelude.{◌≡◌, slice_index};
 ghost use Rattle.name_table.specs.Keys.{sort_key, AreBytes};
 
 /// How many bytes of a name its sort key holds.

@@ -1,6 +1,6 @@
 //! Sources in memory, by lines and whole.
 
-ghost use Rattle.std.specs.Prelude.{◌≡◌, ◌≤◌, false, IfOk};
+ghost use Rattle.std.specs.Prelude.{◌≡◌, false, IfOk};
 
 use anyhow::{bail, ensure};
 use case_lines::{Fields, Output, decoded};

@@ -49,19 +49,19 @@ fn tell_query<S: Sink>(errors: &mut S, fault: &QueryFault) -> Result<(), Failed>
 {
     let line = fault.line;
     match &fault.kind {
-        QueryKind::Shape => put_line(errors, &query_line(line, "shape", "")),
-        QueryKind::Number => put_line(errors, &query_line(line, "number", "")),
-        QueryKind::Twice(_) => put_line(errors, &query_line(line, "name twice", "")),
-        QueryKind::TooMany => put_line(errors, &query_line(line, "too many queries", "")),
-        QueryKind::NoQuery => put_line(errors, &query_line(line, "no query", "")),
         QueryKind::Expr(fault) => put_line(errors, &expr_line(line, *fault)),
         QueryKind::TooManyLabels(count) => {
             let mut digits = Buffer::new();
             put_line(errors, &query_line(line, digits.format(*count), " labels"))
         }
-        QueryKind::TooManyStates => put_line(errors, &query_line(line, "too many states", "")),
         QueryKind::NotContained { p, q, w } => tell_not_contained(errors, line, &[p, q, w]),
-        QueryKind::Memory => put_line(errors, &query_line(line, "out of memory", "")),
+        kind @ (QueryKind::Shape
+        | QueryKind::Number
+        | QueryKind::Twice(_)
+        | QueryKind::TooMany
+        | QueryKind::NoQuery
+        | QueryKind::TooManyStates
+        | QueryKind::Memory) => put_line(errors, &query_line(line, kind.text(), "")),
     }
 }
 

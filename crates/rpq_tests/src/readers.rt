@@ -1,8 +1,6 @@
 //! A reader beside a stream and the engine: it is answered before the next line is there, and while
 //! a worker on trees is at work.
 
-ghost use Rattle.std.specs.Prelude.{◌≡◌};
-
 use crate::memory::words_of;
 use rpq_io::{Files, Gate, HostSink, HostSource, OpenFault, Who};
 use rpq_run::{Answered, Report, run};
