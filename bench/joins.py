@@ -14,7 +14,7 @@ told in instructions by valgrind's callgrind, of a run with these tuples less th
 them.
 
 First it is asked whether each of these tuples changes one binding. The status is 1 where one
-doesn't. The join dead-ends is measured where it is named: what it adds grows with the pairs.
+doesn't. The join dead-ends, whose searches come to nothing, is measured where it is named.
 """
 
 import argparse
