@@ -5,14 +5,11 @@
 //! (`specs/View`); each call reads the answers of one query, in the words of `answer_rows`, and
 //! takes no memory. The contract for the layer above is `IsViewOf`: the rows are exactly the
 //! answers over the whole history, each with its end. That pins the view ([`views_are_one`]), and
-//! the pairs that it holds are the answers ([`rows_hold_answers`]). [`plain_view`] makes the view
-//! from scratch.
+//! the pairs that it holds are the answers ([`rows_hold_answers`]).
 #![tactic(auto)]
 
 mod laws;
-mod plain;
 mod view;
 
 pub use laws::{rows_are_one, rows_hold_answers, views_are_one};
-pub use plain::plain_view;
 pub use view::View;

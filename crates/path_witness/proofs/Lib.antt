@@ -4,11 +4,9 @@ mod Example
 mod Following
 mod Forgetting
 mod Keeping
-mod PathFinding
-mod PathTesting
+pub mod PathFinding
 mod Places
 mod Raising
-mod Showing
 mod Simple
 mod Telling
 mod Visits

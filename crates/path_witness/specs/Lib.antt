@@ -6,7 +6,6 @@ pub mod Keeps
 pub mod Keys
 pub mod LastVisits
 pub mod Marks
-pub mod PathTests
 pub mod Shows
 pub mod Taking
 pub mod Told

@@ -3,7 +3,7 @@
 //! A path of entries in the window shows that a pair is an answer. Of all such paths, the one whose
 //! least deadline is greatest shows how long the answer lasts, and each answer of a query that is
 //! accepted has such a path ([`answers_are_shown`]). This layer has what a run needs to write these
-//! paths behind the pairs that it gains, and what a test needs to check them.
+//! paths behind the pairs that it gains.
 //!
 //! [`Marks`] tells, for each edge and each of some queries, the live entry that lasts longest, over
 //! a history that grows by one entry at a time. One mark for each edge and query is enough
@@ -15,8 +15,8 @@
 //! query's language has the property of containment, what is left has a word of it, and lasts as
 //! long ([`cut_keeps`]).
 //!
-//! [`is_shown`] decides whether what is shown is such a path and lasts as long as the answer does,
-//! by the definitions alone and from scratch ([`shown_example`]).
+//! The crate `plain_checks` decides from scratch whether what is shown is such a path.
+//! [`shown_example`] has two paths, one of which shows an answer.
 #![tactic(auto)]
 
 mod edge_key;
@@ -26,11 +26,10 @@ mod loops;
 mod mark;
 mod marks;
 mod path_entries;
-mod path_test;
 mod shown;
 
 pub use laws::{answers_are_shown, cut_keeps, one_mark_is_enough, shown_example};
 pub use loops::cut_loops;
 pub use mark::Mark;
 pub use marks::Marks;
-pub use shown::{ShownPath, is_shown};
+pub use shown::ShownPath;

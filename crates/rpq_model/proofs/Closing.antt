@@ -2,17 +2,14 @@
 use Rattle.std.proofs.Common.{◌≡◌, ℕ, List, [], ◌∷◌, ◌++◌, filter, refl, sym, ap, subst, ◌⊎◌, inl}
 use Rattle.std.proofs.Common.{inr, ⊎_elim, arith}
 use Rattle.std.specs.Prelude.{◌↔◌, All, Contains}
-use Rattle.std.specs.BTreeSet.{insert_key}
 use Rattle.std.proofs.lemmas.List.Elements.{All-cons, All-nil, All-head, All-tail, All-append}
 use Rattle.std.proofs.lemmas.List.Elements.{All-weaker}
-use Rattle.std.proofs.lemmas.Map.Lookups.{exact_bytes}
-use Rattle.rpq_base.specs.Order.{name_cmp}
 use Rattle.rpq_base.specs.Same.{same_name}
 use Rattle.rpq_base.specs.declared.data.Pair.{Pair}
 use Rattle.rpq_model.specs.Relations.{between, targets, IsComposed, IsPairOver, LeadsOver}
 use Rattle.rpq_model.specs.Relations.{IsReached}
 use Rattle.rpq_base.proofs.Equality.{names}
-use Rattle.rpq_base.proofs.Members.{cons_members, none_in, HasOneMore, insert_members, kept_members}
+use Rattle.rpq_base.proofs.Members.{cons_members, none_in, HasOneMore, kept_members}
 
 -- the pairs lead from the pair's source to its target, over these vertices alone
 pub record IsReachedOver (pairs : List Pair) (allowed : List (List ℕ)) (pair : Pair) : Type 0 where
@@ -205,22 +202,3 @@ reached_at_last pairs vertices all pair = (
     leads = reached.1;
   }),
 )
-
--- ---- the targets, one by one
-
--- one pair more
-pub target_more : (before : List (List ℕ)) (one : List ℕ) (after found more : List (List ℕ)) →
-    HasOneMore before one after → more ≡ insert_key name_cmp found one →
-    ((vertex : List ℕ) → Contains found vertex ↔ Contains before vertex) →
-    (vertex : List ℕ) → Contains more vertex ↔ Contains after vertex
-target_more before one after found more one_more is members vertex =
-    let inserted = insert_members exact_bytes found one vertex in (
-      (λ member. ⊎_elim
-          (λ here. subst (Contains after) here one_more.here)
-          (λ there. one_more.still vertex ((members vertex).0 there))
-          (inserted.0 (subst (λ (all : List (List ℕ)). Contains all vertex) is member))),
-      (λ member. subst (λ (all : List (List ℕ)). Contains all vertex) (sym is) (inserted.1 (⊎_elim
-          (λ there. inr ((members vertex).1 there))
-          (λ here. inl here)
-          (one_more.cases vertex member)))),
-    )

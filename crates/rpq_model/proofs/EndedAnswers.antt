@@ -20,7 +20,7 @@ use Rattle.rpq_base.specs.declared.data.Pair.{Pair}
 use Rattle.rpq_base.proofs.Members.{none_in, cons_members}
 use Rattle.rpq_base.proofs.Orders.{both_equal, pair_cmp_total, pair_cmp_exact}
 use Rattle.rpq_base.proofs.Sorted.{sorted_nil, sorted_cons, same_from_members}
-use Rattle.rpq_model.specs.declared.rows.Ended.{Ended}
+use Rattle.rpq_model.specs.declared.ended.Ended.{Ended}
 use Rattle.rpq_model.specs.Window.{WindowValue, Placed, clock, live_entries}
 use Rattle.rpq_model.specs.WindowLaws.{IsTupleDeadline, IsLiveDeadline}
 use Rattle.rpq_model.specs.Answers.{PathQuery, IsAnswerAt, IsAnswer, AreAnswers}

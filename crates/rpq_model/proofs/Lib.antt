@@ -10,18 +10,16 @@ pub mod Deadlines
 pub mod OwnDeadlines
 pub mod OneMore
 pub mod Ends
-mod Lasting
+pub mod Lasting
 mod EndedAnswers
 pub mod EachEntry
 pub mod ByMembers
-mod ByLabel
+pub mod ByLabel
 pub mod Closing
 pub mod Merging
-pub mod EachOnce
 mod Sequences
-mod ByCases
-mod Onwards
-mod Answered
+pub mod ByCases
+pub mod Answered
 pub mod Ticks
 pub mod Queries
 pub mod AllEvents

@@ -1,6 +1,7 @@
 -- The laws over queries.
-use Rattle.std.proofs.Common.{◌≡◌, ◌≢◌, ℕ, List, [], ◌∷◌, refl, sym, subst, ◌∙◌, ⊎_elim}
-use Rattle.std.specs.Prelude.{All}
+use Rattle.std.proofs.Common.{◌≡◌, ◌≢◌, ℕ, suc, List, [], ◌∷◌, map, refl, sym, subst, ◌∙◌}
+use Rattle.std.proofs.Common.{⊎_elim, arith}
+use Rattle.std.specs.Prelude.{All, AllPairs}
 use Rattle.std.proofs.lemmas.Bool.{cases_order}
 use Rattle.std.proofs.lemmas.List.Elements.{All-head, All-tail}
 use Rattle.rpq_base.specs.declared.data.Label.{Label}
@@ -14,8 +15,6 @@ use Rattle.rpq_model.specs.Window.{edges_at}
 use Rattle.rpq_model.specs.Answers.{PathQuery, Joins}
 use Rattle.rpq_model.specs.Ends.{IsUntil}
 use Rattle.rpq_model.specs.AnswerLaws.{EmptyWordBringsNoPair, SimpleAnswersAreApart}
-use Rattle.rpq_model.specs.Onwards.{targets_of}
-use Rattle.rpq_model.proofs.Onwards.{apart_first}
 use Rattle.rpq_model.proofs.Paths.{joined_same}
 
 pub until_is_one : (query : PathQuery) (history : List Entry) (pair : Pair) (until other : ℕ) →
@@ -33,6 +32,16 @@ empty_word_brings_no_pair language other same mode window now entries pair = (
   joined_same (edges_at window now entries) mode language other (λ word some. (same word some).0) pair,
   joined_same (edges_at window now entries) mode other language (λ word some. (same word some).1) pair,
 )
+
+-- ---- the targets of a path's edges
+
+abbrev pub targets_of : List Edge → List (List ℕ)
+targets_of path = map (λ edge. edge.to) path
+
+-- those after the first differ from it
+pub apart_first : (first : List ℕ) (rest : List (List ℕ)) →
+    AllPairs (λ vertex later. vertex ≢ later) (first ∷ rest) → All (λ later. first ≢ later) rest
+apart_first first rest apart = λ k d below. apart 0 (suc k) d (omega arith) (omega (arith, below))
 
 -- what differs from all targets of a path differs from its end
 end_differs : (path : List Edge) (vertex from to : List ℕ) → path ≢ [] → Leads from path to → All (λ later. vertex ≢ later) (targets_of path) → vertex ≢ to

@@ -10,7 +10,7 @@ use Rattle.rpq_model.specs.declared.mode.Mode.TheVariants.{Arbitrary, Simple}
 use Rattle.rpq_model.specs.Window.{WindowValue, clock}
 use Rattle.rpq_model.specs.Answers.{PathQuery, IsJoinedBy, IsAnswerAt, IsAnswer, AreAnswersAt}
 use Rattle.rpq_model.specs.Answers.{AreAnswers}
-use Rattle.rpq_model.specs.declared.rows.Ended.{Ended}
+use Rattle.rpq_model.specs.declared.ended.Ended.{Ended}
 use Rattle.rpq_model.specs.Ends.{IsUntil, AreEndedAnswers, pairs_of}
 use Rattle.rpq_model.specs.WindowLaws.{IsLiveDeadline}
 use Rattle.rpq_model.specs.Query.{Query, path_query}

@@ -5,7 +5,7 @@ use Rattle.rpq_base.specs.Order.{pair_cmp}
 use Rattle.rpq_base.specs.declared.data.Act.TheVariants.{Tick}
 use Rattle.rpq_base.specs.declared.data.Entry.{Entry}
 use Rattle.rpq_base.specs.declared.data.Pair.{Pair}
-use Rattle.rpq_model.specs.declared.rows.Ended.{Ended}
+use Rattle.rpq_model.specs.declared.ended.Ended.{Ended}
 use Rattle.rpq_model.specs.Answers.{PathQuery, IsAnswer}
 
 -- the entry of the first stream that lets time pass until this clock

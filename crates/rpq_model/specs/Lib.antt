@@ -4,7 +4,6 @@ pub mod Deleted
 pub mod Path
 pub mod Answers
 pub mod Ends
-pub mod Lasting
 pub mod Events
 pub mod Query
 pub mod QueryEvents
@@ -14,4 +13,3 @@ pub mod OwnEndLaws
 pub mod AnswerLaws
 pub mod EventLaws
 pub mod Relations
-pub mod Onwards

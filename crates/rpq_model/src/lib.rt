@@ -1,5 +1,4 @@
-//! What the answers and the events of a path query are, as definitions and laws, and the evaluation
-//! of a query from scratch.
+//! What the answers and the events of a path query are, as definitions and laws.
 //!
 //! The definitions in `specs/` are stated once, over path queries: a language given as a predicate
 //! on words, the paths that a query takes, and its window. A query definition means the path query
@@ -8,25 +7,17 @@
 //! An insert is seen while its time is in the window. It may have an end of its own, as a lease
 //! has: then it is seen only before that time, which isn't rounded to the slide of the window.
 //!
-//! [`plain_answers`] computes the answers of any query with no automaton: in polynomial time where
-//! it takes all paths, and in exponential time where it takes the simple ones; [`plain_rows`]
-//! computes the end of each of them too. Of the parts that evaluations share, [`clock`] and
-//! [`live_entries`] read the whole history, and [`changes`] compares two lists of answers.
+//! Of what evaluations share, [`clock`] and [`live_entries`] read the whole history. The crate
+//! `plain_evaluator` finds answers, ends and events from scratch, by these definitions alone.
 #![tactic(auto)]
 
 mod answer_laws;
-mod closure;
-mod distinct;
+mod ended;
 mod event_laws;
-mod events;
 mod live;
 mod mode;
 mod own_end_laws;
-mod plain;
 mod query;
-mod relation;
-mod rows;
-mod simple;
 mod window;
 mod window_laws;
 
@@ -36,21 +27,19 @@ pub use answer_laws::{
     later_answers_less, modes_are_told_apart, more_edges_join_more, simple_answers_are_apart,
     tick_moves_the_clock, until_is_one,
 };
+pub use ended::Ended;
 pub use event_laws::{
     all_events_are_one, each_has_one_list, each_held_is_answers, entry_events_are_one,
     events_are_apart, events_are_changes, events_are_one, events_grow, events_have_fronts,
     held_is_answers, held_step,
 };
-pub use events::changes;
 pub use live::{Live, inserted_edges, live_entries};
 pub use mode::Mode;
 pub use own_end_laws::{
     early_end_never_lives, end_beyond_the_window, inserts_have_deadlines, later_deadline_decides,
     live_below_its_end, tick_at_the_end,
 };
-pub use plain::plain_answers;
 pub use query::{QueryDef, find_query, place_named};
-pub use rows::{Ended, plain_rows};
 pub use window::{Window, clock, own_end};
 pub use window_laws::{
     delete_takes_all_before, edges_by_places, last_insert_is_seen, later_sees_less,

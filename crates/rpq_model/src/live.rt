@@ -4,10 +4,9 @@ ghost use Rattle.std.specs.Prelude.{◌≡◌, ◌||◌, List, map, OnOk, IfOk};
 ghost use Rattle.std.specs.BTreeSet.{contains};
 ghost use Rattle.rpq_base.specs.declared.data.Entry.{Entry};
 ghost use Rattle.rpq_model.specs.Window.{deletes, is_deleted, is_live, inserted_edges};
-ghost use Rattle.rpq_model.specs.Window.{live_entries, edges_at};
+ghost use Rattle.rpq_model.specs.Window.{live_entries};
 ghost use Rattle.rpq_model.specs.Live.{placed_entry};
 ghost use Rattle.rpq_model.specs.Deleted.{EdgeKey, edge_of, key_cmp, HoldsEdges};
-ghost use Rattle.rpq_model.specs.Relations.{values};
 
 use crate::window::{Window, is_seen};
 use rpq_base::{Act, Edge, Entry, Label, Memory, Name};
@@ -96,17 +95,4 @@ pub fn inserted_edges<'a>(alloc: Global, live: &[Live<'a>]) -> Result<Vec<&'a Ed
         }
     }
     Ok(edges)
-}
-
-/// The edges of the entries that are live at a clock, in order of place.
-pub(crate) fn live_edges<'a>(
-    alloc: Global,
-    window: Window,
-    now: u64,
-    entries: &'a [Entry],
-) -> Result<Vec<&'a Edge>, Memory>
-    ensures { IfOk result (λ edges. values edges.items ≡ edges_at window now entries.now) }
-{
-    let live = live_entries(alloc, window, now, entries)?;
-    inserted_edges(alloc, &live)
 }

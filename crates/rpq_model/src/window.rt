@@ -4,7 +4,6 @@ ghost use Rattle.std.specs.Prelude.{◌≡◌, ◌≤◌};
 ghost use Rattle.rpq_base.specs.OwnEnds.{own_end};
 ghost use Rattle.rpq_base.specs.declared.data.TheConstants.{MAX_TIME};
 ghost use Rattle.rpq_model.specs.Window.{clock, is_in_window, is_seen};
-ghost use Rattle.rpq_model.specs.WindowLaws.{IsDeadline, IsDeadlineOf};
 
 use rpq_base::{Act, Entry, MAX_TIME};
 use std::marker::Model;
@@ -73,26 +72,4 @@ pub(crate) fn is_seen(window: Window, now: u64, time: u64, until: Option<u64>) -
         None => true,
     };
     is_in_window(window, now, time) && is_before_end
-}
-
-/// The deadline of an edge of this time: the least multiple of the slide that is at least the time
-/// and the size of the window together. The edge is in the window at the clocks below it.
-fn deadline(window: Window, time: u64) -> u64
-    requires { time ≤ MAX_TIME }
-    ensures { IsDeadline window time result }
-{
-    (time + window.size).next_multiple_of(window.slide)
-}
-
-/// The deadline of an insert of this time, with this end of its own if it has one: that of its
-/// time, or its end where that is less. The edge is seen at the clocks below it.
-pub(crate) fn deadline_of(window: Window, time: u64, until: Option<u64>) -> u64
-    requires { time ≤ MAX_TIME }
-    ensures { IsDeadlineOf window time until result }
-{
-    let deadline = deadline(window, time);
-    match until {
-        Some(end) => deadline.min(end),
-        None => deadline,
-    }
 }

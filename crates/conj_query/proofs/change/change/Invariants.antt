@@ -1,7 +1,0 @@
-use Rattle.std.proofs.Common.{◌≡◌, length, take}
-use Rattle.conj_query.specs.State.{ArePut}
-use Rattle.conj_query.proofs.change.change.Given as goal
-
--- the pairs of the events so far are put in or taken out
-abbrev pub invariant-loop-event : goal.invariant-loop-event
-invariant-loop-event l = ArePut l.fn.sets l.sets (take l.event-index l.events) × (length l.sets ≡ length l.fn.sets)

@@ -1,5 +1,0 @@
-use Rattle.conj_query.proofs.HaveJoinEvents.{have_join_events}
-use Rattle.conj_query.proofs.laws.accepted_queries_have_join_events.Goals as goal
-
-pub returns : goal.returns
-returns c = have_join_events c.accepted_queries_have_answers.ensures

@@ -1,5 +1,0 @@
-use Rattle.conj_query.proofs.Leading.{events_lead_on}
-use Rattle.conj_query.proofs.laws.events_lead_on.Goals as goal
-
-pub returns : goal.returns
-returns c = events_lead_on c.events_are_differences.ensures

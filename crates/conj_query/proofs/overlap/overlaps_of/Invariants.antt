@@ -1,7 +1,0 @@
-use Rattle.std.specs.Prelude.{All}
-use Rattle.conj_query.specs.Overlaps.{IsBlank}
-use Rattle.conj_query.proofs.overlap.overlaps_of.Given as goal
-
--- those so far have no vertices
-abbrev pub invariant-loop-columns : goal.invariant-loop-columns
-invariant-loop-columns l = All IsBlank l.overlaps.items

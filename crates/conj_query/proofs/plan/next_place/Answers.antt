@@ -1,9 +1,0 @@
-use Rattle.std.proofs.Common.{◌∷◌}
-use Rattle.conj_query.specs.Partial.{atoms_at}
-use Rattle.conj_query.proofs.Turning.{is_next}
-use Rattle.conj_query.proofs.plan.next_place.Goals as goal
-
-pub returns-clause-least : goal.returns-clause-least
-returns-clause-least c =
-    is_next (c.args.first.now ∷ atoms_at c.args.plan.now) c.args.left.now c.loop-place.best c.loop-place.place c.loop-place-test.false
-    c.loop-place.invariant.within c.loop-place.invariant.least

@@ -1,6 +1,0 @@
-use Rattle.conj_query.proofs.Sharing.{blank_overlaps}
-use Rattle.conj_query.proofs.query_pairs.QueryPairs.new.Goals as goal
-
-pub invariant_of-result : goal.invariant_of-result
-invariant_of-result c =
-    blank_overlaps c.in_ok-sets.sets.items c.in_ok-overlaps.overlaps.items c.in_ok-sets.ensures.blank c.in_ok-overlaps.ensures

@@ -1,0 +1,9 @@
+use Rattle.std.proofs.Common.{◌≡◌, ◌⊎◌, take}
+use Rattle.std.specs.Prelude.{◌↔◌, Contains}
+use Rattle.rpq_base.specs.declared.data.Pair.{Pair}
+use Rattle.join_bindings.proofs.pairs.add_sources.Given as goal
+
+-- the pairs with the sources so far are added
+abbrev pub invariant-loop-source : goal.invariant-loop-source
+invariant-loop-source l = (pair : Pair) → Contains l.found.items pair
+    ↔ (Contains l.fn.found.items pair ⊎ ((l.to ≡ pair.to) × Contains (take l.source-index l.sources) pair.from))

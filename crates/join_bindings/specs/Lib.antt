@@ -1,0 +1,16 @@
+pub mod Bindings
+pub mod Events
+pub mod Pairs
+pub mod Turn
+pub mod Histories
+pub mod HaveJoinEvents
+pub mod TextExamples
+pub mod BindingExamples
+pub mod JoinText
+pub mod Laws
+pub mod Partial
+pub mod Touched
+pub mod Changed
+pub mod Overlaps
+pub mod State
+pub mod Leading

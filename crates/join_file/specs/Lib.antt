@@ -1,0 +1,9 @@
+pub mod Joins
+pub mod Sound
+pub mod FaultTexts
+pub mod JoinLine
+pub mod JoinsFile
+pub mod FileLaws
+pub mod Parts
+pub mod ByParts
+pub mod Examples

@@ -1,0 +1,4 @@
+mod FilledRows
+mod PathFinding
+mod PathTesting
+mod Showing

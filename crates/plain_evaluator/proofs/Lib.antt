@@ -1,0 +1,5 @@
+mod EachOnce
+mod Horizons
+mod Onwards
+pub mod SideBySide
+mod Targets
