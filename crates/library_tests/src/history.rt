@@ -6,8 +6,8 @@ ghost use Rattle.history_model.specs.Lines.{HasEnded, IsShut};
 ghost use Rattle.stream_history.specs.History.{IsPassOf, IsOpenPass, IsFeedingPass, HasSeen};
 
 use crate::journal::{first_view, one_query, tick};
-use answer_view::plain_view;
-use history_model::{Call, CallAct, Why};
+use history_model::Why;
+use plain_checks::plain_view;
 use rpq_model::QueryDef;
 use std::alloc::Global;
 use std::process::Abort;
@@ -184,35 +184,11 @@ fn is_of_one_entry(found: Option<Found>) -> bool {
         })
 }
 
-/// Whether the calls are those of a history of one entry, in the order in which they were made.
-fn are_calls_of_one_entry(calls: &[Call]) -> bool {
-    let expected = [
-        Call {
-            by: 1,
-            act: CallAct::Append,
-        },
-        Call {
-            by: 0,
-            act: CallAct::Publish(1),
-        },
-        Call {
-            by: 0,
-            act: CallAct::Shut(Why::Write),
-        },
-        Call {
-            by: 1,
-            act: CallAct::EndStream,
-        },
-    ];
-    calls == expected.as_slice()
-}
-
-/// Whether the journal has one entry, published, all is ended and shut, and it tells the calls in
-/// their order.
+/// Whether the journal has one entry, published, and all is ended and shut.
 fn has_one_entry(journal: &Journal) -> bool {
     let one = journal.length() == 1 && journal.published() == 1;
     let over = journal.all_ended() && journal.shut_reason() == Some(Why::Write);
-    one & over & are_calls_of_one_entry(journal.calls())
+    one & over
 }
 
 /// Whether a history that takes one entry tells and refuses what it should.
@@ -247,8 +223,8 @@ fn are_published<R: Wait>(rt: &R, history: &History, pass: &mut Pass, count: u64
     }
 }
 
-/// Sleeps until so many entries are published.
-fn sleep_until_published<R: Wait>(rt: &R, history: &History, pass: &mut Pass, count: u64)
+/// Sleeps until so many entries are published, and answers whether that came.
+fn sleep_until_published<R: Wait>(rt: &R, history: &History, pass: &mut Pass, count: u64) -> bool
     requires { IsOpenPass history.now pass.old }
     ensures open { IsOpenPass history.now pass.new }
     ensures number { pass.new.number ≡ pass.old.number }
@@ -256,25 +232,34 @@ fn sleep_until_published<R: Wait>(rt: &R, history: &History, pass: &mut Pass, co
     for _ in 0..LOOKS {
         let heard = history.views_heard();
         if are_published(rt, history, pass, count) {
-            break;
+            return true;
         }
         history.sleep_until_views(rt, heard, count);
     }
+    false
 }
 
 /// Appends so many tuples, each at the time that counts those before; in turn with the engine, each
-/// when all before it are published.
-fn write_all<R: Wait>(rt: &R, history: &History, pass: &mut Pass, count: u32, is_in_turn: bool)
+/// when all before it are published. Answers whether each wait for the engine came to its end.
+fn write_all<R: Wait>(
+    rt: &R,
+    history: &History,
+    pass: &mut Pass,
+    count: u32,
+    is_in_turn: bool,
+) -> bool
     requires { IsOpenPass history.now pass.old }
     ensures open { IsOpenPass history.now pass.new }
     ensures number { pass.new.number ≡ pass.old.number }
 {
+    let mut all_came = true;
     for time in 0..count {
         let _ = write(rt, history, pass, time);
         if is_in_turn {
-            sleep_until_published(rt, history, pass, u64::from(time) + 1);
+            all_came &= sleep_until_published(rt, history, pass, u64::from(time) + 1);
         }
     }
+    all_came
 }
 
 /// Looks until all streams have ended, asleep between the looks, and answers whether that came, and
@@ -347,12 +332,12 @@ struct Task {
 }
 
 /// Does the part of the stream with this pass.
-fn append_as_told<R: Wait>(rt: &R, history: &History, pass: &mut Pass, task: Task)
+fn append_as_told<R: Wait + Abort>(rt: &R, history: &History, pass: &mut Pass, task: Task)
     requires { IsOpenPass history.now pass.old }
     ensures is { IsPassOf history.now pass.new }
     ensures number { pass.new.number ≡ pass.old.number }
 {
-    write_all(rt, history, pass, task.each, task.is_in_turn);
+    assert!(rt; write_all(rt, history, pass, task.each, task.is_in_turn));
     if task.is_published {
         end(rt, history, pass);
     }
@@ -485,10 +470,9 @@ fn a_stream_and_the_engine_wake_each_other(rt: HostRuntime) {
         is_published: true,
         is_in_turn: true,
     };
+    // Between two appends there is a publish: the stream asserts that each of its waits ended.
     let journal = journal_of(&rt, rt.alloc(), task, 1, 100);
     assert!(rt; journal.length() == 100 && journal.published() == 100);
-    // Between two appends there is a publish.
-    assert!(rt; journal.calls().len() == 201);
 }
 
 #[test]

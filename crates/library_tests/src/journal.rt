@@ -7,9 +7,10 @@ ghost use Rattle.answer_view.specs.View.{IsViewOf};
 ghost use Rattle.stream_history.specs.Journal.{empty_view, IsSound, IsOpen};
 
 use answer_rows::Rows;
-use answer_view::{View, plain_view};
+use answer_view::View;
 use history_model::Why;
 use path_syntax::Expr;
+use plain_checks::plain_view;
 use rpq_base::{Act, Label, Memory, Name, Tuple};
 use rpq_model::{Mode, QueryDef, Window};
 use std::alloc::Global;

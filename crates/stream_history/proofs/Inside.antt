@@ -10,5 +10,5 @@ value fields =
       queries = fields.queries.value.items;
       streams = fields.streams;
       cap = fields.cap;
-    }) fields.calls.items fields.entries.items
+    }) fields.calls fields.entries.items
     fields.view.value

@@ -1,12 +1,12 @@
 -- What each call keeps.
-use Rattle.std.proofs.Common.{◌≡◌, ℕ, ◌+◌, ◌<◌, ◌≤◌, ◌==◌, Bool, true, false, not, List, [], ◌∷◌}
+use Rattle.std.proofs.Common.{◌≡◌, ℕ, ◌<◌, ◌≤◌, ◌==◌, Bool, true, false, not, List, [], ◌∷◌}
 use Rattle.std.proofs.Common.{◌++◌, Option, Some, None, length, take, filter, refl, sym, ap, ap₂}
 use Rattle.std.proofs.Common.{subst, ◌∙◌, ◌⊎◌, inl, inr, ⊎_elim, arith, append-nil, length-take}
 use Rattle.std.specs.Prelude.{Contains}
 use Rattle.std.proofs.lemmas.Bool.{false≢true, eqb-true, eq-eqb}
 use Rattle.std.specs.List.{All}
 use Rattle.std.proofs.lemmas.List.Elements.{Contains-push_cases, All-nil, All-cons, All-append}
-use Rattle.std.proofs.lemmas.List.{length_push, take-append-le}
+use Rattle.std.proofs.lemmas.List.{take-append-le}
 use Rattle.rpq_base.specs.Plain.{IsPlain, IsPlainTuple}
 use Rattle.rpq_base.specs.declared.data.Tuple.{Tuple}
 use Rattle.rpq_base.specs.declared.data.Entry.{Entry}
@@ -24,8 +24,8 @@ use Rattle.history_model.specs.Joined.{lines_of}
 use Rattle.history_model.specs.LegalLaws.{LegalByLines, LinesAreJoined}
 use Rattle.stream_history.specs.Journal.{JournalValue, IsSound, IsOpen, ShowsFront, with_line}
 use Rattle.stream_history.specs.Journal.{with_view}
-use Rattle.stream_history.specs.Kept.{journal_of, shuts_left, AreOpen, IsReason, IsKept}
-use Rattle.stream_history.proofs.Filters.{kept_member, passing_member, fewer_kept}
+use Rattle.stream_history.specs.Kept.{journal_of, AreOpen, IsReason, IsKept}
+use Rattle.stream_history.proofs.Filters.{kept_member, passing_member}
 use Rattle.stream_history.proofs.Pushes.{calls_push, entries_push, published_push, called}
 use Rattle.stream_history.proofs.Pushes.{still_called, called_before, told_push}
 
@@ -84,9 +84,8 @@ still_shows journal line view below shows =
 
 -- what a call that adds this line leaves
 pub record Adds (journal later : JournalValue) (calls : List Call) (told : List Entry)
-    (open_streams : List ℕ) (reason : Option Why) (room : ℕ) : Type 0 where
+    (open_streams : List ℕ) (reason : Option Why) : Type 0 where
   pub kept : IsKept (journal_of journal.terms calls told later.view) calls told open_streams reason
-      room
   pub is : journal_of journal.terms calls told later.view ≡ later
   pub sound : IsSound later
 
@@ -94,18 +93,16 @@ pub record Adds (journal later : JournalValue) (calls : List Call) (told : List 
 adds : LinesAreJoined →
     (journal : JournalValue) (line : Line) (view : ViewValue) (calls : List Call)
     (told : List Entry)
-    (new_calls : List Call) (new_told : List Entry) (open_streams : List ℕ) (reason : Option Why)
-    (room : ℕ) →
+    (new_calls : List Call) (new_told : List Entry) (open_streams : List ℕ) (reason : Option Why) →
     journal.lines ≡ lines_of calls told → entries journal.lines ≡ told →
     new_calls ≡ calls ++ line.call ∷ [] → new_told ≡ told ++ entries (line ∷ []) →
     IsSound (record { terms = journal.terms; lines = journal.lines ++ line ∷ []; view = view }) →
     AreOpen journal.terms.streams (journal.lines ++ line ∷ []) open_streams →
     IsReason (journal.lines ++ line ∷ []) reason →
-    length new_calls + length open_streams + shuts_left reason ≤ room →
     Adds journal (record { terms = journal.terms; lines = journal.lines ++ line ∷ []; view = view })
-    new_calls new_told open_streams reason room
-adds law journal line view calls told new_calls new_told open_streams reason room lines_are told_are
-    calls_is told_is sound open_are reason_is fits =
+    new_calls new_told open_streams reason
+adds law journal line view calls told new_calls new_told open_streams reason lines_are told_are
+    calls_is told_is sound open_are reason_is =
     let later : JournalValue = record {
       terms = journal.terms;
       lines = journal.lines ++ line ∷ [];
@@ -121,17 +118,16 @@ adds law journal line view calls told new_calls new_told open_streams reason roo
     let has : entries later.lines ≡ new_told =
     entries_push journal.lines line
     ∙ (ap (λ (all : List Entry). all ++ entries (line ∷ [])) told_are ∙ sym told_is) in
-    let kept : IsKept later new_calls new_told open_streams reason room = record {
+    let kept : IsKept later new_calls new_told open_streams reason = record {
       sound = sound;
       lines = sym whole;
       appended = has;
       going = open_are;
       shut = reason_is;
-      room = fits;
     } in
     record {
-      kept = subst (λ (each : JournalValue). IsKept each new_calls new_told open_streams reason
-          room) (sym is) kept;
+      kept = subst (λ (each : JournalValue). IsKept each new_calls new_told open_streams reason)
+          (sym is) kept;
       is = is;
       sound = sound;
     }
@@ -160,32 +156,25 @@ pub goes_on : (lines : List Line) (reason : Option Why) → IsReason lines reaso
     IsShut lines → ⊥
 goes_on lines reason is none shut = let said = sym none ∙ (is shut.0).1 shut.1 in cc
 
--- and there is none where nothing is shut
-pub no_reason : (lines : List Line) (reason : Option Why) → IsReason lines reason →
-    (IsShut lines → ⊥) → reason ≡ None
-no_reason lines None is going = refl
-no_reason lines (Some why) is going = absurd (going (why, (is why).0 refl))
-
 -- ---- the calls
 
 pub append_adds : LegalByLines → LinesAreJoined →
     (journal : JournalValue) (calls new_calls : List Call) (told new_told : List Entry)
-    (open_streams : List ℕ) (reason : Option Why) (room new_room stream : ℕ) (tuple : Tuple) →
-    IsKept journal calls told open_streams reason room → IsOpen journal stream → IsPlainTuple tuple →
+    (open_streams : List ℕ) (reason : Option Why) (stream : ℕ) (tuple : Tuple) →
+    IsKept journal calls told open_streams reason → IsOpen journal stream → IsPlainTuple tuple →
     reason ≡ None →
     length told < journal.terms.cap →
     new_calls ≡ calls ++ record { by = stream; act = Append } ∷ [] →
     new_told ≡ told ++ record { stream = stream; tuple = tuple } ∷ [] →
-    length calls + (length open_streams + 2) ≤ new_room →
     Adds journal (with_line journal (append_line stream tuple)) new_calls new_told open_streams
-    reason new_room
-append_adds by_lines joined journal calls new_calls told new_told open_streams reason room new_room
-    stream tuple kept still plain none short calls_is told_is fits =
+    reason
+append_adds by_lines joined journal calls new_calls told new_told open_streams reason stream tuple
+    kept still plain none short calls_is told_is =
     let line : Line = append_line stream tuple in
     let going = goes_on journal.lines reason kept.shut none in
     let below : length (entries journal.lines) < journal.terms.cap =
     omega (arith, short, ap length kept.appended) in
-    adds joined journal line journal.view calls told new_calls new_told open_streams reason new_room
+    adds joined journal line journal.view calls told new_calls new_told open_streams reason
     kept.lines kept.appended calls_is told_is
     (grows by_lines journal line journal.view kept.sound ((λ is. refl), (λ is. refl))
     (still.is, still.goes_on, going, below)
@@ -194,37 +183,28 @@ append_adds by_lines joined journal calls new_calls told new_told open_streams r
     (All-cons IsPlain (record { stream = stream; tuple = tuple }) [] plain (All-nil IsPlain)))
     (still_open journal.terms.streams journal.lines line open_streams (λ is. cc) kept.going)
     (still_reason journal.lines line reason (λ why is. cc) kept.shut)
-    (omega (arith, fits, ap length calls_is, length_push calls line.call, ap shuts_left none))
 
 pub publish_adds : LegalByLines → LinesAreJoined →
     (journal : JournalValue) (calls new_calls : List Call) (told : List Entry)
-    (open_streams : List ℕ) (reason : Option Why) (room new_room : ℕ) (view : ViewValue) →
-    IsKept journal calls told open_streams reason room → (IsShut journal.lines → ⊥) →
+    (open_streams : List ℕ) (reason : Option Why) (view : ViewValue) →
+    IsKept journal calls told open_streams reason → (IsShut journal.lines → ⊥) →
     journal.view.position < view.position →
     view.position ≤ length (entries journal.lines) →
     ShowsFront journal.terms.queries (entries journal.lines) view →
     new_calls ≡ calls ++ record { by = 0; act = Publish view.position } ∷ [] →
-    length calls + (length open_streams + 2) ≤ new_room →
-    Adds journal (with_view journal view) new_calls told open_streams reason new_room
-publish_adds by_lines joined journal calls new_calls told open_streams reason room new_room view
-    kept going above below shows calls_is fits =
+    Adds journal (with_view journal view) new_calls told open_streams reason
+publish_adds by_lines joined journal calls new_calls told open_streams reason view kept going above
+    below shows calls_is =
     let line : Line = publish_line view.position in
     let rises : published journal.lines < view.position =
     omega (arith, above, kept.sound.position) in
-    adds joined journal line view calls told new_calls told open_streams reason new_room kept.lines
+    adds joined journal line view calls told new_calls told open_streams reason kept.lines
     kept.appended calls_is (sym (append-nil told))
     (grows by_lines journal line view kept.sound (no_tuple 0 (Publish view.position) (λ is. cc))
     (refl, going, rises, below)
     (sym (published_push journal.lines line)) below shows (All-nil IsPlain))
     (still_open journal.terms.streams journal.lines line open_streams (λ is. cc) kept.going)
     (still_reason journal.lines line reason (λ why is. cc) kept.shut)
-    (omega (
-      arith,
-      fits,
-      ap length calls_is,
-      length_push calls line.call,
-      ap shuts_left (no_reason journal.lines reason kept.shut going),
-    ))
 
 -- a shut that is there is the new one
 shut_said : (lines : List Line) (why other : Why) → (IsShut lines → ⊥) →
@@ -248,28 +228,20 @@ shut_reason lines why going other = (
 
 pub shut_adds : LegalByLines → LinesAreJoined →
     (journal : JournalValue) (calls new_calls : List Call) (told : List Entry)
-    (open_streams : List ℕ) (reason : Option Why) (room : ℕ) (why : Why) →
-    IsKept journal calls told open_streams reason room → (IsShut journal.lines → ⊥) →
+    (open_streams : List ℕ) (reason : Option Why) (why : Why) →
+    IsKept journal calls told open_streams reason → (IsShut journal.lines → ⊥) →
     new_calls ≡ calls ++ record { by = 0; act = Shut why } ∷ [] →
-    Adds journal (with_line journal (shut_line why)) new_calls told open_streams (Some why) room
-shut_adds by_lines joined journal calls new_calls told open_streams reason room why kept going
-    calls_is =
+    Adds journal (with_line journal (shut_line why)) new_calls told open_streams (Some why)
+shut_adds by_lines joined journal calls new_calls told open_streams reason why kept going calls_is =
     let line : Line = shut_line why in
-    adds joined journal line journal.view calls told new_calls told open_streams
-    (Some why) room kept.lines kept.appended calls_is (sym (append-nil told))
+    adds joined journal line journal.view calls told new_calls told open_streams (Some why)
+    kept.lines kept.appended calls_is (sym (append-nil told))
     (grows by_lines journal line journal.view kept.sound (no_tuple 0 (Shut why) (λ is. cc))
     (refl, going)
     (kept.sound.position ∙ sym (published_push journal.lines line)) (view_there journal kept.sound)
     kept.sound.view (All-nil IsPlain))
     (still_open journal.terms.streams journal.lines line open_streams (λ is. cc) kept.going)
     (shut_reason journal.lines why going)
-    (omega (
-      arith,
-      kept.room,
-      ap length calls_is,
-      length_push calls line.call,
-      ap shuts_left (no_reason journal.lines reason kept.shut going),
-    ))
 
 -- ---- the end of a stream
 
@@ -277,22 +249,11 @@ shut_adds by_lines joined journal calls new_calls told open_streams reason room 
 abbrev pub is_other : ℕ → ℕ → Bool
 is_other stream each = not (each == stream)
 
--- an open stream is one of the open ones
-pub open_member : (journal : JournalValue) (open_streams : List ℕ) (stream : ℕ) →
-    AreOpen journal.terms.streams journal.lines open_streams →
-    IsOpen journal stream → Contains open_streams stream
-open_member journal open_streams stream are still = ⊎_elim (λ ended. absurd (still.goes_on ended))
-    (λ has. has) (are.others stream still.is)
-
 -- a stream that stays isn't this one
 not_other : (stream each : ℕ) → stream ≡ each → is_other stream each ≡ true → ⊥
 not_other stream each same other =
     let is : (each == stream) ≡ true = eq-eqb each stream (sym same) in
     absurd (false≢true (sym (ap not is) ∙ other))
-
--- this one doesn't stay
-pub itself : (stream : ℕ) → is_other stream stream ≡ false
-itself stream = ap not (eq-eqb stream stream refl)
 
 -- an open stream is the one that ends, or another
 ended_or_not : (streams : ℕ) (lines : List Line) (stream each : ℕ) (open_streams : List ℕ) →
@@ -327,17 +288,15 @@ one_ended streams lines stream open_streams are = record {
 
 pub end_adds : LegalByLines → LinesAreJoined →
     (journal : JournalValue) (calls new_calls : List Call) (told : List Entry)
-    (open_streams new_open : List ℕ) (reason : Option Why) (room stream : ℕ) →
-    IsKept journal calls told open_streams reason room → IsOpen journal stream →
+    (open_streams new_open : List ℕ) (reason : Option Why) (stream : ℕ) →
+    IsKept journal calls told open_streams reason → IsOpen journal stream →
     new_calls ≡ calls ++ record { by = stream; act = EndStream } ∷ [] →
     new_open ≡ filter (is_other stream) open_streams →
-    Adds journal (with_line journal (end_line stream)) new_calls told new_open reason room
-end_adds by_lines joined journal calls new_calls told open_streams new_open reason room stream kept
-    still calls_is open_is =
+    Adds journal (with_line journal (end_line stream)) new_calls told new_open reason
+end_adds by_lines joined journal calls new_calls told open_streams new_open reason stream kept still
+    calls_is open_is =
     let line : Line = end_line stream in
-    let fewer = fewer_kept (is_other stream) open_streams stream (itself stream)
-    (open_member journal open_streams stream kept.going still) in
-    adds joined journal line journal.view calls told new_calls told new_open reason room kept.lines
+    adds joined journal line journal.view calls told new_calls told new_open reason kept.lines
     kept.appended calls_is (sym (append-nil told))
     (grows by_lines journal line journal.view kept.sound (no_tuple stream EndStream (λ is. cc))
     (still.is, still.goes_on)
@@ -346,11 +305,3 @@ end_adds by_lines joined journal calls new_calls told open_streams new_open reas
     (subst (AreOpen journal.terms.streams (journal.lines ++ line ∷ [])) (sym open_is)
     (one_ended journal.terms.streams journal.lines stream open_streams kept.going))
     (still_reason journal.lines line reason (λ why is. cc) kept.shut)
-    (omega (
-      arith,
-      kept.room,
-      fewer,
-      ap length open_is,
-      ap length calls_is,
-      length_push calls line.call,
-    ))

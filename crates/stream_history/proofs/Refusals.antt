@@ -1,16 +1,14 @@
 -- What the answers of the calls say of the lines.
-use Rattle.std.proofs.Common.{◌≡◌, ◌==◌, ℕ, ◌≤◌, Bool, List, [], ◌∷◌, Option, Some, None, length}
-use Rattle.std.proofs.Common.{refl, sym, ap, subst, ◌∙◌, inl, ⊎_elim, arith, Result, Err}
+use Rattle.std.proofs.Common.{◌≡◌, ◌==◌, ℕ, Bool, List, [], ◌∷◌, Option, Some, None, length}
+use Rattle.std.proofs.Common.{refl, sym, ap, ◌∙◌, inl, ⊎_elim, arith, Result, Err}
 use Rattle.std.specs.Prelude.{◌↔◌, IsTrue}
 use Rattle.std.proofs.lemmas.Bool.{eqb-true}
 use Rattle.rpq_base.proofs.Members.{cons_members, none_in}
-use Rattle.rpq_base.specs.declared.data.Entry.{Entry}
 use Rattle.history_model.specs.declared.line.Why.{Why}
-use Rattle.history_model.specs.declared.line.Call.{Call}
 use Rattle.history_model.specs.declared.line.Line.{Line}
 use Rattle.history_model.specs.Lines.{entries, AllEnded, IsShutFor}
 use Rattle.stream_history.specs.Journal.{JournalValue, IsFullAt}
-use Rattle.stream_history.specs.Kept.{journal_of, AreOpen, IsReason, IsKept}
+use Rattle.stream_history.specs.Kept.{AreOpen, IsReason}
 use Rattle.stream_history.specs.declared.fault.AppendFault.{AppendFault}
 use Rattle.stream_history.specs.declared.fault.AppendFault.TheVariants.{Closed, Full}
 use Rattle.stream_history.proofs.Keeping.{goes_on}
@@ -79,32 +77,3 @@ all_ended streams lines (first ∷ rest) answer are is =
       (λ said. absurd (omega (arith, eqb-true (length (first ∷ rest)) 0 (sym is ∙ said)))),
       (λ all. absurd (going.1 (all first going.0))),
     )
-
--- a journal whose lists were moved is kept
-pub moved : (journal : JournalValue) (calls new_calls : List Call) (told new_told : List Entry)
-    (open_streams : List ℕ) (reason : Option Why) (room new_room : ℕ) →
-    IsKept journal calls told open_streams reason room → new_calls ≡ calls → new_told ≡ told →
-    room ≤ new_room →
-    IsKept (journal_of journal.terms new_calls new_told journal.view) new_calls new_told
-    open_streams reason new_room
-moved journal calls new_calls told new_told open_streams reason room new_room kept calls_are
-    told_are fits =
-    let here : journal_of journal.terms calls told journal.view ≡ journal =
-    ap (λ (lines : List Line). record { terms = journal.terms; lines = lines; view = journal.view })
-    (sym kept.lines) in
-    let more : IsKept journal calls told open_streams reason new_room = record {
-      sound = kept.sound;
-      lines = kept.lines;
-      appended = kept.appended;
-      going = kept.going;
-      shut = kept.shut;
-      room = omega (arith, kept.room, fits);
-    } in
-    let stays : IsKept (journal_of journal.terms calls told journal.view) calls told open_streams
-    reason new_room =
-    subst (λ (each : JournalValue). IsKept each calls told open_streams reason new_room)
-    (sym here) more in
-    subst (λ (all : List Call). IsKept (journal_of journal.terms all new_told journal.view) all
-    new_told open_streams reason new_room) (sym calls_are)
-    (subst (λ (all : List Entry). IsKept (journal_of journal.terms calls all journal.view) calls all
-    open_streams reason new_room) (sym told_are) stays)

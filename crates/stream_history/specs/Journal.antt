@@ -9,6 +9,8 @@ use Rattle.history_model.specs.declared.line.Line.{Line}
 use Rattle.history_model.specs.Lines.{publish_line, entries, published, IsStream, HasEnded, IsShut}
 use Rattle.history_model.specs.Legal.{IsLegal}
 use Rattle.history_model.specs.World.{Terms}
+use Rattle.stream_history.specs.declared.fault.PublishFault.{PublishFault}
+use Rattle.stream_history.specs.declared.fault.PublishFault.TheVariants.{Behind}
 
 -- what the history was made with, its lines, and the view that was published last
 pub record JournalValue : Type 0 where
@@ -53,10 +55,11 @@ pub record IsFullAt (journal : JournalValue) (cap : ℕ) : Type 0 where
   pub goes_on : IsShut journal.lines → ⊥
   pub full : length (entries journal.lines) ≡ cap
 
--- this position was published last, and it isn't below that of the view
-pub record IsBehind (journal : JournalValue) (view : ViewValue) (position : ℕ) : Type 0 where
-  pub last : position ≡ published journal.lines
-  pub behind : view.position ≤ position
+-- the fault tells the position that was published last, and the view isn't beyond it
+pub record IsBehind (journal : JournalValue) (view : ViewValue) (fault : PublishFault) :
+    Type 0 where
+  pub last : fault ≡ Behind (published journal.lines)
+  pub behind : view.position ≤ published journal.lines
 
 -- the journal with no lines
 abbrev pub first_journal : Terms → ViewValue → JournalValue

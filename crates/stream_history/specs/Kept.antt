@@ -1,6 +1,5 @@
 -- What a journal keeps of its lines.
-use Rattle.std.specs.Prelude.{◌≡◌, ℕ, ◌+◌, ◌≤◌, ◌↔◌, ◌⊎◌, List, length, Option, Some, None}
-use Rattle.std.specs.Prelude.{Contains}
+use Rattle.std.specs.Prelude.{◌≡◌, ℕ, ◌↔◌, ◌⊎◌, List, Option, Some, Contains}
 use Rattle.rpq_base.specs.declared.data.Entry.{Entry}
 use Rattle.answer_view.specs.View.{ViewValue}
 use Rattle.history_model.specs.declared.line.Why.{Why}
@@ -15,11 +14,6 @@ use Rattle.stream_history.specs.Journal.{JournalValue, IsSound}
 abbrev pub journal_of : Terms → List Call → List Entry → ViewValue → JournalValue
 journal_of terms calls told view =
     record { terms = terms; lines = lines_of calls told; view = view }
-
--- how many lines the engine can still shut with
-abbrev pub shuts_left : Option Why → ℕ
-shuts_left None = 1
-shuts_left (Some why) = 0
 
 -- the numbers are those of so many streams
 abbrev pub AreStreams : ℕ → List ℕ → Type 0
@@ -38,12 +32,11 @@ abbrev pub IsReason : List Line → Option Why → Type 0
 IsReason lines reason = (why : Why) → (reason ≡ Some why) ↔ IsShutFor lines why
 
 -- the calls have as many appends as there are entries, of the same streams; the open streams and
--- the reason are those of the lines; and there is room for an end of each open stream and a shut
+-- the reason are those of the lines
 pub record IsKept (journal : JournalValue) (calls : List Call) (told : List Entry)
-    (open_streams : List ℕ) (reason : Option Why) (capacity : ℕ) : Type 0 where
+    (open_streams : List ℕ) (reason : Option Why) : Type 0 where
   pub sound : IsSound journal
   pub lines : journal.lines ≡ lines_of calls told
   pub appended : entries journal.lines ≡ told
   pub going : AreOpen journal.terms.streams journal.lines open_streams
   pub shut : IsReason journal.lines reason
-  pub room : length calls + length open_streams + shuts_left reason ≤ capacity

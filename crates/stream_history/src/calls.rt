@@ -1,7 +1,7 @@
 //! What threads do with a history.
 
 ghost use Rattle.std.specs.Prelude.{◌≡◌, ℕ, ◌<◌, ◌≤◌, ◌↔◌, Some, Err, length, take, drop};
-ghost use Rattle.std.specs.Prelude.{IsTrue, IfOk, OnOk, OnErr};
+ghost use Rattle.std.specs.Prelude.{IsTrue, IfOk, IfErr, OnOk, OnErr};
 ghost use Rattle.rpq_base.specs.Plain.{IsPlainTuple};
 ghost use Rattle.history_model.specs.declared.line.Why.{Why as Reason};
 ghost use Rattle.history_model.specs.Lines.{append_line, end_line, publish_line, shut_line};
@@ -85,8 +85,8 @@ impl History {
 
     /// Publishes a view over the first entries, as many as its position says.
     ///
-    /// The errors are, in this order, [`PublishFault::Behind`] where the position isn't beyond the
-    /// one that was published last, and [`PublishFault::Memory`]. It costs a turn.
+    /// The only error is [`PublishFault::Behind`], if the position isn't beyond the one that was
+    /// published last. It costs a turn, and takes no memory.
     pub fn publish<R: Wait>(
         &self,
         rt: &R,
@@ -101,6 +101,8 @@ impl History {
         ensures refused { OnErr result (HasSeen self.now pass.old pass.new) }
         ensures behind { (position : ℕ) → (result ≡ Err (NotPublished.Behind position))
             ↔ (position ≡ published pass.old.mine) × (view.value.position ≤ position) }
+        ensures only { IfErr result (λ fault.
+            fault ≡ NotPublished.Behind (published pass.old.mine)) }
     {
         legal_by_lines();
         legal_is_sound();

@@ -5,7 +5,7 @@ ghost use Rattle.std.specs.Prelude.{OnOk, OnErr};
 ghost use Rattle.rpq_base.specs.Plain.{IsPlainTuple};
 ghost use Rattle.history_model.specs.declared.line.Why.{Why as Reason};
 ghost use Rattle.history_model.specs.Lines.{append_line, end_line, shut_line};
-ghost use Rattle.history_model.specs.Lines.{calls, entries, published};
+ghost use Rattle.history_model.specs.Lines.{entries, published};
 ghost use Rattle.history_model.specs.Lines.{AllEnded, IsShutFor, IsShut};
 ghost use Rattle.stream_history.specs.Journal.{AreTerms, empty_view, ShowsFront, IsSound, IsOpen};
 ghost use Rattle.stream_history.specs.Journal.{IsFullAt, IsBehind, first_journal, with_line};
@@ -17,6 +17,7 @@ ghost use Rattle.stream_history.specs.declared.fault.PublishFault.{PublishFault 
 use crate::fault::{AppendFault, PublishFault};
 use crate::laws::first_view;
 use answer_view::View;
+use ghost_list::GhostList;
 use history_model::{Call, CallAct, Why, legal_by_lines, lines_are_joined};
 use rpq_base::{Entry, Memory, Tuple};
 use rpq_model::QueryDef;
@@ -36,8 +37,8 @@ pub struct Journal {
     cap: u64,
     /// The entries that were appended.
     entries: Vec<Entry>,
-    /// What was called, with room for an end of each running stream, and for a shut.
-    calls: Vec<Call>,
+    /// What was called, which takes no memory: contracts alone speak of it.
+    calls: GhostList<Call>,
     view: Arc<View>,
     /// The streams that haven't ended.
     running: Vec<u32>,
@@ -46,7 +47,6 @@ pub struct Journal {
 }
 
 impl Model for Journal {
-    ghost use Rattle.std.specs.Prelude.{vec_capacity};
     ghost use Rattle.stream_history.specs.Journal.{JournalValue};
     ghost use Rattle.std.specs.Coded.{codes};
     ghost use Rattle.rpq_model.specs.QueryCode.{query_code};
@@ -61,15 +61,14 @@ impl Model for Journal {
       queries = journal.queries.value.items;
       streams = journal.streams;
       cap = journal.cap;
-    }) journal.calls.items journal.entries.items journal.view.value };
+    }) journal.calls journal.entries.items journal.view.value };
 
     ghost invariant = { λ journal. IsKept (journal_of (record {
       queries = journal.queries.value.items;
       streams = journal.streams;
       cap = journal.cap;
-    }) journal.calls.items journal.entries.items journal.view.value)
-        journal.calls.items journal.entries.items journal.running.items journal.shut
-        (vec_capacity journal.calls) };
+    }) journal.calls journal.entries.items journal.view.value)
+        journal.calls journal.entries.items journal.running.items journal.shut };
 }
 
 impl Journal {
@@ -103,7 +102,7 @@ impl Journal {
             streams,
             cap,
             entries: Vec::new(alloc),
-            calls: Vec::with_capacity(alloc, running.len() + 1)?,
+            calls: GhostList::new(),
             view: first,
             running,
             shut: None,
@@ -137,13 +136,11 @@ impl Journal {
         }
         legal_by_lines();
         lines_are_joined();
-        self.calls.reserve(self.running.len() + 2)?;
         self.entries.push(Entry { stream, tuple })?;
-        let call = Call {
+        self.calls.push(&Call {
             by: stream,
             act: CallAct::Append,
-        };
-        self.calls.push_reserved(call);
+        });
         Ok(self.entries.len() as u64)
     }
 
@@ -156,25 +153,24 @@ impl Journal {
     {
         legal_by_lines();
         lines_are_joined();
-        let call = Call {
+        self.calls.push(&Call {
             by: stream,
             act: CallAct::EndStream,
-        };
-        self.calls.push_reserved(call);
+        });
         self.running.retain(|each| *each != stream);
     }
 
     /// Publishes a view over the first entries, as many as its position says.
     ///
-    /// The errors are, in this order, [`PublishFault::Behind`] where the position isn't beyond the
-    /// one that was published last, and [`PublishFault::Memory`]. After an error it is what it was.
+    /// The only error is [`PublishFault::Behind`], if the position isn't beyond the one that was
+    /// published last. After it the history is what it was. Takes no memory.
     pub fn publish(&mut self, view: Arc<View>) -> Result<(), PublishFault>
         requires goes_on { IsShut self.old.lines → ⊥ }
         requires there { view.value.position ≤ length (entries self.old.lines) }
         requires shows { ShowsFront self.old.terms.queries (entries self.old.lines) view.value }
         ensures line { OnOk result (self.new ≡ with_view self.old view.value) }
-        ensures behind { (position : ℕ) →
-            (result ≡ Err (NotPublished.Behind position)) ↔ IsBehind self.old view.value position }
+        ensures behind { (fault : NotPublished) →
+            (result ≡ Err fault) ↔ IsBehind self.old view.value fault }
         ensures unchanged { OnErr result (self.new ≡ self.old) }
         ensures terms { self.new.terms ≡ self.old.terms }
         ensures sound { IsSound self.new }
@@ -186,12 +182,10 @@ impl Journal {
         }
         legal_by_lines();
         lines_are_joined();
-        self.calls.reserve(self.running.len() + 2)?;
-        let call = Call {
+        self.calls.push(&Call {
             by: 0,
             act: CallAct::Publish(number),
-        };
-        self.calls.push_reserved(call);
+        });
         self.view = view;
         Ok(())
     }
@@ -205,11 +199,10 @@ impl Journal {
     {
         legal_by_lines();
         lines_are_joined();
-        let call = Call {
+        self.calls.push(&Call {
             by: 0,
             act: CallAct::Shut(why),
-        };
-        self.calls.push_reserved(call);
+        });
         self.shut = Some(why);
     }
 
@@ -232,14 +225,6 @@ impl Journal {
         ensures { result ≡ self.now.terms.cap }
     {
         self.cap
-    }
-
-    /// What was called, in order.
-    pub fn calls(&self) -> &[Call]
-        ensures { result.now ≡ calls self.now.lines }
-    {
-        lines_are_joined();
-        &self.calls
     }
 
     /// The number of entries.

@@ -1,16 +1,13 @@
-use Rattle.std.proofs.Common.{◌≡◌, ◌∷◌, [], ◌++◌, ℕ, ◌+◌, ◌<◌, ◌≤◌, List, Ok, Err, length, sym, ap}
-use Rattle.std.proofs.Common.{subst, ◌∙◌, arith, vec_capacity, Result}
+use Rattle.std.proofs.Common.{◌≡◌, ℕ, ◌<◌, ◌≤◌, Ok, Err, length, sym, ap, subst, ◌∙◌, arith, Result}
 use Rattle.std.specs.Prelude.{◌↔◌}
 use Rattle.history_model.specs.declared.line.Why.{Why}
-use Rattle.history_model.specs.declared.line.CallAct.TheVariants.{Append}
-use Rattle.history_model.specs.declared.line.Call.{Call}
 use Rattle.history_model.specs.Lines.{append_line, entries, IsShutFor}
 use Rattle.stream_history.specs.declared.fault.AppendFault.{AppendFault}
 use Rattle.stream_history.specs.declared.fault.AppendFault.TheVariants.{Closed, Full}
 use Rattle.stream_history.specs.Journal.{JournalValue, IsOpen, IsFullAt, with_line}
 use Rattle.stream_history.proofs.Inside.{value}
 use Rattle.stream_history.proofs.Keeping.{Adds, append_adds}
-use Rattle.stream_history.proofs.Refusals.{closed_for, closed_not_full, full_at, moved, not_closed}
+use Rattle.stream_history.proofs.Refusals.{closed_for, closed_not_full, full_at, not_closed}
 use Rattle.stream_history.proofs.journal.Journal.append.Goals as goal
 
 -- the answer tells whether this journal is shut
@@ -51,53 +48,19 @@ returns-then-len-self-clause-full c =
     subst (TellsFull (Err (Full inside.cap))) c.self.view_is
     (full_at (value inside) inside.shut c.self.invariant.shut c.in_default.is full)
 
-pub returns-in_err-reserve-clause-closed : goal.returns-in_err-reserve-clause-closed
-returns-in_err-reserve-clause-closed c = subst (TellsClosed c.from_residual.result) c.self.view_is
+pub returns-in_err-push-clause-closed : goal.returns-in_err-push-clause-closed
+returns-in_err-push-clause-closed c = subst (TellsClosed c.from_residual.result) c.self.view_is
     (λ why. not_closed c.from_residual.result (value c.self.inside).lines c.self.inside.shut
     c.self.invariant.shut c.in_default.is why
-    (λ same. grind (arith, same, c.from_residual.ensures, c.in_err-reserve.is)))
-
-pub invariant_of-self-in_err-push : goal.invariant_of-self-in_err-push
-invariant_of-self-in_err-push c =
-    moved (value c.self.inside) c.self.inside.calls.items c.reserve.new.self.items
-    c.self.inside.entries.items c.push.new.self.items
-    c.self.inside.running.items c.self.inside.shut (vec_capacity c.self.inside.calls)
-    (vec_capacity c.reserve.new.self) c.self.invariant
-    c.in_ok-reserve.ensures.items c.in_err-push.ensures.items c.in_ok-reserve.ensures.capacity
-
-pub returns-in_err-push-clause-closed : goal.returns-in_err-push-clause-closed
-returns-in_err-push-clause-closed c = subst (TellsClosed c.from_residual-in_err-push.result)
-    c.self.view_is
-    (λ why. not_closed c.from_residual-in_err-push.result (value c.self.inside).lines
-    c.self.inside.shut c.self.invariant.shut c.in_default.is why
-    (λ same. grind (arith, same, c.from_residual-in_err-push.ensures, c.in_err-push.is)))
+    (λ same. grind (arith, same, c.from_residual.ensures, c.in_err-push.is)))
 
 -- what an append adds
-added : (c : goal.After-len-3) →
+added : (c : goal.After-len-2) →
     Adds (value c.self.inside)
     (with_line (value c.self.inside) (append_line c.args.stream c.args.tuple))
-    c.push_reserved.new.self.items c.push.new.self.items c.self.inside.running.items
-    c.self.inside.shut (vec_capacity c.push_reserved.new.self)
+    c.push-2.new.self c.push.new.self.items c.self.inside.running.items c.self.inside.shut
 added c =
     let inside = c.self.inside in
-    let calls : c.push_reserved.new.self.items ≡ inside.calls.items ++ record {
-      by = c.args.stream;
-      act = Append;
-    } ∷ [] =
-    c.push_reserved.ensures.items
-    ∙ ap (λ (all : List Call). all ++ record { by = c.args.stream; act = Append } ∷ [])
-    c.in_ok-reserve.ensures.items in
-    let fits : length inside.calls.items + (length inside.running.items + 2) ≤ vec_capacity
-    c.push_reserved.new.self =
-    omega (
-      arith,
-      c.in_ok-reserve.ensures.ok,
-      c.len-2.ensures,
-      inside.running.ok.0,
-      c.in_ok-reserve.ensures.len,
-      inside.calls.ok.0,
-      c.push_reserved.ensures.capacity,
-    ) in
     let going : IsOpen (value inside) c.args.stream =
     subst (λ (journal : JournalValue). IsOpen journal c.args.stream) (sym c.self.view_is)
     c.requires.open in
@@ -106,10 +69,10 @@ added c =
     let short : length inside.entries.items < inside.cap =
     grind (arith, below, c.if-len-self.false, c.len.ensures, inside.entries.ok.0) in
     append_adds c.legal_by_lines.ensures c.lines_are_joined.ensures
-    (value inside) inside.calls.items c.push_reserved.new.self.items inside.entries.items
-    c.push.new.self.items inside.running.items inside.shut (vec_capacity inside.calls)
-    (vec_capacity c.push_reserved.new.self) c.args.stream c.args.tuple
-    c.self.invariant going c.requires.plain c.in_default.is short calls c.in_ok-push.ensures.items fits
+    (value inside) inside.calls c.push-2.new.self inside.entries.items c.push.new.self.items
+    inside.running.items inside.shut c.args.stream c.args.tuple
+    c.self.invariant going c.requires.plain c.in_default.is short c.push-2.ensures
+    c.in_ok-push.ensures.items
 
 pub invariant_of-self-2 : goal.invariant_of-self-2
 invariant_of-self-2 c = let adds = added c in adds.kept
@@ -123,11 +86,11 @@ returns-clause-line c =
 pub returns-clause-position : goal.returns-clause-position
 returns-clause-position c =
     let adds = added c in
-    c.len-3.ensures ∙ (c.push.new.self.ok.0 ∙ sym (ap length adds.kept.appended))
+    c.len-2.ensures ∙ (c.push.new.self.ok.0 ∙ sym (ap length adds.kept.appended))
 
 pub returns-clause-closed : goal.returns-clause-closed
-returns-clause-closed c = subst (TellsClosed (Ok c.len-3.result)) c.self.view_is
-    (λ why. not_closed (Ok c.len-3.result) (value c.self.inside).lines c.self.inside.shut
+returns-clause-closed c = subst (TellsClosed (Ok c.len-2.result)) c.self.view_is
+    (λ why. not_closed (Ok c.len-2.result) (value c.self.inside).lines c.self.inside.shut
     c.self.invariant.shut c.in_default.is why (λ same. cc))
 
 pub returns-clause-sound : goal.returns-clause-sound

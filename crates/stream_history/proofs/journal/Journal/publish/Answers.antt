@@ -1,5 +1,4 @@
-use Rattle.std.proofs.Common.{◌≡◌, ◌∷◌, [], ◌++◌, ℕ, ◌+◌, ◌<◌, ◌≤◌, List, length, sym, ap, subst}
-use Rattle.std.proofs.Common.{◌∙◌, arith, vec_capacity}
+use Rattle.std.proofs.Common.{◌≡◌, ◌∷◌, [], ◌++◌, ℕ, ◌<◌, ◌≤◌, length, sym, ap, subst, ◌∙◌, arith}
 use Rattle.answer_view.specs.View.{ViewValue}
 use Rattle.history_model.specs.declared.line.CallAct.TheVariants.{Publish}
 use Rattle.history_model.specs.declared.line.Call.{Call}
@@ -12,9 +11,7 @@ use Rattle.stream_history.proofs.journal.Journal.publish.Goals as goal
 -- what a publish adds
 added : (c : goal.After-drop-self-inside) →
     Adds (value c.self.inside) (with_view (value c.self.inside) c.args.view.value)
-    c.push_reserved.new.self.items
-    c.self.inside.entries.items c.self.inside.running.items c.self.inside.shut
-    (vec_capacity c.push_reserved.new.self)
+    c.push.new.self c.self.inside.entries.items c.self.inside.running.items c.self.inside.shut
 added c =
     let inside = c.self.inside in
     let view = c.args.view.value in
@@ -24,25 +21,10 @@ added c =
     ∙ ap (λ (each : ViewValue). each.position) c.deref.ensures in
     let above : inside.view.value.position < view.position =
     omega (arith, c.if-number-last.false, number, last) in
-    let calls : c.push_reserved.new.self.items ≡ inside.calls.items ++ record {
-      by = 0;
-      act = Publish view.position;
-    } ∷ [] =
-    c.push_reserved.ensures.items
-    ∙ (ap (λ (all : List Call). all ++ record { by = 0; act = Publish c.position-number.result }
-    ∷ []) c.in_ok-reserve.ensures.items
-    ∙ ap (λ (each : ℕ). inside.calls.items ++ record { by = 0; act = Publish each } ∷ []) number) in
-    let fits : length inside.calls.items + (length inside.running.items + 2) ≤ vec_capacity
-    c.push_reserved.new.self =
-    omega (
-      arith,
-      c.in_ok-reserve.ensures.ok,
-      c.len.ensures,
-      inside.running.ok.0,
-      c.in_ok-reserve.ensures.len,
-      inside.calls.ok.0,
-      c.push_reserved.ensures.capacity,
-    ) in
+    let call : Call = record { by = 0; act = Publish view.position } in
+    let calls : c.push.new.self ≡ inside.calls ++ call ∷ [] =
+    c.push.ensures
+    ∙ ap (λ (each : ℕ). inside.calls ++ record { by = 0; act = Publish each } ∷ []) number in
     let going : IsShut (value inside).lines →
     ⊥ = subst (λ (journal : JournalValue). IsShut journal.lines → ⊥) (sym c.self.view_is)
     c.requires.goes_on in
@@ -53,13 +35,11 @@ added c =
     subst (λ (journal : JournalValue). ShowsFront journal.terms.queries (entries journal.lines)
     view) (sym c.self.view_is) c.requires.shows in
     publish_adds c.legal_by_lines.ensures c.lines_are_joined.ensures
-    (value inside) inside.calls.items c.push_reserved.new.self.items inside.entries.items
-    inside.running.items inside.shut (vec_capacity inside.calls)
-    (vec_capacity c.push_reserved.new.self) view c.self.invariant going above below shows calls
-    fits
+    (value inside) inside.calls c.push.new.self inside.entries.items inside.running.items
+    inside.shut view c.self.invariant going above below shows calls
 
-pub invariant_of-self-2 : goal.invariant_of-self-2
-invariant_of-self-2 c = let adds = added c in adds.kept
+pub invariant_of-self : goal.invariant_of-self
+invariant_of-self c = let adds = added c in adds.kept
 
 pub returns-clause-line : goal.returns-clause-line
 returns-clause-line c =
