@@ -14,9 +14,10 @@
 # - What `main` makes of words that aren't UTF-8, of too many words, of `--two-way` beside readers
 #   or a saved window, of options with three streams and readers, of files that are too long, and of
 #   a closed output: no contract says it.
-# - That a file which a run reads isn't opened to write, what stands on the output where a signal
-#   ends the program, and that ten runs, each going on with the window of the one before, write what
-#   one run writes.
+# - That a file which a run reads, or which is one of its outputs, isn't opened to write by any of
+#   its names, that a file that is written is emptied first, what stands on the output where a
+#   signal ends the program, and that ten runs, each going on with the window of the one before,
+#   write what one run writes.
 #
 # The commands of a document run one after another in a copy of examples/, those of the README in
 # the folder above it. Small stand-ins are there for the packages of the machine, a collector, the
@@ -301,6 +302,72 @@ ends_with 6 "rpq: write failed: save" "a window saved on a full device" \
 ends_with 5 "rpq: read failed: from" "no saved window" rpq --from nowhere queries stream
 ends_with 5 "rpq: read failed: joins" "no joins file" rpq --joins nowhere queries stream
 
+# So it is by another name of the file: a path, a link of either kind, and the system's own name of
+# an open file.
+all=(rpq --joins joins --asks asks --from window)
+for name in queries joins asks stream window; do
+    ln -s "$name" "link-to-$name"
+    ln "$name" "second-$name"
+    for other in "./$name" "$PWD/$name" "link-to-$name" "second-$name"; do
+        ends_with 6 "rpq: write failed: replies" "replies into the file $name as $other" \
+            "${all[@]}" --replies "$other" queries stream
+        ends_with 6 "rpq: write failed: save" "a window saved into the file $name as $other" \
+            "${all[@]}" --replies replies --save "$other" queries stream
+    done
+    cmp -s "$name" "$place/kept/$name"
+    count $? "written by other names of $name: the file is another one"
+done
+from_stream() { rpq "$@" < stream; }
+ends_with 6 "rpq: write failed: save" "a window saved into the file of the input" \
+    from_stream --save stream queries /dev/stdin
+cmp -s stream "$place/kept/stream"
+count $? "a window saved into the file of the input: the file is another one"
+ends_with 6 "rpq: write failed: save" "a window saved into the replies by another name" \
+    rpq --asks asks --replies both --save ./both queries stream
+
+# The files of the outputs stay, too: nothing is written on them but what is to be.
+to_events() { rpq "$@" >> events; }
+echo before > events
+ln -s events link-to-events
+for name in events link-to-events /dev/stdout /proc/self/fd/1; do
+    ends_with 6 "rpq: write failed: replies" "replies into the events as $name" \
+        to_events --asks asks --replies "$name" queries stream
+    ends_with 6 "rpq: write failed: save" "a window saved into the events as $name" \
+        to_events --save "$name" queries stream
+done
+cmp -s events <(echo before)
+count $? "written by names of the events: they are others"
+for name in "$place/errors" /dev/stderr /proc/self/fd/2; do
+    ends_with 6 "rpq: write failed: save" "a window saved into the errors as $name" \
+        rpq --save "$name" queries stream
+    cmp -s "$place/errors" <(echo "rpq: write failed: save")
+    count $? "a window saved into the errors as $name: they have other lines"
+done
+# Where the outputs are closed, a file that is opened gets the number of one.
+from_and_to_closed() { rpq "$@" <&- >&-; }
+ends_with 6 "rpq: write failed: save" "a window saved with all but the errors closed" \
+    from_and_to_closed --save window queries stream
+cmp -s window "$place/kept/window"
+count $? "a window saved with all but the errors closed: the file is another one"
+
+cp "$place"/kept/* . # so that what fails here fails nothing below
+
+# Devices and pipes have nothing to lose, and are opened. A name is taken as it is, and a file that
+# is written has nothing behind what is written.
+rpq --asks asks --replies /dev/null --save /dev/stdout queries stream 2> "$place/errors" |
+    cat > events
+[ "${PIPESTATUS[0]}" -eq 0 ]
+count $? "a window saved into the pipe of the events: the status isn't 0"
+rpq --save ' saved ' queries stream > one
+count $? "a window saved into a name with blanks: the status isn't 0"
+cmp -s events <(cat one ' saved ')
+count $? "a window saved into the pipe of the events: it is another text"
+yes | head -n 10000 > saved
+rpq --save saved queries ' saved ' > one
+count $? "a stream of a name with blanks: the status isn't 0"
+rpq --save fresh queries ' saved ' | cmp -s - one && cmp -s saved fresh
+count $? "a window saved into a longer file: it is another text"
+
 # Ten runs, each of which goes on with the window of the one before, write what one run writes.
 mkdir "$place/continued"
 cd "$place/continued" || exit 1
@@ -329,7 +396,8 @@ count $? "continue.sh: ten runs write another text than one"
 cd "$place/files" || exit 1
 mkfifo live
 for signal in INT TERM; do
-    { cat stream; /bin/sleep 4; } > live 2> /dev/null &
+    # ended in the end, also where the program is gone before it opens the pipe
+    timeout 20 bash -c '{ cat stream; /bin/sleep 4; } > live' 2> /dev/null &
     timeout --preserve-status -s "$signal" 2 bash -c 'exec rpq queries live > events' 2> errors
     [ $? -eq $((128 + $(kill -l "$signal"))) ] && [ ! -s errors ]
     count $? "SIG$signal: no end by the signal"

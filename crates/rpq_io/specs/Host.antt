@@ -1,6 +1,7 @@
 -- Sources, sinks and files of the host.
 use Rattle.std.specs.Prelude.{ℕ, Bool, ◌||◌, List, [], ◌∷◌, ◌++◌, Result, Ok, Err}
 use Rattle.rpq_io.specs.Names.{is_noted}
+use Rattle.rpq_io.specs.declared.file_id.FileId.{FileId}
 use Rattle.rpq_io.specs.declared.fault.OpenFault.{OpenFault}
 use Rattle.rpq_io.specs.declared.fault.OpenFault.TheVariants.{Failed, Memory}
 
@@ -21,6 +22,11 @@ pub record OpenedNames : Type 0 where
   pub unread_names : List (List ℕ)
   pub made_names : List (List ℕ)
   pub unmade_names : List (List ℕ)
+
+-- these names, and the regular files that were opened, to read or to write
+pub record OpenedFiles : Type 0 where
+  pub names : OpenedNames
+  pub files : List FileId
 
 -- whether a name was opened before, to read or to write
 abbrev pub was_opened : List ℕ → OpenedNames → Bool

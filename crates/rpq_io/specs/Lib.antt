@@ -1,5 +1,6 @@
 pub mod Counts
 pub mod FaultTexts
+pub mod FileIds
 pub mod Files
 pub mod Held
 pub mod Host

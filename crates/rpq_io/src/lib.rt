@@ -32,13 +32,16 @@
 //! Objects in memory tell what they hold, so that a proof can follow the bytes, and do exactly what
 //! they were made to do: which calls fail, how many bytes one moves, how much room there is. The
 //! adapters over std hand on exactly what std's reader or writer gave and took; what files of the
-//! host hold isn't told, and that an opening to read leaves a file as it is is trusted. Each byte
-//! is copied once by [`read_all`], twice at most by [`LineReader`], once at most where it lends its
+//! host hold isn't told, and that an opening to read leaves a file as it is is trusted. A regular
+//! file that was opened before isn't opened to write, by whatever name ([`HostFiles`]). Each byte is
+//! copied once by [`read_all`], twice at most by [`LineReader`], once at most where it lends its
 //! lines, and not at all by [`put_all`].
 #![tactic(auto)]
 
 mod context;
 mod fault;
+mod file_id;
+mod file_list;
 mod files;
 mod gate;
 mod host;
@@ -50,6 +53,7 @@ mod memory_files;
 mod memory_sink;
 mod memory_source;
 mod name_list;
+mod opening;
 mod place;
 mod script;
 mod sink;

@@ -4,18 +4,19 @@ use std::io;
 use std::io::Write;
 use std::rt::{Stderr, Stdout};
 
-/// A file, standard output or standard error, so that one type of sink serves all three.
+/// A file, standard output or standard error, so that one type of sink serves all three. Each is a
+/// writer of any kind; what contracts say of what it holds is said of the place.
 #[derive(Drop)]
-pub enum Place<F> {
+pub enum Place<F, O = Stdout, E = Stderr> {
     File(F),
-    Output(Stdout),
-    Errors(Stderr),
+    Output(O),
+    Errors(E),
 }
 
-impl<F: Write> Write for Place<F> {
+impl<F: Write, O: Write, E: Write> Write for Place<F, O, E> {
     ghost use Rattle.rpq_io.specs.Places.{place_contents};
 
-    ghost contents = { place_contents F.contents };
+    ghost contents = { place_contents F.contents O.contents E.contents };
 
     fn write(&mut self, from: &[u8]) -> io::Result<usize> {
         match self {

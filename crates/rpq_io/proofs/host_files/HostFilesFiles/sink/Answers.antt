@@ -4,12 +4,15 @@ use Rattle.rpq_io.proofs.host_files.HostFilesFiles.sink.Goals as goal
 
 pub returns-then-was_opened-clause-faults : goal.returns-then-was_opened-clause-faults
 returns-then-was_opened-clause-faults g c =
-    let noted : c.note.new.self.names ≡ c.args.self.now.unmade_names ++ c.args.name.now ∷ [] =
+    let noted : c.note.new.self.names ≡ c.args.self.now.names.unmade_names ++ c.args.name.now ∷ [] =
     search rules in
     counts_noted _ _ _ _ refl noted
 
-pub returns-in_err-file-clause-faults : goal.returns-in_err-file-clause-faults
-returns-in_err-file-clause-faults g c =
-    let noted : c.create.new.failed.names ≡ c.args.self.now.unmade_names ++ c.args.name.now ∷ [] =
+pub returns-in_err-opened-clause-faults : goal.returns-in_err-opened-clause-faults
+returns-in_err-opened-clause-faults g c =
+    let noted : c.note_outcome.new.failed.names ≡ c.args.self.now.names.unmade_names ++ c.args.name.now ∷ [] =
     search rules in
     counts_noted _ _ _ _ (search rules) noted
+
+pub returns-clause-files : goal.returns-clause-files
+returns-clause-files g c = (c.in_ok-opened.opened.id, search rules, search rules)
