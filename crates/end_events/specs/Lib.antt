@@ -1,3 +1,5 @@
 pub mod Changes
+pub mod Named
+pub mod EntryEvents
 pub mod Order
 pub mod Pairs

@@ -1,18 +1,20 @@
 //! Events from ends that come or go.
 
-ghost use Rattle.std.specs.Prelude.{◌≡◌, ◌++◌, map, IfOk, OnOk};
+ghost use Rattle.std.specs.Prelude.{◌≡◌, ◌++◌, ℕ, List, All, map, IfOk, OnOk};
 ghost use Rattle.std.specs.List.{list_any};
 ghost use Rattle.std.specs.List.Sorted.{IsStrictlySortedBy};
 ghost use Rattle.rpq_base.specs.Order.{pair_cmp};
 ghost use Rattle.rpq_base.specs.Same.{same_pair};
 ghost use Rattle.rpq_model.specs.Events.{event, without};
 ghost use Rattle.end_events.specs.Changes.{AreChangesOf, AreEventsBetween, AreNamed, Ends};
+ghost use Rattle.end_events.specs.Named.{named, HasNames};
 ghost use Rattle.end_events.specs.Pairs.{pair_at, pairs_at, AreNumbered, IsNumbered};
 ghost use Rattle.source_tree.specs.Ends.{is_gain};
 
+use crate::numbered_event::NumberedEvent;
 use crate::pairs::{NumberedPair, given_pairs, pair_order};
 use name_table::Names;
-use rpq_base::{Copied, Event, Memory, Pair};
+use rpq_base::Memory;
 use rpq_model::Mode;
 use source_tree::{EndChange, Outcome};
 use std::alloc::Global;
@@ -23,8 +25,8 @@ use std::alloc::Global;
 ///
 /// A pair changes at most twice, so one whose end both goes and comes is as it was before. Each
 /// list is gone through twice, first for the count; the pairs are put in order by the beginnings of
-/// their names, and where these are the same by the names' ranks or all their bytes; an event then
-/// copies its two names. Where no end goes or comes, nothing is allocated.
+/// their names, and where these are the same by the names' ranks or all their bytes. No name is
+/// copied. Where no end goes or comes, nothing is allocated.
 pub fn events_between(
     alloc: Global,
     query: u32,
@@ -32,13 +34,14 @@ pub fn events_between(
     names: &Names,
     first: &[EndChange],
     second: &[EndChange],
-) -> Result<Vec<Event>, Memory>
+) -> Result<Vec<NumberedEvent>, Memory>
     requires first_named { AreNamed names.now first.now }
     requires second_named { AreNamed names.now second.now }
-    ensures { (start middle last : Ends) →
+    ensures are { (start middle last : Ends) →
         AreChangesOf start middle first.now → AreChangesOf middle last second.now →
-        IfOk result (λ events.
-        AreEventsBetween query mode names.now start last events.items) }
+        IfOk result (λ events. AreEventsBetween query mode names.now start last
+        (map (named names.now) events.items)) }
+    ensures have_names { IfOk result (λ events. All (HasNames names.now) events.items) }
 {
     let given = given_pairs(alloc, mode, names, first, second)?;
     let mut events = Vec::new(alloc);
@@ -64,7 +67,7 @@ pub fn events_between(
 
 /// Adds an event for each pair that isn't among the others, in order.
 fn push_events(
-    events: &mut Vec<Event>,
+    events: &mut Vec<NumberedEvent>,
     query: u32,
     outcome: Outcome,
     names: &Names,
@@ -74,13 +77,15 @@ fn push_events(
     requires numbered { AreNumbered names.now pairs.now }
     requires others_numbered { AreNumbered names.now others.now }
     requires others_sorted { IsStrictlySortedBy pair_cmp (pairs_at names.now others.now) }
-    ensures { OnOk result (events.new.items ≡ events.old.items
-        ++ map (event query (is_gain outcome))
+    ensures added { OnOk result (map (named names.now) events.new.items
+        ≡ map (named names.now) events.old.items ++ map (event query (is_gain outcome))
         (without (pairs_at names.now pairs.now) (pairs_at names.now others.now))) }
+    ensures have_names { OnOk result (All (HasNames names.now) events.old.items →
+        All (HasNames names.now) events.new.items) }
 {
     for pair in pairs {
         if !is_among(names, others, pair) {
-            events.push(event_of(query, outcome, names, pair)?)?;
+            events.push(event_of(query, outcome, pair))?;
         }
     }
     Ok(())
@@ -101,23 +106,17 @@ fn is_among(names: &Names, others: &[NumberedPair], pair: &NumberedPair) -> bool
     found.is_ok()
 }
 
-/// The event of the pair with this outcome, with copies of its names.
-fn event_of(
-    query: u32,
-    outcome: Outcome,
-    names: &Names,
-    pair: &NumberedPair,
-) -> Result<Event, Memory>
-    requires { IsNumbered names.now pair.now }
-    ensures { IfOk result (λ one.
-        one ≡ event query (is_gain outcome) (pair_at names.now pair.now)) }
+/// The event of the pair with this outcome.
+fn event_of(query: u32, outcome: Outcome, pair: &NumberedPair) -> NumberedEvent
+    ensures named { (names : List (List ℕ)) →
+        named names result ≡ event query (is_gain outcome) (pair_at names pair.now) }
+    ensures has_names { (names : List (List ℕ)) → IsNumbered names pair.now →
+        HasNames names result }
 {
-    Ok(Event {
+    NumberedEvent {
         query,
         added: outcome.is_gain(),
-        pair: Pair {
-            from: names.name_of(pair.root).copy()?,
-            to: names.name_of(pair.vertex).copy()?,
-        },
-    })
+        root: pair.root,
+        vertex: pair.vertex,
+    }
 }

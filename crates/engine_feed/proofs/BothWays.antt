@@ -1,5 +1,5 @@
 -- What an engine that is fed entries and their inverses answers, netted.
-use Rattle.std.proofs.Common.{ℕ, ◌*◌, ◌<◌, ◌≤◌, true, false, List, [], ◌∷◌, ◌++◌, length, map, take, drop, Result, Ok, Err, sym, subst, ⊎_elim, arith, length-append}
+use Rattle.std.proofs.Common.{ℕ, ◌*◌, ◌<◌, ◌≤◌, true, false, List, [], ◌∷◌, ◌++◌, length, map, take, drop, Vec, Global, Result, Ok, Err, sym, subst, ⊎_elim, arith, length-append}
 use Rattle.std.specs.Prelude.{All, Contains, IfOk}
 use Rattle.std.specs.List.Sorted.{IsStrictlySortedBy}
 use Rattle.std.proofs.lemmas.Grind.{flat_map-append}
@@ -41,6 +41,9 @@ at_most_twice [] = omega arith
 at_most_twice (entry ∷ later) = omega (arith, at_most_twice later, at_most_two entry.tuple.act entry.stream entry.tuple.time, length-append (doubled_by entry) (doubled later))
 
 -- ---- lists of events
+
+abbrev pub items_of : List (Vec Event Global) → List (List Event)
+items_of lists = map (λ (own : Vec Event Global). own.items) lists
 
 -- the events of each entry are in their order
 pub all_sorted : EventsAreDifferences → (later before : List Entry) (queries : List Query) (lists : List (List Event)) →

@@ -3,8 +3,7 @@ use Rattle.std.proofs.Common.{◌≡◌, ℕ, ◌+◌, Bool, List, [], ◌∷◌
 use Rattle.std.proofs.Common.{subst, ◌∙◌, append_assoc, length-append, arith}
 use Rattle.std.specs.Prelude.{⊤}
 use Rattle.std.specs.List.{All}
-use Rattle.std.specs.Global.{Vec}
-use Rattle.std.proofs.lemmas.List.{append-nil, length-map}
+use Rattle.std.proofs.lemmas.List.{append-nil}
 use Rattle.std.proofs.lemmas.List.Elements.{All-same}
 use Rattle.rpq_base.specs.declared.data.Entry.{Entry}
 use Rattle.rpq_base.specs.declared.data.Event.{Event}
@@ -25,7 +24,7 @@ use Rattle.generated_run.specs.Generates.{AreTold}
 use Rattle.generated_run.specs.Going.{TellsOn, IsReady, HaveHeardAll, GoesOn, Stops}
 use Rattle.generated_run.specs.Summary.{all_of, additions, retractions}
 use Rattle.generated_run.specs.Totals.{TotalsValue, HasCounted}
-use Rattle.generated_run.proofs.Told.{lists_of, all-append, additions-append, retractions-append}
+use Rattle.generated_run.proofs.Told.{all-append, additions-append, retractions-append}
 
 -- the lists of some entries, and then those of the entries that follow them
 each_append : (first : List Entry) (lists : List (List Event))
@@ -78,11 +77,11 @@ told_of_longer have two_way queries accepted history later objects totals circle
 
 -- each entry has its list of events
 pub as_many_lists : (two_way : Bool) (old new : EngineValue) (entries : List Entry)
-    (found : List (Vec Event)) (history : List Entry) → StandsFor old (walked two_way history) →
-    FeedsEntries two_way old entries new (lists_of found) → length found ≡ length entries
+    (found : List (List Event)) (history : List Entry) →
+    StandsFor old (walked two_way history) → FeedsEntries two_way old entries new found →
+    length found ≡ length entries
 as_many_lists two_way old new entries found history stands fed =
-    sym (length-map found (λ (own : Vec Event). own.items))
-    ∙ each_as_many entries history (AreWalkedEvents two_way (definitions old)) (lists_of found)
+    each_as_many entries history (AreWalkedEvents two_way (definitions old)) found
     (fed.events history stands)
 
 module _ (old new : Evaluator) (entries : List Entry) (found : List (List Event))

@@ -75,7 +75,9 @@ impl Evaluator {
         accepted_queries_have_events(); // called for its clause
         let workers = self.workers;
         let two_way = self.two_way;
-        let found = feed_entries(&mut self.engine, context, two_way, entries, workers)?;
-        tell_front(circle, &mut self.totals, &found)
+        let alloc = context.alloc;
+        let fed = feed_entries(&mut self.engine, context, two_way, entries, workers)?;
+        let found = fed.into_events(alloc, self.engine.names())?;
+        tell_front(alloc, circle, &mut self.totals, &found)
     }
 }

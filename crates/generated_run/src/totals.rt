@@ -1,10 +1,10 @@
 //! What a run counts.
 
-ghost use Rattle.std.specs.Prelude.{◌≡◌, ◌+◌, ◌<◌, ◌^◌};
+ghost use Rattle.std.specs.Prelude.{◌≡◌, ◌+◌, ◌<◌, ◌^◌, length};
 ghost use Rattle.generated_run.specs.Summary.{additions, retractions};
 ghost use Rattle.generated_run.specs.Totals.{no_totals, HasCounted};
 
-use rpq_base::Event;
+use end_events::EntryEvents;
 use std::marker::Model;
 
 /// How many entries were answered, and how many of their events add a pair or retract one.
@@ -46,26 +46,27 @@ impl Totals {
     }
 
     /// Counts an entry with its events.
-    pub fn count(&mut self, events: &[Event])
+    pub fn count(&mut self, events: &EntryEvents<'_>)
         requires { self.old.entries < 2 ^ 32 }
         ensures { HasCounted 1 events.now self.old self.new }
     {
+        let added = additions(events);
         self.entries += 1;
-        self.added += additions(events) as u128;
-        self.retracted += retractions(events) as u128;
+        self.added += added as u128;
+        self.retracted += (events.len() - added) as u128;
     }
 }
 
-/// How many of the events add a pair.
-fn additions(events: &[Event]) -> usize
-    ensures { result ≡ additions events.now }
+/// How many of the events add a pair. The others retract one.
+fn additions(events: &EntryEvents<'_>) -> usize
+    ensures added { result ≡ additions events.now }
+    ensures others { result + retractions events.now ≡ length events.now }
 {
-    events.iter().filter(|event| event.added).count()
-}
-
-/// How many of the events retract a pair.
-fn retractions(events: &[Event]) -> usize
-    ensures { result ≡ retractions events.now }
-{
-    events.iter().filter(|event| !event.added).count()
+    let mut count = 0;
+    for place in 0..events.len() {
+        if events.at(place).added {
+            count += 1;
+        }
+    }
+    count
 }

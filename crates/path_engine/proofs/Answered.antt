@@ -9,6 +9,8 @@ use Rattle.std.proofs.lemmas.List.Elements.{All-nil, All-append, All-map}
 use Rattle.rpq_base.specs.declared.data.Act.TheVariants.{Delete, Tick}
 use Rattle.rpq_base.specs.declared.data.Entry.{Entry}
 use Rattle.rpq_base.specs.declared.data.Event.{Event}
+use Rattle.end_events.specs.declared.numbered_event.NumberedEvent.{NumberedEvent}
+use Rattle.end_events.specs.Named.{named, HasNames}
 use Rattle.rpq_base.specs.declared.data.Pair.{Pair}
 use Rattle.path_syntax.specs.Laws.{nonempty}
 use Rattle.dfa_table.specs.DfaValue.{DfaValue}
@@ -170,39 +172,44 @@ module _ (laws : Laws) (names : List (List ℕ)) (entry : Entry) (query : Compil
         (λ root vertex. (laws.have old.forest root vertex).1)
         (λ root vertex. (laws.have new.forest root vertex).1) are
 
-  pub answered : (number : ℕ) (events : List Event) → HasHistory query names old →
+  pub answered : (number : ℕ) (events : List NumberedEvent) → HasHistory query names old →
       ((start middle last : Ends) → AreChangesOf start middle first →
       AreChangesOf middle last second →
-      AreEventsBetween number query.def.mode names start last events) →
-      HasAnswered names entry number query old new events
-  answered number events has are = record {
+      AreEventsBetween number query.def.mode names start last (map (named names) events)) →
+      All (HasNames names) events → HasAnswered names entry number query old new events
+  answered number events has are have = record {
     stands = λ history was. after history was;
     events = λ history was.
-        events_are history was number events
+        events_are history was number (map (named names) events)
         (are (start history was) (between history was) (last history was)
         (first_changes history was) (second_changes history was));
     keeps = keeps_forest laws.best names new.clock entry.tuple.time old.forest middle new.forest
         first second has.is.indexed (after has.history has.is).indexed stepped.expired
         entry.tuple.act stepped.change stepped.suits stepped.changed;
     numbers = numbers_are number query.def.mode names (start has.history has.is) (last has.history has.is)
-        events
+        (map (named names) events)
         (are (start has.history has.is) (between has.history has.is) (last has.history has.is)
         (first_changes has.history has.is) (second_changes has.history has.is));
+    have_names = have;
   }
 
   -- where events came out
   pub answered_if : (number : ℕ) (mode : Mode) (firsts seconds : List EndChange) →
       firsts ≡ first → seconds ≡ second → HasHistory query names old →
       mode ≡ query.def.mode →
-      (result : Result (Vec Event Global) Memory) →
+      (result : Result (Vec NumberedEvent Global) Memory) →
       ((start middle last : Ends) → AreChangesOf start middle firsts →
       AreChangesOf middle last seconds →
-      IfOk result (λ events. AreEventsBetween number mode names start last events.items)) →
+      IfOk result (λ events.
+      AreEventsBetween number mode names start last (map (named names) events.items))) →
+      IfOk result (λ events. All (HasNames names) events.items) →
       IfOk result (λ events. HasAnswered names entry number query old new events.items)
-  answered_if number mode firsts seconds first_is second_is has mode_is (Ok events) given =
+  answered_if number mode firsts seconds first_is second_is has mode_is (Ok events) given have =
       answered number events.items has
       (λ start middle last one two.
-      subst (λ (each : Mode). AreEventsBetween number each names start last events.items) mode_is
+      subst (λ (each : Mode).
+      AreEventsBetween number each names start last (map (named names) events.items)) mode_is
       (given start middle last (subst (AreChangesOf start middle) (sym first_is) one)
       (subst (AreChangesOf middle last) (sym second_is) two)))
-  answered_if number mode firsts seconds first_is second_is has mode_is (Err fault) given = tt
+      have
+  answered_if number mode firsts seconds first_is second_is has mode_is (Err fault) given have = tt

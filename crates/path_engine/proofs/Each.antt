@@ -2,11 +2,13 @@
 use Rattle.std.proofs.Common.{◌≡◌, ℕ, zero, suc, ◌+◌, ◌<◌, ◌≤◌, ◌^◌, List, [], ◌∷◌, ◌++◌, length, map, get_or, take, drop}
 use Rattle.std.proofs.Common.{set, refl, sym, ap, subst, ◌∙◌, append_assoc, arith}
 use Rattle.std.specs.List.{All, AllZip}
-use Rattle.std.proofs.lemmas.List.{take_all, take_more, take_more_set, drop_more, drop_all, append-nil}
+use Rattle.std.proofs.lemmas.List.{take_all, take_more, take_more_set, drop_more, drop_all, append-nil, map-append}
 use Rattle.std.proofs.lemmas.List.Elements.{All-nil, All-append}
 use Rattle.std.proofs.lemmas.Slice.Zip.{all_zipped_more}
 use Rattle.rpq_base.specs.declared.data.Entry.{Entry}
 use Rattle.rpq_base.specs.declared.data.Event.{Event}
+use Rattle.end_events.specs.declared.numbered_event.NumberedEvent.{NumberedEvent}
+use Rattle.end_events.specs.Named.{named, HasNames}
 use Rattle.rpq_model.specs.QueryEvents.{AreEventsUnder}
 use Rattle.name_table.specs.Names.{KeepsNumbers}
 use Rattle.delta_forest.specs.Forest.{ForestValue}
@@ -64,7 +66,7 @@ more_named follow history names more (query ∷ queries) (index ∷ indexes) kee
 -- ---- what was answered
 
 pub each_stands : (names : List (List ℕ)) (entry : Entry) (history : List Entry) (number : ℕ)
-    (queries : List CompiledValue) (olds news : List Index) (events : List Event) →
+    (queries : List CompiledValue) (olds news : List Index) (events : List NumberedEvent) →
     AreIndexes history names queries olds →
     HaveAnswered names entry number queries olds news events →
     AreIndexes (history ++ entry ∷ []) names queries news
@@ -80,13 +82,21 @@ each_stands names entry history number (query ∷ queries) (old ∷ olds) (new �
       each_stands names entry history (number + 1) queries olds news answered.1 are.1 answered.3,
     )
 
+-- by names, events of two lists are those of the one and of the other
+named_both : (names : List (List ℕ)) (events own others : List NumberedEvent) →
+    events ≡ own ++ others →
+    map (named names) events ≡ map (named names) own ++ map (named names) others
+named_both names events own others are =
+    ap (map (named names)) are ∙ map-append (named names) own others
+
 pub each_events : (names : List (List ℕ)) (entry : Entry) (history : List Entry) (number : ℕ)
-    (queries : List CompiledValue) (olds news : List Index) (events : List Event) →
+    (queries : List CompiledValue) (olds news : List Index) (events : List NumberedEvent) →
     AreIndexes history names queries olds →
     HaveAnswered names entry number queries olds news events →
     AreEventsUnder number (map (λ (each : CompiledValue). each.def) queries) history
-    (history ++ entry ∷ []) events
-each_events names entry history number [] [] [] events are answered = answered
+    (history ++ entry ∷ []) (map (named names) events)
+each_events names entry history number [] [] [] events are answered =
+    ap (map (named names)) {x = events} {y = []} answered
 each_events names entry history number [] [] (new ∷ news) events are answered = absurd answered
 each_events names entry history number [] (old ∷ olds) news events are answered = absurd are
 each_events names entry history number (query ∷ queries) [] news events are answered = absurd are
@@ -94,18 +104,18 @@ each_events names entry history number (query ∷ queries) (old ∷ olds) [] eve
     absurd answered
 each_events names entry history number (query ∷ queries) (old ∷ olds) (new ∷ news) events are
     answered = (
-      answered.0,
-      answered.1,
+      map (named names) answered.0,
+      map (named names) answered.1,
       answered.2.events history are.0,
       each_events names entry history (number + 1) queries olds news answered.1 are.1 answered.3,
-      answered.4,
+      named_both names events answered.0 answered.1 answered.4,
     )
 
 abbrev pub forest_of : Index → ForestValue
 forest_of index = index.forest
 
 pub each_keeps : (names : List (List ℕ)) (entry : Entry) (number : ℕ)
-    (queries : List CompiledValue) (olds news : List Index) (events : List Event) →
+    (queries : List CompiledValue) (olds news : List Index) (events : List NumberedEvent) →
     HaveAnswered names entry number queries olds news events →
     AllZip (KeepsForest entry.tuple.act names) (map forest_of olds) (map forest_of news)
 each_keeps names entry number [] [] [] events answered = tt
@@ -119,12 +129,13 @@ each_keeps names entry number (query ∷ queries) (old ∷ olds) (new ∷ news) 
 )
 
 pub each_numbers : (names : List (List ℕ)) (entry : Entry) (number : ℕ)
-    (queries : List CompiledValue) (olds news : List Index) (events : List Event) →
+    (queries : List CompiledValue) (olds news : List Index) (events : List NumberedEvent) →
     HaveAnswered names entry number queries olds news events →
-    All (λ (e : Event). e.query < number + length queries) events
+    All (λ (e : Event). e.query < number + length queries) (map (named names) events)
 each_numbers names entry number [] [] [] events answered =
-    subst (All (λ (e : Event). e.query < number + length {A = CompiledValue} []))
-    (sym {A = List Event} answered)
+    subst (λ (own : List NumberedEvent).
+    All (λ (e : Event). e.query < number + length {A = CompiledValue} []) (map (named names) own))
+    (sym {A = List NumberedEvent} answered)
     (All-nil (λ (e : Event). e.query < number + length {A = CompiledValue} []))
 each_numbers names entry number [] [] (new ∷ news) events answered = absurd answered
 each_numbers names entry number [] (old ∷ olds) news events answered = absurd answered
@@ -133,23 +144,38 @@ each_numbers names entry number (query ∷ queries) (old ∷ olds) [] events ans
 each_numbers names entry number (query ∷ queries) (old ∷ olds) (new ∷ news) events answered =
     let later = each_numbers names entry (number + 1) queries olds news answered.1 answered.3 in
     subst (All (λ (e : Event). e.query < number + length (query ∷ queries)))
-    (sym {A = List Event} answered.4)
-    (All-append (λ (e : Event). e.query < number + length (query ∷ queries)) answered.0 answered.1
+    (sym {A = List Event} (named_both names events answered.0 answered.1 answered.4))
+    (All-append (λ (e : Event). e.query < number + length (query ∷ queries))
+    (map (named names) answered.0) (map (named names) answered.1)
     (λ k d within. omega (arith, answered.2.numbers k d within))
     (λ k d within. omega (arith, later k d within)))
+
+pub each_named : (names : List (List ℕ)) (entry : Entry) (number : ℕ)
+    (queries : List CompiledValue) (olds news : List Index) (events : List NumberedEvent) →
+    HaveAnswered names entry number queries olds news events → All (HasNames names) events
+each_named names entry number [] [] [] events answered =
+    subst (All (HasNames names)) (sym {A = List NumberedEvent} answered) (All-nil (HasNames names))
+each_named names entry number [] [] (new ∷ news) events answered = absurd answered
+each_named names entry number [] (old ∷ olds) news events answered = absurd answered
+each_named names entry number (query ∷ queries) [] news events answered = absurd answered
+each_named names entry number (query ∷ queries) (old ∷ olds) [] events answered = absurd answered
+each_named names entry number (query ∷ queries) (old ∷ olds) (new ∷ news) events answered =
+    subst (All (HasNames names)) (sym {A = List NumberedEvent} answered.4)
+    (All-append (HasNames names) answered.0 answered.1 answered.2.have_names
+    (each_named names entry (number + 1) queries olds news answered.1 answered.3))
 
 -- ---- one query after another
 
 -- what the queries from this place on will have answered completes what those before it have
 abbrev pub IsDone : List (List ℕ) → Entry → List CompiledValue → List Index → ℕ → List Index →
-    List Event → Type 0
-IsDone names entry queries olds place current events = (rest : List Index) (later : List Event) →
+    List NumberedEvent → Type 0
+IsDone names entry queries olds place current events = (rest : List Index) (later : List NumberedEvent) →
     HaveAnswered names entry place (drop place queries) (drop place olds) rest later →
     HaveAnswered names entry 0 queries olds (take place current ++ rest) (events ++ later)
 
 pub done_more : (names : List (List ℕ)) (entry : Entry) (queries : List CompiledValue)
     (olds current : List Index) (place : ℕ) (query : CompiledValue) (old new : Index)
-    (events own : List Event) → place < length queries → place < length olds →
+    (events own : List NumberedEvent) → place < length queries → place < length olds →
     length current ≡ length olds → query ≡ get_or queries place query →
     old ≡ get_or olds place old → IsDone names entry queries olds place current events →
     HasAnswered names entry place query old new own →
@@ -179,7 +205,7 @@ done_more names entry queries olds current place query old new events own inside
     (sym (append_assoc events own later)) all)
 
 pub done_all : (names : List (List ℕ)) (entry : Entry) (queries : List CompiledValue)
-    (olds current : List Index) (place : ℕ) (events : List Event) → length queries ≤ place →
+    (olds current : List Index) (place : ℕ) (events : List NumberedEvent) → length queries ≤ place →
     length olds ≤ place → length current ≡ length olds →
     IsDone names entry queries olds place current events →
     HaveAnswered names entry 0 queries olds current events
@@ -229,7 +255,7 @@ zip_map v R (x ∷ xs) (y ∷ ys) all = (all.0, zip_map v R xs ys all.1)
 
 -- as many indexes as before
 pub answered_long : (names : List (List ℕ)) (entry : Entry) (number : ℕ)
-    (queries : List CompiledValue) (olds news : List Index) (events : List Event) →
+    (queries : List CompiledValue) (olds news : List Index) (events : List NumberedEvent) →
     HaveAnswered names entry number queries olds news events → length news ≡ length olds
 answered_long names entry number [] [] [] events answered = refl
 answered_long names entry number [] [] (new ∷ news) events answered = absurd answered

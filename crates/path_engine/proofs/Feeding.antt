@@ -1,10 +1,12 @@
 -- What an engine is after an entry, and what it shows.
 use Rattle.std.proofs.Common.{◌≡◌, ℕ, ◌+◌, ◌<◌, ◌≤◌, ◌^◌, false, List, [], ◌∷◌, ◌++◌, length}
-use Rattle.std.proofs.Common.{sym, ap, subst, arith, length-append}
+use Rattle.std.proofs.Common.{map, sym, ap, subst, arith, length-append}
 use Rattle.std.specs.Prelude.{IfOk, Result, Ok, Err}
 use Rattle.std.specs.List.{All, AllZip}
 use Rattle.rpq_base.specs.declared.data.Entry.{Entry}
 use Rattle.rpq_base.specs.declared.data.Event.{Event}
+use Rattle.end_events.specs.declared.numbered_event.NumberedEvent.{NumberedEvent}
+use Rattle.end_events.specs.Named.{named}
 use Rattle.rpq_model.specs.Query.{Query, path_query}
 use Rattle.rpq_model.specs.QueryEvents.{AreEntryEvents}
 use Rattle.name_table.specs.Names.{KeepsNumbers}
@@ -29,7 +31,7 @@ histories follow engine history names stands short kept =
     (more_named follow history engine.names names engine.queries engine.indexes kept
     stands.indexes)
 
-module _ (follow : StoresFollow) (old new : EngineValue) (entry : Entry) (events : List Event)
+module _ (follow : StoresFollow) (old new : EngineValue) (entry : Entry) (events : List NumberedEvent)
     (queries : new.queries ≡ old.queries) (position : new.position ≡ old.position + 1)
     (unspent : new.spent ≡ false) (kept : KeepsNumbers old.names new.names)
     (grown : length new.names ≤ length old.names + 2)
@@ -57,7 +59,7 @@ module _ (follow : StoresFollow) (old new : EngineValue) (entry : Entry) (events
   }
 
   fed_events : (history : List Entry) → StandsFor old history →
-      AreEntryEvents (definitions old) history entry events
+      AreEntryEvents (definitions old) history entry (map (named new.names) events)
   fed_events history stands =
       each_events new.names entry history 0 old.queries old.indexes new.indexes events
       (over history stands) answered
@@ -68,14 +70,15 @@ module _ (follow : StoresFollow) (old new : EngineValue) (entry : Entry) (events
     forests = each_keeps new.names entry 0 old.queries old.indexes new.indexes events answered;
   }
 
-  fed_numbers : All (λ (event : Event). event.query < length old.queries) events
+  fed_numbers :
+      All (λ (event : Event). event.query < length old.queries) (map (named new.names) events)
   fed_numbers =
       let all = each_numbers new.names entry 0 old.queries old.indexes new.indexes events answered in
       λ k d within. omega (arith, all k d within)
 
   -- all of it
   pub fed : (BringsNoName entry.tuple.act old.queries → new.names ≡ old.names) →
-      Feeds old entry new events
+      Feeds old entry new (map (named new.names) events)
   fed same = record {
     stands = fed_stands;
     events = fed_events;

@@ -6,7 +6,7 @@ use Rattle.std.specs.Prelude.{IfOk, OnOk, Result, Ok, Err}
 use Rattle.std.proofs.Common.{⊎_elim, get_or-set_other, get_or-set_same}
 use Rattle.std.proofs.lemmas.Bool.{cases_lt, cases_order}
 use Rattle.std.proofs.Common.{Vec, Global}
-use Rattle.std.proofs.lemmas.List.{get_or_push, get_or_append_left, length-map, map-append}
+use Rattle.std.proofs.lemmas.List.{get_or-map, get_or_push, get_or_append_left, length-map, map-append}
 use Rattle.std.proofs.lemmas.List.Elements.{AllZip-get_or}
 use Rattle.std.proofs.lemmas.Slice.Zip.{AllZip-long}
 use Rattle.std.proofs.lemmas.List.{append-nil}
@@ -14,6 +14,8 @@ use Rattle.rpq_base.specs.declared.data.Act.{Act}
 use Rattle.rpq_base.specs.declared.data.Act.TheVariants.{Insert, Delete, Tick}
 use Rattle.rpq_base.specs.declared.data.Entry.{Entry}
 use Rattle.rpq_base.specs.declared.data.Event.{Event}
+use Rattle.end_events.specs.declared.numbered_event.NumberedEvent.{NumberedEvent}
+use Rattle.end_events.specs.Named.{named, named_lists, HasNames, HaveAllNames}
 use Rattle.rpq_model.specs.QueryEvents.{AreAllEventsFrom}
 use Rattle.dfa_table.specs.DfaValue.{DfaValue}
 use Rattle.name_table.specs.Names.{KeepsNumbers}
@@ -32,7 +34,7 @@ use Rattle.path_engine.specs.Feeding.{FeedsFront}
 use Rattle.path_engine.specs.Keeping.{BringsNoName, KeepsForest, KeepsForestAll}
 use Rattle.path_engine.specs.Keeping.{KeepsPlacesAll}
 use Rattle.path_engine.proofs.Each.{AreIndexes, each_events, each_keeps}
-use Rattle.path_engine.proofs.Each.{each_numbers, each_stands, more_named}
+use Rattle.path_engine.proofs.Each.{each_named, each_numbers, each_stands, more_named}
 
 pub on_ok : {T E : Type 0} (P Q : Type 0) → (P → Q) → (result : Result T E) → OnOk result P →
     OnOk result Q
@@ -41,73 +43,73 @@ on_ok P Q gives (Err e) given = tt
 
 -- ---- joined lists
 
-pub joined_nothing : (owns : List (List Event)) → joined owns [] ≡ owns
+pub joined_nothing : (owns : List (List NumberedEvent)) → joined owns [] ≡ owns
 joined_nothing [] = refl
 joined_nothing (own ∷ owns) = refl
 
-pub joined_assoc : (xs ys zs : List (List Event)) →
+pub joined_assoc : (xs ys zs : List (List NumberedEvent)) →
     joined (joined xs ys) zs ≡ joined xs (joined ys zs)
 joined_assoc [] ys zs = refl
 joined_assoc (x ∷ xs) [] zs = refl
 joined_assoc (x ∷ xs) (y ∷ ys) [] = refl
 joined_assoc (x ∷ xs) (y ∷ ys) (z ∷ zs) =
-    ap₂ (λ (own : List Event) (owns : List (List Event)). own ∷ owns) (append_assoc x y z)
+    ap₂ (λ (own : List NumberedEvent) (owns : List (List NumberedEvent)). own ∷ owns) (append_assoc x y z)
     (joined_assoc xs ys zs)
 
 -- at least as long as the other
-joined_covers : (xs ys : List (List Event)) → length ys ≤ length (joined xs ys)
+joined_covers : (xs ys : List (List NumberedEvent)) → length ys ≤ length (joined xs ys)
 joined_covers [] ys = omega arith
 joined_covers (x ∷ xs) [] = omega arith
 joined_covers (x ∷ xs) (y ∷ ys) = omega (arith, joined_covers xs ys)
 
 -- ---- more events at a place
 
-pub put_last : (xs : List (List Event)) (own : List Event) →
+pub put_last : (xs : List (List NumberedEvent)) (own : List NumberedEvent) →
     put_at (length xs) xs own ≡ xs ++ own ∷ []
 put_last [] own = refl
-put_last (x ∷ xs) own = ap (λ (rest : List (List Event)). x ∷ rest) (put_last xs own)
+put_last (x ∷ xs) own = ap (λ (rest : List (List NumberedEvent)). x ∷ rest) (put_last xs own)
 
-pub put_past : (place : ℕ) (xs : List (List Event)) (own : List Event) → length xs ≤ place →
+pub put_past : (place : ℕ) (xs : List (List NumberedEvent)) (own : List NumberedEvent) → length xs ≤ place →
     put_at place xs own ≡ xs ++ own ∷ []
 put_past place [] own past = refl
 put_past zero (x ∷ xs) own past = absurd (omega (arith, past))
 put_past (suc place) (x ∷ xs) own past =
-    ap (λ (rest : List (List Event)). x ∷ rest) (put_past place xs own (omega (arith, past)))
+    ap (λ (rest : List (List NumberedEvent)). x ∷ rest) (put_past place xs own (omega (arith, past)))
 
-pub joined_more : (xs ys : List (List Event)) (own : List Event) →
+pub joined_more : (xs ys : List (List NumberedEvent)) (own : List NumberedEvent) →
     joined xs (ys ++ own ∷ []) ≡ put_at (length ys) (joined xs ys) own
 joined_more [] ys own = sym (put_last ys own)
 joined_more (x ∷ xs) [] own =
-    ap (λ (rest : List (List Event)). (x ++ own) ∷ rest) (joined_nothing xs)
+    ap (λ (rest : List (List NumberedEvent)). (x ++ own) ∷ rest) (joined_nothing xs)
 joined_more (x ∷ xs) (y ∷ ys) own =
-    ap (λ (rest : List (List Event)). (x ++ y) ∷ rest) (joined_more xs ys own)
+    ap (λ (rest : List (List NumberedEvent)). (x ++ y) ∷ rest) (joined_more xs ys own)
 
-abbrev pub items_of : List (Vec Event Global) → List (List Event)
-items_of owns = map (λ (own : Vec Event Global). own.items) owns
+abbrev pub items_of : List (Vec NumberedEvent Global) → List (List NumberedEvent)
+items_of owns = map (λ (own : Vec NumberedEvent Global). own.items) owns
 
-pub put_inside : (place : ℕ) (xs : List (Vec Event Global)) (x new : Vec Event Global)
-    (own : List Event) → place < length xs → x ≡ get_or xs place x →
+pub put_inside : (place : ℕ) (xs : List (Vec NumberedEvent Global)) (x new : Vec NumberedEvent Global)
+    (own : List NumberedEvent) → place < length xs → x ≡ get_or xs place x →
     new.items ≡ x.items ++ own → items_of (set xs place new) ≡ put_at place (items_of xs) own
 put_inside place [] x new own inside is grew = absurd (omega (arith, inside))
 put_inside zero (first ∷ xs) x new own inside is grew =
-    ap (λ (one : List Event). one ∷ items_of xs)
-    (grew ∙ ap (λ (each : Vec Event Global). each.items ++ own) is)
+    ap (λ (one : List NumberedEvent). one ∷ items_of xs)
+    (grew ∙ ap (λ (each : Vec NumberedEvent Global). each.items ++ own) is)
 put_inside (suc place) (first ∷ xs) x new own inside is grew =
-    ap (λ (rest : List (List Event)). first.items ∷ rest)
+    ap (λ (rest : List (List NumberedEvent)). first.items ∷ rest)
     (put_inside place xs x new own (omega (arith, inside)) is grew)
 
-pub items_push : (xs all : List (Vec Event Global)) (x : Vec Event Global) →
+pub items_push : (xs all : List (Vec NumberedEvent Global)) (x : Vec NumberedEvent Global) →
     all ≡ xs ++ x ∷ [] → items_of all ≡ items_of xs ++ x.items ∷ []
 items_push xs all x is =
-    ap items_of is ∙ map-append (λ (own : Vec Event Global). own.items) xs (x ∷ [])
+    ap items_of is ∙ map-append (λ (own : Vec NumberedEvent Global). own.items) xs (x ∷ [])
 
-pub yielded_more : (yielded rest old all : List (Vec Event Global)) (x : Vec Event Global) →
+pub yielded_more : (yielded rest old all : List (Vec NumberedEvent Global)) (x : Vec NumberedEvent Global) →
     yielded ++ old ≡ all → old ≡ x ∷ rest → (yielded ++ x ∷ []) ++ rest ≡ all
 yielded_more yielded rest old all x whole is =
     append_assoc yielded (x ∷ []) rest
-    ∙ (ap (λ (xs : List (Vec Event Global)). yielded ++ xs) (sym is) ∙ whole)
+    ∙ (ap (λ (xs : List (Vec NumberedEvent Global)). yielded ++ xs) (sym is) ∙ whole)
 
-pub yielded_all : (yielded rest all : List (Vec Event Global)) →
+pub yielded_all : (yielded rest all : List (Vec NumberedEvent Global)) →
     yielded ++ rest ≡ all → length rest ≡ 0 → yielded ≡ all
 yielded_all yielded [] all whole none = sym (append-nil yielded) ∙ whole
 yielded_all yielded (x ∷ rest) all whole none = absurd (omega (arith, none))
@@ -143,7 +145,7 @@ ends_at names queries (entry ∷ entries) (own ∷ ends) number query inside is 
 -- ---- one query, entry after entry
 
 pub answered_all_long : (names : List (List ℕ)) (entries : List Entry) (number : ℕ)
-    (query : CompiledValue) (old new : Index) (owns : List (List Event)) →
+    (query : CompiledValue) (old new : Index) (owns : List (List NumberedEvent)) →
     HasAnsweredAll names entries number query old new owns → length owns ≡ length entries
 answered_all_long names [] number query old new [] answered = refl
 answered_all_long names [] number query old new (own ∷ owns) answered = absurd answered
@@ -153,7 +155,7 @@ answered_all_long names (entry ∷ entries) number query old new (own ∷ owns) 
 
 -- one entry more
 pub one_more : (names : List (List ℕ)) (entries : List Entry) (entry : Entry) (number : ℕ)
-    (query : CompiledValue) (old middle new : Index) (owns : List (List Event)) (own : List Event) →
+    (query : CompiledValue) (old middle new : Index) (owns : List (List NumberedEvent)) (own : List NumberedEvent) →
     HasAnsweredAll names entries number query old middle owns →
     HasAnswered names entry number query middle new own →
     HasAnsweredAll names (entries ++ entry ∷ []) number query old new (owns ++ own ∷ [])
@@ -175,7 +177,7 @@ one_more names (first ∷ entries) entry number query old middle new (one ∷ ow
 
 -- the index is that of the history with the entries behind
 pub all_stands : (names : List (List ℕ)) (entries : List Entry) (number : ℕ)
-    (query : CompiledValue) (old new : Index) (owns : List (List Event)) (history : List Entry) →
+    (query : CompiledValue) (old new : Index) (owns : List (List NumberedEvent)) (history : List Entry) →
     HasAnsweredAll names entries number query old new owns →
     IsIndexFor query history names old → IsIndexFor query (history ++ entries) names new
 all_stands names [] number query old new [] history answered is =
@@ -191,7 +193,7 @@ all_stands names (entry ∷ entries) number query old new (own ∷ owns) history
 
 -- before the entry at this place the index is that of a history
 pub history_at : (names : List (List ℕ)) (entries : List Entry) (place number : ℕ)
-    (query : CompiledValue) (old new : Index) (owns : List (List Event)) →
+    (query : CompiledValue) (old new : Index) (owns : List (List NumberedEvent)) →
     HasHistoryFor (length entries) query names old → place < length entries →
     HasAnsweredAll names (take place entries) number query old new owns →
     HasHistory query names new
@@ -211,7 +213,7 @@ history_at names entries place number query old new owns has inside answered = r
 
 pub beside : (names : List (List ℕ)) (entries : List Entry) (number : ℕ) (query : CompiledValue)
     (old new : Index) (queries : List CompiledValue) (olds news : List Index)
-    (owns others : List (List Event)) →
+    (owns others : List (List NumberedEvent)) →
     HasAnsweredAll names entries number query old new owns →
     HaveAnsweredAll names entries (number + 1) queries olds news others →
     HaveAnsweredAll names entries number (query ∷ queries) (old ∷ olds) (new ∷ news)
@@ -232,7 +234,7 @@ beside names (entry ∷ entries) number query old new queries olds news (own ∷
     )
 
 -- no query has no events
-abbrev pub nothing_for : List Entry → List (List Event)
+abbrev pub nothing_for : List Entry → List (List NumberedEvent)
 nothing_for entries = map (λ _. []) entries
 
 pub no_query : (names : List (List ℕ)) (entries : List Entry) (number : ℕ) →
@@ -240,12 +242,12 @@ pub no_query : (names : List (List ℕ)) (entries : List Entry) (number : ℕ) �
 no_query names [] number = refl
 no_query names (entry ∷ entries) number = ([], refl, no_query names entries number)
 
-pub joined_with_nothing : (entries : List Entry) (events : List (List Event)) →
+pub joined_with_nothing : (entries : List Entry) (events : List (List NumberedEvent)) →
     length entries ≤ length events → joined events (nothing_for entries) ≡ events
 joined_with_nothing [] events less = joined_nothing events
 joined_with_nothing (entry ∷ entries) [] less = absurd (omega (arith, less))
 joined_with_nothing (entry ∷ entries) (own ∷ owns) less =
-    ap₂ (λ (one : List Event) (more : List (List Event)). one ∷ more) (append-nil own)
+    ap₂ (λ (one : List NumberedEvent) (more : List (List NumberedEvent)). one ∷ more) (append-nil own)
     (joined_with_nothing entries owns (omega (arith, less)))
 
 -- ---- shares
@@ -349,12 +351,12 @@ Fed names entries number queries olds news = (k : ℕ) (query : CompiledValue) (
 
 fed_first : (names : List (List ℕ)) (entries : List Entry) (number : ℕ) (query : CompiledValue)
     (queries : List CompiledValue) (old new : Share) (olds news : List Share)
-    (owns : Vec (Vec Event Global) Global) →
+    (owns : Vec (Vec NumberedEvent Global) Global) →
     Fed names entries number (query ∷ queries) (old ∷ olds) (new ∷ news) → new.owns ≡ Ok owns →
     HasAnsweredAll names entries number query old.index new.index (items_of owns.items)
 fed_first names entries number query queries old new olds news owns fed is =
     let here : number + 0 ≡ number = omega arith in
-    if_ok_is (λ (each : Vec (Vec Event Global) Global).
+    if_ok_is (λ (each : Vec (Vec NumberedEvent Global) Global).
     HasAnsweredAll names entries number query old.index new.index (items_of each.items)) new.owns
     owns is
     (subst (λ (at : ℕ). HasFed names entries at query old new) here
@@ -380,15 +382,15 @@ fed_all names entries queries olds news own have k query d below is =
     (subst (λ (place : ℕ). query ≡ get_or queries place query) (sym (own k d below)) is))
 
 gathered_rest : (names : List (List ℕ)) (entries : List Entry) (number : ℕ)
-    (queries : List CompiledValue) (olds news : List Share) (before events : List (List Event)) →
+    (queries : List CompiledValue) (olds news : List Share) (before events : List (List NumberedEvent)) →
     length entries ≤ length before → length queries ≡ length olds → length news ≡ length olds →
     Fed names entries number queries olds news → AreGathered before news events →
-    (later : List (List Event)) × HaveAnsweredAll names entries number queries
+    (later : List (List NumberedEvent)) × HaveAnsweredAll names entries number queries
     (map index_of olds) (map index_of news) later × (events ≡ joined before later)
 gathered_rest names entries number [] [] [] before events covers many as_many fed are = (
   nothing_for entries,
   no_query names entries number,
-  are ∙ sym {A = List (List Event)} (joined_with_nothing entries before covers),
+  are ∙ sym {A = List (List NumberedEvent)} (joined_with_nothing entries before covers),
 )
 gathered_rest names entries number [] [] (new ∷ news) before events covers many as_many fed are =
     absurd (omega (arith, as_many))
@@ -400,7 +402,7 @@ gathered_rest names entries number (query ∷ queries) (old ∷ olds) [] before 
     as_many fed are = absurd (omega (arith, as_many))
 gathered_rest names entries number (query ∷ queries) (old ∷ olds) (new ∷ news) before events covers
     many as_many fed are =
-    let owns : List (List Event) = items_of are.0.items in
+    let owns : List (List NumberedEvent) = items_of are.0.items in
     let has = fed_first names entries number query queries old new olds news are.0 fed are.1 in
     let long = answered_all_long names entries number query old.index new.index owns has in
     let rest = gathered_rest names entries (number + 1) queries olds news (joined before owns)
@@ -415,7 +417,7 @@ gathered_rest names entries number (query ∷ queries) (old ∷ olds) (new ∷ n
 
 -- the events of all shares are those of the queries
 pub gathered : (names : List (List ℕ)) (entries : List Entry) (queries : List CompiledValue)
-    (olds news : List Share) (events : List (List Event)) → 1 ≤ length queries →
+    (olds news : List Share) (events : List (List NumberedEvent)) → 1 ≤ length queries →
     length queries ≡ length olds → AreInPlace olds →
     HaveFed queries names entries olds news → AreGathered [] news events →
     HaveAnsweredAll names entries 0 queries (map index_of olds) (map index_of news) events
@@ -428,21 +430,21 @@ gathered names entries (query ∷ queries) (old ∷ olds) (new ∷ news) events 
     are =
     let fed = fed_all names entries (query ∷ queries) (old ∷ olds) (new ∷ news) own have in
     let as_many = AllZip-long (IsFed (query ∷ queries) names entries) olds news have.1 in
-    let owns : List (List Event) = items_of are.0.items in
+    let owns : List (List NumberedEvent) = items_of are.0.items in
     let has = fed_first names entries 0 query queries old new olds news are.0 fed are.1 in
     let long = answered_all_long names entries 0 query old.index new.index owns has in
     let rest = gathered_rest names entries (0 + 1) queries olds news owns events (omega (arith, long))
     (omega (arith, many)) (omega (arith, as_many))
     (fed_rest names entries 0 query queries old new olds news fed) are.2 in
     subst (HaveAnsweredAll names entries 0 (query ∷ queries) (map index_of (old ∷ olds))
-    (map index_of (new ∷ news))) (sym {A = List (List Event)} rest.2)
+    (map index_of (new ∷ news))) (sym {A = List (List NumberedEvent)} rest.2)
     (beside names entries 0 query old.index new.index queries (map index_of olds)
     (map index_of news) owns rest.0 has rest.1)
 
 -- ---- what was answered
 
 pub front_stands : (names : List (List ℕ)) (entries : List Entry) (history : List Entry)
-    (queries : List CompiledValue) (olds news : List Index) (events : List (List Event)) →
+    (queries : List CompiledValue) (olds news : List Index) (events : List (List NumberedEvent)) →
     AreIndexes history names queries olds →
     HaveAnsweredAll names entries 0 queries olds news events →
     AreIndexes (history ++ entries) names queries news
@@ -458,10 +460,11 @@ front_stands names (entry ∷ entries) history queries olds news (own ∷ events
     (each_stands names entry history 0 queries olds answered.0 own are answered.1) answered.2)
 
 pub front_events : (names : List (List ℕ)) (entries : List Entry) (history : List Entry)
-    (queries : List CompiledValue) (olds news : List Index) (events : List (List Event)) →
+    (queries : List CompiledValue) (olds news : List Index) (events : List (List NumberedEvent)) →
     AreIndexes history names queries olds →
     HaveAnsweredAll names entries 0 queries olds news events →
-    AreAllEventsFrom (map (λ (each : CompiledValue). each.def) queries) history entries events
+    AreAllEventsFrom (map (λ (each : CompiledValue). each.def) queries) history entries
+    (map (map (named names)) events)
 front_events names [] history queries olds news [] are answered = tt
 front_events names [] history queries olds news (own ∷ events) are answered = absurd answered
 front_events names (entry ∷ entries) history queries olds news [] are answered = absurd answered
@@ -495,7 +498,7 @@ keeps_more names act acts (old ∷ olds) (middle ∷ middles) (new ∷ news) one
     ((middle, one.0, more.0), keeps_more names act acts olds middles news one.1 more.1)
 
 pub front_keeps : (names : List (List ℕ)) (entries : List Entry)
-    (queries : List CompiledValue) (olds news : List Index) (events : List (List Event)) →
+    (queries : List CompiledValue) (olds news : List Index) (events : List (List NumberedEvent)) →
     HaveAnsweredAll names entries 0 queries olds news events →
     AllZip (KeepsForestAll (map act_of entries) names) (map forest_of olds) (map forest_of news)
 front_keeps names [] queries olds news [] answered =
@@ -509,25 +512,52 @@ front_keeps names (entry ∷ entries) queries olds news (own ∷ events) answere
     (each_keeps names entry 0 queries olds answered.0 own answered.1)
     (front_keeps names entries queries answered.0 news events answered.2)
 
+all_more : {A : Type 0} (P : A → Type 0) (x : A) (xs : List A) → P x → All P xs → All P (x ∷ xs)
+all_more P x xs one more zero d within = one
+all_more P x xs one more (suc k) d within = more k d (omega (arith, within))
+
 pub front_numbers : (names : List (List ℕ)) (entries : List Entry)
-    (queries : List CompiledValue) (olds news : List Index) (events : List (List Event)) →
+    (queries : List CompiledValue) (olds news : List Index) (events : List (List NumberedEvent)) →
     HaveAnsweredAll names entries 0 queries olds news events →
-    All (λ (own : List Event). All (λ (e : Event). e.query < length queries) own) events
+    All (λ (own : List Event). All (λ (e : Event). e.query < length queries) own)
+    (map (map (named names)) events)
 front_numbers names [] queries olds news [] answered = λ k d within. absurd (omega (arith, within))
 front_numbers names [] queries olds news (own ∷ events) answered = absurd answered
 front_numbers names (entry ∷ entries) queries olds news [] answered = absurd answered
 front_numbers names (entry ∷ entries) queries olds news (own ∷ events) answered =
     let one = each_numbers names entry 0 queries olds answered.0 own answered.1 in
     let more = front_numbers names entries queries answered.0 news events answered.2 in
-    numbers_more queries own events (λ k d within. omega (arith, one k d within)) more
-  where
-    numbers_more : (queries : List CompiledValue) (own : List Event) (events : List (List Event)) →
-        All (λ (e : Event). e.query < length queries) own →
-        All (λ (each : List Event). All (λ (e : Event). e.query < length queries) each) events →
-        All (λ (each : List Event). All (λ (e : Event). e.query < length queries) each)
-        (own ∷ events)
-    numbers_more queries own events one more zero d within = one
-    numbers_more queries own events one more (suc k) d within = more k d (omega (arith, within))
+    all_more (λ (each : List Event). All (λ (e : Event). e.query < length queries) each)
+    (map (named names) own) (map (map (named names)) events)
+    (λ k d within. omega (arith, one k d within)) more
+
+pub front_named : (names : List (List ℕ)) (entries : List Entry)
+    (queries : List CompiledValue) (olds news : List Index) (events : List (List NumberedEvent)) →
+    HaveAnsweredAll names entries 0 queries olds news events → All (All (HasNames names)) events
+front_named names [] queries olds news [] answered = λ k d within. absurd (omega (arith, within))
+front_named names [] queries olds news (own ∷ events) answered = absurd answered
+front_named names (entry ∷ entries) queries olds news [] answered = absurd answered
+front_named names (entry ∷ entries) queries olds news (own ∷ events) answered =
+    all_more (All (HasNames names)) own events
+    (each_named names entry 0 queries olds answered.0 own answered.1)
+    (front_named names entries queries answered.0 news events answered.2)
+
+-- ---- the lists of a front
+
+-- by names
+pub lists_named : (names : List (List ℕ)) (lists : List (Vec NumberedEvent Global)) →
+    map (map (named names)) (items_of lists) ≡ named_lists names lists
+lists_named names [] = refl
+lists_named names (own ∷ lists) =
+    ap (λ (rest : List (List Event)). map (named names) own.items ∷ rest) (lists_named names lists)
+
+pub lists_have_names : (names : List (List ℕ)) (lists : List (Vec NumberedEvent Global)) →
+    All (All (HasNames names)) (items_of lists) → HaveAllNames names lists
+lists_have_names names lists all = λ k d within.
+    subst (All (HasNames names))
+    (get_or-map (λ (own : Vec NumberedEvent Global). own.items) lists k d d.items within)
+    (all k d.items
+    (omega (arith, within, length-map lists (λ (own : Vec NumberedEvent Global). own.items))))
 
 -- ---- names that grew
 
@@ -584,7 +614,7 @@ histories_for follow engine history names more stands short kept =
     )
 
 module _ (follow : StoresFollow) (old new : EngineValue) (entries : List Entry)
-    (events : List (List Event))
+    (events : List (List NumberedEvent))
     (queries : new.queries ≡ old.queries) (position : new.position ≡ old.position + length entries)
     (unspent : new.spent ≡ false) (kept : KeepsNumbers old.names new.names)
     (grown : length new.names ≤ length old.names + 2 * length entries)
@@ -608,7 +638,7 @@ module _ (follow : StoresFollow) (old new : EngineValue) (entries : List Entry)
     }
 
     front_fed_events : (history : List Entry) → StandsFor old history →
-        AreAllEventsFrom (definitions old) history entries events
+        AreAllEventsFrom (definitions old) history entries (map (map (named new.names)) events)
     front_fed_events history stands =
         front_events new.names entries history old.queries old.indexes new.indexes events
         (over history stands) answered
@@ -620,14 +650,15 @@ module _ (follow : StoresFollow) (old new : EngineValue) (entries : List Entry)
     }
 
     front_fed_numbers :
-        All (λ (own : List Event). All (λ (e : Event). e.query < length old.queries) own) events
+        All (λ (own : List Event). All (λ (e : Event). e.query < length old.queries) own)
+        (map (map (named new.names)) events)
     front_fed_numbers =
         front_numbers new.names entries old.queries old.indexes new.indexes events answered
 
     -- all of it
     pub front_fed :
         (All (λ (each : Entry). BringsNoName each.tuple.act old.queries) entries →
-        new.names ≡ old.names) → FeedsFront old entries new events
+        new.names ≡ old.names) → FeedsFront old entries new (map (map (named new.names)) events)
     front_fed same = record {
       stands = front_fed_stands;
       events = front_fed_events;

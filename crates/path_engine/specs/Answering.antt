@@ -1,12 +1,14 @@
 -- How an entry is answered for one query. No public contract cites this file.
 use Rattle.std.specs.Prelude.{◌≡◌, ◌⊎◌, ℕ, ◌+◌, ◌^◌, ◌<◌, ◌≤◌, max, Bool, false}
-use Rattle.std.specs.Prelude.{List, [], ◌∷◌, ◌++◌, length, slice_index_or, All}
+use Rattle.std.specs.Prelude.{List, [], ◌∷◌, ◌++◌, length, map, slice_index_or, All}
 use Rattle.std.specs.Prelude.{Option, Some, None, if◌then◌else◌}
 use Rattle.rpq_base.specs.declared.data.Edge.{Edge}
 use Rattle.rpq_base.specs.declared.data.Act.{Act}
 use Rattle.rpq_base.specs.declared.data.Act.TheVariants.{Insert, Delete, Tick}
 use Rattle.rpq_base.specs.declared.data.Entry.{Entry}
 use Rattle.rpq_base.specs.declared.data.Event.{Event}
+use Rattle.end_events.specs.declared.numbered_event.NumberedEvent.{NumberedEvent}
+use Rattle.end_events.specs.Named.{named, HasNames}
 use Rattle.dfa_table.specs.DfaValue.{DfaValue, place_of}
 use Rattle.name_table.specs.Names.{number_of}
 use Rattle.rpq_model.specs.Events.{AreEvents}
@@ -136,24 +138,27 @@ pub record HasHistory (query : CompiledValue) (names : List (List ℕ)) (index :
   pub is : IsIndexFor query history names index
 
 -- the entry was answered for the query with this number: over each history of which the index was
--- that of the query, it is so over the history with the entry, and these are the events
+-- that of the query, it is so over the history with the entry, and these are the events, by the
+-- numbers of names
 pub record HasAnswered (names : List (List ℕ)) (entry : Entry) (number : ℕ)
-    (query : CompiledValue) (old new : Index) (own : List Event) : Type 0 where
+    (query : CompiledValue) (old new : Index) (own : List NumberedEvent) : Type 0 where
   pub stands : (history : List Entry) → IsIndexFor query history names old →
       IsIndexFor query (history ++ entry ∷ []) names new
   pub events : (history : List Entry) → IsIndexFor query history names old →
-      AreEvents (path_query query.def) number history (history ++ entry ∷ []) own
+      AreEvents (path_query query.def) number history (history ++ entry ∷ [])
+      (map (named names) own)
   pub keeps : KeepsForest entry.tuple.act names old.forest new.forest
-  pub numbers : All (λ (event : Event). event.query ≡ number) own
+  pub numbers : All (λ (event : Event). event.query ≡ number) (map (named names) own)
+  pub have_names : All (HasNames names) own
 
 -- it was answered for each of these queries, the first of which has this number
 abbrev pub HaveAnswered : List (List ℕ) → Entry → ℕ → List CompiledValue → List Index →
-    List Index → List Event → Type 0
+    List Index → List NumberedEvent → Type 0
 HaveAnswered names entry number [] [] [] events = events ≡ []
 HaveAnswered names entry number [] [] (new ∷ news) events = ⊥
 HaveAnswered names entry number [] (old ∷ olds) news events = ⊥
 HaveAnswered names entry number (query ∷ queries) [] news events = ⊥
 HaveAnswered names entry number (query ∷ queries) (old ∷ olds) [] events = ⊥
 HaveAnswered names entry number (query ∷ queries) (old ∷ olds) (new ∷ news) events =
-    (own others : List Event) × HasAnswered names entry number query old new own
+    (own others : List NumberedEvent) × HasAnswered names entry number query old new own
     × HaveAnswered names entry (number + 1) queries olds news others × (events ≡ own ++ others)

@@ -8,7 +8,7 @@ use Rattle.std.specs.List.{All, AllZip}
 use Rattle.rpq_base.specs.declared.data.Act.{Act}
 use Rattle.rpq_base.specs.declared.data.Act.TheVariants.{Insert, Delete, Tick}
 use Rattle.rpq_base.specs.declared.data.Entry.{Entry}
-use Rattle.rpq_base.specs.declared.data.Event.{Event}
+use Rattle.end_events.specs.declared.numbered_event.NumberedEvent.{NumberedEvent}
 use Rattle.dfa_table.specs.DfaValue.{DfaValue}
 use Rattle.query_file.specs.Compiled.{CompiledValue}
 use Rattle.path_engine.specs.declared.index.Index.{Index}
@@ -54,7 +54,7 @@ pub record HasHistoryFor (more : ℕ) (query : CompiledValue) (names : List (Lis
 -- the entries were answered one after another for the query with this number, and these are the
 -- events of each
 abbrev pub HasAnsweredAll : List (List ℕ) → List Entry → ℕ → CompiledValue → Index → Index →
-    List (List Event) → Type 0
+    List (List NumberedEvent) → Type 0
 HasAnsweredAll names [] number query old new [] = new ≡ old
 HasAnsweredAll names [] number query old new (own ∷ owns) = ⊥
 HasAnsweredAll names (entry ∷ entries) number query old new [] = ⊥
@@ -65,7 +65,7 @@ HasAnsweredAll names (entry ∷ entries) number query old new (own ∷ owns) =
 -- they were answered one after another for each of these queries, the first of which has this
 -- number, and these are the events of each entry
 abbrev pub HaveAnsweredAll : List (List ℕ) → List Entry → ℕ → List CompiledValue → List Index →
-    List Index → List (List Event) → Type 0
+    List Index → List (List NumberedEvent) → Type 0
 HaveAnsweredAll names [] number queries olds news [] = news ≡ olds
 HaveAnsweredAll names [] number queries olds news (events ∷ rest) = ⊥
 HaveAnsweredAll names (entry ∷ entries) number queries olds news [] = ⊥
@@ -75,13 +75,14 @@ HaveAnsweredAll names (entry ∷ entries) number queries olds news (events ∷ r
 
 -- the events of each entry, those of the one list before those of the other; where the one list
 -- ends, the rest of the other
-abbrev pub joined : List (List Event) → List (List Event) → List (List Event)
+abbrev pub joined : List (List NumberedEvent) → List (List NumberedEvent) →
+    List (List NumberedEvent)
 joined [] more = more
 joined (own ∷ owns) [] = own ∷ owns
 joined (own ∷ owns) (other ∷ others) = (own ++ other) ∷ joined owns others
 
 -- more events at the end of those at this place, or as the last where there is no such place
-abbrev pub put_at : ℕ → List (List Event) → List Event → List (List Event)
+abbrev pub put_at : ℕ → List (List NumberedEvent) → List NumberedEvent → List (List NumberedEvent)
 put_at place [] own = own ∷ []
 put_at zero (first ∷ rest) own = (first ++ own) ∷ rest
 put_at (suc place) (first ∷ rest) own = first ∷ put_at place rest own
@@ -123,8 +124,8 @@ HaveFed queries names entries olds news = AllZip (IsFed queries names entries) o
 
 -- each share has events of each entry, and these are those before with those of the shares behind,
 -- one share after another
-abbrev pub AreGathered : List (List Event) → List Share → List (List Event) → Type 0
+abbrev pub AreGathered : List (List NumberedEvent) → List Share → List (List NumberedEvent) → Type 0
 AreGathered before [] events = events ≡ before
 AreGathered before (share ∷ shares) events =
-    (owns : Vec (Vec Event Global) Global) × (share.owns ≡ Ok owns)
+    (owns : Vec (Vec NumberedEvent Global) Global) × (share.owns ≡ Ok owns)
     × AreGathered (joined before (map (λ own. own.items) owns.items)) shares events

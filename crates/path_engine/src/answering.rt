@@ -1,5 +1,5 @@
 //! An entry for each query: first what the clock reaches goes, and then the entry's edge comes or
-//! goes.
+//! goes. Its events have the numbers of names.
 
 ghost use Rattle.std.specs.Prelude.{◌≡◌, ◌≤◌, ◌<◌, ◌^◌, ◌-◌, ◌++◌, ℕ, List, length};
 ghost use Rattle.std.specs.Prelude.{slice_index_or, IfOk, OnOk, None, false};
@@ -24,11 +24,11 @@ use crate::stale::Stale;
 use containment_laws::accepted_queries_have_answers;
 use delta_forest::{Change, EndChange, Forest, each_has_an_end, ends_are_one, kept_is_best};
 use edge_store::EdgeId;
-use end_events::events_between;
+use end_events::{NumberedEvent, events_between};
 use index_laws::{index_keeps_bests, index_tells_answers, stores_follow};
 use name_table::Names;
 use query_file::Compiled;
-use rpq_base::{Act, Entry, Event, Memory, Workers};
+use rpq_base::{Act, Entry, Memory, Workers};
 use rpq_io::{Context, Gate};
 use rpq_model::Mode;
 use std::alloc::Global;
@@ -51,7 +51,7 @@ pub(crate) fn answer_each<R: Threads + Sync, G: Gate>(
     names: &Names,
     ends: Option<Ends<'_>>,
     entry: &Entry,
-) -> Result<Vec<Event>, Memory>
+) -> Result<Vec<NumberedEvent>, Memory>
     requires few { length queries.now ≤ 64 }
     requires as_many { length queries.now ≡ length indexes.old }
     requires indexes { AllZip (λ query index. HasHistory query names.now index)
@@ -70,7 +70,10 @@ pub(crate) fn answer_each<R: Threads + Sync, G: Gate>(
 }
 
 /// Puts more events at the end of the events. Where there were none, the list is taken as it is.
-pub(crate) fn push_all(events: &mut Vec<Event>, mut more: Vec<Event>) -> Result<(), Memory>
+pub(crate) fn push_all(
+    events: &mut Vec<NumberedEvent>,
+    mut more: Vec<NumberedEvent>,
+) -> Result<(), Memory>
     ensures { OnOk result (events.new.items ≡ events.old.items ++ more.items) }
 {
     if events.is_empty() {
@@ -89,7 +92,7 @@ pub(crate) fn answer<R: Threads + Sync, G: Gate>(
     names: &Names,
     ends: Option<Ends<'_>>,
     entry: &Entry,
-) -> Result<Vec<Event>, Memory>
+) -> Result<Vec<NumberedEvent>, Memory>
     requires index { HasHistory query.now names.now index.old }
     requires ends { AreEndsFor names.now number query.now.dfa entry.now.tuple.act ends }
     ensures { IfOk result (λ events. HasAnswered names.now entry.now number query.now index.old

@@ -1,11 +1,13 @@
 //! The engine.
 
 ghost use Rattle.std.specs.Prelude.{◌≡◌, ◌≢◌, ◌≤◌, ◌<◌, ◌+◌, ◌^◌, ◌↔◌, [], List, true, false};
-ghost use Rattle.std.specs.Prelude.{length, map, Err, IfOk, IfErr, OnErr, OnOk, Some, slice_get};
+ghost use Rattle.std.specs.Prelude.{length, map, All, Err, IfOk, IfErr, OnErr, OnOk, Some};
+ghost use Rattle.std.specs.Prelude.{slice_get};
 ghost use Rattle.std.specs.List.{AllZip};
 ghost use Rattle.rpq_base.specs.declared.data.Entry.{Entry as EntryTaken};
 ghost use Rattle.rpq_model.specs.Query.{path_query};
 ghost use Rattle.answer_view.specs.View.{AreRowsOf, IsViewOf};
+ghost use Rattle.end_events.specs.Named.{named, named_lists, HasNames, HaveAllNames};
 ghost use Rattle.query_file.specs.Compiled.{CompiledValue};
 ghost use Rattle.path_engine.specs.Engine.{StandsFor, IsForestFor, definitions, forests};
 ghost use Rattle.path_engine.specs.Paths.{ShowsPair};
@@ -24,6 +26,7 @@ use crate::showing::rows_of_each;
 use answer_rows::Rows;
 use answer_view::View;
 use delta_forest::{Forest, kept_is_best};
+use end_events::{NumberedEvent, name_events, name_lists};
 use index_laws::{index_keeps_bests, stores_follow};
 use name_table::Names;
 use query_file::Compiled;
@@ -141,10 +144,9 @@ impl Engine {
     /// large changes alone.
     pub fn feed<R: Threads + Sync, G: Gate>(
         &mut self,
-        rt: &R,
+        context: &Context<'_, R, G>,
         entry: &Entry,
         workers: Workers,
-        gate: &G,
     ) -> Result<Vec<Event>, FeedFault>
         requires short { self.old.position < 2 ^ 30 }
         ensures feeds { IfOk result (λ events.
@@ -155,22 +157,29 @@ impl Engine {
         ensures spent { (result ≡ Err WhyNot.Spent) ↔ (self.old.spent ≡ true) }
         ensures unchanged { result ≡ Err WhyNot.Spent → self.new ≡ self.old }
     {
-        let events = self.answer_entry(rt, entry, workers, gate)?;
-        self.note_told(events.len());
-        Ok(events)
+        let position = self.position;
+        let numbered = self.answer_entry(context, entry, workers)?;
+        self.note_told(numbered.len());
+        match name_events(self.alloc, &self.names, &numbered) {
+            Ok(events) => Ok(events),
+            Err(memory) => {
+                self.spend_at(position);
+                Err(FeedFault::Memory(memory))
+            }
+        }
     }
 
-    /// [`Engine::feed`], but for the count of the events that were told.
+    /// [`Engine::feed`], but for the names of the events and the count of those that were told.
     fn answer_entry<R: Threads + Sync, G: Gate>(
         &mut self,
-        rt: &R,
+        context: &Context<'_, R, G>,
         entry: &Entry,
         workers: Workers,
-        gate: &G,
-    ) -> Result<Vec<Event>, FeedFault>
+    ) -> Result<Vec<NumberedEvent>, FeedFault>
         requires short { self.old.position < 2 ^ 30 }
-        ensures feeds { IfOk result (λ events.
-            Feeds self.old entry.now self.new events.items) }
+        ensures feeds { IfOk result (λ events. Feeds self.old entry.now self.new
+            (map (named self.new.names) events.items)) }
+        ensures have_names { IfOk result (λ events. All (HasNames self.new.names) events.items) }
         ensures queries { self.new.queries ≡ self.old.queries }
         ensures memory { IfErr result (λ fault. fault ≢ WhyNot.Spent
             → Spends self.old self.new) }
@@ -184,12 +193,7 @@ impl Engine {
         self.spent = true; // until the entry is answered to its end
         let act = &entry.tuple.act;
         let ends = ends_for(&mut self.names, &mut self.named, &self.labels, act)?;
-        let alloc = self.alloc;
-        let context = Context { rt, alloc, gate };
-        let crew = Crew {
-            context: &context,
-            workers,
-        };
+        let crew = Crew { context, workers };
         let events = answer_each(
             &crew,
             &self.queries,
@@ -207,17 +211,13 @@ impl Engine {
     /// that each entry brings, by at most this many workers, which pass the gate.
     ///
     /// The errors are those of [`Engine::feed`], and after [`FeedFault::Memory`] no entry of the
-    /// front counts as answered. It costs what the entries change in the forest of each query.
-    /// Where there is more than one of queries, entries and workers, the queries are dealt to the
-    /// workers by what each took of the front before, and a worker takes the whole front into its
-    /// queries. It passes the gate first. Else the workers share large changes, as in
-    /// [`Engine::feed`].
+    /// front counts as answered. It is [`Engine::feed_numbered`], whose events are then given
+    /// copies of their names.
     pub fn feed_front<R: Threads + Sync, G: Gate>(
         &mut self,
-        rt: &R,
+        context: &Context<'_, R, G>,
         entries: &[Entry],
         workers: Workers,
-        gate: &G,
     ) -> Result<Vec<Vec<Event>>, FeedFault>
         requires short { self.old.position + length entries.now ≤ 2 ^ 30 }
         ensures feeds { IfOk result (λ events. FeedsFront self.old entries.now self.new
@@ -228,22 +228,58 @@ impl Engine {
         ensures spent { (result ≡ Err WhyNot.Spent) ↔ (self.old.spent ≡ true) }
         ensures unchanged { result ≡ Err WhyNot.Spent → self.new ≡ self.old }
     {
-        let events = self.answer_entries(rt, entries, workers, gate)?;
-        self.note_told(told_in(&events));
-        Ok(events)
+        let position = self.position;
+        let lists = self.feed_numbered(context, entries, workers)?;
+        match name_lists(self.alloc, &self.names, &lists) {
+            Ok(events) => Ok(events),
+            Err(memory) => {
+                self.spend_at(position);
+                Err(FeedFault::Memory(memory))
+            }
+        }
     }
 
-    /// [`Engine::feed_front`], but for the count of the events that were told.
-    fn answer_entries<R: Threads + Sync, G: Gate>(
+    /// [`Engine::feed_front`], but that the events of each entry are told by the numbers that the
+    /// names of their pairs have in [`Engine::names`].
+    ///
+    /// All names that the front brings get their numbers before a query takes the first entry, and
+    /// keep them as long as the engine isn't rebuilt. It costs what the entries change in the
+    /// forest of each query. Where there is more than one of queries, entries and workers, the
+    /// queries are dealt to the workers by what each took of the front before, and a worker takes
+    /// the whole front into its queries. It passes the gate first. Else the workers share large
+    /// changes, as in [`Engine::feed`].
+    pub fn feed_numbered<R: Threads + Sync, G: Gate>(
         &mut self,
-        rt: &R,
+        context: &Context<'_, R, G>,
         entries: &[Entry],
         workers: Workers,
-        gate: &G,
-    ) -> Result<Vec<Vec<Event>>, FeedFault>
+    ) -> Result<Vec<Vec<NumberedEvent>>, FeedFault>
         requires short { self.old.position + length entries.now ≤ 2 ^ 30 }
-        ensures feeds { IfOk result (λ events. FeedsFront self.old entries.now self.new
-            (map (λ own. own.items) events.items)) }
+        ensures feeds { IfOk result (λ lists. FeedsFront self.old entries.now self.new
+            (named_lists self.new.names lists.items)) }
+        ensures have_names { IfOk result (λ lists. HaveAllNames self.new.names lists.items) }
+        ensures queries { self.new.queries ≡ self.old.queries }
+        ensures memory { IfErr result (λ fault. fault ≢ WhyNot.Spent
+            → Spends self.old self.new) }
+        ensures spent { (result ≡ Err WhyNot.Spent) ↔ (self.old.spent ≡ true) }
+        ensures unchanged { result ≡ Err WhyNot.Spent → self.new ≡ self.old }
+    {
+        let lists = self.answer_entries(context, entries, workers)?;
+        self.note_told(told_in(&lists));
+        Ok(lists)
+    }
+
+    /// [`Engine::feed_numbered`], but for the count of the events that were told.
+    fn answer_entries<R: Threads + Sync, G: Gate>(
+        &mut self,
+        context: &Context<'_, R, G>,
+        entries: &[Entry],
+        workers: Workers,
+    ) -> Result<Vec<Vec<NumberedEvent>>, FeedFault>
+        requires short { self.old.position + length entries.now ≤ 2 ^ 30 }
+        ensures feeds { IfOk result (λ lists. FeedsFront self.old entries.now self.new
+            (named_lists self.new.names lists.items)) }
+        ensures have_names { IfOk result (λ lists. HaveAllNames self.new.names lists.items) }
         ensures queries { self.new.queries ≡ self.old.queries }
         ensures memory { IfErr result (λ fault. fault ≢ WhyNot.Spent
             → Spends self.old self.new) }
@@ -255,19 +291,14 @@ impl Engine {
         }
         stores_follow(); // called for its clauses
         self.spent = true; // until all entries are answered to their end
-        let alloc = self.alloc;
         let ends = ends_for_all(
-            alloc,
+            context.alloc,
             &mut self.names,
             &mut self.named,
             &self.labels,
             entries,
         )?;
-        let context = Context { rt, alloc, gate };
-        let crew = Crew {
-            context: &context,
-            workers,
-        };
+        let crew = Crew { context, workers };
         let events = answer_front(
             &crew,
             &self.queries,
@@ -291,10 +322,9 @@ impl Engine {
     /// what feeding the entries costs. The events that they bring are dropped, front by front.
     pub fn rebuild<R: Threads + Sync, G: Gate>(
         &mut self,
-        rt: &R,
+        context: &Context<'_, R, G>,
         entries: &[Entry],
         workers: Workers,
-        gate: &G,
     ) -> Result<(), Memory>
         requires short { length entries.now ≤ 2 ^ 30 }
         ensures stands { OnOk result (StandsFor self.new entries.now) }
@@ -302,11 +332,10 @@ impl Engine {
         ensures memory { OnErr result (Spends self.old self.new) }
     {
         let position = self.position;
-        match self.evaluate(rt, entries, workers, gate) {
+        match self.evaluate(context, entries, workers) {
             Ok(()) => Ok(()),
             Err(memory) => {
-                self.position = position;
-                self.spent = true;
+                self.spend_at(position);
                 Err(memory)
             }
         }
@@ -315,17 +344,16 @@ impl Engine {
     /// [`Engine::rebuild`], but for the position of an engine that is spent by it.
     fn evaluate<R: Threads + Sync, G: Gate>(
         &mut self,
-        rt: &R,
+        context: &Context<'_, R, G>,
         entries: &[Entry],
         workers: Workers,
-        gate: &G,
     ) -> Result<(), Memory>
         requires short { length entries.now ≤ 2 ^ 30 }
         ensures stands { OnOk result (StandsFor self.new entries.now) }
         ensures queries { self.new.queries ≡ self.old.queries }
     {
         self.start_anew()?;
-        feed_all(self, rt, entries, workers, gate)
+        feed_all(self, context, entries, workers)
     }
 
     /// Gives back what the engine held, and makes it stand for the empty history.
@@ -341,6 +369,17 @@ impl Engine {
         self.position = 0;
         self.spent = false;
         Ok(())
+    }
+
+    /// Spends the engine, which counts this many entries as answered then.
+    fn spend_at(&mut self, position: u64)
+        requires short { position ≤ 2 ^ 30 }
+        ensures spent { self.new.spent ≡ true }
+        ensures position { self.new.position ≡ position }
+        ensures queries { self.new.queries ≡ self.old.queries }
+    {
+        self.position = position;
+        self.spent = true;
     }
 
     /// Counts the events that were told, for the ranks of the names.
@@ -378,7 +417,8 @@ impl Engine {
     /// The view shares its rows with the views before it. For each vertex whose tree was touched
     /// since the last one it goes through that tree, and puts the targets there in the order of
     /// their names. The first view goes through all trees, and one after an error may do so. An
-    /// engine that shows views before its first name alone keeps no rows, and pays nothing for them.
+    /// engine that shows views before its first name alone keeps no rows, and pays nothing for
+    /// them.
     pub fn view(&mut self) -> Result<Arc<View>, Memory>
         requires unspent { self.old.spent ≡ false }
         ensures view { (history : List EntryTaken) → StandsFor self.old history →

@@ -15,9 +15,10 @@ use crate::ends::Ends;
 use crate::index::Index;
 use crate::parts::{Part, deal, in_order};
 use delta_forest::Forest;
+use end_events::NumberedEvent;
 use name_table::Names;
 use query_file::Compiled;
-use rpq_base::{Entry, Event, Memory, Workers};
+use rpq_base::{Entry, Memory, Workers};
 use rpq_io::{Context, Gate, Who};
 use std::alloc::Global;
 use std::mem::replace;
@@ -34,7 +35,7 @@ pub struct Share {
     /// of it, since it decides time alone.
     pub cost: u64,
     pub index: Index,
-    pub owns: Result<Vec<Vec<Event>>, Memory>,
+    pub owns: Result<Vec<Vec<NumberedEvent>>, Memory>,
 }
 
 /// Answers the entries for each query, and gives the events of each entry, those of the first query
@@ -50,7 +51,7 @@ pub(crate) fn answer_front<R: Threads + Sync, G: Gate>(
     names: &Names,
     ends: &[Option<Ends<'_>>],
     entries: &[Entry],
-) -> Result<Vec<Vec<Event>>, Memory>
+) -> Result<Vec<Vec<NumberedEvent>>, Memory>
     requires some_queries { 1 ≤ length queries.now }
     requires few { length queries.now ≤ 64 }
     requires indexes { AllZip (λ query index.
@@ -234,7 +235,7 @@ fn answer_all<R: Threads + Sync, G: Gate>(
     names: &Names,
     ends: &[Option<Ends<'_>>],
     entries: &[Entry],
-) -> Result<Vec<Vec<Event>>, Memory>
+) -> Result<Vec<Vec<NumberedEvent>>, Memory>
     requires index { HasHistoryFor (length entries.now) query.now names.now share.old.index }
     requires ends { AllZip (λ (entry : EntryTaken) own.
         AreEndsFor names.now share.old.place query.now.dfa entry.tuple.act own)
@@ -264,9 +265,9 @@ fn answer_all<R: Threads + Sync, G: Gate>(
     Ok(owns)
 }
 
-/// What an entry cost the query whose forest took it last: one for the entry, one for each tree that
-/// its last change touched, and one for each of its events.
-fn cost_of(forest: &Forest, own: &[Event]) -> u64 {
+/// What an entry cost the query whose forest took it last: one for the entry, one for each tree
+/// that its last change touched, and one for each of its events.
+fn cost_of(forest: &Forest, own: &[NumberedEvent]) -> u64 {
     let trees = forest.touched().len() as u64;
     let events = own.len() as u64;
     trees.saturating_add(events).saturating_add(1)
@@ -287,7 +288,7 @@ fn gather(
     alloc: Global,
     shares: Vec<Share>,
     indexes: &mut Vec<Index>,
-) -> Result<Vec<Vec<Event>>, Memory>
+) -> Result<Vec<Vec<NumberedEvent>>, Memory>
     requires none { indexes.old.items ≡ [] }
     ensures indexes { OnOk result
         (indexes.new.items ≡ map (λ share. share.index) shares.items) }
@@ -309,7 +310,10 @@ fn gather(
 }
 
 /// Puts more events of each entry at the end of those of the entry.
-fn append_each(events: &mut Vec<Vec<Event>>, owns: Vec<Vec<Event>>) -> Result<(), Memory>
+fn append_each(
+    events: &mut Vec<Vec<NumberedEvent>>,
+    owns: Vec<Vec<NumberedEvent>>,
+) -> Result<(), Memory>
     ensures { OnOk result (map (λ own. own.items) events.new.items
         ≡ joined (map (λ own. own.items) events.old.items) (map (λ own. own.items) owns.items)) }
 {
@@ -323,7 +327,11 @@ fn append_each(events: &mut Vec<Vec<Event>>, owns: Vec<Vec<Event>>) -> Result<()
 
 /// Puts more events at the end of those of the entry at this place, or behind all entries where
 /// there is no such place.
-fn put_own(events: &mut Vec<Vec<Event>>, place: usize, own: Vec<Event>) -> Result<(), Memory>
+fn put_own(
+    events: &mut Vec<Vec<NumberedEvent>>,
+    place: usize,
+    own: Vec<NumberedEvent>,
+) -> Result<(), Memory>
     ensures { OnOk result (map (λ own. own.items) events.new.items
         ≡ put_at place (map (λ own. own.items) events.old.items) own.items) }
 {
@@ -335,7 +343,7 @@ fn put_own(events: &mut Vec<Vec<Event>>, place: usize, own: Vec<Event>) -> Resul
 }
 
 /// The number of the events of all entries.
-pub(crate) fn told_in(events: &[Vec<Event>]) -> usize {
+pub(crate) fn told_in(events: &[Vec<NumberedEvent>]) -> usize {
     events
         .iter()
         .fold(0, |told: usize, own| told.saturating_add(own.len()))

@@ -3,8 +3,9 @@
 //! An [`Engine`] stands for a history (`specs/Engine`): a new one for the empty history, and one
 //! that was fed an entry for the history with this entry behind. [`Engine::feed`] answers the
 //! events that an entry brings, [`Engine::feed_front`] those of some entries at once,
-//! [`Engine::view`] all answers with their ends, and [`Engine::best_path`] a path that shows one of
-//! them. The layer above rests on that contract alone, and never on how the answers are found.
+//! [`Engine::feed_numbered`] the same by the numbers of names, [`Engine::view`] all answers with
+//! their ends, and [`Engine::best_path`] a path that shows one of them. The layer above rests on
+//! that contract alone, and never on how the answers are found.
 //! Where memory runs out, the engine is spent: it answers no entry until it is rebuilt.
 //! [`Engine::rebuild`] evaluates the entries of a history from nothing, whatever the engine stood
 //! for before.
@@ -28,7 +29,8 @@
 //! beside it by another worker. An index then stays in its processor's cache for a whole front, and
 //! threads are started once a front and not once an entry. The queries are dealt to the workers by
 //! what each took of the front before, the dearest first. In the end the events are put together
-//! entry by entry.
+//! entry by entry. Until then they are numbers alone: a name is copied only where events are asked
+//! for by names.
 #![tactic(auto)]
 
 mod answering;

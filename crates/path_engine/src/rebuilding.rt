@@ -8,7 +8,7 @@ ghost use Rattle.path_engine.specs.Feeding.{FeedsFront};
 use crate::engine::Engine;
 use crate::fault::FeedFault;
 use rpq_base::{Entry, Memory, Workers};
-use rpq_io::Gate;
+use rpq_io::{Context, Gate};
 use std::thread::Threads;
 
 /// How many entries are fed at once. The events of so many are held at a time.
@@ -18,10 +18,9 @@ const FRONT: usize = 256;
 /// they bring. The only error is [`Memory`].
 pub(crate) fn feed_all<R: Threads + Sync, G: Gate>(
     engine: &mut Engine,
-    rt: &R,
+    context: &Context<'_, R, G>,
     entries: &[Entry],
     workers: Workers,
-    gate: &G,
 ) -> Result<(), Memory>
     requires starts { StandsFor engine.old [] }
     requires short { length entries.now ≤ 2 ^ 30 }
@@ -29,7 +28,7 @@ pub(crate) fn feed_all<R: Threads + Sync, G: Gate>(
     ensures queries { engine.new.queries ≡ engine.old.queries }
 {
     for front in entries.chunks(FRONT) {
-        feed_next(engine, rt, front, workers, gate)?;
+        feed_next(engine, context, front, workers)?;
     }
     Ok(())
 }
@@ -38,10 +37,9 @@ pub(crate) fn feed_all<R: Threads + Sync, G: Gate>(
 /// error is [`Memory`].
 fn feed_next<R: Threads + Sync, G: Gate>(
     engine: &mut Engine,
-    rt: &R,
+    context: &Context<'_, R, G>,
     front: &[Entry],
     workers: Workers,
-    gate: &G,
 ) -> Result<(), Memory>
     requires unspent { engine.old.spent ≡ false }
     requires short { engine.old.position + length front.now ≤ 2 ^ 30 }
@@ -49,7 +47,7 @@ fn feed_next<R: Threads + Sync, G: Gate>(
         ((events : List (List Happening)) × FeedsFront engine.old front.now engine.new events) }
     ensures queries { engine.new.queries ≡ engine.old.queries }
 {
-    match engine.feed_front(rt, front, workers, gate) {
+    match engine.feed_numbered(context, front, workers) {
         Ok(_) => Ok(()),
         Err(FeedFault::Memory(memory)) => Err(memory),
         Err(FeedFault::Spent) => unreachable!(),

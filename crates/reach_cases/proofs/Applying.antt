@@ -10,8 +10,8 @@ use Rattle.rpq_model.specs.Answers.{IsAnswer, AreAnswers}
 use Rattle.rpq_model.specs.Events.{changes}
 use Rattle.rpq_model.specs.Query.{Query, path_query}
 use Rattle.rpq_model.specs.QueryEvents.{AreEventsUnder}
-use Rattle.conj_query.specs.Leading.{HoldAnswers}
-use Rattle.conj_query.specs.State.{family}
+use Rattle.join_bindings.specs.Leading.{HoldAnswers}
+use Rattle.join_bindings.specs.State.{family}
 
 pub one_query : (query : Query) (before after : List Entry) (old new : List Pair) (events : List Event) →
     AreAnswers (path_query query) before old → AreAnswers (path_query query) after new → events ≡ changes 0 old new →

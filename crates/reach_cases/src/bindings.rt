@@ -1,14 +1,16 @@
 //! Bindings of joins over one query, entry by entry.
 
 ghost use Rattle.std.specs.Prelude.{◌≡◌, [], ◌∷◌, length, OnOk};
-ghost use Rattle.conj_query.specs.State.{MayCome, ArePut};
+ghost use Rattle.join_bindings.specs.State.{MayCome, ArePut};
 
 use crate::queries::queries_of;
 use anyhow::anyhow;
 use case_lines::{Fields, Output, decoded, entries_of};
-use conj_query::{JoinDef, Joins, events_lead_on, join_text, read_joins};
+use join_bindings::{Joins, events_lead_on, join_text};
+use join_file::{JoinDef, read_joins};
+use plain_evaluator::{changes, plain_answers};
 use rpq_base::{Entry, Event};
-use rpq_model::{QueryDef, changes, plain_answers};
+use rpq_model::QueryDef;
 use std::alloc::Global;
 use std::random::RandomSource;
 use std::sync::Arc;

@@ -49,8 +49,9 @@ fn put_feed<R: Threads + Sync>(
     let Some(workers) = Workers::new(2) else {
         return Err(anyhow!("no workers"));
     };
-    for events in &feed_entries(engine, &context, true, entries, workers)? {
-        put_events(out, events)?;
+    let fed = feed_entries(engine, &context, true, entries, workers)?;
+    for events in &fed.into_events(alloc, engine.names())? {
+        put_events(out, &events.to_events(alloc)?)?;
     }
     Ok(())
 }

@@ -3,7 +3,7 @@
 use crate::queries::queries_of;
 use anyhow::ensure;
 use case_lines::{Fields, Output, decoded};
-use conj_query::{JoinDef, Term, read_joins};
+use join_file::{JoinDef, Term, read_joins};
 use std::alloc::Global;
 
 /// The joins of a joins file, or the first fault.

@@ -5,7 +5,7 @@ use Rattle.std.proofs.lemmas.List.{append-nil, take-append-drop, length-take-le,
 use Rattle.std.proofs.lemmas.Option.{slice_get_within, slice_get_read, get_or_from_slice_get}
 use Rattle.rpq_base.specs.declared.data.Entry.{Entry}
 use Rattle.rpq_model.specs.Query.{Query}
-use Rattle.rpq_text.specs.Steps.{StepValue}
+use Rattle.entry_steps.specs.Steps.{StepValue}
 use Rattle.rpq_text.specs.Text.{block, blocks_from}
 
 -- the blocks of some entries, and then those of the entries that follow them

@@ -2,11 +2,19 @@
 use Rattle.std.proofs.Common.{◌≡◌, ℕ, ◌+◌, ◌<◌, Bool, true, false, List, ◌∷◌, ◌++◌, length}
 use Rattle.std.proofs.Common.{get_or, take, drop, cond, ap, sym, ◌∙◌, append_assoc}
 use Rattle.std.specs.List.{flat_map}
+use Rattle.std.specs.Prelude.{Some, slice_get}
+use Rattle.std.proofs.lemmas.Option.{get_or_from_slice_get}
 use Rattle.std.proofs.lemmas.List.{drop_more}
 use Rattle.rpq_base.specs.declared.data.Event.{Event}
 use Rattle.path_witness.specs.Shows.{Shown}
 use Rattle.rpq_model.specs.Query.{Query}
 use Rattle.rpq_text.specs.Text.{event_line, event_lines, shown_line}
+
+-- the event that was found at a place
+pub read_event : (events : List Event) (place : ℕ) (event : Event) →
+    slice_get events place ≡ Some event → event ≡ get_or events place event
+read_event events place event there =
+    sym (get_or_from_slice_get events place event event there)
 
 -- behind an addition the line of the next path is written
 pub with_path : (queries : List Query) (events : List Event) (place : ℕ) (event : Event)

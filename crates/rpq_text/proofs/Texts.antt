@@ -2,13 +2,14 @@
 use Rattle.std.proofs.Common.{◌≡◌, ℕ, ◌+◌, List, [], ◌∷◌, ◌++◌, length, refl, ap, sym, subst, ◌∙◌}
 use Rattle.std.proofs.Common.{append_assoc, arith}
 use Rattle.std.proofs.lemmas.List.{append-nil}
-use Rattle.conj_query.specs.HaveJoinEvents.{HaveJoinEvents}
+use Rattle.join_bindings.specs.HaveJoinEvents.{HaveJoinEvents}
 use Rattle.rpq_base.specs.declared.data.Entry.{Entry}
 use Rattle.rpq_model.specs.Query.{Query}
-use Rattle.rpq_text.specs.Laws.{EveryEntryHasAStep, EveryHistoryHasAText, WithoutPathsOneText}
-use Rattle.rpq_text.specs.Steps.{OptionsValue, StepValue, IsStep, CanRun}
+use Rattle.entry_steps.specs.Laws.{EveryEntryHasAStep}
+use Rattle.rpq_text.specs.Laws.{EveryHistoryHasAText, WithoutPathsOneText}
+use Rattle.entry_steps.specs.Steps.{OptionsValue, StepValue, IsStep, CanRun}
 use Rattle.rpq_text.specs.Text.{block, blocks_from, IsText}
-use Rattle.rpq_text.proofs.StepLists.{steps_as_many, steps_push, steps_are_one}
+use Rattle.entry_steps.proofs.StepLists.{steps_as_many, steps_push, steps_are_one}
 
 -- the blocks of one entry more
 blocks_push : (later : List Entry) (steps : List StepValue) (queries : List Query) (position : ℕ)

@@ -4,7 +4,7 @@ use Rattle.std.specs.List.{flat_map}
 use Rattle.tuple_text.specs.FaultTexts.{fault_text}
 use Rattle.query_file.specs.FaultTexts.{query_kind_text}
 use Rattle.ask_text.specs.FaultTexts.{ask_kind_text}
-use Rattle.conj_query.specs.FaultTexts.{joins_kind_text}
+use Rattle.join_file.specs.FaultTexts.{joins_kind_text}
 use Rattle.rpq_words.specs.Usage.{usage}
 use Rattle.stream_tuples.specs.declared.ends.StreamEnd.{StreamEnd}
 use Rattle.stream_tuples.specs.declared.ends.StreamEnd.TheVariants.{Whole, Line, LongLine}

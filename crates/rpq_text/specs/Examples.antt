@@ -10,7 +10,7 @@ use Rattle.rpq_model.specs.declared.mode.Mode.{Mode}
 use Rattle.rpq_model.specs.declared.mode.Mode.TheVariants.{Arbitrary, Simple}
 use Rattle.rpq_model.specs.Query.{Query}
 use Rattle.ask_text.specs.declared.fault.AskKind.{AskKind}
-use Rattle.conj_query.specs.declared.fault.JoinsKind.TheVariants.{Twice}
+use Rattle.join_file.specs.declared.fault.JoinFileFaultKind.TheVariants.{Twice}
 use Rattle.ask_text.specs.declared.fault.AskKind.TheVariants.{Shape, UnknownQuery}
 use Rattle.rpq_text.specs.declared.ends.Which.TheVariants.{Joins, From, Stream, Replies, Save}
 use Rattle.rpq_text.specs.declared.ends.SinkName.TheVariants.{Events, Replies as RepliesSink}
@@ -19,7 +19,7 @@ use Rattle.rpq_text.specs.declared.ends.StartFault.{StartFault}
 use Rattle.rpq_text.specs.declared.ends.StartFault.TheVariants.{Words, Joins as JoinsFaulty, Asks}
 use Rattle.rpq_text.specs.declared.ends.StartFault.TheVariants.{Open, Long}
 use Rattle.rpq_text.specs.ErrorLines.{start_line, run_lines}
-use Rattle.rpq_text.specs.Steps.{StepValue}
+use Rattle.entry_steps.specs.Steps.{StepValue}
 use Rattle.rpq_text.specs.Text.{block}
 use Rattle.rpq_text.specs.Verdicts.{verdict_line}
 

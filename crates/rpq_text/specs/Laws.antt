@@ -1,86 +1,25 @@
 -- What the definitions are meant to say, as laws.
-use Rattle.std.specs.Prelude.{◌≡◌, ℕ, ◌<◌, ◌↔◌, Bool, false, List, [], ◌∷◌, ◌++◌, length, map, All}
-use Rattle.std.specs.Prelude.{take, Some, slice_get}
-use Rattle.std.specs.List.{flat_map}
-use Rattle.conj_query.specs.declared.event.JoinEvent.{JoinEvent}
-use Rattle.conj_query.specs.Histories.{AreJoinEventsOn, IsBindingOver, IsJoinHeld}
-use Rattle.conj_query.specs.Joins.{JoinValue}
-use Rattle.conj_query.specs.JoinText.{join_lines}
-use Rattle.conj_query.specs.Sound.{IsSound}
+use Rattle.std.specs.Prelude.{◌≡◌, ◌<◌, false, List, length, All, ℕ}
+use Rattle.join_file.specs.Sound.{IsSound}
+use Rattle.entry_steps.specs.Steps.{OptionsValue, CanRun}
 use Rattle.rpq_base.specs.declared.data.Entry.{Entry}
-use Rattle.rpq_base.specs.declared.data.Pair.{Pair}
-use Rattle.rpq_base.specs.declared.data.Event.{Event}
-use Rattle.rpq_model.specs.Events.{IsHeld}
-use Rattle.rpq_model.specs.Answers.{IsAnswer}
-use Rattle.rpq_model.specs.Query.{Query, path_query}
-use Rattle.two_way.specs.TwoWay.{walked, AreAllWalkedEvents}
-use Rattle.rpq_text.specs.Steps.{OptionsValue, StepValue, IsStep, AreSteps, CanRun, events_of}
-use Rattle.rpq_text.specs.Steps.{lines_of}
+use Rattle.rpq_model.specs.Query.{Query}
 use Rattle.rpq_text.specs.Text.{IsText}
 use Rattle.rpq_text.specs.Verdicts.{IsVerdictLine, AreVerdicts}
 
--- each entry that follows a history brings a step, where queries and conjunctions can be evaluated
-abbrev pub EveryEntryHasAStep : Type 0
-EveryEntryHasAStep =
-    (options : OptionsValue) (queries : List Query) → CanRun options queries →
-    (history : List Entry) (entry : Entry) →
-    (step : StepValue) × IsStep options queries history (history ++ entry ∷ []) step
-
--- each history has a text, where they can
+-- each history has a text, where queries and conjunctions can be evaluated
 abbrev pub EveryHistoryHasAText : Type 0
 EveryHistoryHasAText =
     (options : OptionsValue) (queries : List Query) → CanRun options queries →
     (history : List Entry) → (text : List ℕ) × IsText options queries history text
 
--- and it has one alone, where no paths are told and the conjunctions are over the queries
+-- it has one alone, where no paths are told and the conjunctions are over the queries
 abbrev pub WithoutPathsOneText : Type 0
 WithoutPathsOneText =
     (options : OptionsValue) (queries : List Query) → options.paths ≡ false →
     All (IsSound (length queries)) options.joins → (history : List Entry)
     (text other : List ℕ) → IsText options queries history text →
     IsText options queries history other → other ≡ text
-
--- where paths are told and where they aren't, the steps of a history have the same events, and they
--- are those that its entries bring
-pub record StepsHaveTheEvents : Type 0 where
-  pub are : (options : OptionsValue) (queries : List Query) (history : List Entry)
-      (steps : List StepValue) → AreSteps options queries history steps →
-      AreAllWalkedEvents options.two_way queries history (events_of steps)
-  pub same : (options others : OptionsValue) (queries : List Query) (history : List Entry)
-      (first second : List StepValue) → options.two_way ≡ others.two_way →
-      AreSteps options queries history first → AreSteps others queries history second →
-      events_of first ≡ events_of second
-
--- going through the events of the first blocks of a text leaves exactly each query's answers over
--- as many entries, and over their inverses where edges may be taken backwards
-abbrev pub FrontsHoldAnswers : Type 0
-FrontsHoldAnswers =
-    (two_way : Bool) (queries : List Query) (place : ℕ) (query : Query) (history : List Entry)
-    (events : List (List Event)) → slice_get queries place ≡ Some query →
-    AreAllWalkedEvents two_way queries history events → (count : ℕ) →
-    (pair : Pair) → IsHeld place (flat_map (λ list. list) (take count events)) pair
-    ↔ IsAnswer (path_query query) (walked two_way (take count history)) pair
-
--- where edges are taken forwards alone, the steps of a history have the lines of the changes of
--- bindings that each entry brings
-abbrev pub StepsHaveJoinEvents : Type 0
-StepsHaveJoinEvents =
-    (options : OptionsValue) (queries : List Query) (history : List Entry)
-    (steps : List StepValue) → options.two_way ≡ false → AreSteps options queries history steps →
-    (changes : List (List JoinEvent))
-    × AreJoinEventsOn queries options.joins [] history changes
-    × (lines_of steps ≡ map (join_lines options.joins) changes)
-
--- going through the changes of the first entries leaves exactly the bindings of each conjunction
--- over the answers over as many entries
-abbrev pub FrontsHoldBindings : Type 0
-FrontsHoldBindings =
-    (queries : List Query) (joins : List JoinValue) (number : ℕ) (join : JoinValue)
-    (history : List Entry) (changes : List (List JoinEvent)) →
-    slice_get joins number ≡ Some join → IsSound (length queries) join → 0 < join.variables →
-    AreJoinEventsOn queries joins [] history changes → (count : ℕ) (names : List (List ℕ)) →
-    IsJoinHeld number (flat_map (λ list. list) (take count changes)) names
-    ↔ IsBindingOver queries (take count history) join names
 
 -- a query has one verdict line at most, and queries have one text of them
 pub record OneVerdictText : Type 0 where

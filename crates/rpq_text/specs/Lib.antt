@@ -1,5 +1,4 @@
 pub mod Limits
-pub mod Steps
 pub mod Text
 pub mod Verdicts
 pub mod Definitions

@@ -6,12 +6,13 @@ ghost use Rattle.rpq_base.specs.Plain.{IsPlain};
 ghost use Rattle.ask_text.specs.Reply.{name_at};
 ghost use Rattle.rpq_text.specs.Definitions.{definitions_of};
 ghost use Rattle.rpq_text.specs.Text.{event_line, event_lines, entry_line, block, blocks_from};
-ghost use Rattle.rpq_text.specs.Text.{shown_line};
+ghost use Rattle.rpq_text.specs.Text.{event_of, shown_line};
 
-use crate::step::Step;
+use end_events::{EntryEvents, EventRef};
+use entry_steps::Step;
 use path_witness::ShownPath;
 use query_file::Compiled;
-use rpq_base::{Entry, Event, Memory};
+use rpq_base::{Entry, Memory};
 use rpq_model::QueryDef;
 use std::alloc::{AllocError, Global};
 use text_parts::push_decimal;
@@ -29,7 +30,7 @@ pub fn block_text(
     alloc: Global,
     n: u64,
     entry: &Entry,
-    step: &Step,
+    step: &Step<'_>,
     queries: &[Compiled],
 ) -> Result<Vec<u8>, Memory>
     requires plain { IsPlain entry.now }
@@ -49,7 +50,7 @@ pub fn make_block(
     text: &mut Vec<u8>,
     n: u64,
     entry: &Entry,
-    step: &Step,
+    step: &Step<'_>,
     queries: &[Compiled],
 ) -> Result<(), Memory>
     requires plain { IsPlain entry.now }
@@ -68,7 +69,7 @@ pub fn make_blocks(
     text: &mut Vec<u8>,
     n: u64,
     entries: &[Entry],
-    steps: &[Step],
+    steps: &[Step<'_>],
     queries: &[Compiled],
 ) -> Result<(), Memory>
     requires plain { All IsPlain entries.now }
@@ -92,7 +93,7 @@ fn push_block(
     text: &mut Vec<u8>,
     n: u64,
     entry: &Entry,
-    step: &Step,
+    step: &Step<'_>,
     queries: &[Compiled],
 ) -> Result<(), Memory>
     requires plain { IsPlain entry.now }
@@ -142,7 +143,7 @@ fn push_entry(text: &mut Vec<u8>, n: u64, entry: &Entry) -> Result<(), Memory>
 fn push_events(
     text: &mut Vec<u8>,
     queries: &[Compiled],
-    events: &[Event],
+    events: &EntryEvents<'_>,
     shown: &[ShownPath],
 ) -> Result<(), Memory>
     requires { All (λ event. event.query < length queries.now) events.now }
@@ -150,8 +151,9 @@ fn push_events(
         ≡ text.old.items ++ event_lines (definitions_of queries.now) events.now shown.now) }
 {
     let mut rest = shown;
-    for event in events {
-        push_event(text, queries, event)?;
+    for place in 0..events.len() {
+        let event = events.at(place);
+        push_event(text, queries, &event)?;
         if event.added {
             rest = push_next(text, rest)?;
         }
@@ -197,18 +199,22 @@ fn push_positions(text: &mut Vec<u8>, positions: &[u64]) -> Result<(), Memory>
 }
 
 /// Writes the line of an event of one of the queries at the end of the text.
-fn push_event(text: &mut Vec<u8>, queries: &[Compiled], event: &Event) -> Result<(), AllocError>
+fn push_event(
+    text: &mut Vec<u8>,
+    queries: &[Compiled],
+    event: &EventRef<'_>,
+) -> Result<(), AllocError>
     requires { event.now.query < length queries.now }
-    ensures { OnOk result (text.new.items
-        ≡ text.old.items ++ event_line (definitions_of queries.now) event.now) }
+    ensures { OnOk result (text.new.items ≡ text.old.items
+        ++ event_line (definitions_of queries.now) (event_of event.now)) }
 {
     let sign = if event.added { b"+ " } else { b"- " };
     text.extend_from_slice(sign)?;
     text.extend_from_slice(name_at(queries, event.query))?;
     text.push(b' ')?;
-    text.extend_from_slice(event.pair.from.as_bytes())?;
+    text.extend_from_slice(event.from.as_bytes())?;
     text.push(b' ')?;
-    text.extend_from_slice(event.pair.to.as_bytes())?;
+    text.extend_from_slice(event.to.as_bytes())?;
     text.push(b'\n')?;
     Ok(())
 }

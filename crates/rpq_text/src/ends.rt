@@ -5,7 +5,7 @@ ghost use Rattle.rpq_text.specs.Statuses.{status_of_start, status_of_sink};
 
 use crate::status;
 use ask_text::AskFault;
-use conj_query::JoinsFault;
+use join_file::JoinFileFault;
 use query_file::QueryFault;
 
 /// One of the files that a run opens: the replies and the saved window to be written, and the others
@@ -51,7 +51,7 @@ pub enum StartFault {
     /// The queries file has this fault.
     Queries(QueryFault),
     /// The joins file has this fault.
-    Joins(JoinsFault),
+    Joins(JoinFileFault),
     /// The asks file has this fault.
     Asks(AskFault),
     /// The opening of this file failed.

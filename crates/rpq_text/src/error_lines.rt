@@ -5,7 +5,7 @@ ghost use Rattle.std.specs.List.{flat_map};
 ghost use Rattle.path_syntax.specs.FaultTexts.{bad_expr_text};
 ghost use Rattle.tuple_text.specs.FaultTexts.{fault_text};
 ghost use Rattle.ask_text.specs.FaultTexts.{ask_kind_text};
-ghost use Rattle.conj_query.specs.FaultTexts.{joins_kind_text};
+ghost use Rattle.join_file.specs.FaultTexts.{joins_kind_text};
 ghost use Rattle.rpq_text.specs.ErrorLines.{file_text, query_text, joins_text, asks_text};
 ghost use Rattle.rpq_text.specs.ErrorLines.{line_text, end_line, read_line, write_line};
 ghost use Rattle.rpq_text.specs.ErrorLines.{opening_line, memory_line};
@@ -15,8 +15,8 @@ use crate::ends::{SinkName, Which};
 use crate::status;
 use arrayvec::ArrayString;
 use ask_text::AskFault;
-use conj_query::JoinsFault;
 use itoa::Buffer;
+use join_file::JoinFileFault;
 use path_syntax::BadExpr;
 use stream_tuples::StreamEnd;
 use tuple_text::BadLine;
@@ -118,7 +118,7 @@ pub fn query_line(line: u64, text: &str, more: &str) -> Line
 
 /// What is wrong with a line of the joins file.
 #[tactic(auto, unfolding(crate::specs::ErrorLines::joins_text))]
-pub fn joins_fault_line(fault: &JoinsFault) -> Line
+pub fn joins_fault_line(fault: &JoinFileFault) -> Line
     ensures { result.bytes ≡ joins_text fault.now.line (joins_kind_text fault.now.kind) }
 {
     let mut digits = Buffer::new();

@@ -10,9 +10,7 @@ mod end_status;
 mod ends;
 mod error_lines;
 mod laws;
-mod options;
 pub mod status;
-mod step;
 mod verdict_lines;
 
 pub use block::{block_text, make_block, make_blocks, name_of};
@@ -22,10 +20,5 @@ pub use error_lines::{
     Line, ask_fault_line, end_line, expr_line, file_line, joins_fault_line, line_of, memory_line,
     not_contained_front, opening_line, query_line, read_line, write_line,
 };
-pub use laws::{
-    every_history_has_a_text, fronts_hold_answers, fronts_hold_bindings, line_examples,
-    one_verdict_text, steps_have_join_events, steps_have_the_events, without_paths_one_text,
-};
-pub use options::Options;
-pub use step::Step;
+pub use laws::{every_history_has_a_text, line_examples, one_verdict_text, without_paths_one_text};
 pub use verdict_lines::verdict_front;

@@ -11,10 +11,10 @@ use Rattle.rpq_io.specs.Writes.{WritesProperPrefix}
 use Rattle.rpq_io.proofs.Bytes.{append_known-append}
 use Rattle.rpq_model.specs.Events.{AreEachFrom}
 use Rattle.rpq_model.specs.Query.{Query}
-use Rattle.rpq_text.specs.Steps.{OptionsValue, StepValue, AreStepsFrom}
+use Rattle.entry_steps.specs.Steps.{OptionsValue, StepValue, AreStepsFrom}
 use Rattle.rpq_text.specs.Text.{block, blocks_from, IsText}
 use Rattle.rpq_text.proofs.BlockLists.{blocks_append, blocks_cut, blocks_with}
-use Rattle.rpq_text.proofs.StepLists.{steps_as_many}
+use Rattle.entry_steps.proofs.StepLists.{steps_as_many}
 use Rattle.rpq_threads.specs.Fed.{WritesFront, BeginsNext}
 
 -- the lists of some entries, and then those of the entries that follow them

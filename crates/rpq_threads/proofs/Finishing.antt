@@ -35,7 +35,7 @@ use Rattle.ask_text.specs.declared.ask.Ask.{Ask}
 use Rattle.ask_text.specs.Answered.{AnsweredValue}
 use Rattle.ask_text.specs.Ranges.{ended_at}
 use Rattle.ask_text.specs.Reply.{IsReply}
-use Rattle.rpq_text.specs.Steps.{OptionsValue}
+use Rattle.entry_steps.specs.Steps.{OptionsValue}
 use Rattle.rpq_text.specs.Text.{IsText}
 use Rattle.rpq_workers.specs.declared.session_worker.Replied.{Replied}
 use Rattle.rpq_workers.specs.declared.stream_worker.Streamed.{Streamed}

@@ -10,18 +10,17 @@ use Rattle.rpq_base.specs.declared.data.Entry.{Entry}
 use Rattle.rpq_base.specs.declared.data.Event.{Event}
 use Rattle.rpq_io.specs.Writes.{WritesProperPrefix}
 use Rattle.query_file.specs.Compiled.{CompiledValue}
-use Rattle.path_engine.specs.Engine.{definitions}
+use Rattle.entry_steps.specs.Evaluator.{EvaluatorValue, Brings, KeepsSetup, StandsAfter}
+use Rattle.entry_steps.specs.Evaluator.{compiled_of, queries_of}
 use Rattle.history_model.specs.declared.line.Why.{Why}
 use Rattle.history_model.specs.declared.line.Why.TheVariants.{Write, Memory}
 use Rattle.rpq_text.specs.Definitions.{definitions_of}
-use Rattle.rpq_text.specs.Steps.{OptionsValue, StepValue, AreStepsFrom, events_of}
+use Rattle.entry_steps.specs.Steps.{OptionsValue, StepValue, AreStepsFrom, events_of}
 use Rattle.rpq_text.specs.Text.{blocks_from, IsText}
-use Rattle.rpq_text.proofs.StepLists.{steps_as_many}
+use Rattle.entry_steps.proofs.StepLists.{steps_as_many}
 use Rattle.standing.specs.Circles.{CircleValue}
 use Rattle.rpq_threads.specs.Told.{all_events}
-use Rattle.rpq_threads.specs.declared.evaluator.Evaluator.{Evaluator}
-use Rattle.rpq_threads.specs.Fed.{WritesFront, TellsOn, WritesAndTells, KeepsSetup, StandsOver}
-use Rattle.rpq_threads.specs.Fed.{FindsSteps, Emits, Stops}
+use Rattle.rpq_threads.specs.Fed.{WritesFront, TellsOn, WritesAndTells, Emits, Stops}
 use Rattle.rpq_threads.proofs.Blocks.{text_append}
 use Rattle.rpq_threads.proofs.Grows.{grew_on, grew_on_by_front, grew_on_by_proper}
 use Rattle.rpq_threads.proofs.Tellings.{hears_all, tells_part}
@@ -31,13 +30,6 @@ pub ok_then_both : {T E P Q G : Type 0} (result : Result T E) → (P → Q → G
     OnOk result Q → OnOk result G
 ok_then_both (Ok x) then p q = then p q
 ok_then_both (Err e) then p q = tt
-
--- a fact of a value from three others
-pub ok_from_three : {T E : Type 0} (result : Result T E) (P Q R G : T → Type 0) →
-    ((x : T) → P x → Q x → R x → G x) → IfOk result P → IfOk result Q → IfOk result R →
-    IfOk result G
-ok_from_three (Ok x) P Q R G gives p q r = gives x p q r
-ok_from_three (Err e) P Q R G gives p q r = tt
 
 -- from one fact of a fault to another
 pub err_with : {T E : Type 0} (result : Result T E) (P Q : E → Type 0) →
@@ -61,14 +53,14 @@ each_step P (step ∷ steps) all =
     (each_step P steps (All-tail P step.events (events_of steps) all))
 
 -- behind a history the engine answered the entries, and it has these queries
-module _ (before : List Entry) (old new : Evaluator) (entries : List Entry)
-    (steps : List StepValue) (finds : FindsSteps before new entries steps)
+module _ (before : List Entry) (old new : EvaluatorValue) (entries : List Entry)
+    (steps : List StepValue) (finds : Brings before new entries steps)
     (kept : KeepsSetup old new) (queries : List CompiledValue)
-    (same : queries ≡ new.engine.queries) where
+    (same : queries ≡ compiled_of new) where
   -- the steps, by the queries that the engine had before
-  steps_found : AreStepsFrom old.options (definitions old.engine) before entries steps
+  steps_found : AreStepsFrom old.options (queries_of old) before entries steps
   steps_found =
-      subst (λ (options : OptionsValue). AreStepsFrom options (definitions old.engine) before
+      subst (λ (options : OptionsValue). AreStepsFrom options (queries_of old) before
       entries steps) kept.options
       (subst (λ (qs : List CompiledValue). AreStepsFrom new.options (definitions_of qs) before
       entries steps) kept.queries finds.are_steps)
@@ -81,24 +73,24 @@ module _ (before : List Entry) (old new : Evaluator) (entries : List Entry)
       event.query < length qs) own) (events_of steps)) (sym same) finds.numbers)
 
   pub many_found : length steps ≡ length entries
-  many_found = steps_as_many entries before old.options (definitions old.engine) steps steps_found
+  many_found = steps_as_many entries before old.options (queries_of old) steps steps_found
 
-  module _ (is : StandsOver old before) (position : ℕ) (place : position ≡ old.position + 1)
+  module _ (is : StandsAfter old before) (position : ℕ) (place : position ≡ old.position + 1)
       (written_before written_after : Option (List ℕ)) where
     abbrev TextOf : List Entry → List ℕ → Type 0
-    TextOf history text = IsText old.options (definitions old.engine) history text
+    TextOf history text = IsText old.options (queries_of old) history text
 
     next_text : (text : List ℕ) → TextOf before text →
         TextOf (before ++ entries)
         (text ++ blocks_from (definitions_of queries) position entries steps)
     next_text text is_text =
-        let number : length before + 1 ≡ position = omega (arith, place, is.counted) in
+        let number : length before + 1 ≡ position = omega (arith, place, is.fed.counted) in
         subst (λ (qs : List CompiledValue). TextOf (before ++ entries)
         (text ++ blocks_from (definitions_of qs) position entries steps))
         (sym (same ∙ kept.queries))
         (subst (λ (n : ℕ). TextOf (before ++ entries)
-        (text ++ blocks_from (definitions old.engine) n entries steps)) number
-        (text_append old.options (definitions old.engine) before text entries steps is_text
+        (text ++ blocks_from (queries_of old) n entries steps)) number
+        (text_append old.options (queries_of old) before text entries steps is_text
         steps_found))
 
     pub emits_all : (circle_before circle_after : CircleValue) →
@@ -109,13 +101,11 @@ module _ (before : List Entry) (old new : Evaluator) (entries : List Entry)
     emits_all circle_before circle_after written tells = record {
       setup = kept;
       stands = finds.stands;
-      marks = finds.marks;
-      joins = finds.joins;
       text = λ start so_far.
           grew_on (TextOf before) (TextOf (before ++ entries))
           (blocks_from (definitions_of queries) position entries steps) start
           written_before written_after next_text so_far written;
-      heard = hears_all old.options (definitions old.engine) before entries steps steps_found
+      heard = hears_all old.options (queries_of old) before entries steps steps_found
           circle_before circle_after tells;
     }
 
@@ -129,7 +119,7 @@ module _ (before : List Entry) (old new : Evaluator) (entries : List Entry)
         written_before written_after) →
         WritesAndTells (definitions_of queries) position entries steps why
         written_before written_after circle_before circle_after →
-        Stops old.options (definitions old.engine) before (before ++ entries) why written_before
+        Stops old.options (queries_of old) before (before ++ entries) why written_before
         written_after circle_before circle_after
     emits_stops circle_before circle_after why proper part tells = record {
       write = λ why_is start so_far.
@@ -141,33 +131,13 @@ module _ (before : List Entry) (old new : Evaluator) (entries : List Entry)
           (blocks_from (definitions_of queries) position entries steps) start
           written_before written_after next_text so_far (part why_is);
       told = λ objects heard start so_far.
-          let here : position ≡ length before + 1 = omega (arith, place, is.counted) in
-          tells_part old.options (definitions old.engine) before entries steps steps_found
+          let here : position ≡ length before + 1 = omega (arith, place, is.fed.counted) in
+          tells_part old.options (queries_of old) before entries steps steps_found
           circle_before circle_after why written_before written_after
-          (subst (λ (n : ℕ). WritesAndTells (definitions old.engine) n entries steps why
+          (subst (λ (n : ℕ). WritesAndTells (queries_of old) n entries steps why
           written_before written_after circle_before circle_after) here
           (subst (λ (qs : List CompiledValue). WritesAndTells (definitions_of qs) position entries
           steps why written_before written_after circle_before circle_after)
           (same ∙ kept.queries) tells))
           objects heard start so_far;
-    }
-
--- the block that was written last is no part of what was emitted
-pub emits_with_block : (before : List Entry) (old new last : Evaluator) (later : List Entry)
-    (written_before written_after : Option (List ℕ)) (circle_before circle_after : CircleValue) →
-    Emits before old new later written_before written_after circle_before circle_after →
-    Emits before old (record new { block = last.block }) later written_before written_after
-    circle_before circle_after
-emits_with_block before old new last later written_before written_after circle_before
-    circle_after did = record {
-      setup = record {
-        queries = did.setup.queries;
-        options = did.setup.options;
-        workers = did.setup.workers;
-      };
-      stands = record { stands = did.stands.stands; counted = did.stands.counted };
-      marks = did.marks;
-      joins = did.joins;
-      text = did.text;
-      heard = did.heard;
     }

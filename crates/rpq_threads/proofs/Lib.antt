@@ -5,7 +5,5 @@ mod Stopping
 mod Fronts
 mod Turns
 mod Rebuilt
-mod Taking
-mod Showing
 mod Starting
 mod Finishing

@@ -4,15 +4,15 @@ use Rattle.std.proofs.Common.{List, [], ◌∷◌, ◌++◌, length, take, drop,
 use Rattle.std.proofs.Common.{refl, sym, ap, subst, ◌∙◌, arith}
 use Rattle.std.proofs.lemmas.List.{length-take, length-drop}
 use Rattle.rpq_base.specs.declared.data.Entry.{Entry}
-use Rattle.rpq_base.specs.declared.data.Event.{Event}
+use Rattle.engine_feed.specs.declared.fed.Fed.{Fed}
 use Rattle.two_way.specs.TwoWay.{walked}
+use Rattle.entry_steps.specs.Evaluator.{EvaluatorValue, IsFedOver, Finds}
 use Rattle.history_model.specs.Lines.{entries, published}
 use Rattle.stream_history.specs.History.{HistoryValue, IsFeedingPass, HasSeen}
 use Rattle.stream_history.proofs.Steps.{still_feeds}
 use Rattle.rpq_workers.proofs.Numbering.{Each}
 use Rattle.rpq_workers.proofs.Seen.{entries_grow, same_front, take_part}
-use Rattle.rpq_threads.specs.declared.evaluator.Evaluator.{Evaluator}
-use Rattle.rpq_threads.specs.Fed.{MayAskTo, LooksOn, StandsOver, Finds, answered}
+use Rattle.rpq_threads.specs.Fed.{MayAskTo, LooksOn, answered}
 
 -- a call that adds no line leaves a pass that has looked on
 pub looks_by_call : (history : HistoryValue) (before after : Each) →
@@ -38,13 +38,13 @@ walked_none true = refl
 
 -- the engine stood for what was answered, and was fed the next entries, at most as many as were
 -- missing
-module _ (history : HistoryValue) (before mid : Each) (old : Evaluator) (position : ℕ)
+module _ (history : HistoryValue) (before mid : Each) (old : EvaluatorValue) (position : ℕ)
     (may_ask : MayAskTo history position before) (seen : HasSeen history before mid)
     (behind : old.position < position) (front part : List Entry)
     (front_is : front ≡ take 256 (drop old.position (entries mid.seen)))
-    (part_is : part ≡ take (position - old.position) front) (new : Evaluator)
-    (lists : List (List Event)) (was : StandsOver old (answered old before))
-    (finds : Finds (answered old before) new part lists) where
+    (part_is : part ≡ take (position - old.position) front) (new : EvaluatorValue)
+    (found : Fed) (was : IsFedOver old (answered old before))
+    (finds : Finds (answered old before) new part found) where
   abbrev rest : List Entry
   rest = drop old.position (entries mid.seen)
 
@@ -54,7 +54,7 @@ module _ (history : HistoryValue) (before mid : Each) (old : Evaluator) (positio
   further : new.position ≡ old.position + length part
   further = omega (
     arith,
-    finds.stands.counted,
+    finds.fed.counted,
     was.counted,
     length-append (answered old before) part,
   )
@@ -73,7 +73,7 @@ module _ (history : HistoryValue) (before mid : Each) (old : Evaluator) (positio
       )
 
   -- and stands for what it has answered then
-  pub stands_further : StandsOver new (answered new mid)
+  pub stands_further : IsFedOver new (answered new mid)
   stands_further =
       let next : part ≡ take (length part) rest =
       subst (λ (l : List Entry). l ≡ take (length l) rest) (sym is_cut)
@@ -82,10 +82,10 @@ module _ (history : HistoryValue) (before mid : Each) (old : Evaluator) (positio
       omega (arith, may_ask.there, behind) in
       let stays : answered old mid ≡ answered old before =
       same_front mid.seen before.seen seen.seen old.position there in
-      subst (StandsOver new)
+      subst (IsFedOver new)
       (ap (λ (first : List Entry). first ++ part) (sym stays)
       ∙ (sym (take_part old.position (length part) (entries mid.seen) part next)
-      ∙ ap (λ (n : ℕ). take n (entries mid.seen)) (sym further))) finds.stands
+      ∙ ap (λ (n : ℕ). take n (entries mid.seen)) (sym further))) finds.fed
 
 -- the pass has looked on since the rebuild began
 module _ (history : HistoryValue) (position : ℕ) (before after : Each)
@@ -100,10 +100,10 @@ module _ (history : HistoryValue) (position : ℕ) (before after : Each)
   }
 
   -- an engine that has got there again stands for what it had answered
-  pub stands_again : (evaluator : Evaluator) → evaluator.position ≡ position →
-      StandsOver evaluator (answered evaluator after) →
-      StandsOver evaluator (take position (entries before.seen))
+  pub stands_again : (evaluator : EvaluatorValue) → evaluator.position ≡ position →
+      IsFedOver evaluator (answered evaluator after) →
+      IsFedOver evaluator (take position (entries before.seen))
   stands_again evaluator there stands =
-      subst (StandsOver evaluator)
+      subst (IsFedOver evaluator)
       (ap (λ (n : ℕ). take n (entries after.seen)) there
       ∙ same_front after.seen before.seen looks_on.seen position may_ask.there) stands

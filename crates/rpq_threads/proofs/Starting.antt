@@ -3,16 +3,16 @@ use Rattle.std.proofs.Common.{◌≡◌, ℕ, suc, ◌<◌, List, [], ◌∷◌,
 use Rattle.std.proofs.Common.{Option, get_or, arith}
 use Rattle.std.specs.List.{All}
 use Rattle.std.proofs.lemmas.List.Elements.{All-map, All-same}
-use Rattle.conj_query.specs.Sound.{IsSound}
 use Rattle.containment_laws.specs.Accepted.{IsAccepted}
 use Rattle.query_file.specs.Compiled.{CompiledValue}
 use Rattle.rpq_base.specs.declared.data.Entry.{Entry}
 use Rattle.rpq_model.specs.Query.{Query}
 use Rattle.two_way.specs.TwoWay.{walked}
 use Rattle.answer_view.specs.View.{ViewValue, IsViewOf}
-use Rattle.path_engine.specs.Engine.{definitions}
+use Rattle.entry_steps.specs.Evaluator.{EvaluatorValue, StandsAfter, compiled_of}
+use Rattle.entry_steps.specs.Evaluator.{queries_of}
 use Rattle.rpq_text.specs.Definitions.{definitions_of}
-use Rattle.rpq_text.specs.Steps.{OptionsValue, CanRun}
+use Rattle.entry_steps.specs.Steps.{OptionsValue, CanRun, HaveSoundJoins}
 use Rattle.history_model.specs.World.{Terms}
 use Rattle.stream_history.specs.History.{HistoryValue}
 use Rattle.stream_history.specs.Journal.{empty_view}
@@ -20,9 +20,8 @@ use Rattle.stream_history.specs.Laws.{FirstView}
 use Rattle.ask_text.specs.declared.ask.Ask.{Ask}
 use Rattle.ask_text.specs.Ranges.{IsInRange, IsSession}
 use Rattle.rpq_workers.specs.Started.{new_pass}
-use Rattle.rpq_threads.specs.declared.evaluator.Evaluator.{Evaluator}
 use Rattle.rpq_threads.specs.declared.task.Task.{Task}
-use Rattle.rpq_threads.specs.Fed.{StandsOver, MarksOver, JoinsOver, IsFed}
+use Rattle.rpq_threads.specs.Fed.{IsFed}
 use Rattle.rpq_threads.specs.Runs.{IsTask}
 use Rattle.rpq_threads.specs.Served.{AreAbout}
 use Rattle.rpq_threads.proofs.Rebuilt.{walked_none}
@@ -34,14 +33,14 @@ length-definitions [] = refl
 length-definitions (each ∷ queries) = ap suc (length-definitions queries)
 
 -- the view over no entries is the one with which a history begins
-pub first_shown : FirstView → (evaluator : Evaluator) (queries : List Query) (view : ViewValue) →
-    definitions evaluator.engine ≡ queries →
-    IsViewOf (definitions evaluator.engine) (walked evaluator.options.two_way []) view →
+pub first_shown : FirstView → (evaluator : EvaluatorValue) (queries : List Query) (view : ViewValue) →
+    queries_of evaluator ≡ queries →
+    IsViewOf (queries_of evaluator) (walked evaluator.options.two_way []) view →
     view ≡ empty_view (length queries)
 first_shown law evaluator queries view same shows =
     (law queries view).0
     (subst (λ (qs : List Query). IsViewOf qs [] view) same
-    (subst (λ (history : List Entry). IsViewOf (definitions evaluator.engine) history view)
+    (subst (λ (history : List Entry). IsViewOf (queries_of evaluator) history view)
     (walked_none evaluator.options.two_way) shows))
 
 -- the query's window moves
@@ -76,17 +75,17 @@ module _ {S : Type 0} (left : S → Option (List ℕ)) (faults : S → ℕ) (tas
               given.understood.accepted);
           move = All-same Moves history.terms.queries queries same_queries move;
         };
-        sound = subst (λ (n : ℕ). All (IsSound n) task.options.joins) many given.sound;
+        sound = subst (λ (n : ℕ). HaveSoundJoins n task.options) many given.sound;
       }
 
   -- the engine begins at the first position
-  pub begun_fed : (evaluator : Evaluator) → evaluator.engine.queries ≡ task.queries.items →
+  pub begun_fed : (evaluator : EvaluatorValue) →
+      compiled_of evaluator ≡ task.queries.items →
       evaluator.options ≡ task.options →
       history.readers ≡ length task.sessions.items →
-      All Moves (definitions_of task.queries.items) → StandsOver evaluator [] →
-      MarksOver evaluator [] → JoinsOver evaluator [] →
+      All Moves (definitions_of task.queries.items) → StandsAfter evaluator [] →
       IsFed history evaluator (new_pass history 0)
-  begun_fed evaluator queries options readers move stands marks joins =
+  begun_fed evaluator queries options readers move stands =
       let two_way = ap (λ (o : OptionsValue). o.two_way) options in
       let paths = ap (λ (o : OptionsValue). o.paths) options in
       first_fed history evaluator (ap definitions_of queries ∙ sym same_queries)
@@ -95,7 +94,7 @@ module _ {S : Type 0} (left : S → Option (List ℕ)) (faults : S → ℕ) (tas
       (λ is. readers ∙ ap (λ (sessions : List (List Ask)). length sessions)
       (given.unasked (sym two_way ∙ is)))
       (λ told. two_way ∙ given.forwards (sym paths ∙ told))
-      (omega (arith, ap (λ (t : Terms). t.cap) terms, given.limit.1)) stands marks joins
+      (omega (arith, ap (λ (t : Terms). t.cap) terms, given.limit.1)) stands
 
   -- what is asked is about the queries of the history
   pub begun_asks : AreAbout history task.sessions.items

@@ -5,8 +5,8 @@ use Rattle.rpq_model.specs.Query.{Query}
 use Rattle.turn_lock.specs.Lines.{StartsWith}
 use Rattle.history_model.specs.declared.line.Why.{Why}
 use Rattle.history_model.specs.declared.line.Why.TheVariants.{Memory}
-use Rattle.rpq_text.specs.Laws.{EveryEntryHasAStep}
-use Rattle.rpq_text.specs.Steps.{OptionsValue, CanRun}
+use Rattle.entry_steps.specs.Laws.{EveryEntryHasAStep}
+use Rattle.entry_steps.specs.Steps.{OptionsValue, CanRun}
 use Rattle.rpq_text.specs.Text.{IsText}
 use Rattle.standing.specs.Circles.{CircleValue}
 use Rattle.rpq_threads.specs.Written.{Grew, GrewByPrefix, GrewByProperPrefix}

@@ -20,13 +20,13 @@ use Rattle.rpq_model.proofs.EachEntry.{each_are_one}
 use Rattle.turn_lock.specs.Lines.{StartsWith}
 use Rattle.history_model.specs.declared.line.Why.{Why}
 use Rattle.history_model.specs.declared.line.Why.TheVariants.{Write, Memory}
-use Rattle.rpq_text.specs.Steps.{OptionsValue, StepValue, IsStep, AreSteps, AreStepsFrom, events_of}
+use Rattle.entry_steps.specs.Steps.{OptionsValue, StepValue, IsStep, AreSteps, AreStepsFrom, events_of}
 use Rattle.rpq_text.specs.Text.{block, blocks_from, IsText}
-use Rattle.rpq_text.proofs.StepLists.{steps_as_many, steps_fronts, steps_have_events}
+use Rattle.entry_steps.proofs.StepLists.{steps_as_many, steps_fronts, steps_have_events}
 use Rattle.standing.specs.Objects.{ObjectValue}
 use Rattle.standing.specs.Circles.{CircleValue, Parts, TellsEach, as_seen, circle_value}
 use Rattle.standing.specs.Stood.{HaveStood}
-use Rattle.standing.proofs.HavingStood.{none_told, stood_weaker, told_each}
+use Rattle.standing.proofs.HavingStood.{none_told, stood_weaker, told_each, stood_longer}
 use Rattle.rpq_threads.specs.Written.{Grew}
 use Rattle.rpq_threads.specs.Told.{all_events, BeginsBlock, TellsObjects}
 use Rattle.rpq_threads.specs.Fed.{TellsOn, BeginsNext, WritesAndTells, WritesBlocks}
@@ -41,6 +41,11 @@ pub tells_nothing : (circle : CircleValue) → TellsOn [] ⊤ circle circle
 tells_nothing circle objects before stood =
     subst (λ (events : List Event). HaveStood objects events ⊤ circle.members circle.left)
     (sym (append-nil before)) stood
+
+-- where none of some events is told, a front of them was told
+pub tells_no_more : (circle : CircleValue) (events : List Event) → TellsOn events ⊥ circle circle
+tells_no_more circle events = λ objects before stood.
+    stood_longer objects before events ⊤ circle.members circle.left stood
 
 -- some events are told, and then others
 pub tells_more : (first second : List Event) (whole : Type 0) (old between new : CircleValue) →

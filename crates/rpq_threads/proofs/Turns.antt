@@ -13,7 +13,7 @@ use Rattle.rpq_model.specs.Query.{Query}
 use Rattle.two_way.specs.TwoWay.{walked}
 use Rattle.query_file.specs.Compiled.{CompiledValue}
 use Rattle.answer_view.specs.View.{ViewValue, IsViewOf}
-use Rattle.path_engine.specs.Engine.{EngineValue, StandsFor, definitions}
+use Rattle.entry_steps.specs.Evaluator.{EvaluatorValue, StandsAfter, KeepsSetup, queries_of}
 use Rattle.turn_lock.specs.Lines.{StartsWith}
 use Rattle.history_model.specs.declared.line.Call.{Call}
 use Rattle.history_model.specs.declared.line.CallAct.TheVariants.{Shut}
@@ -27,19 +27,16 @@ use Rattle.stream_history.specs.History.{HistoryValue, IsFeedingPass, HasSeen, H
 use Rattle.stream_history.proofs.Pushes.{calls_push, called, published_push}
 use Rattle.stream_history.proofs.Steps.{still_feeds, going_after}
 use Rattle.stream_history.proofs.Turns.{first_entries}
-use Rattle.rpq_text.specs.Laws.{EveryEntryHasAStep}
-use Rattle.rpq_text.specs.Steps.{OptionsValue, CanRun}
+use Rattle.entry_steps.specs.Laws.{EveryEntryHasAStep}
+use Rattle.entry_steps.specs.Steps.{OptionsValue, CanRun}
 use Rattle.rpq_text.specs.Text.{IsText}
 use Rattle.standing.specs.Circles.{CircleValue}
 use Rattle.rpq_workers.specs.Started.{new_pass}
 use Rattle.rpq_workers.proofs.Numbering.{Each, new_is}
 use Rattle.rpq_workers.proofs.Seen.{entries_grow, same_front, take_part, part_fits}
 use Rattle.rpq_workers.proofs.Seen.{none_after, starts_then, added_starts}
-use Rattle.rpq_threads.specs.declared.evaluator.Evaluator.{Evaluator}
-use Rattle.rpq_threads.specs.Joining.{HaveJoins}
-use Rattle.rpq_threads.specs.Showing.{HaveMarks}
-use Rattle.rpq_threads.specs.Fed.{HaveHeardAll, HearsOn, Onward, Emits, Stops, StandsOver, answered}
-use Rattle.rpq_threads.specs.Fed.{MarksOver, JoinsOver, KeepsUp, IsFed, ComeNext, GetsOn, LooksOn}
+use Rattle.rpq_threads.specs.Fed.{HaveHeardAll, HearsOn, Onward, Emits, Stops, answered}
+use Rattle.rpq_threads.specs.Fed.{KeepsUp, IsFed, ComeNext, GetsOn, LooksOn}
 use Rattle.rpq_threads.specs.Fed.{IsAtStart, IsWhole, HasFed}
 use Rattle.rpq_threads.specs.Written.{Grew}
 use Rattle.rpq_threads.proofs.Grows.{begins}
@@ -53,7 +50,7 @@ use Rattle.rpq_threads.proofs.Stopping.{stops_of_longer}
 pub taken_starts : (n : ℕ) (all : List Entry) → StartsWith all (take n all)
 taken_starts n all = (drop n all, sym (take-append-drop n all))
 
-module _ (history : HistoryValue) (evaluator : Evaluator) (before after : Each)
+module _ (history : HistoryValue) (evaluator : EvaluatorValue) (before after : Each)
     (was : KeepsUp history evaluator before) (starts : StartsWith after.seen before.seen) where
   -- what was answered stays where more is seen
   pub answered_stays : answered evaluator after ≡ answered evaluator before
@@ -69,9 +66,7 @@ module _ (history : HistoryValue) (evaluator : Evaluator) (before after : Each)
     forwards = was.forwards;
     few = was.few;
     there = omega (arith, was.there, entries_grow after.seen before.seen starts);
-    stands = subst (StandsOver evaluator) (sym answered_stays) was.stands;
-    marks = subst (MarksOver evaluator) (sym answered_stays) was.marks;
-    joins = subst (JoinsOver evaluator) (sym answered_stays) was.joins;
+    stands = subst (StandsAfter evaluator) (sym answered_stays) was.stands;
   }
 
   -- what was answered begins all entries
@@ -80,48 +75,43 @@ module _ (history : HistoryValue) (evaluator : Evaluator) (before after : Each)
       (taken_starts evaluator.position (entries after.seen))
 
 -- after a call that adds no line
-pub keeps_up_seen : (history : HistoryValue) (evaluator : Evaluator) (before after : Each) →
+pub keeps_up_seen : (history : HistoryValue) (evaluator : EvaluatorValue) (before after : Each) →
     KeepsUp history evaluator before → HasSeen history before after →
     KeepsUp history evaluator after
 keeps_up_seen history evaluator before after was seen =
     keeps_up_then history evaluator before after was seen.seen
     (still_feeds history before after was.feeds seen)
 
-pub fed_seen : (history : HistoryValue) (evaluator : Evaluator) (before after : Each) →
+pub fed_seen : (history : HistoryValue) (evaluator : EvaluatorValue) (before after : Each) →
     IsFed history evaluator before → HasSeen history before after → IsFed history evaluator after
 fed_seen history evaluator before after was seen = record {
   keeps_up = keeps_up_seen history evaluator before after was.keeps_up seen;
   told = λ some. ap published seen.mine ∙ was.told some;
 }
 
--- after the engine showed a view, which changes nothing of what it stands for
-pub keeps_up_viewed : (history : HistoryValue) (old : Evaluator) (engine : EngineValue)
-    (pass : Each) → engine.queries ≡ old.engine.queries →
-    ((seen : List Entry) → StandsFor old.engine seen → StandsFor engine seen) →
-    KeepsUp history old pass → KeepsUp history (record old { engine = engine }) pass
-keeps_up_viewed history old engine pass queries stands was =
-    let same : definitions engine ≡ definitions old.engine =
-    ap (map (λ (each : CompiledValue). each.def)) queries in
+-- after the evaluator showed a view, which changes nothing of what it stands after
+pub keeps_up_viewed : (history : HistoryValue) (old new : EvaluatorValue) (pass : Each) →
+    KeepsSetup old new → new.position ≡ old.position →
+    ((seen : List Entry) → StandsAfter old seen → StandsAfter new seen) →
+    KeepsUp history old pass → KeepsUp history new pass
+keeps_up_viewed history old new pass keeps place stands was =
+    let two_way = ap (λ (options : OptionsValue). options.two_way) keeps.options in
+    let paths = ap (λ (options : OptionsValue). options.paths) keeps.options in
     record {
       feeds = was.feeds;
-      queries = same ∙ was.queries;
-      accepted = was.accepted;
-      unread = was.unread;
-      forwards = was.forwards;
+      queries = ap (map (λ (each : CompiledValue). each.def)) keeps.queries ∙ was.queries;
+      accepted = subst (λ (options : OptionsValue). CanRun options history.terms.queries)
+          (sym keeps.options) was.accepted;
+      unread = λ is. was.unread (sym two_way ∙ is);
+      forwards = λ is. two_way ∙ was.forwards (sym paths ∙ is);
       few = was.few;
-      there = was.there;
-      stands = record {
-        stands = stands (walked old.options.two_way (answered old pass)) was.stands.stands;
-        counted = was.stands.counted;
-      };
-      marks = subst (λ (qs : List Query). HaveMarks old.options.paths qs (answered old pass)
-          old.marks) (sym same) was.marks;
-      joins = subst (λ (qs : List Query). HaveJoins old.options.joins qs
-          (walked old.options.two_way (answered old pass)) old.joins) (sym same) was.joins;
+      there = omega (arith, place, was.there);
+      stands = subst (λ (n : ℕ). StandsAfter new (take n (entries pass.seen))) (sym place)
+          (stands (answered old pass) was.stands);
     }
 
 -- after the answers over all that was answered are published
-module _ (history : HistoryValue) (evaluator : Evaluator) (before after : Each)
+module _ (history : HistoryValue) (evaluator : EvaluatorValue) (before after : Each)
     (was : KeepsUp history evaluator before) (number : ℕ)
     (is : number ≡ evaluator.position)
     (added : HasAdded history before (publish_line number) after) where
@@ -147,12 +137,12 @@ not_where_some false readers none some = refl
 not_where_some true readers none some = absurd (omega (arith, none refl, some))
 
 -- the view of an engine that keeps up, of a history with readers
-module _ (history : HistoryValue) (evaluator : Evaluator) (pass : Each)
+module _ (history : HistoryValue) (evaluator : EvaluatorValue) (pass : Each)
     (was : KeepsUp history evaluator pass) (some : 0 < history.readers) (view : ViewValue)
-    (sees : IsViewOf (definitions evaluator.engine)
+    (sees : IsViewOf (queries_of evaluator)
     (walked evaluator.options.two_way (answered evaluator pass)) view) where
-  shows : IsViewOf (definitions evaluator.engine) (answered evaluator pass) view
-  shows = subst (λ (two_way : Bool). IsViewOf (definitions evaluator.engine)
+  shows : IsViewOf (queries_of evaluator) (answered evaluator pass) view
+  shows = subst (λ (two_way : Bool). IsViewOf (queries_of evaluator)
       (walked two_way (answered evaluator pass)) view)
       (not_where_some evaluator.options.two_way history.readers was.unread some) sees
 
@@ -171,15 +161,15 @@ module _ (history : HistoryValue) (evaluator : Evaluator) (pass : Each)
       shows)
 
 -- at the start nothing is answered
-pub first_fed : (history : HistoryValue) (evaluator : Evaluator) →
-    definitions evaluator.engine ≡ history.terms.queries →
+pub first_fed : (history : HistoryValue) (evaluator : EvaluatorValue) →
+    queries_of evaluator ≡ history.terms.queries →
     CanRun evaluator.options history.terms.queries →
     (evaluator.options.two_way ≡ true → history.readers ≡ 0) →
     (evaluator.options.paths ≡ true → evaluator.options.two_way ≡ false) →
-    history.terms.cap ≤ 536870912 → StandsOver evaluator [] → MarksOver evaluator [] →
-    JoinsOver evaluator [] → IsFed history evaluator (new_pass history 0)
-first_fed history evaluator queries accepted unread forwards small stands marks joins =
-    let none : evaluator.position ≡ 0 = stands.counted in
+    history.terms.cap ≤ 536870912 → StandsAfter evaluator [] →
+    IsFed history evaluator (new_pass history 0)
+first_fed history evaluator queries accepted unread forwards small stands =
+    let none : evaluator.position ≡ 0 = stands.fed.counted in
     record {
       keeps_up = record {
         feeds = record {
@@ -192,23 +182,21 @@ first_fed history evaluator queries accepted unread forwards small stands marks 
         forwards = forwards;
         few = small;
         there = omega (arith, none);
-        stands = subst (λ (n : ℕ). StandsOver evaluator (take n [])) (sym none) stands;
-        marks = subst (λ (n : ℕ). MarksOver evaluator (take n [])) (sym none) marks;
-        joins = subst (λ (n : ℕ). JoinsOver evaluator (take n [])) (sym none) joins;
+        stands = subst (λ (n : ℕ). StandsAfter evaluator (take n [])) (sym none) stands;
       };
       told = λ readers. sym none;
     }
 
 -- ---- a part of what comes next is answered
 
-module _ (history : HistoryValue) (old : Evaluator) (pass : Each) (was : IsFed history old pass)
+module _ (history : HistoryValue) (old : EvaluatorValue) (pass : Each) (was : IsFed history old pass)
     (part : List Entry) (next : ComeNext old pass part)
     (written_before written_after : Option (List ℕ)) (circle_before circle_after : CircleValue)
   where
     -- the engine stopped in the part
     pub part_stops : EveryEntryHasAStep → (after : Each) → StartsWith after.seen pass.seen →
         (why : Why) →
-        Stops old.options (definitions old.engine) (answered old pass) (answered old pass ++ part)
+        Stops old.options (queries_of old) (answered old pass) (answered old pass ++ part)
         why written_before written_after circle_before circle_after →
         Stops old.options history.terms.queries (answered old pass) (entries after.seen) why
         written_before written_after circle_before circle_after
@@ -223,21 +211,21 @@ module _ (history : HistoryValue) (old : Evaluator) (pass : Each) (was : IsFed h
         written_after circle_before circle_after) was.keeps_up.queries did)
 
     -- or it went on by the part
-    module _ (new : Evaluator)
+    module _ (new : EvaluatorValue)
         (did : Emits (answered old pass) old new part written_before written_after circle_before
         circle_after) where
       further : new.position ≡ old.position + length part
       further = omega (
         arith,
-        did.stands.counted,
-        was.keeps_up.stands.counted,
+        did.stands.fed.counted,
+        was.keeps_up.stands.fed.counted,
         length-append (answered old pass) part,
       )
 
       answered_more : answered old pass ++ part ≡ answered new pass
       answered_more =
           sym (ap (take new.position) next.seen.1
-          ∙ take_at (answered old pass ++ part) next.seen.0 new.position (sym did.stands.counted))
+          ∙ take_at (answered old pass ++ part) next.seen.0 new.position (sym did.stands.fed.counted))
 
       part_is_kept : KeepsUp history new pass
       part_is_kept =
@@ -257,13 +245,11 @@ module _ (history : HistoryValue) (old : Evaluator) (pass : Each) (was : IsFed h
             few = kept.few;
             there = omega (
               arith,
-              did.stands.counted,
+              did.stands.fed.counted,
               ap length next.seen.1,
               length-append (answered old pass ++ part) next.seen.0,
             );
-            stands = subst (StandsOver new) answered_more did.stands;
-            marks = subst (MarksOver new) answered_more did.marks;
-            joins = subst (JoinsOver new) answered_more did.joins;
+            stands = subst (StandsAfter new) answered_more did.stands;
           }
 
       pub part_keeps_up : (after : Each) → LooksOn history pass after → KeepsUp history new after
@@ -307,7 +293,7 @@ module _ (history : HistoryValue) (old : Evaluator) (pass : Each) (was : IsFed h
           written_after circle_before circle_after part_text part_hears
 
       -- its answers were published
-      module _ (after : Each) (starts : StartsWith after.seen pass.seen) (last : Evaluator)
+      module _ (after : Each) (starts : StartsWith after.seen pass.seen) (last : EvaluatorValue)
           (place : last.position ≡ new.position) where
         pub further_then : last.position ≡ old.position + length part
         further_then = place ∙ further
@@ -333,7 +319,7 @@ module _ (history : HistoryValue) (old : Evaluator) (pass : Each) (was : IsFed h
 
 -- ---- what comes next, cut in two
 
-module _ (old : Evaluator) (before : Each) (whole part rest : List Entry) (n : ℕ)
+module _ (old : EvaluatorValue) (before : Each) (whole part rest : List Entry) (n : ℕ)
     (next : ComeNext old before whole) (part_is : part ≡ take n whole)
     (rest_is : rest ≡ drop n whole) where
   whole_is : whole ≡ part ++ rest
@@ -357,7 +343,7 @@ module _ (old : Evaluator) (before : Each) (whole part rest : List Entry) (n : �
   }
 
   -- and the others do once it was answered
-  pub rest_comes_next : StandsOver old (answered old before) → (new : Evaluator) (after : Each) →
+  pub rest_comes_next : StandsAfter old (answered old before) → (new : EvaluatorValue) (after : Each) →
       StartsWith after.seen before.seen → new.position ≡ old.position + length part →
       ComeNext new after rest
   rest_comes_next stands new after starts further =
@@ -366,7 +352,7 @@ module _ (old : Evaluator) (before : Each) (whole part rest : List Entry) (n : �
       let begun = starts_then (entries after.seen) (entries before.seen) first grown
       part_comes_next.seen in
       let many : length first ≡ new.position =
-      omega (arith, further, stands.counted, length-append (answered old before) part) in
+      omega (arith, further, stands.fed.counted, length-append (answered old before) part) in
       let same : first ≡ answered new after =
       sym (ap (take new.position) begun.1 ∙ take_at first begun.0 new.position many) in
       record {
@@ -387,7 +373,7 @@ module _ (old : Evaluator) (before : Each) (whole part rest : List Entry) (n : �
 -- ---- one thing after another
 
 -- the engine answered nothing more
-pub gets_nowhere : (history : HistoryValue) (evaluator : Evaluator) (before after : Each)
+pub gets_nowhere : (history : HistoryValue) (evaluator : EvaluatorValue) (before after : Each)
     (written : Option (List ℕ)) (circle : CircleValue) → IsFed history evaluator after →
     answered evaluator after ≡ answered evaluator before →
     GetsOn history evaluator evaluator before after written written circle circle
@@ -401,13 +387,13 @@ gets_nowhere history evaluator before after written circle fed same = record {
 }
 
 -- the engine got on
-module _ (history : HistoryValue) (old mid : Evaluator) (first between : Each)
+module _ (history : HistoryValue) (old mid : EvaluatorValue) (first between : Each)
     (written_first written_between written_last : Option (List ℕ))
     (circle_first circle_between circle_last : CircleValue)
     (did : GetsOn history old mid first between written_first written_between circle_first
     circle_between) where
   -- and then further
-  pub gets_further : (new : Evaluator) (last : Each) →
+  pub gets_further : (new : EvaluatorValue) (last : Each) →
       GetsOn history mid new between last written_between written_last circle_between circle_last →
       GetsOn history old new first last written_first written_last circle_first circle_last
   gets_further new last then = record {
@@ -443,7 +429,7 @@ module _ (history : HistoryValue) (old mid : Evaluator) (first between : Each)
 
 -- ---- a turn, by its steps
 
-module _ (history : HistoryValue) (old : Evaluator) (before mid : Each)
+module _ (history : HistoryValue) (old : EvaluatorValue) (before mid : Each)
     (was : IsFed history old before) (seen : HasSeen history before mid) where
   -- the engine saw more, and answered nothing
   pub sees_more : (written : Option (List ℕ)) (circle : CircleValue) →
@@ -511,7 +497,7 @@ unmet Fault before after never same = record {
 }
 
 module _ {K : Type 0} (written : K → Option (List ℕ)) (faults : K → ℕ) (history : HistoryValue)
-    (evaluator : Evaluator) (pass : Each) (start now : K) (first last : CircleValue)
+    (evaluator : EvaluatorValue) (pass : Each) (start now : K) (first last : CircleValue)
     (at_start : IsAtStart history evaluator pass first) where
   -- at the start nothing was written, which is the text of what was answered
   first_text : Grew (IsText evaluator.options history.terms.queries (answered evaluator pass))
@@ -528,7 +514,7 @@ module _ {K : Type 0} (written : K → Option (List ℕ)) (faults : K → ℕ) (
       (sym at_start.none)
       (heard_nothing evaluator.options history.terms.queries first at_start.fresh)
 
-  pub fed_whole : (new : Evaluator) (after : Each) →
+  pub fed_whole : (new : EvaluatorValue) (after : Each) →
       GetsOn history evaluator new pass after (written start) (written now) first last →
       IsWhole history new after → faults now ≡ faults start →
       HasFed written faults evaluator.options history start now first last after None

@@ -8,10 +8,10 @@ use Rattle.rpq_base.specs.declared.data.Entry.{Entry}
 use Rattle.rpq_base.specs.declared.data.Event.{Event}
 use Rattle.rpq_base.specs.Plain.{IsPlain}
 use Rattle.rpq_model.specs.Query.{Query}
-use Rattle.two_way.specs.TwoWay.{walked, AreAllWalkedEvents, AreAllWalkedEventsFrom}
+use Rattle.two_way.specs.TwoWay.{AreAllWalkedEvents}
 use Rattle.rpq_io.specs.Writes.{WritesProperPrefix}
-use Rattle.path_engine.specs.Engine.{StandsFor, definitions}
-use Rattle.rpq_text.specs.Steps.{OptionsValue, StepValue, AreStepsFrom, CanRun, events_of}
+use Rattle.entry_steps.specs.Evaluator.{EvaluatorValue, StandsAfter, KeepsSetup, queries_of}
+use Rattle.entry_steps.specs.Steps.{OptionsValue, StepValue, CanRun, events_of}
 use Rattle.rpq_text.specs.Text.{block, blocks_from, IsText}
 use Rattle.standing.specs.Objects.{ObjectValue}
 use Rattle.standing.specs.Circles.{CircleValue}
@@ -24,9 +24,6 @@ use Rattle.history_model.specs.declared.line.Line.{Line}
 use Rattle.history_model.specs.Lines.{entries, published, AllEnded, IsShutFor}
 use Rattle.history_model.specs.World.{Terms}
 use Rattle.stream_history.specs.History.{HistoryValue, IsPassOf, IsFeedingPass}
-use Rattle.rpq_threads.specs.declared.evaluator.Evaluator.{Evaluator}
-use Rattle.rpq_threads.specs.Joining.{HaveJoins}
-use Rattle.rpq_threads.specs.Showing.{HaveMarks}
 use Rattle.rpq_threads.specs.Written.{Grew, GrewByPrefix, GrewByProperPrefix}
 use Rattle.rpq_threads.specs.Told.{all_events, TellsObjects}
 use Rattle.rpq_threads.specs.Runs.{WritesText}
@@ -108,73 +105,17 @@ abbrev pub Onward : OptionsValue → List Query → List Entry → Option (List 
 Onward options queries front written P =
     (start : Option (List ℕ)) → Grew (IsText options queries front) start written → P start
 
--- the queries, how they are evaluated and told, and the workers stay
-pub record KeepsSetup (old new : Evaluator) : Type 0 where
-  pub queries : new.engine.queries ≡ old.engine.queries
-  pub options : new.options ≡ old.options
-  pub workers : new.workers ≡ old.workers
-
--- only the engine changes, and how far it got
-pub record OnlyFeeds (old new : Evaluator) : Type 0 where
-  pub setup : KeepsSetup old new
-  pub marks : new.marks ≡ old.marks
-  pub joins : new.joins ≡ old.joins
-
--- the engine stands for what its queries are evaluated over, of so many entries, which are these
-pub record StandsOver (evaluator : Evaluator) (history : List Entry) : Type 0 where
-  pub stands : StandsFor evaluator.engine (walked evaluator.options.two_way history)
-  pub counted : evaluator.position ≡ length history
-
--- each of the events has the number of a query
-abbrev pub AreNumbered : Evaluator → List (List Event) → Type 0
-AreNumbered evaluator lists = All (λ (own : List Event).
-    All (λ (event : Event). event.query < length evaluator.engine.queries) own) lists
-
--- behind this history the engine answered these entries, each by the events in its place, and now
--- it stands for all of them; each event has the number of a query
-pub record Finds (before : List Entry) (evaluator : Evaluator) (later : List Entry)
-    (lists : List (List Event)) : Type 0 where
-  pub stands : StandsOver evaluator (before ++ later)
-  pub events : AreAllWalkedEventsFrom evaluator.options.two_way (definitions evaluator.engine)
-      before later lists
-  pub numbers : AreNumbered evaluator lists
-
--- the marks of the evaluator are those that are wanted for this history
-abbrev pub MarksOver : Evaluator → List Entry → Type 0
-MarksOver evaluator history =
-    HaveMarks evaluator.options.paths (definitions evaluator.engine) history evaluator.marks
-
--- the conjunctions of the evaluator have the answers over what its queries are evaluated over, of
--- this history
-abbrev pub JoinsOver : Evaluator → List Entry → Type 0
-JoinsOver evaluator history =
-    HaveJoins evaluator.options.joins (definitions evaluator.engine)
-    (walked evaluator.options.two_way history) evaluator.joins
-
--- behind this history the engine answered these entries, each of which brings the step in its
--- place, and now it, the marks and the conjunctions stand for all of them; each event has the
--- number of a query
-pub record FindsSteps (before : List Entry) (evaluator : Evaluator) (later : List Entry)
-    (steps : List StepValue) : Type 0 where
-  pub stands : StandsOver evaluator (before ++ later)
-  pub marks : MarksOver evaluator (before ++ later)
-  pub joins : JoinsOver evaluator (before ++ later)
-  pub are_steps : AreStepsFrom evaluator.options (definitions evaluator.engine) before later steps
-  pub numbers : AreNumbered evaluator (events_of steps)
-
 -- behind this history the engine answered these entries; what was written since a start, where it
 -- was the text of the history, is now that of the history with them; and the objects have heard
 -- their events
-pub record Emits (before : List Entry) (old new : Evaluator) (later : List Entry)
+pub record Emits (before : List Entry) (old new : EvaluatorValue) (later : List Entry)
     (written_before written_after : Option (List ℕ)) (circle_before circle_after : CircleValue)
     : Type 0 where
   pub setup : KeepsSetup old new
-  pub stands : StandsOver new (before ++ later)
-  pub marks : MarksOver new (before ++ later)
-  pub joins : JoinsOver new (before ++ later)
-  pub text : Onward old.options (definitions old.engine) before written_before (λ start.
-      Grew (IsText old.options (definitions old.engine) (before ++ later)) start written_after)
-  pub heard : HearsOn old.options (definitions old.engine) before (before ++ later)
+  pub stands : StandsAfter new (before ++ later)
+  pub text : Onward old.options (queries_of old) before written_before (λ start.
+      Grew (IsText old.options (queries_of old) (before ++ later)) start written_after)
+  pub heard : HearsOn old.options (queries_of old) before (before ++ later)
       circle_before circle_after
 
 -- for this reason not all entries were answered: what was written since a start, where it was the
@@ -194,34 +135,32 @@ pub record Stops (options : OptionsValue) (queries : List Query) (first all : Li
       TellsObjects options queries all start written_after objects (Some why) circle_after)
 
 -- the entries that the engine answered, of those that the pass has seen
-abbrev pub answered : Evaluator → PassValue Line Terms → List Entry
+abbrev pub answered : EvaluatorValue → PassValue Line Terms → List Entry
 answered evaluator pass = take evaluator.position (entries pass.seen)
 
--- the pass is the engine's, and the engine, which has the queries of the history, with which a run
--- can be, stands for the first entries that the pass has seen, and so do the marks and the
--- conjunctions; where edges may be taken backwards, nobody reads along, and no paths are told
-pub record KeepsUp (history : HistoryValue) (evaluator : Evaluator) (pass : PassValue Line Terms)
+-- the pass is the engine's, and the evaluator, which has the queries of the history, with which a
+-- run can be, stands after the first entries that the pass has seen; where edges may be taken
+-- backwards, nobody reads along, and no paths are told
+pub record KeepsUp (history : HistoryValue) (evaluator : EvaluatorValue) (pass : PassValue Line Terms)
     : Type 0 where
   pub feeds : IsFeedingPass history pass
-  pub queries : definitions evaluator.engine ≡ history.terms.queries
+  pub queries : queries_of evaluator ≡ history.terms.queries
   pub accepted : CanRun evaluator.options history.terms.queries
   pub unread : evaluator.options.two_way ≡ true → history.readers ≡ 0
   pub forwards : evaluator.options.paths ≡ true → evaluator.options.two_way ≡ false
   pub few : history.terms.cap ≤ 2 ^ 29
   pub there : evaluator.position ≤ length (entries pass.seen)
-  pub stands : StandsOver evaluator (answered evaluator pass)
-  pub marks : MarksOver evaluator (answered evaluator pass)
-  pub joins : JoinsOver evaluator (answered evaluator pass)
+  pub stands : StandsAfter evaluator (answered evaluator pass)
 
 -- and its answers are published, where the history has readers
-pub record IsFed (history : HistoryValue) (evaluator : Evaluator) (pass : PassValue Line Terms)
+pub record IsFed (history : HistoryValue) (evaluator : EvaluatorValue) (pass : PassValue Line Terms)
     : Type 0 where
   pub keeps_up : KeepsUp history evaluator pass
   pub told : 0 < history.readers → published pass.mine ≡ evaluator.position
 
 -- the pass has seen these entries next behind those that the engine answered, and none of them is
 -- too far
-pub record ComeNext (evaluator : Evaluator) (pass : PassValue Line Terms) (next : List Entry)
+pub record ComeNext (evaluator : EvaluatorValue) (pass : PassValue Line Terms) (next : List Entry)
     : Type 0 where
   pub seen : StartsWith (entries pass.seen) (answered evaluator pass ++ next)
   pub plain : All IsPlain next
@@ -230,7 +169,7 @@ pub record ComeNext (evaluator : Evaluator) (pass : PassValue Line Terms) (next 
 -- the engine answered more entries, and published the answers over them, where the history has
 -- readers; what was written since a start, where it was the text of those before, is now that of
 -- all; and the objects have heard their events
-pub record GetsOn (history : HistoryValue) (old new : Evaluator)
+pub record GetsOn (history : HistoryValue) (old new : EvaluatorValue)
     (pass_before pass_after : PassValue Line Terms) (written_before written_after : Option (List ℕ))
     (circle_before circle_after : CircleValue) : Type 0 where
   pub fed : IsFed history new pass_after
@@ -258,14 +197,14 @@ pub record LooksOn (history : HistoryValue) (before after : PassValue Line Terms
 
 -- the engine keeps up with what its pass has seen, and has answered nothing; and none of the
 -- objects has left
-pub record IsAtStart (history : HistoryValue) (evaluator : Evaluator)
+pub record IsAtStart (history : HistoryValue) (evaluator : EvaluatorValue)
     (pass : PassValue Line Terms) (circle : CircleValue) : Type 0 where
   pub fed : IsFed history evaluator pass
   pub none : answered evaluator pass ≡ []
   pub fresh : circle.left ≡ []
 
 -- all streams have ended, and the engine answered all entries
-pub record IsWhole (history : HistoryValue) (evaluator : Evaluator) (pass : PassValue Line Terms)
+pub record IsWhole (history : HistoryValue) (evaluator : EvaluatorValue) (pass : PassValue Line Terms)
     : Type 0 where
   pub ended : AllEnded history.terms.streams pass.seen
   pub all : evaluator.position ≡ length (entries pass.seen)

@@ -5,13 +5,12 @@ use Rattle.std.specs.List.{AllZip}
 use Rattle.std.specs.Global.{Vec}
 use Rattle.rpq_base.specs.declared.data.Entry.{Entry}
 use Rattle.rpq_base.specs.Plain.{IsPlain}
-use Rattle.conj_query.specs.Sound.{IsSound}
 use Rattle.rpq_io.specs.Counts.{CountsFault}
 use Rattle.rpq_io.specs.Reader.{ReaderState}
 use Rattle.rpq_model.specs.Query.{Query}
 use Rattle.rpq_words.specs.Modes.{IsWithin}
 use Rattle.rpq_text.specs.Definitions.{definitions_of}
-use Rattle.rpq_text.specs.Steps.{OptionsValue}
+use Rattle.entry_steps.specs.Steps.{OptionsValue, HaveSoundJoins}
 use Rattle.rpq_text.specs.Text.{IsText}
 use Rattle.turn_lock.specs.Lines.{StartsWith}
 use Rattle.history_model.specs.declared.line.Why.{Why}
@@ -46,7 +45,7 @@ pub record IsTask {S : Type 0} (left : S → Option (List ℕ)) (faults : S → 
   pub forwards : task.options.paths ≡ true → task.options.two_way ≡ false
   pub limit : IsWithin 2000000 task.limit
   pub few_joins : length task.options.joins ≤ 32
-  pub sound : All (IsSound (length task.queries.items)) task.options.joins
+  pub sound : HaveSoundJoins (length task.queries.items) task.options
 
 -- the text of the history was written, or a prefix of it: a proper one where a write failed
 pub record WritesText {K : Type 0} (written : K → Option (List ℕ)) (failures : K → ℕ)

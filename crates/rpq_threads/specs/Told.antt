@@ -7,7 +7,7 @@ use Rattle.rpq_base.specs.declared.data.Event.{Event}
 use Rattle.rpq_model.specs.Query.{Query}
 use Rattle.history_model.specs.declared.line.Why.{Why}
 use Rattle.history_model.specs.declared.line.Why.TheVariants.{Memory}
-use Rattle.rpq_text.specs.Steps.{OptionsValue, StepValue, IsStep, AreSteps, events_of}
+use Rattle.entry_steps.specs.Steps.{OptionsValue, StepValue, IsStep, AreSteps, events_of}
 use Rattle.rpq_text.specs.Text.{block, blocks_from}
 use Rattle.standing.specs.Objects.{ObjectValue}
 use Rattle.standing.specs.Circles.{CircleValue}

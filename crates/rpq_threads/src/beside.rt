@@ -9,9 +9,10 @@ ghost use Rattle.standing.specs.Circles.{as_seen};
 ghost use Rattle.rpq_threads.specs.Fed.{IsAtStart, HasFed};
 ghost use Rattle.rpq_threads.specs.Served.{AreWaiting};
 
-use crate::evaluator::Evaluator;
 use crate::feeding::feed_all;
+use crate::loop_state::{BlockText, LoopState};
 use ask_text::Session;
+use entry_steps::Evaluator;
 use history_model::Why;
 use rpq_io::{Gate, Sink};
 use rpq_workers::{Replied, Shared, beside_session};
@@ -113,11 +114,19 @@ fn feed_alone<'a, K: Sink, O: Standing, G: Gate, R: Threads + Wait + Sync>(
 {
     let Feeding {
         mut pass,
-        mut evaluator,
+        evaluator,
         events,
         mut circle,
     } = feeding;
-    let why = feed_all(shared, &mut pass, &mut evaluator, events, &mut circle);
+    let mut state = LoopState {
+        evaluator,
+        text: BlockText {
+            alloc: shared.alloc,
+            bytes: Vec::new(shared.alloc),
+        },
+        rebuilt: false,
+    };
+    let why = feed_all(shared, &mut pass, &mut state, events, &mut circle);
     Beside {
         engine: pass,
         why,

@@ -4,29 +4,30 @@
 ghost use Rattle.std.specs.Prelude.{◌≡◌, ◌<◌, ◌≤◌, ◌+◌, ◌^◌, ◌++◌, true, length, All};
 ghost use Rattle.std.specs.Prelude.{OnOk, OnErr, IfOk, IfErr, Err, ⊤};
 ghost use Rattle.std.specs.Io.KnownBytes.{append_known};
-ghost use Rattle.path_engine.specs.Engine.{definitions};
 ghost use Rattle.rpq_base.specs.Plain.{IsPlain};
 ghost use Rattle.rpq_io.specs.Counts.{CountsFault};
 ghost use Rattle.rpq_io.specs.Writes.{WritesProperPrefix};
 ghost use Rattle.rpq_text.specs.Definitions.{definitions_of};
-ghost use Rattle.rpq_text.specs.Steps.{events_of};
+ghost use Rattle.entry_steps.specs.Evaluator.{Tells, KeepsSetup, queries_of};
+ghost use Rattle.entry_steps.specs.Steps.{events_of};
 ghost use Rattle.rpq_text.specs.Text.{block, blocks_from};
 ghost use Rattle.standing.specs.Circles.{as_seen};
-ghost use Rattle.rpq_threads.specs.Fed.{IsFed, KeepsSetup, LooksOn, answered, Emits};
-ghost use Rattle.rpq_threads.specs.Fed.{FindsSteps, Stops};
+ghost use Rattle.rpq_threads.specs.Fed.{IsFed, LooksOn, answered, Emits, Stops};
 ghost use Rattle.rpq_threads.specs.Fed.{WritesFront, TellsOn, WritesAndTells, WritesBlocks};
 ghost use Rattle.rpq_threads.specs.Told.{all_events};
 
-use crate::evaluator::Evaluator;
+use crate::loop_state::{BlockText, LoopState};
 use crate::rebuilding::find_events;
-use crate::steps::take_steps;
+use end_events::EntryEvents;
+use entry_steps::{Step, Told};
 use history_model::Why;
 use query_file::Compiled;
-use rpq_base::{Entry, Event, Memory};
+use rpq_base::{Entry, Memory};
 use rpq_io::{Gate, Sink, put_all};
-use rpq_text::{Step, every_history_has_a_text, make_block, make_blocks};
+use rpq_text::{every_history_has_a_text, make_block, make_blocks};
 use rpq_workers::Shared;
 use standing::{Circle, Standing};
+use std::alloc::Global;
 use std::sync::Wait;
 use std::thread::Threads;
 use stream_history::Pass;
@@ -42,36 +43,39 @@ const LEAST_LINE: usize = 16;
 pub fn emit_front<R: Threads + Wait + Sync, G: Gate, K: Sink, O: Standing>(
     shared: &Shared<'_, R, G>,
     pass: &mut Pass,
-    evaluator: &mut Evaluator,
+    state: &mut LoopState,
     entries: &[Entry],
     events: &mut K,
     circle: &mut Circle<O>,
 ) -> Result<(), Why>
-    requires fed { IsFed shared.now.history.now evaluator.old pass.old }
-    requires short { evaluator.old.position + length entries.now ≤ 2 ^ 29 }
+    requires fed { IsFed shared.now.history.now state.old.evaluator pass.old }
+    requires short { state.old.evaluator.position + length entries.now ≤ 2 ^ 29 }
     requires plain { All IsPlain entries.now }
-    requires one { evaluator.old.options.paths ≡ true → length entries.now ≤ 1 }
+    requires one { state.old.evaluator.options.paths ≡ true → length entries.now ≤ 1 }
     ensures looks_on { LooksOn shared.now.history.now pass.old pass.new }
-    ensures ok { OnOk result (Emits (answered evaluator.old pass.old)
-        evaluator.old evaluator.new entries.now
+    ensures ok { OnOk result (Emits (answered state.old.evaluator pass.old)
+        state.old.evaluator state.new.evaluator entries.now
         (K.written events.old) (K.written events.new)
         (as_seen O.seen circle.old) (as_seen O.seen circle.new)) }
-    ensures stops { IfErr result (λ why. Stops evaluator.old.options
-        (definitions evaluator.old.engine) (answered evaluator.old pass.old)
-        (answered evaluator.old pass.old ++ entries.now) why
+    ensures stops { IfErr result (λ why. Stops state.old.evaluator.options
+        (queries_of state.old.evaluator) (answered state.old.evaluator pass.old)
+        (answered state.old.evaluator pass.old ++ entries.now) why
         (K.written events.old) (K.written events.new)
         (as_seen O.seen circle.old) (as_seen O.seen circle.new)) }
     ensures counted { CountsFault (result ≡ Err Why.Write)
         (K.faults events.old) (K.faults events.new) }
 {
     every_history_has_a_text(); // called for its clause
-    let position = evaluator.position + 1;
-    let Ok(steps) = find_steps(shared, pass, evaluator, entries) else {
+    let position = state.evaluator.position() + 1;
+    let Ok(told) = find_told(shared, pass, state, entries) else {
         return Err(Why::Memory);
     };
-    let queries = evaluator.engine.queries();
+    let Ok(steps) = state.evaluator.steps(shared.alloc, told) else {
+        return Err(Why::Memory);
+    };
+    let queries = state.evaluator.queries();
     write_front(
-        &mut evaluator.block,
+        &mut state.text,
         queries,
         position,
         entries,
@@ -83,29 +87,22 @@ pub fn emit_front<R: Threads + Wait + Sync, G: Gate, K: Sink, O: Standing>(
 
 /// What each of the entries brings, which follow those that were answered. The only error is
 /// [`Memory`].
-fn find_steps<R: Threads + Wait + Sync, G: Gate>(
+fn find_told<R: Threads + Wait + Sync, G: Gate>(
     shared: &Shared<'_, R, G>,
     pass: &mut Pass,
-    evaluator: &mut Evaluator,
+    state: &mut LoopState,
     entries: &[Entry],
-) -> Result<Vec<Step>, Memory>
-    requires fed { IsFed shared.now.history.now evaluator.old pass.old }
-    requires short { evaluator.old.position + length entries.now ≤ 2 ^ 29 }
-    requires one { evaluator.old.options.paths ≡ true → length entries.now ≤ 1 }
+) -> Result<Told, Memory>
+    requires fed { IsFed shared.now.history.now state.old.evaluator pass.old }
+    requires short { state.old.evaluator.position + length entries.now ≤ 2 ^ 29 }
+    requires one { state.old.evaluator.options.paths ≡ true → length entries.now ≤ 1 }
     ensures looks_on { LooksOn shared.now.history.now pass.old pass.new }
-    ensures steps { IfOk result (λ steps. FindsSteps (answered evaluator.old pass.old)
-        evaluator.new entries.now steps.items) }
-    ensures keeps { KeepsSetup evaluator.old evaluator.new }
+    ensures told { IfOk result (Tells (answered state.old.evaluator pass.old)
+        state.new.evaluator entries.now) }
+    ensures keeps { KeepsSetup state.old.evaluator state.new.evaluator }
 {
-    let found = find_events(shared, pass, evaluator, entries)?;
-    take_steps(
-        shared.alloc,
-        &evaluator.engine,
-        &mut evaluator.marks,
-        &mut evaluator.joins,
-        entries,
-        found,
-    )
+    let found = find_events(shared, pass, state, entries)?;
+    state.evaluator.tell(shared.alloc, entries, found)
 }
 
 /// Writes the block of each of the entries, the first of which stands at this position, counted
@@ -113,11 +110,11 @@ fn find_steps<R: Threads + Wait + Sync, G: Gate>(
 /// that were written whole. Where no object hears of them, all blocks go out in one write, unless
 /// they are long or there is no memory for that; else each goes out by itself.
 fn write_front<K: Sink, O: Standing>(
-    text: &mut Vec<u8>,
+    text: &mut BlockText,
     queries: &[Compiled],
     position: u64,
     entries: &[Entry],
-    steps: &[Step],
+    steps: &[Step<'_>],
     events: &mut K,
     circle: &mut Circle<O>,
 ) -> Result<(), Why>
@@ -133,15 +130,15 @@ fn write_front<K: Sink, O: Standing>(
         (K.faults events.old) (K.faults events.new) }
 {
     if circle.members().is_empty() && are_few(steps) {
-        if let Ok(()) = make_blocks(text, position, entries, steps, queries) {
-            return put_text(events, text);
+        if let Ok(()) = make_blocks(&mut text.bytes, position, entries, steps, queries) {
+            return put_text(events, &text.bytes);
         }
     }
     write_blocks(text, queries, position, entries, steps, events, circle)
 }
 
 /// Whether blocks with these steps are short enough to be kept in memory together.
-fn are_few(steps: &[Step]) -> bool {
+fn are_few(steps: &[Step<'_>]) -> bool {
     let mut lines: usize = 0;
     for step in steps {
         lines = lines.saturating_add(step.events.len());
@@ -170,11 +167,11 @@ fn put_text<K: Sink>(events: &mut K, text: &[u8]) -> Result<(), Why>
 /// Writes the block of each of the entries by itself, as [`write_front`] does. The objects are told
 /// of an entry's events as soon as its block was written whole.
 fn write_blocks<K: Sink, O: Standing>(
-    text: &mut Vec<u8>,
+    text: &mut BlockText,
     queries: &[Compiled],
     position: u64,
     entries: &[Entry],
-    steps: &[Step],
+    steps: &[Step<'_>],
     events: &mut K,
     circle: &mut Circle<O>,
 ) -> Result<(), Why>
@@ -203,18 +200,18 @@ fn write_blocks<K: Sink, O: Standing>(
     for (i, entry) in entries.iter().enumerate() {
         let step = &steps[i];
         write_block(text, queries, position + i as u64, entry, step, events)?;
-        tell(circle, &step.events)?;
+        tell(text.alloc, circle, &step.events)?;
     }
     Ok(())
 }
 
 /// Writes the block of the entry at this position, counted from 1, with what the entry brings.
 fn write_block<K: Sink>(
-    text: &mut Vec<u8>,
+    text: &mut BlockText,
     queries: &[Compiled],
     position: u64,
     entry: &Entry,
-    step: &Step,
+    step: &Step<'_>,
     events: &mut K,
 ) -> Result<(), Why>
     requires plain { IsPlain entry.now }
@@ -228,24 +225,35 @@ fn write_block<K: Sink>(
     ensures counted { CountsFault (result ≡ Err Why.Write)
         (K.faults events.old) (K.faults events.new) }
 {
-    let Ok(()) = make_block(text, position, entry, step, queries) else {
+    let Ok(()) = make_block(&mut text.bytes, position, entry, step, queries) else {
         return Err(Why::Memory);
     };
-    let Ok(()) = put_all(events, text) else {
+    let Ok(()) = put_all(events, &text.bytes) else {
         return Err(Why::Write);
     };
     Ok(())
 }
 
-/// Tells the objects of these events. The only reason is [`Why::Memory`].
-fn tell<O: Standing>(circle: &mut Circle<O>, events: &[Event]) -> Result<(), Why>
+/// Tells the objects of these events, which get copies of their names where there are objects. The
+/// only reason is [`Why::Memory`].
+fn tell<O: Standing>(
+    alloc: Global,
+    circle: &mut Circle<O>,
+    events: &EntryEvents<'_>,
+) -> Result<(), Why>
     ensures told { OnOk result (TellsOn events.now ⊤
         (as_seen O.seen circle.old) (as_seen O.seen circle.new)) }
     ensures part { OnErr result (TellsOn events.now ⊥
         (as_seen O.seen circle.old) (as_seen O.seen circle.new)) }
     ensures cause { IfErr result (λ why. why ≡ Why.Memory) }
 {
-    match circle.tell_each(events) {
+    if circle.members().is_empty() {
+        return Ok(());
+    }
+    let Ok(own) = events.to_events(alloc) else {
+        return Err(Why::Memory);
+    };
+    match circle.tell_each(&own) {
         Ok(()) => Ok(()),
         Err(_) => Err(Why::Memory),
     }

@@ -10,7 +10,8 @@ ghost use Rattle.rpq_threads.specs.Fed.{ComeNext, GetsOn, Stops, KeepsUp, IsFed,
 ghost use Rattle.rpq_threads.specs.Fed.{HasFed, IsWhole, answered};
 
 use crate::emitting::emit_front;
-use crate::evaluator::Evaluator;
+use crate::loop_state::LoopState;
+use entry_steps::Evaluator;
 use history_model::Why;
 use rpq_base::{Entry, Memory};
 use rpq_io::{Gate, Sink};
@@ -27,19 +28,19 @@ use stream_history::{Heard, History, Pass, PublishFault};
 pub fn feed_all<R: Threads + Wait + Sync, G: Gate, K: Sink, O: Standing>(
     shared: &Shared<'_, R, G>,
     pass: &mut Pass,
-    evaluator: &mut Evaluator,
+    state: &mut LoopState,
     events: &mut K,
     circle: &mut Circle<O>,
 ) -> Option<Why>
-    requires { IsAtStart shared.now.history.now evaluator.old pass.old
+    requires { IsAtStart shared.now.history.now state.old.evaluator pass.old
         (as_seen O.seen circle.old) }
-    ensures { HasFed K.written K.faults evaluator.old.options shared.now.history.now
+    ensures { HasFed K.written K.faults state.old.evaluator.options shared.now.history.now
         events.old events.new (as_seen O.seen circle.old) (as_seen O.seen circle.new)
         pass.new result }
 {
     every_history_has_a_text(); // called for its clause
     for _ in shared.rt.forever() {
-        match turn(shared, pass, evaluator, events, circle) {
+        match turn(shared, pass, state, events, circle) {
             Ok(true) => return None,
             Ok(false) => {}
             Err(why) => {
@@ -56,19 +57,20 @@ pub fn feed_all<R: Threads + Wait + Sync, G: Gate, K: Sink, O: Standing>(
 fn turn<R: Threads + Wait + Sync, G: Gate, K: Sink, O: Standing>(
     shared: &Shared<'_, R, G>,
     pass: &mut Pass,
-    evaluator: &mut Evaluator,
+    state: &mut LoopState,
     events: &mut K,
     circle: &mut Circle<O>,
 ) -> Result<bool, Why>
-    requires { IsFed shared.now.history.now evaluator.old pass.old }
+    requires { IsFed shared.now.history.now state.old.evaluator pass.old }
     ensures feeds { IsFeedingPass shared.now.history.now pass.new }
-    ensures over { result ≡ Ok true → IsWhole shared.now.history.now evaluator.new pass.new }
-    ensures gets_on { OnOk result (GetsOn shared.now.history.now evaluator.old evaluator.new
+    ensures over { result ≡ Ok true → IsWhole shared.now.history.now state.new.evaluator pass.new }
+    ensures gets_on { OnOk result (GetsOn shared.now.history.now
+        state.old.evaluator state.new.evaluator
         pass.old pass.new (K.written events.old) (K.written events.new)
         (as_seen O.seen circle.old) (as_seen O.seen circle.new)) }
-    ensures stops { IfErr result (λ why. Stops evaluator.old.options
+    ensures stops { IfErr result (λ why. Stops state.old.evaluator.options
         shared.now.history.now.terms.queries
-        (answered evaluator.old pass.old) (entries pass.new.seen) why
+        (answered state.old.evaluator pass.old) (entries pass.new.seen) why
         (K.written events.old) (K.written events.new)
         (as_seen O.seen circle.old) (as_seen O.seen circle.new)) }
     ensures counted { CountsFault (result ≡ Err Why.Write)
@@ -77,7 +79,7 @@ fn turn<R: Threads + Wait + Sync, G: Gate, K: Sink, O: Standing>(
     every_history_has_a_text(); // called for its clause
     let history = shared.history;
     let heard = history.entries_heard();
-    let position = evaluator.position;
+    let position = state.evaluator.position();
     let Ok(front) = history.after(shared.rt, shared.alloc, pass, position) else {
         return Err(Why::Memory);
     };
@@ -85,7 +87,7 @@ fn turn<R: Threads + Wait + Sync, G: Gate, K: Sink, O: Standing>(
         sleep_unless(shared.rt, history, front.all_ended, heard);
         return Ok(front.all_ended);
     }
-    answer_front(shared, pass, evaluator, &front.entries, events, circle)?;
+    answer_front(shared, pass, state, &front.entries, events, circle)?;
     Ok(false)
 }
 
@@ -95,31 +97,32 @@ fn turn<R: Threads + Wait + Sync, G: Gate, K: Sink, O: Standing>(
 fn answer_front<R: Threads + Wait + Sync, G: Gate, K: Sink, O: Standing>(
     shared: &Shared<'_, R, G>,
     pass: &mut Pass,
-    evaluator: &mut Evaluator,
+    state: &mut LoopState,
     next: &[Entry],
     events: &mut K,
     circle: &mut Circle<O>,
 ) -> Result<(), Why>
-    requires fed { IsFed shared.now.history.now evaluator.old pass.old }
-    requires next { ComeNext evaluator.old pass.old next.now }
+    requires fed { IsFed shared.now.history.now state.old.evaluator pass.old }
+    requires next { ComeNext state.old.evaluator pass.old next.now }
     ensures feeds { IsFeedingPass shared.now.history.now pass.new }
     ensures seen { StartsWith pass.new.seen pass.old.seen }
-    ensures gets_on { OnOk result (GetsOn shared.now.history.now evaluator.old evaluator.new
+    ensures gets_on { OnOk result (GetsOn shared.now.history.now
+        state.old.evaluator state.new.evaluator
         pass.old pass.new (K.written events.old) (K.written events.new)
         (as_seen O.seen circle.old) (as_seen O.seen circle.new)) }
-    ensures stops { IfErr result (λ why. Stops evaluator.old.options
+    ensures stops { IfErr result (λ why. Stops state.old.evaluator.options
         shared.now.history.now.terms.queries
-        (answered evaluator.old pass.old) (entries pass.new.seen) why
+        (answered state.old.evaluator pass.old) (entries pass.new.seen) why
         (K.written events.old) (K.written events.new)
         (as_seen O.seen circle.old) (as_seen O.seen circle.new)) }
     ensures counted { CountsFault (result ≡ Err Why.Write)
         (K.faults events.old) (K.faults events.new) }
 {
-    let at_once = evaluator.at_once();
+    let at_once = state.evaluator.at_once();
     let mut rest = next;
     while !rest.is_empty() {
         let (part, later) = rest.split_at(at_once.min(rest.len()));
-        answer_part(shared, pass, evaluator, part, events, circle)?;
+        answer_part(shared, pass, state, part, events, circle)?;
         rest = later;
     }
     Ok(())
@@ -129,33 +132,34 @@ fn answer_front<R: Threads + Wait + Sync, G: Gate, K: Sink, O: Standing>(
 fn answer_part<R: Threads + Wait + Sync, G: Gate, K: Sink, O: Standing>(
     shared: &Shared<'_, R, G>,
     pass: &mut Pass,
-    evaluator: &mut Evaluator,
+    state: &mut LoopState,
     next: &[Entry],
     events: &mut K,
     circle: &mut Circle<O>,
 ) -> Result<(), Why>
-    requires fed { IsFed shared.now.history.now evaluator.old pass.old }
-    requires next { ComeNext evaluator.old pass.old next.now }
+    requires fed { IsFed shared.now.history.now state.old.evaluator pass.old }
+    requires next { ComeNext state.old.evaluator pass.old next.now }
     requires some { 1 ≤ length next.now }
-    requires one { evaluator.old.options.paths ≡ true → length next.now ≤ 1 }
+    requires one { state.old.evaluator.options.paths ≡ true → length next.now ≤ 1 }
     ensures feeds { IsFeedingPass shared.now.history.now pass.new }
     ensures seen { StartsWith pass.new.seen pass.old.seen }
     ensures further { OnOk result
-        (evaluator.new.position ≡ evaluator.old.position + length next.now) }
-    ensures gets_on { OnOk result (GetsOn shared.now.history.now evaluator.old evaluator.new
+        (state.new.evaluator.position ≡ state.old.evaluator.position + length next.now) }
+    ensures gets_on { OnOk result (GetsOn shared.now.history.now
+        state.old.evaluator state.new.evaluator
         pass.old pass.new (K.written events.old) (K.written events.new)
         (as_seen O.seen circle.old) (as_seen O.seen circle.new)) }
-    ensures stops { IfErr result (λ why. Stops evaluator.old.options
+    ensures stops { IfErr result (λ why. Stops state.old.evaluator.options
         shared.now.history.now.terms.queries
-        (answered evaluator.old pass.old) (entries pass.new.seen) why
+        (answered state.old.evaluator pass.old) (entries pass.new.seen) why
         (K.written events.old) (K.written events.new)
         (as_seen O.seen circle.old) (as_seen O.seen circle.new)) }
     ensures counted { CountsFault (result ≡ Err Why.Write)
         (K.faults events.old) (K.faults events.new) }
 {
     every_history_has_a_text(); // called for its clause
-    emit_front(shared, pass, evaluator, next, events, circle)?;
-    let Ok(()) = publish_answers(shared.rt, shared.history, pass, evaluator) else {
+    emit_front(shared, pass, state, next, events, circle)?;
+    let Ok(()) = publish_answers(shared.rt, shared.history, pass, &mut state.evaluator) else {
         return Err(Why::Memory);
     };
     Ok(())
@@ -188,7 +192,7 @@ fn publish_answers<R: Wait>(
     if history.readers() == 0 {
         return Ok(());
     }
-    let view = evaluator.engine.view()?;
+    let view = evaluator.view()?;
     match history.publish(rt, pass, view) {
         Ok(()) => Ok(()),
         Err(PublishFault::Memory(memory)) => Err(memory),

@@ -9,36 +9,28 @@
 //! events of the blocks that were written whole, and of no other (`specs/Told`); and each reply to
 //! a session is the one over the entries up to its position.
 //!
-//! The engine takes up to 256 entries at once, writes their blocks one after another, tells the
-//! objects of each block's events behind it, and publishes the answers after the last of them,
-//! where there are sessions. The objects are told by the engine's thread, outside of any turn of
-//! the history. Where paths are told it takes the entries of a front one by one, since a path is
-//! told as of its own entry, and publishes after each. No clause says that the threads get on, or
-//! in which order.
+//! The engine stands in an evaluator of `entry_steps`, which knows what an entry brings. It is fed
+//! as many entries at once as it takes, up to 256, and brings their steps; then their blocks are
+//! written one after another, the objects are told of each block's events behind it, and the
+//! answers are published after the last of them, where there are sessions. The objects are told by
+//! the engine's thread, outside of any turn of the history. No clause says that the threads get on,
+//! or in which order.
 //!
-//! Where the run has conjunctions, they stand beside the engine with the answers of their queries.
-//! Once the engine has found the events of a front, they are told of those of each entry in turn,
-//! and answer how their bindings change. The lines of these changes stand behind the entry's events
-//! in its block, and are written by the same write.
-//!
-//! Where memory runs out for the first time in a run while the engine answers entries, its thread
-//! rebuilds it over the entries that it had answered, which the history gives once more, and feeds
-//! it the new ones again. The conjunctions stay as they are, since they are told of events only
-//! once these are found. Any other want of memory in this thread ends the run, also that of an
-//! object.
+//! Where memory runs out for the first time in a run while the engine is fed, its thread rebuilds
+//! it over the entries that it had answered, which the history gives once more, and feeds it the
+//! new ones again. What is told beside the events stays where it is, since it follows only once
+//! these are found. Any other want of memory in this thread ends the run, also that of an object.
 #![tactic(auto)]
 
 mod beside;
 mod definitions;
 mod emitting;
-mod evaluator;
 mod feeding;
-mod joining;
+mod loop_state;
 mod rebuilding;
 mod room;
 mod run;
 mod serving;
-mod steps;
 mod task;
 
 pub use run::run_threads;

@@ -5,10 +5,10 @@ ghost use Rattle.rpq_threads.specs.Runs.{IsTask, Holds};
 ghost use Rattle.rpq_threads.specs.Served.{IsBegun};
 
 use crate::definitions::windows_move;
-use crate::evaluator::Evaluator;
 use crate::room::{Gathered, Room};
 use crate::serving::{Job, Served, serve};
 use crate::task::{Outcome, Task};
+use entry_steps::Evaluator;
 use history_model::{fronts_are_legal, legal_is_sound};
 use query_file::copied_definitions;
 use rpq_base::Memory;
@@ -125,7 +125,7 @@ fn begin<R: RandomSource, G: Gate, S: Source + Drop>(
     let definitions = Arc::new(alloc, copied_definitions(alloc, &queries)?)?;
     windows_move(definitions.as_slice());
     let mut evaluator = Evaluator::new(context.rt, alloc, queries, &definitions, options, workers)?;
-    let first = evaluator.engine.view()?;
+    let first = evaluator.view()?;
     let streams = readers.len() as u32;
     let asking = sessions.len() as u32;
     let given = Arc::try_clone(&definitions)?;

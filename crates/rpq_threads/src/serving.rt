@@ -7,9 +7,9 @@ ghost use Rattle.standing.specs.Circles.{as_seen};
 ghost use Rattle.rpq_threads.specs.Served.{HasRoomFor, IsWork, IsServed, given_by, gave_by};
 
 use crate::beside::{Beside, Feeding, Waiting, feed_beside};
-use crate::evaluator::Evaluator;
 use crate::room::{Gathered, Room, put_all, put_passes};
 use ask_text::Session;
+use entry_steps::Evaluator;
 use history_model::Why;
 use rpq_io::{Gate, LineReader, Sink, Source};
 use rpq_workers::{Shared, Streamed, join_streams, start_streams};

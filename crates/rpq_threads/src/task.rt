@@ -1,11 +1,11 @@
 //! What the threads of a run are given, and what they give.
 
 use ask_text::{Answered, Session};
+use entry_steps::Options;
 use history_model::Why;
 use query_file::Compiled;
 use rpq_base::{Entry, Workers};
 use rpq_io::{LineReader, Source};
-use rpq_text::Options;
 use standing::Circle;
 use stream_tuples::StreamEnd;
 

@@ -1,8 +1,9 @@
 //! The text of a history, by the evaluation from scratch.
 
+use plain_evaluator::{changes, plain_answers};
 use query_file::Compiled;
 use rpq_base::{Act, Edge, Entry, Event, Name, Tuple};
-use rpq_model::{QueryDef, changes, plain_answers};
+use rpq_model::QueryDef;
 use std::alloc::{AllocError, Global};
 use text_parts::push_decimal;
 

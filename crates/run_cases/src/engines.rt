@@ -7,7 +7,7 @@ use case_lines::{Fields, Output, decoded, entries_of, put_events, put_pair};
 use path_engine::Engine;
 use query_file::read_queries;
 use rpq_base::{Entry, Event, Workers};
-use rpq_io::OpenGate;
+use rpq_io::{Context, OpenGate};
 use std::alloc::Global;
 use std::random::RandomSource;
 use std::sync::Arc;
@@ -59,51 +59,52 @@ pub fn answer_engine<R: RandomSource + Threads + Sync>(
     let mut fields = fields;
     let workers = workers_of(&mut fields)?;
     let mut engine = engine_of(rt, alloc, &mut fields)?;
-    take(rt, alloc, out, &mut engine, fields.rest(), workers, way)
+    let gate = &OpenGate;
+    let context = Context { rt, alloc, gate };
+    take(&context, out, &mut engine, fields.rest(), workers, way)
 }
 
 /// Has an engine take tuples in this way, and puts what they change, and its end.
 fn take<R: Threads + Sync>(
-    rt: &R,
-    alloc: Global,
+    context: &Context<'_, R, OpenGate>,
     out: &mut Output,
     engine: &mut Engine,
     tuples: &[u8],
     workers: Workers,
     way: Way,
 ) -> anyhow::Result<()> {
-    let entries = entries_of(alloc, tuples)?;
+    let entries = entries_of(context.alloc, tuples)?;
     match way {
-        Way::Each => feed_each(rt, out, engine, &entries, workers)?,
-        Way::Front => feed_front(rt, out, engine, &entries, workers)?,
-        Way::Rebuilt => feed_again(rt, alloc, out, engine, &entries, workers)?,
+        Way::Each => feed_each(context, out, engine, &entries, workers)?,
+        Way::Front => feed_front(context, out, engine, &entries, workers)?,
+        Way::Rebuilt => feed_again(context, out, engine, &entries, workers)?,
     }
-    put_end(alloc, out, engine)
+    put_end(context.alloc, out, engine)
 }
 
 /// Feeds entries to an engine one after another, and puts what each changes.
 fn feed_each<R: Threads + Sync>(
-    rt: &R,
+    context: &Context<'_, R, OpenGate>,
     out: &mut Output,
     engine: &mut Engine,
     entries: &[Entry],
     workers: Workers,
 ) -> anyhow::Result<()> {
     for entry in entries {
-        put_events(out, &events_of(rt, engine, entry, workers)?)?;
+        put_events(out, &events_of(context, engine, entry, workers)?)?;
     }
     Ok(())
 }
 
 /// Feeds an entry to an engine. The events of the entry.
 fn events_of<R: Threads + Sync>(
-    rt: &R,
+    context: &Context<'_, R, OpenGate>,
     engine: &mut Engine,
     entry: &Entry,
     workers: Workers,
 ) -> anyhow::Result<Vec<Event>> {
     ensure!(engine.position() < 1 << 30, "too many tuples");
-    match engine.feed(rt, entry, workers, &OpenGate) {
+    match engine.feed(context, entry, workers) {
         Ok(events) => Ok(events),
         Err(_) => Err(anyhow!("out of memory")),
     }
@@ -111,13 +112,13 @@ fn events_of<R: Threads + Sync>(
 
 /// Feeds entries to an engine as one front, and puts what each changes.
 fn feed_front<R: Threads + Sync>(
-    rt: &R,
+    context: &Context<'_, R, OpenGate>,
     out: &mut Output,
     engine: &mut Engine,
     entries: &[Entry],
     workers: Workers,
 ) -> anyhow::Result<()> {
-    for own in &events_of_all(rt, engine, entries, workers)? {
+    for own in &events_of_all(context, engine, entries, workers)? {
         put_events(out, own)?;
     }
     Ok(())
@@ -125,14 +126,14 @@ fn feed_front<R: Threads + Sync>(
 
 /// Feeds entries to an engine as one front. The events of each entry.
 fn events_of_all<R: Threads + Sync>(
-    rt: &R,
+    context: &Context<'_, R, OpenGate>,
     engine: &mut Engine,
     entries: &[Entry],
     workers: Workers,
 ) -> anyhow::Result<Vec<Vec<Event>>> {
     ensure!(engine.position() < 1 << 20, "too many tuples before");
     ensure!(entries.len() < 1 << 20, "too many tuples");
-    match engine.feed_front(rt, entries, workers, &OpenGate) {
+    match engine.feed_front(context, entries, workers) {
         Ok(events) => Ok(events),
         Err(_) => Err(anyhow!("out of memory")),
     }
@@ -141,29 +142,34 @@ fn events_of_all<R: Threads + Sync>(
 /// Feeds entries to an engine one after another, rebuilds it over all but the last, feeds the last
 /// to it once more, and puts what that changes.
 fn feed_again<R: Threads + Sync>(
-    rt: &R,
-    alloc: Global,
+    context: &Context<'_, R, OpenGate>,
     out: &mut Output,
     engine: &mut Engine,
     entries: &[Entry],
     workers: Workers,
 ) -> anyhow::Result<()> {
-    feed_each(rt, &mut Output::new(alloc), engine, entries, workers)?;
+    feed_each(
+        context,
+        &mut Output::new(context.alloc),
+        engine,
+        entries,
+        workers,
+    )?;
     let (before, last) = entries.split_at(entries.len().saturating_sub(1));
-    rebuild(rt, engine, before, workers)?;
-    feed_each(rt, out, engine, last, workers)
+    rebuild(context, engine, before, workers)?;
+    feed_each(context, out, engine, last, workers)
 }
 
 /// Shows the answers of an engine, and rebuilds it over these entries.
 fn rebuild<R: Threads + Sync>(
-    rt: &R,
+    context: &Context<'_, R, OpenGate>,
     engine: &mut Engine,
     entries: &[Entry],
     workers: Workers,
 ) -> anyhow::Result<()> {
     ensure!(entries.len() < 1 << 30, "too many tuples");
     let _shown = shown(engine)?;
-    engine.rebuild(rt, entries, workers, &OpenGate)?;
+    engine.rebuild(context, entries, workers)?;
     Ok(())
 }
 

@@ -1,9 +1,8 @@
-use Rattle.std.proofs.Common.{◌≡◌, Bool, true, Vec, Global, length, map, sym, ap, subst, ◌∙◌, arith}
-use Rattle.rpq_base.specs.declared.data.Event.{Event}
-use Rattle.path_engine.specs.Feeding.{FeedsFront}
+use Rattle.std.proofs.Common.{◌≡◌, Bool, true, length, sym, ap, subst, ◌∙◌, arith}
+use Rattle.end_events.specs.Named.{named_lists}
 use Rattle.two_way.specs.TwoWay.{walked}
 use Rattle.engine_feed.specs.Feeding.{FeedsEntries}
-use Rattle.engine_feed.proofs.BothWays.{if_ok, at_most_twice, front_feeds}
+use Rattle.engine_feed.proofs.BothWays.{at_most_twice, front_feeds}
 use Rattle.engine_feed.proofs.feeding.feed_entries.Goals as goal
 
 -- the engine was fed at most twice as many entries as there were
@@ -14,13 +13,11 @@ feed_both_ways-requires-clause-short g c κs within =
     c.requires.stands.1.counted ∙ ap (λ (both : Bool). length (walked both history)) c.if-two_way.true in
     omega (arith, fed, at_most_twice history, c.requires.stands.2)
 
-pub returns-else-two_way-clause-feeds : goal.returns-else-two_way-clause-feeds
-returns-else-two_way-clause-feeds g c =
-    let show = λ (own : Vec Event Global). own.items in
+pub returns-in_ok-feed_numbered-clause-feeds : goal.returns-in_ok-feed_numbered-clause-feeds
+returns-in_ok-feed_numbered-clause-feeds g c =
+    let old = c.args.engine.now in
+    let new = c.feed_numbered.new.engine in
     let entries = c.args.entries.now in
-    if_ok (λ (lists : Vec (Vec Event Global) Global). FeedsFront c.args.engine.now entries c.feed.new.engine (map show lists.items))
-    (λ (lists : Vec (Vec Event Global) Global). FeedsEntries c.args.two_way c.args.engine.now entries c.feed.new.engine (map show lists.items))
-    (λ lists feeds.
-    subst (λ (two_way : Bool). FeedsEntries two_way c.args.engine.now entries c.feed.new.engine (map show lists.items)) (sym c.if-two_way.false)
-    (front_feeds entries c.args.engine.now c.feed.new.engine (map show lists.items) feeds))
-    c.feed.result c.feed.ensures.feeds
+    let lists = named_lists new.names c.in_ok-feed_numbered.field-0.items in
+    subst (λ (two_way : Bool). FeedsEntries two_way old entries new lists) (sym c.if-two_way.false)
+    (front_feeds entries old new lists c.in_ok-feed_numbered.ensures.feeds)

@@ -75,4 +75,4 @@ returns g c =
     c.mode_of-mode.ensures.compiled taken c.args.number c.mode_of-mode.result
     c.deref.result.now c.second_log-second.result.now c.deref.ensures.value
     c.second_log-second.ensures c.requires.index c.mode_of-mode.ensures.is
-    c.events_between.result c.events_between.ensures
+    c.events_between.result c.events_between.ensures.are c.events_between.ensures.have_names

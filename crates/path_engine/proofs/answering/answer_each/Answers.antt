@@ -1,5 +1,5 @@
 use Rattle.std.proofs.Common.{◌≡◌, ◌+◌, List, get_or, slice_index_or, set, sym, ap, subst, ◌∙◌, arith, length-set, get_or-set_other}
-use Rattle.rpq_base.specs.declared.data.Event.{Event}
+use Rattle.end_events.specs.declared.numbered_event.NumberedEvent.{NumberedEvent}
 use Rattle.query_file.specs.Compiled.{CompiledValue}
 use Rattle.path_engine.specs.declared.index.Index.{Index}
 use Rattle.path_engine.specs.Answering.{HasHistory}
@@ -52,9 +52,9 @@ loop-place-preserved g c =
       left = λ k d after.
           get_or-set_other current place k new d (λ same. omega (arith, same, after))
           ∙ c.loop-place.invariant.left k d (omega (arith, after));
-      done = subst (λ (events : List Event).
+      done = subst (λ (events : List NumberedEvent).
           IsDone names entry queries olds (place + 1) (set current place new) events)
-          (sym {A = List Event} c.in_ok-push_all.ensures) done;
+          (sym {A = List NumberedEvent} c.in_ok-push_all.ensures) done;
     }
 
 pub returns : goal.returns

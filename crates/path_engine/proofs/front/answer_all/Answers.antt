@@ -3,7 +3,7 @@ use Rattle.std.proofs.Common.{sym, ap, subst, ◌∙◌, arith}
 use Rattle.std.proofs.lemmas.List.{take_all, take_more}
 use Rattle.std.proofs.lemmas.Slice.Zip.{AllZip-long}
 use Rattle.rpq_base.specs.declared.data.Entry.{Entry}
-use Rattle.rpq_base.specs.declared.data.Event.{Event}
+use Rattle.end_events.specs.declared.numbered_event.NumberedEvent.{NumberedEvent}
 use Rattle.dfa_table.specs.DfaValue.{DfaValue}
 use Rattle.path_engine.specs.declared.ends.Ends.{Ends}
 use Rattle.path_engine.specs.Answering.{AreEndsFor}
@@ -19,10 +19,10 @@ loop-place-init g c =
     let index = c.args.share.now.index in
     record {
       same = refl;
-      answered = subst (λ (owns : List (Vec Event Global)).
+      answered = subst (λ (owns : List (Vec NumberedEvent Global)).
           HasAnsweredAll c.args.names.now (take 0 c.args.entries.now) c.args.share.now.place
           c.args.query.now index index (items_of owns))
-          (sym {A = List (Vec Event Global)} c.in_ok-owns.ensures.items) refl;
+          (sym {A = List (Vec NumberedEvent Global)} c.in_ok-owns.ensures.items) refl;
     }
 
 pub bounds-ends-place : goal.bounds-ends-place

@@ -1,6 +1,6 @@
 use Rattle.std.proofs.Common.{◌≡◌, IfOk, Vec, Global, sym, subst, ◌∙◌}
 use Rattle.std.proofs.lemmas.List.{get_or_default}
-use Rattle.rpq_base.specs.declared.data.Event.{Event}
+use Rattle.end_events.specs.declared.numbered_event.NumberedEvent.{NumberedEvent}
 use Rattle.query_file.specs.Compiled.{CompiledValue}
 use Rattle.path_engine.specs.Front.{HasAnsweredAll}
 use Rattle.path_engine.proofs.Fronts.{ends_at, items_of}
@@ -29,7 +29,7 @@ returns g c =
           ∙ (get_or_default queries place query each c.requires.ready.inside
           ∙ sym {A = CompiledValue} is) in
           subst (λ (one : CompiledValue). IfOk c.answer_all-owns.result
-          (λ (owns : Vec (Vec Event Global) Global).
+          (λ (owns : Vec (Vec NumberedEvent Global) Global).
           HasAnsweredAll c.args.names.now c.args.entries.now place one c.args.share.now.index
           c.answer_all-owns.new.share.index (items_of owns.items))) same c.answer_all-owns.ensures.answered;
     }

@@ -1,7 +1,7 @@
 use Rattle.std.proofs.Common.{◌++◌, ◌∷◌, [], List, length, map, Vec, Global, refl}
 use Rattle.std.proofs.Common.{sym, ap, subst, ◌∙◌, append_assoc, arith}
 use Rattle.std.proofs.lemmas.List.{append-nil}
-use Rattle.rpq_base.specs.declared.data.Event.{Event}
+use Rattle.end_events.specs.declared.numbered_event.NumberedEvent.{NumberedEvent}
 use Rattle.path_engine.specs.declared.index.Index.{Index}
 use Rattle.path_engine.specs.declared.front.Share.{Share}
 use Rattle.path_engine.specs.Front.{AreGathered}
@@ -20,7 +20,7 @@ loop-share-init c =
       λ all given.
           subst (λ (shares : List Share). AreGathered [] shares all) {x = rest} {y = c.args.shares.items}
           gives.0
-          (subst (λ (events : List (Vec Event Global)). AreGathered (items_of events) rest all)
+          (subst (λ (events : List (Vec NumberedEvent Global)). AreGathered (items_of events) rest all)
           c.new-events.ensures.items given),
     )
 
@@ -45,7 +45,7 @@ loop-share-preserved c =
           (sym steps.0) (
             c.in_ok-owns.field-0,
             c.in_ok-owns.was,
-            subst (λ (each : List (List Event)). AreGathered each rest all)
+            subst (λ (each : List (List NumberedEvent)). AreGathered each rest all)
                 c.in_ok-append_each.ensures given,
           )),
     )

@@ -1,5 +1,5 @@
 use Rattle.std.proofs.Common.{◌≡◌, ◌++◌, [], List, length, map}
-use Rattle.rpq_base.specs.declared.data.Event.{Event}
+use Rattle.end_events.specs.declared.numbered_event.NumberedEvent.{NumberedEvent}
 use Rattle.path_engine.specs.Front.{AreGathered}
 use Rattle.path_engine.proofs.Fronts.{index_of, items_of}
 use Rattle.path_engine.proofs.front.gather.Given as goal
@@ -12,6 +12,6 @@ invariant-loop-share l =
     × (l.share-iterator.rest.len ≡ length l.share-iterator.rest.items)
     × (l.indexes.items ++ map index_of l.share-iterator.rest.items
     ≡ map index_of l.fn.shares.items)
-    × ((all : List (List Event)) →
+    × ((all : List (List NumberedEvent)) →
     AreGathered (items_of l.events.items) l.share-iterator.rest.items all →
     AreGathered [] l.fn.shares.items all)

@@ -1,6 +1,6 @@
 use Rattle.std.proofs.Common.{◌≡◌, ◌++◌, set, sym, ◌∙◌, arith, Vec, Global}
 use Rattle.std.proofs.lemmas.List.{length-map}
-use Rattle.rpq_base.specs.declared.data.Event.{Event}
+use Rattle.end_events.specs.declared.numbered_event.NumberedEvent.{NumberedEvent}
 use Rattle.path_engine.specs.Front.{put_at}
 use Rattle.path_engine.proofs.Fronts.{items_of, items_push, on_ok, put_inside, put_past}
 use Rattle.path_engine.proofs.front.put_own.Goals as goal
@@ -28,5 +28,5 @@ returns-in_ok-push c =
       c.if-place-len.false,
       c.len.ensures,
       events.ok.0,
-      length-map events.items (λ (each : Vec Event Global). each.items),
+      length-map events.items (λ (each : Vec NumberedEvent Global). each.items),
     )))

@@ -1,8 +1,8 @@
 use Rattle.std.proofs.Common.{rules, ◌≡◌, ℕ, List, length, sym, ap, subst, ◌∙◌}
 use Rattle.std.specs.Prelude.{All}
 use Rattle.rpq_model.specs.Query.{Query}
-use Rattle.conj_query.specs.Joins.{JoinValue}
-use Rattle.conj_query.specs.Sound.{IsSound}
+use Rattle.join_file.specs.Joins.{JoinValue}
+use Rattle.join_file.specs.Sound.{IsSound}
 use Rattle.reach_cases.proofs.Applying.{one_blank}
 use Rattle.reach_cases.proofs.bindings.answer_bindings.Goals as goal
 

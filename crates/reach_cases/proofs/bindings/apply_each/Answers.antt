@@ -1,6 +1,6 @@
 use Rattle.std.proofs.Common.{rules, ◌≡◌, ◌+◌, [], ◌∷◌, length, take, sym, subst, ◌∙◌}
 use Rattle.rpq_model.specs.Events.{changes}
-use Rattle.conj_query.specs.State.{MayCome, ArePut}
+use Rattle.join_bindings.specs.State.{MayCome, ArePut}
 use Rattle.reach_cases.proofs.Applying.{one_query, none_yet, nothing_in}
 use Rattle.reach_cases.proofs.bindings.apply_each.Goals as goal
 

@@ -1,7 +1,7 @@
 use Rattle.std.proofs.Common.{◌≡◌, [], ◌∷◌, take}
 use Rattle.rpq_model.specs.Answers.{AreAnswers}
 use Rattle.rpq_model.specs.Query.{path_query}
-use Rattle.conj_query.specs.Leading.{HoldAnswers}
+use Rattle.join_bindings.specs.Leading.{HoldAnswers}
 use Rattle.reach_cases.proofs.bindings.apply_each.Given as goal
 
 -- the answers over the entries so far, which the joins hold, and no other joins

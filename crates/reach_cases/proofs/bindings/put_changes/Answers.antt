@@ -2,8 +2,8 @@ use Rattle.std.proofs.Common.{◌<◌, List, length, sym, subst}
 use Rattle.std.specs.Prelude.{All, Contains}
 use Rattle.std.proofs.lemmas.List.Elements.{All-weaker, All-contains_itself}
 use Rattle.std.proofs.lemmas.Option.{slice_get_within}
-use Rattle.conj_query.specs.declared.event.JoinEvent.{JoinEvent}
-use Rattle.conj_query.specs.Joins.{JoinValue}
+use Rattle.join_bindings.specs.declared.event.JoinEvent.{JoinEvent}
+use Rattle.join_file.specs.Joins.{JoinValue}
 use Rattle.reach_cases.proofs.bindings.put_changes.Goals as goal
 
 -- each event is of one of the joins

@@ -8,7 +8,7 @@ use Rattle.rpq_io.proofs.Bytes.{append_known-nil}
 use Rattle.history_model.specs.declared.line.Why.{Why}
 use Rattle.history_model.specs.declared.line.Why.TheVariants.{Write, Memory}
 use Rattle.rpq_text.specs.Definitions.{definitions_of}
-use Rattle.rpq_text.specs.Steps.{StepValue}
+use Rattle.entry_steps.specs.Steps.{StepValue}
 use Rattle.rpq_text.specs.Text.{blocks_from}
 use Rattle.standing.specs.Circles.{as_seen}
 use Rattle.rpq_threads.specs.Fed.{TellsOn, WritesAndTells}
@@ -50,7 +50,7 @@ loop-i-preserved g c =
     let written = c.in_ok-write_block.ensures.ok in
     let told : TellsOn step.events ⊤ mid last =
     subst (λ (es : List Event). TellsOn es ⊤ mid last)
-    (c.deref.ensures.value ∙ ap (λ (each : StepValue). each.events) c.step.view_is)
+    (ap (λ (each : StepValue). each.events) c.step.view_is)
     c.in_ok-tell.ensures.told in
     record {
       written = written_with entries steps i entry step there are many queries position before
@@ -180,7 +180,7 @@ returns-in_err-tell-clause-part g c =
     let written = c.in_ok-write_block.ensures.ok in
     let told : TellsOn step.events ⊥ mid last =
     subst (λ (es : List Event). TellsOn es ⊥ mid last)
-    (c.deref.ensures.value ∙ ap (λ (each : StepValue). each.events) c.step.view_is)
+    (ap (λ (each : StepValue). each.events) c.step.view_is)
     c.in_err-tell.ensures.part in
     let why = c.in_err-tell.field-0.0 in
     handed_err c.from_residual-in_err-tell.result why

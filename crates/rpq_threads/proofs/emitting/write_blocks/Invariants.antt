@@ -2,7 +2,7 @@ use Rattle.std.proofs.Common.{◌≡◌, take}
 use Rattle.std.specs.Prelude.{⊤}
 use Rattle.std.specs.Io.KnownBytes.{append_known}
 use Rattle.rpq_text.specs.Definitions.{definitions_of}
-use Rattle.rpq_text.specs.Steps.{events_of}
+use Rattle.entry_steps.specs.Steps.{events_of}
 use Rattle.rpq_text.specs.Text.{blocks_from}
 use Rattle.standing.specs.Circles.{as_seen}
 use Rattle.rpq_threads.specs.Fed.{TellsOn}

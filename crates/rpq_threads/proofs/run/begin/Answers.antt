@@ -1,13 +1,7 @@
 use Rattle.std.proofs.Common.{◌≡◌, List, [], All, length, refl, sym, ap, subst, ◌∙◌, arith, rules}
 use Rattle.history_model.specs.World.{Terms}
-use Rattle.rpq_model.specs.Query.{Query}
 use Rattle.rpq_text.specs.Definitions.{definitions_of}
-use Rattle.two_way.specs.TwoWay.{walked}
 use Rattle.rpq_workers.proofs.Numbering.{new_length}
-use Rattle.rpq_threads.specs.declared.evaluator.Evaluator.{Evaluator}
-use Rattle.rpq_threads.specs.Fed.{MarksOver, JoinsOver}
-use Rattle.rpq_threads.specs.Joining.{HaveJoins}
-use Rattle.rpq_threads.specs.Showing.{HaveMarks}
 use Rattle.rpq_threads.proofs.Starting.{first_shown, Moves, terms_of, begun_fed, begun_asks}
 use Rattle.rpq_threads.proofs.run.begin.Goals as goal
 
@@ -18,9 +12,8 @@ new-requires-3-clause-first g c =
     search rules in
     first_shown c.first_view.ensures evaluator c.in_ok-given.given.value.items
     c.in_ok-first.first.value
-    (ap definitions_of c.in_ok-evaluator.ensures.queries ∙ sym given)
-    (c.in_ok-first.ensures.view (walked evaluator.options.two_way [])
-    c.in_ok-evaluator.ensures.stands.stands)
+    (ap definitions_of c.in_ok-evaluator.ensures.queries_are ∙ sym given)
+    (c.in_ok-first.ensures.view [] c.in_ok-evaluator.ensures.stands)
 
 pub new-requires-4-clause-passes : goal.new-requires-4-clause-passes
 new-requires-4-clause-passes g c =
@@ -51,20 +44,12 @@ returns g c =
       c.requires.few,
     ) in
     let kept = c.view.ensures in
-    let evaluator : Evaluator =
-    record c.in_ok-evaluator.evaluator { engine = c.view.new.self } in
+    let evaluator = c.view.new.self in
     let queries : c.in_ok-given.given.value.items ≡ definitions_of task.queries.items =
     search rules in
     let slice : c.as_slice.result.now ≡ definitions_of task.queries.items = search rules in
     let move : All Moves (definitions_of task.queries.items) =
     subst (All Moves) slice c.windows_move.ensures in
-    let marks : MarksOver evaluator [] =
-    subst (λ (qs : List Query). HaveMarks evaluator.options.paths qs [] evaluator.marks)
-    (sym (ap definitions_of kept.queries)) c.in_ok-evaluator.ensures.marks in
-    let joins : JoinsOver evaluator [] =
-    subst (λ (qs : List Query). HaveJoins evaluator.options.joins qs
-    (walked evaluator.options.two_way []) evaluator.joins) (sym (ap definitions_of kept.queries))
-    c.in_ok-evaluator.ensures.joined in
     let terms : history.terms ≡ terms_of task =
     made.terms ∙ (λ i. record { queries = queries i; streams = streams i; cap = task.limit }) in
     record {
@@ -74,20 +59,16 @@ returns g c =
         passes = made.passes;
         count = made.count;
         fed = begun_fed g.S.Source.left g.S.Source.faults task c.requires history terms
-            evaluator (kept.queries ∙ c.in_ok-evaluator.ensures.queries)
-            c.in_ok-evaluator.ensures.options (made.readers ∙ asking) move
-            (record {
-              stands = kept.stands (walked c.in_ok-evaluator.evaluator.options.two_way [])
-                  c.in_ok-evaluator.ensures.stands.stands;
-              counted = c.in_ok-evaluator.ensures.stands.counted;
-            }) marks joins;
+            evaluator (kept.keeps.queries ∙ c.in_ok-evaluator.ensures.queries_are)
+            (kept.keeps.options ∙ c.in_ok-evaluator.ensures.options_are) (made.readers ∙ asking)
+            move (kept.stands [] c.in_ok-evaluator.ensures.stands);
         streams = sym (ap (λ (t : Terms). t.streams) terms);
         fresh = c.requires.fresh;
         readers = sym (made.readers ∙ asking);
         asks = begun_asks g.S.Source.left g.S.Source.faults task c.requires history terms;
         room = c.in_ok-room.ensures;
       };
-      options = c.in_ok-evaluator.ensures.options;
+      options = kept.keeps.options ∙ c.in_ok-evaluator.ensures.options_are;
       readers = refl;
       sessions = refl;
     }

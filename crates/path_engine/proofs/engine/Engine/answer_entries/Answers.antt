@@ -1,13 +1,16 @@
-use Rattle.std.proofs.Common.{ℕ, ◌+◌, false, List, Option, ◌++◌, length}
+use Rattle.std.proofs.Common.{ℕ, ◌+◌, false, List, Option, ◌++◌, length, map}
 use Rattle.std.proofs.Common.{refl, sym, ap, subst, arith}
 use Rattle.std.specs.List.{AllZip}
+use Rattle.rpq_base.specs.declared.data.Event.{Event}
+use Rattle.end_events.specs.Named.{named}
 use Rattle.query_file.specs.Compiled.{CompiledValue}
 use Rattle.path_engine.specs.declared.index.Index.{Index}
 use Rattle.path_engine.specs.declared.ends.Ends.{Ends}
 use Rattle.path_engine.specs.Front.{AreAllEndsFor, HasHistoryFor, HaveAnsweredAll}
 use Rattle.path_engine.specs.Engine.{EngineValue}
 use Rattle.path_engine.specs.Feeding.{FeedsFront}
-use Rattle.path_engine.proofs.Fronts.{front_fed, front_fed_stands, histories_for, items_of}
+use Rattle.path_engine.proofs.Fronts.{front_fed, front_fed_stands, front_named, histories_for}
+use Rattle.path_engine.proofs.Fronts.{items_of, lists_have_names, lists_named}
 use Rattle.path_engine.proofs.engine.Engine.answer_entries.Given.{Over}
 use Rattle.path_engine.proofs.engine.Engine.answer_entries.Goals as goal
 
@@ -101,8 +104,20 @@ invariant_of-self-2 g c =
 pub returns-clause-feeds : goal.returns-clause-feeds
 returns-clause-feeds g c =
     let entries = c.args.entries.now in
-    let events = items_of c.in_ok-events.events.items in
-    subst (λ (engine : EngineValue). FeedsFront engine entries (after g c) events) c.self.view_is
-    (front_fed c.stores_follow.ensures (before g c) (after g c) entries events refl refl refl
-    c.in_ok-ends.ensures.kept c.in_ok-ends.ensures.grown (answered g c)
-    (c.in_ok-ends.ensures.same c.self.inside.queries.items c.self.invariant.table))
+    let lists = c.in_ok-events.events.items in
+    subst (λ (events : List (List Event)).
+    FeedsFront c.args.self.now entries (after g c) events)
+    (lists_named c.ends_for_all.new.names lists)
+    (subst (λ (engine : EngineValue). FeedsFront engine entries (after g c)
+    (map (map (named c.ends_for_all.new.names)) (items_of lists))) c.self.view_is
+    (front_fed c.stores_follow.ensures (before g c) (after g c) entries (items_of lists) refl refl
+    refl c.in_ok-ends.ensures.kept c.in_ok-ends.ensures.grown (answered g c)
+    (c.in_ok-ends.ensures.same c.self.inside.queries.items c.self.invariant.table)))
+
+pub returns-clause-have_names : goal.returns-clause-have_names
+returns-clause-have_names g c =
+    let names = c.ends_for_all.new.names in
+    let lists = c.in_ok-events.events.items in
+    lists_have_names names lists
+    (front_named names c.args.entries.now c.self.inside.queries.items c.self.inside.indexes.items
+    c.answer_front.new.indexes.items (items_of lists) (answered g c))

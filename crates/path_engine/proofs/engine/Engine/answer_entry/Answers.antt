@@ -1,14 +1,15 @@
-use Rattle.std.proofs.Common.{◌≡◌, ◌+◌, false, List, [], ◌∷◌, ◌++◌, length, take, drop}
+use Rattle.std.proofs.Common.{◌≡◌, ◌+◌, false, List, [], ◌∷◌, ◌++◌, length, map, take, drop}
 use Rattle.std.proofs.Common.{refl, sym, ap, subst, arith}
 use Rattle.std.proofs.lemmas.Slice.Zip.{AllZip-long}
 use Rattle.rpq_base.specs.declared.data.Entry.{Entry}
+use Rattle.end_events.specs.Named.{named}
 use Rattle.query_file.specs.Compiled.{CompiledValue}
 use Rattle.path_engine.specs.declared.index.Index.{Index}
 use Rattle.path_engine.specs.Answering.{AreEndsForEach, HasHistory, HaveAnswered}
 use Rattle.path_engine.specs.Engine.{EngineValue}
 use Rattle.path_engine.specs.Feeding.{Feeds}
 use Rattle.path_engine.specs.Keeping.{BringsNoName}
-use Rattle.path_engine.proofs.Each.{HaveHistories, answered_long, written_back}
+use Rattle.path_engine.proofs.Each.{HaveHistories, answered_long, each_named, written_back}
 use Rattle.path_engine.proofs.Feeding.{fed, fed_stands, histories}
 use Rattle.path_engine.proofs.engine.Engine.answer_entry.Given.{Over}
 use Rattle.path_engine.proofs.engine.Engine.answer_entry.Goals as goal
@@ -127,7 +128,8 @@ invariant_of-self-2 g c =
 pub returns-clause-feeds : goal.returns-clause-feeds
 returns-clause-feeds g c =
     subst (λ (engine : EngineValue).
-    Feeds engine c.args.entry.now (after g c) c.in_ok-events.events.items) c.self.view_is
+    Feeds engine c.args.entry.now (after g c)
+    (map (named c.ends_for.new.names) c.in_ok-events.events.items)) c.self.view_is
     (fed c.stores_follow.ensures (before g c) (after g c) c.args.entry.now
     c.in_ok-events.events.items refl refl refl c.in_ok-ends.ensures.kept
     c.in_ok-ends.ensures.grown (answered g c)
@@ -136,3 +138,8 @@ returns-clause-feeds g c =
     c.ends_for.new.names ≡ c.self.inside.names)
     c.entry.view_is
     (c.in_ok-ends.ensures.same c.self.inside.queries.items c.self.invariant.table)))
+
+pub returns-clause-have_names : goal.returns-clause-have_names
+returns-clause-have_names g c =
+    each_named c.ends_for.new.names c.args.entry.now 0 c.self.inside.queries.items
+    c.self.inside.indexes.items (indexes g c) c.in_ok-events.events.items (answered g c)

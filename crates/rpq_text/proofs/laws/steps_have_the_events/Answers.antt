@@ -1,5 +1,0 @@
-use Rattle.rpq_text.proofs.StepLists.{have_the_events}
-use Rattle.rpq_text.proofs.laws.steps_have_the_events.Goals as goal
-
-pub returns : goal.returns
-returns c = have_the_events
