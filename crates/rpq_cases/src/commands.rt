@@ -1,7 +1,7 @@
 //! Words of command lines.
 
 use case_lines::{Fields, Output, words_of};
-use rpq_words::{Chosen, FileWord, WordsFault, read_words};
+use rpq_words::{FileWord, Input, Mode, Settings, StreamSettings, WordsFault, read_words};
 use std::alloc::Global;
 
 /// The settings of a command line, or why its words aren't taken.
@@ -14,47 +14,53 @@ pub fn answer_command(alloc: Global, out: &mut Output, fields: Fields) -> anyhow
 }
 
 /// The settings of the words. It promises nothing, since what is put is compared from outside.
-fn settings_of(alloc: Global, words: &[String]) -> Result<Chosen, WordsFault> {
+fn settings_of(alloc: Global, words: &[String]) -> Result<Settings, WordsFault> {
     read_words(alloc, words)
 }
 
-fn put_settings(out: &mut Output, chosen: &Chosen) -> anyhow::Result<()> {
+fn put_settings(out: &mut Output, chosen: &Settings) -> anyhow::Result<()> {
     put_choices(out, chosen)?;
     put_files(out, chosen)?;
     out.put(" ")?;
     put_word(out, &chosen.queries)?;
-    put_streams(out, &chosen.streams)
+    out.put(" ")?;
+    put_streams(out, &chosen.mode)
 }
 
 /// Puts the numbers and what was said yes or no to.
-fn put_choices(out: &mut Output, chosen: &Chosen) -> anyhow::Result<()> {
+fn put_choices(out: &mut Output, chosen: &Settings) -> anyhow::Result<()> {
     out.put_shown(&chosen.workers.number())?;
     out.put(" ")?;
     out.put_shown(&chosen.history)?;
     out.put(" ")?;
-    out.put_sign(chosen.check)?;
+    put_mode(out, &chosen.mode)?;
     out.put(" ")?;
-    match &chosen.generate {
-        Some(count) => out.put_shown(count)?,
-        None => out.put("-")?,
+    out.put_sign(chosen.is_two_way())?;
+    out.put(" ")?;
+    out.put_sign(chosen.has_paths())
+}
+
+/// Puts whether the queries are checked, and how many tuples are generated, or `-`.
+fn put_mode(out: &mut Output, mode: &Mode) -> anyhow::Result<()> {
+    out.put_sign(matches!(mode, Mode::Check(_)))?;
+    out.put(" ")?;
+    match mode {
+        Mode::Generate(_directions, count) => out.put_shown(count),
+        Mode::Check(_) | Mode::Streams(_) => out.put("-"),
     }
-    out.put(" ")?;
-    out.put_sign(chosen.two_way)?;
-    out.put(" ")?;
-    out.put_sign(chosen.paths)
 }
 
 /// Puts the words of the options that name files.
-fn put_files(out: &mut Output, chosen: &Chosen) -> anyhow::Result<()> {
-    put_file(out, &chosen.joins)?;
-    put_file(out, &chosen.asks)?;
-    put_file(out, &chosen.replies)?;
-    put_file(out, &chosen.save)?;
-    put_file(out, &chosen.from)
+fn put_files(out: &mut Output, chosen: &Settings) -> anyhow::Result<()> {
+    put_file(out, chosen.joins())?;
+    put_file(out, chosen.asks())?;
+    put_file(out, chosen.replies())?;
+    put_file(out, chosen.save())?;
+    put_file(out, chosen.from())
 }
 
 /// Puts the word of an option, or `-` where it isn't given.
-fn put_file(out: &mut Output, word: &Option<FileWord>) -> anyhow::Result<()> {
+fn put_file(out: &mut Output, word: Option<&FileWord>) -> anyhow::Result<()> {
     out.put(" ")?;
     match word {
         Some(word) => put_word(out, word),
@@ -62,14 +68,24 @@ fn put_file(out: &mut Output, word: &Option<FileWord>) -> anyhow::Result<()> {
     }
 }
 
-/// Puts the words of the streams, or `-` where there are none.
-fn put_streams(out: &mut Output, streams: &[FileWord]) -> anyhow::Result<()> {
-    out.put(" ")?;
-    if streams.is_empty() {
-        return out.put("-");
+/// Puts the words of the streams, or `-` where none is read.
+fn put_streams(out: &mut Output, mode: &Mode) -> anyhow::Result<()> {
+    match mode {
+        Mode::Check(_) | Mode::Generate(_, _) => out.put("-"),
+        Mode::Streams(StreamSettings::BothWays(names)) => put_words(out, names.as_slice()),
+        Mode::Streams(StreamSettings::Forwards(run)) => match &run.input {
+            Input::Fresh(names) => put_words(out, names.as_slice()),
+            Input::Resumed {
+                from: _from,
+                stream,
+            } => put_word(out, stream),
+        },
     }
-    for stream in streams {
-        put_word(out, stream)?;
+}
+
+fn put_words(out: &mut Output, words: &[FileWord]) -> anyhow::Result<()> {
+    for word in words {
+        put_word(out, word)?;
     }
     Ok(())
 }

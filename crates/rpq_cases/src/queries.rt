@@ -5,10 +5,9 @@ ghost use Rattle.rpq_base.specs.declared.data.TheConstants.{MAX_TIME};
 use crate::expressions::read;
 use anyhow::ensure;
 use case_lines::{Fields, Output, entries_of, put_events, put_pair};
+use plain_evaluator::{changes, plain_answers, plain_rows};
 use rpq_base::{Act, Edge, Entry, Event, MAX_TIME, Memory, Name, Pair, copy_all};
-use rpq_model::{
-    Ended, Live, Mode, QueryDef, Window, changes, clock, live_entries, plain_answers, plain_rows,
-};
+use rpq_model::{Ended, Live, Mode, QueryDef, Window, clock, live_entries};
 use std::alloc::Global;
 
 /// The window of the next two fields.

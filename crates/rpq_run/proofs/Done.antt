@@ -2,7 +2,7 @@
 use Rattle.std.proofs.Common.{◌≡◌, ◌≢◌, ℕ, zero, suc, ◌+◌, ◌<◌, ◌≤◌, List, [], ◌∷◌, ◌++◌, length, get_or}
 use Rattle.std.proofs.Common.{Option, Some, None, Bool, true, false, refl, ap, ap₂, sym, subst, ◌∙◌, arith, inl}
 use Rattle.std.proofs.Common.{inr, ◌⊎◌, length-append}
-use Rattle.std.specs.Prelude.{◌||◌, IfSome, MatchBool, MatchOption, Contains, is_some, map, slice_get, sum}
+use Rattle.std.specs.Prelude.{IfSome, Contains, map, slice_get, sum}
 use Rattle.std.specs.List.{All}
 use Rattle.std.proofs.lemmas.Bool.{cases_eq}
 use Rattle.std.proofs.lemmas.List.{length-map}
@@ -11,8 +11,11 @@ use Rattle.std.proofs.lemmas.Option.{slice_get-get_or, slice_get_within}
 use Rattle.rpq_base.specs.declared.data.Tuple.{Tuple}
 use Rattle.rpq_base.specs.declared.data.Entry.{Entry}
 use Rattle.rpq_io.specs.Counts.{Rose, CountsFault}
-use Rattle.rpq_words.specs.Modes.{AreSettings}
-use Rattle.rpq_words.specs.Settings.{Settings}
+use Rattle.rpq_words.specs.declared.settings.Mode.{Mode}
+use Rattle.rpq_words.specs.declared.settings.Mode.TheVariants.{Check, Generate, Streams}
+use Rattle.rpq_words.specs.Modes.{AreSettings, count_of}
+use Rattle.rpq_words.specs.declared.settings.Settings.{Settings}
+use Rattle.rpq_words.specs.Views.{is_both_ways, streams_of}
 use Rattle.history_model.specs.declared.line.Why.TheVariants.{Write, Memory as MemoryOfAll}
 use Rattle.stream_tuples.specs.declared.ends.StreamEnd.{StreamEnd}
 use Rattle.stream_tuples.specs.declared.ends.StreamEnd.TheVariants.{Whole, Line, LongLine, LongStream}
@@ -27,11 +30,11 @@ use Rattle.rpq_text.specs.Statuses.{first_status, status_of_end, IsStatusOf}
 use Rattle.saved_window.specs.Then.{left_of_both, faults_of_both, faults_of_first}
 use Rattle.run_start.specs.Files.{from_content, stream_contents}
 use Rattle.run_start.specs.Ready.{AreReadWhole}
-use Rattle.run_start.proofs.Modes.{reads_streams}
+use Rattle.run_start.proofs.Modes.{some_streams}
 use Rattle.rpq_run.specs.Causes.{HasCauses}
 use Rattle.rpq_run.specs.Done.{IsWholeStream, tuple_count, CanBeDone, NothingRose, NothingFails}
 use Rattle.rpq_run.specs.Outcome.{Meanings, Sinks, Objects, Openings, Outcome}
-use Rattle.rpq_run.specs.Run.{Runs}
+use Rattle.rpq_run.specs.Run.{Runs, RunsIn}
 use Rattle.rpq_run.specs.RunsCheck.{RunsCheck}
 use Rattle.rpq_run.specs.RunsGenerated.{RunsGenerated}
 use Rattle.rpq_run.specs.RunsStreams.{RunsStreams}
@@ -330,9 +333,9 @@ done_or_short ends failed status none is fine = elim (cases_eq status 8) [
 
 -- there are as many streams as files
 pub as_many_streams : (given : Settings) (holds : List ℕ → Option (List ℕ))
-    → length (stream_contents given holds) ≡ length given.streams
-as_many_streams given holds = as_many_contents (from_content given holds) (map holds given.streams)
-    ∙ length-map given.streams holds
+    → length (stream_contents given holds) ≡ length (streams_of given)
+as_many_streams given holds = as_many_contents (from_content given holds) (map holds (streams_of given))
+    ∙ length-map (streams_of given) holds
 
 -- a run over streams that can be done, in which no count rose, is done, or wants memory
 pub streams_done : {S K : Type 0} (means : Meanings S K) (given : Settings)
@@ -344,20 +347,19 @@ streams_done means given holds openings sinks objects outcome runs can none =
     done_or_short outcome.ends runs.failed outcome.status failed runs.causes.status_is
     (all_end_well (left_of_both means.left) (faults_of_both means.faults) given.history (stream_contents given holds)
     (stream_sources outcome.from outcome.sources) outcome.history outcome.ends runs.history.each_stream
-    (length given.streams) (sym (as_many_streams given holds)) runs.history.no_other can.whole
+    (length (streams_of given)) (sym (as_many_streams given holds)) runs.history.no_other can.whole
     (sources_quiet means.faults outcome.from outcome.sources none.from none.reads) can.few
     (λ closed. none.writes (runs.causes.events_failed.rose (runs.causes.closed closed))))
 
 -- so is one over generated tuples
-pub generated_done : {S K : Type 0} (means : Meanings S K) (given : Settings) (count : ℕ)
-    (holds : List ℕ → Option (List ℕ)) (openings : Openings) (sinks : Sinks K) (objects : Objects)
-    (outcome : Outcome S K) → RunsGenerated means given count holds sinks objects outcome
-    → given.generate ≡ Some count → CanBeDone given holds
+pub generated_done : {S K : Type 0} (means : Meanings S K) (given : Settings) (two_way : Bool)
+    (count : ℕ) (file : Option (List ℕ)) (openings : Openings) (sinks : Sinks K)
+    (objects : Objects) (outcome : Outcome S K)
+    → RunsGenerated means two_way given.history count file sinks objects outcome
+    → count ≤ given.history
     → NothingRose means given openings sinks outcome → (outcome.status ≡ 0) ⊎ (outcome.status ≡ 8)
-generated_done means given count holds openings sinks objects outcome runs wanted can none =
+generated_done means given two_way count file openings sinks objects outcome runs fits none =
     let failed = none_failed means runs.failed sinks outcome runs.causes none.writes none.replies none.save in
-    let fits : count ≤ given.history =
-    subst (λ (g : Option ℕ). IfSome g (λ n. n ≤ given.history)) wanted can.made in
     let fine : IsFine runs.history.end = elim runs.history.one_of [
       | inl whole ↦ inl (ap status_of_end whole)
       | inr other ↦ elim other [
@@ -372,11 +374,11 @@ generated_done means given count holds openings sinks objects outcome runs wante
     (All-cons IsFine runs.history.end [] fine (All-nil IsFine)))
 
 -- and so is a check
-pub check_done : {S K : Type 0} (means : Meanings S K) (given : Settings)
-    (holds : List ℕ → Option (List ℕ)) (openings : Openings) (sinks : Sinks K) (objects : Objects)
-    (outcome : Outcome S K) → RunsCheck means given holds sinks objects outcome
+pub check_done : {S K : Type 0} (means : Meanings S K) (given : Settings) (two_way : Bool)
+    (file : Option (List ℕ)) (openings : Openings) (sinks : Sinks K) (objects : Objects)
+    (outcome : Outcome S K) → RunsCheck means two_way file sinks objects outcome
     → NothingRose means given openings sinks outcome → (outcome.status ≡ 0) ⊎ (outcome.status ≡ 8)
-check_done means given holds openings sinks objects outcome runs none =
+check_done means given two_way file openings sinks objects outcome runs none =
     let failed = none_failed means runs.failed sinks outcome runs.causes none.writes none.replies none.save in
     done_or_short outcome.ends runs.failed outcome.status failed runs.causes.status_is
     (subst (λ (ends : List StreamEnd). All IsFine ends) (sym runs.nothing.no_stream) (All-nil IsFine))
@@ -426,14 +428,12 @@ module _ {S K : Type 0} (means : Meanings S K) (words : Option Settings) (given 
   none_first none = subst (λ (s : Option S). IfSome s (λ source. means.faults source ≡ 0)) (sym none) tt
 
   -- nor in a run over streams
-  streams_quiet : (objects : Objects) → given.check ≡ false → given.generate ≡ None
+  streams_quiet : (objects : Objects) → 1 ≤ length (streams_of given)
       → RunsStreams means given holds sinks objects outcome → NothingFails means words holds openings sinks outcome
-  streams_quiet objects unchecked none_made runs =
-      let reads = reads_streams given settings
-      (ap₂ (λ (check : Bool) (generate : Option ℕ). check || is_some generate) unchecked none_made) in
+  streams_quiet objects some runs =
       let as_many = runs.history.each_stream.as_many_sources in
       let none = sources_none means.faults outcome.from outcome.sources
-      (omega (arith, as_many, as_many_streams given holds, reads.some))
+      (omega (arith, as_many, as_many_streams given holds, some))
       (reads_quietly (left_of_both means.left) (faults_of_both means.faults) given.history (stream_contents given holds)
       (stream_sources outcome.from outcome.sources) outcome.history outcome.ends runs.history.each_stream runs.failed
       outcome.status runs.causes.status_is done) in
@@ -442,42 +442,31 @@ module _ {S K : Type 0} (means : Meanings S K) (words : Option Settings) (given 
   -- nothing failed in a run that is done
   pub runs_quiet : (objects : Objects) → Runs means given holds sinks objects outcome
       → NothingFails means words holds openings sinks outcome
-  runs_quiet objects = by given.check refl
+  runs_quiet objects = by given.mode refl
     where
-      by_count : (generate : Option ℕ) → given.check ≡ false → given.generate ≡ generate
-          → MatchOption generate (RunsStreams means given holds sinks objects outcome)
-          (λ count. RunsGenerated means given count holds sinks objects outcome)
+      by : (mode : Mode) → given.mode ≡ mode → RunsIn mode means given holds sinks objects outcome
           → NothingFails means words holds openings sinks outcome
-      by_count None unchecked is runs = streams_quiet objects unchecked is runs
-      by_count (Some count) unchecked is runs =
-          all_quiet runs.failed runs.causes (none_faulty runs.no_source) (none_first runs.no_window.0)
-
-      by : (check : Bool) → given.check ≡ check → MatchBool check (RunsCheck means given holds sinks objects outcome)
-          (MatchOption given.generate (RunsStreams means given holds sinks objects outcome)
-          (λ count. RunsGenerated means given count holds sinks objects outcome))
-          → NothingFails means words holds openings sinks outcome
-      by true is runs = all_quiet runs.failed runs.causes (none_faulty runs.no_source)
-          (none_first runs.nothing.no_window.0)
-      by false is runs = by_count given.generate is refl runs
+      by (Check directions) is runs = all_quiet runs.failed runs.causes
+          (none_faulty runs.no_source) (none_first runs.nothing.no_window.0)
+      by (Generate directions count) is runs = all_quiet runs.failed runs.causes
+          (none_faulty runs.no_source) (none_first runs.no_window.0)
+      by (Streams run) is runs = streams_quiet objects (some_streams given run is settings).0 runs
 
 -- a run that can be done, in which no count rose, is done, or wants memory
 pub runs_done : {S K : Type 0} (means : Meanings S K) (given : Settings)
     (holds : List ℕ → Option (List ℕ)) (openings : Openings) (sinks : Sinks K) (objects : Objects)
     (outcome : Outcome S K) → Runs means given holds sinks objects outcome → CanBeDone given holds
     → NothingRose means given openings sinks outcome → (outcome.status ≡ 0) ⊎ (outcome.status ≡ 8)
-runs_done means given holds openings sinks objects outcome runs can none = by given.check runs
+runs_done means given holds openings sinks objects outcome runs can none =
+    by given.mode runs can.made
   where
-    by_count : (generate : Option ℕ) → given.generate ≡ generate
-        → MatchOption generate (RunsStreams means given holds sinks objects outcome)
-        (λ count. RunsGenerated means given count holds sinks objects outcome)
+    by : (mode : Mode) → RunsIn mode means given holds sinks objects outcome
+        → IfSome (count_of mode) (λ count. count ≤ given.history)
         → (outcome.status ≡ 0) ⊎ (outcome.status ≡ 8)
-    by_count None is streams = streams_done means given holds openings sinks objects outcome streams can none
-    by_count (Some count) is generated =
-        generated_done means given count holds openings sinks objects outcome generated is can none
-
-    by : (check : Bool) → MatchBool check (RunsCheck means given holds sinks objects outcome)
-        (MatchOption given.generate (RunsStreams means given holds sinks objects outcome)
-        (λ count. RunsGenerated means given count holds sinks objects outcome))
-        → (outcome.status ≡ 0) ⊎ (outcome.status ≡ 8)
-    by true checks = check_done means given holds openings sinks objects outcome checks none
-    by false others = by_count given.generate refl others
+    by (Check directions) checks fits = check_done means given (is_both_ways directions)
+        (holds given.queries) openings sinks objects outcome checks none
+    by (Generate directions count) generated fits = generated_done means given
+        (is_both_ways directions) count (holds given.queries) openings sinks objects outcome
+        generated fits none
+    by (Streams run) streams fits =
+        streams_done means given holds openings sinks objects outcome streams can none

@@ -9,7 +9,8 @@ use Rattle.std.proofs.lemmas.Bool.Decides.{leb_tells}
 use Rattle.rpq_io.proofs.Bytes.{append_known-nil}
 use Rattle.rpq_io.proofs.Counting.{counts_as}
 use Rattle.rpq_io.specs.Writes.{WritesProperPrefix}
-use Rattle.rpq_words.specs.Settings.{Settings}
+use Rattle.rpq_words.specs.declared.settings.Settings.{Settings}
+use Rattle.rpq_words.specs.Views.{two_way_of}
 use Rattle.ask_text.specs.Answered.{AnsweredValue}
 use Rattle.history_model.specs.declared.line.Why.TheVariants.{Write}
 use Rattle.two_way.specs.TwoWay.{AreAllWalkedEvents}
@@ -98,12 +99,11 @@ nothing_asked : {S K O : Type 0} (status : ℕ) (run : Generated O) (ends ends' 
 nothing_asked status run ends ends' sources sessions same no_source no_session = λ i.
     generated_outcome status run (same i) (sym no_source i) (sym {A = List (List AnsweredValue)} no_session i)
 
-module _ {S K T E O : Type 0} (means : Meanings S K) (given : Settings)
-    (holds : List ℕ → Option (List ℕ)) (task : Generation) (sinks : Sinks K) (seen : O → ObjectValue)
+module _ {S K T E O : Type 0} (means : Meanings S K)
+    (file : Option (List ℕ)) (task : Generation) (sinks : Sinks K) (seen : O → ObjectValue)
     (circle : Parts O) (run : Generated O) (wrote : Result T E) (status : ℕ)
-    (limit : task.limit ≡ given.history) (both_ways : task.two_way ≡ given.two_way)
-    (has : IfSome (holds given.queries)
-    (λ bytes. HasQueries given.two_way bytes (definitions_of task.queries.items)))
+    (has : IfSome file
+    (λ bytes. HasQueries task.two_way bytes (definitions_of task.queries.items)))
     (made : Generates seen task circle run)
     (tells : Tells means.written means.failures (bytes_of run.summary) sinks.events_old sinks.events_new wrote)
     (short : is_some run.summary ≡ false → status ≡ 8)
@@ -134,10 +134,10 @@ module _ {S K T E O : Type 0} (means : Meanings S K) (given : Settings)
       absurd (not_short fits (is_err wrote) (sym first ∙ eight))
 
   -- the history
-  holds_generated : HoldsGenerated given task.count outcome_in
+  holds_generated : HoldsGenerated task.limit task.count outcome_in
   holds_generated = record {
     made = made.made;
-    within = (made.wanted, omega (arith, made.within, limit));
+    within = (made.wanted, made.within);
     history = made.history;
     end = end_in;
     one_stream = refl;
@@ -156,13 +156,13 @@ module _ {S K T E O : Type 0} (means : Meanings S K) (given : Settings)
           omega (arith, least, leb-true task.count task.limit f_is)
 
       at_limit : (summary : Option (Vec ℕ)) → run.summary ≡ summary → (f : Bool) → fits ≡ f
-          → end_of (is_some summary) f ≡ Full → (made.made ≡ given.history) × (made.made < task.count)
+          → end_of (is_some summary) f ≡ Full → (made.made ≡ task.limit) × (made.made < task.count)
       at_limit None is f f_is end = absurd (cc end)
       at_limit (Some text) is true f_is end = absurd (cc end)
       at_limit (Some text) is false f_is end =
           let least : made.made ≡ min task.count task.limit = made.all (ap is_some is) in
           let less = not_within task.count task.limit f_is in
-          (omega (arith, least, less, limit), omega (arith, least, less))
+          (omega (arith, least, less), omega (arith, least, less))
 
       memory : (summary : Option (Vec ℕ)) → run.summary ≡ summary → end_of (is_some summary) fits ≡ Memory
           → status ≡ 8
@@ -179,22 +179,17 @@ module _ {S K T E O : Type 0} (means : Meanings S K) (given : Settings)
   -- the texts of the summary
   abbrev IsText : List ℕ → Type 0
   IsText =
-      IsSummary given.two_way (definitions_of task.queries.items) run.history.items (said_by objects_in.after)
+      IsSummary task.two_way (definitions_of task.queries.items) run.history.items (said_by objects_in.after)
 
   -- the summary
-  writes_summary : WritesSummary means given.two_way (definitions_of task.queries.items)
+  writes_summary : WritesSummary means task.two_way (definitions_of task.queries.items)
       (failed_sinks (is_err wrote) false false) sinks objects_in outcome_in
-  writes_summary = by run.summary refl of_kind wrote refl tells
+  writes_summary = by run.summary refl made.summary wrote refl tells
     where
-      of_kind : IfSome run.summary (λ text. IsText text.items)
-      of_kind = subst (λ (two_way : Bool). IfSome run.summary (λ text. IsSummary two_way
-          (definitions_of task.queries.items) run.history.items (said_by objects_in.after) text.items)) both_ways
-          made.summary
-
       by : (summary : Option (Vec ℕ)) → run.summary ≡ summary → IfSome summary (λ text. IsText text.items)
           → (result : Result T E) → wrote ≡ result
           → Tells means.written means.failures (bytes_of summary) sinks.events_old sinks.events_new result
-          → WritesSummary means given.two_way (definitions_of task.queries.items)
+          → WritesSummary means task.two_way (definitions_of task.queries.items)
           (failed_sinks (is_err result) false false) sinks objects_in outcome_in
       by None is text (Err e) result_is told =
           absurd (none_of_nothing (means.written sinks.events_old) (means.written sinks.events_new) (told.part refl))
@@ -223,12 +218,11 @@ module _ {S K T E O : Type 0} (means : Meanings S K) (given : Settings)
           }
 
   -- the objects
-  are_told : AreTold given.two_way (definitions_of task.queries.items) run.history.items
+  are_told : AreTold task.two_way (definitions_of task.queries.items) run.history.items
       (map seen circle.members) (status ≢ 8) (as_seen seen run.circle)
   are_told = record {
     events = made.told.events;
-    are_events = subst (λ (two_way : Bool). AreAllWalkedEvents two_way (definitions_of task.queries.items)
-        run.history.items made.told.events) both_ways made.told.are_events;
+    are_events = made.told.are_events;
     told = stood_weaker (map seen circle.members) (all_of made.told.events) (IsSome run.summary) (status ≢ 8)
         (map seen run.circle.members) (map seen run.circle.left) (there run.summary refl) made.told.told;
   }
@@ -241,20 +235,20 @@ module _ {S K T E O : Type 0} (means : Meanings S K) (given : Settings)
   generated_runs : IsStatusOf (end_in ∷ []) (failed_sinks (is_err wrote) false false) status
       → TellsLines means.written means.failures (run_lines (end_in ∷ []) (failed_sinks (is_err wrote) false false) status)
       sinks.errors_old sinks.errors_new
-      → RunsGenerated means given task.count holds sinks objects_in outcome_in
+      → RunsGenerated means task.two_way task.limit task.count file sinks objects_in outcome_in
   generated_runs status_is lines = record {
-    understood = is_queries_file given.two_way (holds given.queries) (definitions_of task.queries.items) has;
+    understood = is_queries_file task.two_way file (definitions_of task.queries.items) has;
     no_source = refl;
     no_session = refl;
     no_replies = refl;
     no_window = (refl, refl);
     failed = failed_sinks (is_err wrote) false false;
     history = holds_generated;
-    summary = for_queries given.two_way (holds given.queries) (definitions_of task.queries.items) (λ queries.
-        WritesSummary means given.two_way queries (failed_sinks (is_err wrote) false false) sinks objects_in outcome_in) has
+    summary = for_queries task.two_way file (definitions_of task.queries.items) (λ queries.
+        WritesSummary means task.two_way queries (failed_sinks (is_err wrote) false false) sinks objects_in outcome_in) has
         writes_summary;
-    told = for_queries given.two_way (holds given.queries) (definitions_of task.queries.items) (λ queries.
-        AreTold given.two_way queries run.history.items (map seen circle.members) (status ≢ 8) (as_seen seen run.circle)) has
+    told = for_queries task.two_way file (definitions_of task.queries.items) (λ queries.
+        AreTold task.two_way queries run.history.items (map seen circle.members) (status ≢ 8) (as_seen seen run.circle)) has
         are_told;
     causes = record {
       once = some_sinks (is_err wrote) false false;
@@ -282,11 +276,11 @@ module _ {S K T E O : Type 0} (means : Meanings S K) (given : Settings)
       → IsStatusOf (end_in ∷ []) (failed_sinks (is_err wrote) false false) status
       → TellsLines means.written means.failures (run_lines (end_in ∷ []) (failed_sinks (is_err wrote) false false) status)
       sinks.errors_old sinks.errors_new
-      → RunsGenerated means given task.count holds sinks (objects seen before stayed left)
+      → RunsGenerated means task.two_way task.limit task.count file sinks (objects seen before stayed left)
       (generated_outcome status run ends sources sessions)
   runs_generated ends sources sessions before stayed left ends_are no_source no_session befores stays leaves
       status_is lines =
-      subst₂ (λ (all : Objects) (outcome : Outcome S K). RunsGenerated means given task.count holds sinks all outcome)
+      subst₂ (λ (all : Objects) (outcome : Outcome S K). RunsGenerated means task.two_way task.limit task.count file sinks all outcome)
       (objects_are seen circle.members before run.circle.members stayed run.circle.left left befores stays leaves)
       (nothing_asked status run (end_in ∷ []) ends sources sessions ends_are no_source no_session)
       (generated_runs status_is lines)

@@ -10,13 +10,14 @@ use Rattle.std.proofs.lemmas.List.{length-map, take_all}
 use Rattle.std.proofs.lemmas.Option.{slice_get-map, slice_get_within}
 use Rattle.rpq_base.specs.declared.data.Entry.{Entry}
 use Rattle.rpq_model.specs.Query.{Query}
-use Rattle.conj_query.specs.declared.fault.JoinsFault.{JoinsFault}
-use Rattle.conj_query.specs.Joins.{JoinValue}
+use Rattle.join_file.specs.declared.fault.JoinFileFault.{JoinFileFault}
+use Rattle.join_file.specs.Joins.{JoinValue}
 use Rattle.history_model.specs.declared.line.Why.{Why}
 use Rattle.history_model.specs.declared.line.Why.TheVariants.{Write, Memory}
 use Rattle.query_file.specs.declared.fault.QueryFault.{QueryFault}
 use Rattle.query_file.specs.Laws.{OneOutcome, OneOutcomeOf, OneTwoWayOutcome}
-use Rattle.rpq_words.specs.Settings.{Settings}
+use Rattle.rpq_words.specs.declared.settings.Settings.{Settings}
+use Rattle.rpq_words.specs.Views.{asks_of, from_of, joins_of, paths_of, streams_of, two_way_of}
 use Rattle.ask_text.specs.declared.ask.Ask.{Ask}
 use Rattle.ask_text.specs.declared.fault.AskFault.{AskFault}
 use Rattle.ask_text.specs.Replies.{replies}
@@ -26,8 +27,8 @@ use Rattle.stream_tuples.specs.History.{IsNumberOf, AreTuplesOfEnd, own_tuples}
 use Rattle.stream_tuples.specs.Limits.{byte_limit}
 use Rattle.stream_tuples.specs.StreamText.{StreamTuples, stream_tuples}
 use Rattle.rpq_text.specs.declared.ends.SinkName.TheVariants.{Events, Replies, Save}
-use Rattle.rpq_text.specs.Laws.{StepsHaveJoinEvents, StepsHaveTheEvents}
-use Rattle.rpq_text.specs.Steps.{OptionsValue, StepValue, AreSteps, events_of}
+use Rattle.entry_steps.specs.Laws.{StepsHaveJoinEvents, StepsHaveTheEvents}
+use Rattle.entry_steps.specs.Steps.{OptionsValue, StepValue, AreSteps, events_of}
 use Rattle.rpq_text.specs.Text.{blocks_from}
 use Rattle.saved_window.specs.Saved.{saved}
 use Rattle.saved_window.specs.SavedText.{saved_text}
@@ -77,10 +78,10 @@ from_queries two_way one file bytes queries P is has holds =
 
 from_joins : (given : Settings) (holds : List ℕ → Option (List ℕ)) (queries : List Query)
     (told : Option (List ℕ)) (joins : List JoinValue) (P : List JoinValue → Type 0)
-    → option_map holds given.joins ≡ option_map (λ bytes. Some bytes) told
+    → option_map holds (joins_of given) ≡ option_map (λ bytes. Some bytes) told
     → AreJoined queries told joins
     → ForJoins given holds queries P → P joins
-from_joins given holds queries told joins P is joined = by given.joins told is joined
+from_joins given holds queries told joins P is joined = by (joins_of given) told is joined
   where
     by : (named known : Option (List ℕ))
         → option_map holds named ≡ option_map (λ bytes. Some bytes) known
@@ -94,7 +95,7 @@ from_joins given holds queries told joins P is joined = by given.joins told is j
         let content : holds name ≡ Some bytes = cc is in
         let held = subst (λ (f : Option (List ℕ)). IfSome f
         (λ text. (found : List JoinValue) × HasJoins queries text found × P found)) content p in
-        let same : ◌≡◌ {A = Result (List JoinValue) JoinsFault} (Ok held.0) (Ok joins) =
+        let same : ◌≡◌ {A = Result (List JoinValue) JoinFileFault} (Ok held.0) (Ok joins) =
         sym held.1.1 ∙ joined.1 in
         let same_joins : held.0 ≡ joins = cc same in
         subst P same_joins held.2
@@ -102,20 +103,20 @@ from_joins given holds queries told joins P is joined = by given.joins told is j
 from_joined : {S K : Type 0} (means : Meanings S K) (given : Settings)
     (holds : List ℕ → Option (List ℕ)) (sinks : Sinks K) (told : Told) (queries : List Query)
     (joins : List JoinValue) (P : List Query → List JoinValue → Type 0)
-    → OneOutcomeOf given.two_way
-    → IsTold means given holds sinks told → HasQueries given.two_way told.queries queries
+    → OneOutcomeOf (two_way_of given)
+    → IsTold means given holds sinks told → HasQueries (two_way_of given) told.queries queries
     → AreJoined queries told.joins joins → ForJoined given holds P → P queries joins
 from_joined means given holds sinks told queries joins P one is has joined p =
     from_joins given holds queries told.joins joins (P queries) is.joins joined
-    (from_queries given.two_way one (holds given.queries) told.queries queries
+    (from_queries (two_way_of given) one (holds given.queries) told.queries queries
     (λ all. ForJoins given holds all (P all)) is.queries has p)
 
 from_sessions : (given : Settings) (holds : List ℕ → Option (List ℕ)) (queries : List Query)
     (told : Option (List ℕ)) (sessions : List (List Ask)) (P : List (List Ask) → Type 0)
-    → option_map holds given.asks ≡ option_map (λ bytes. Some bytes) told
+    → option_map holds (asks_of given) ≡ option_map (λ bytes. Some bytes) told
     → AreAsked queries told sessions
     → ForSessions given holds queries P → P sessions
-from_sessions given holds queries told sessions P is asked = by given.asks told is asked
+from_sessions given holds queries told sessions P is asked = by (asks_of given) told is asked
   where
     by : (asks known : Option (List ℕ))
         → option_map holds asks ≡ option_map (λ bytes. Some bytes) known
@@ -137,24 +138,24 @@ from_sessions given holds queries told sessions P is asked = by given.asks told 
 from_asked : {S K : Type 0} (means : Meanings S K) (given : Settings)
     (holds : List ℕ → Option (List ℕ)) (sinks : Sinks K) (told : Told) (queries : List Query)
     (sessions : List (List Ask)) (P : List Query → List (List Ask) → Type 0)
-    → OneOutcomeOf given.two_way
-    → IsTold means given holds sinks told → HasQueries given.two_way told.queries queries
+    → OneOutcomeOf (two_way_of given)
+    → IsTold means given holds sinks told → HasQueries (two_way_of given) told.queries queries
     → AreAsked queries told.asks sessions → ForAsked given holds P → P queries sessions
 from_asked means given holds sinks told queries sessions P one is has asked p =
     from_sessions given holds queries told.asks sessions (P queries) is.asks asked
-    (from_queries given.two_way one (holds given.queries) told.queries queries
+    (from_queries (two_way_of given) one (holds given.queries) told.queries queries
     (λ all. ForSessions given holds all (P all)) is.queries has p)
 
 -- there are conjunctions
 joins_there : {S K : Type 0} (means : Meanings S K) (given : Settings)
     (holds : List ℕ → Option (List ℕ)) (sinks : Sinks K) (told : Told) (queries : List Query)
-    → OneOutcomeOf given.two_way → IsTold means given holds sinks told
-    → HasQueries given.two_way told.queries queries
+    → OneOutcomeOf (two_way_of given) → IsTold means given holds sinks told
+    → HasQueries (two_way_of given) told.queries queries
     → ForJoined given holds (λ queries joins. Unit {0})
     → (joins : List JoinValue) × AreJoined queries told.joins joins
 joins_there means given holds sinks told queries one is has there =
-    by given.joins told.joins is.joins
-    (from_queries given.two_way one (holds given.queries) told.queries queries
+    by (joins_of given) told.joins is.joins
+    (from_queries (two_way_of given) one (holds given.queries) told.queries queries
     (λ all. ForJoins given holds all (λ joins. Unit {0})) is.queries has there)
   where
     by : (named known : Option (List ℕ))
@@ -182,11 +183,11 @@ record AreThere (two_way : Bool) (told : Told) : Type 0 where
 are_there : {S K : Type 0} (means : Meanings S K) (given : Settings)
     (holds : List ℕ → Option (List ℕ)) (sinks : Sinks K) (told : Told)
     → IsTold means given holds sinks told
-    → ForAsked given holds (λ queries sessions. Unit {0}) → AreThere given.two_way told
+    → ForAsked given holds (λ queries sessions. Unit {0}) → AreThere (two_way_of given) told
 are_there means given holds sinks told is there =
-    let held = subst (λ (f : Option (List ℕ)). ForQueries given.two_way f
+    let held = subst (λ (f : Option (List ℕ)). ForQueries (two_way_of given) f
     (λ queries. ForSessions given holds queries (λ sessions. Unit {0}))) is.queries there in
-    let asked = by held.0 given.asks told.asks is.asks held.2 in
+    let asked = by held.0 (asks_of given) told.asks is.asks held.2 in
     record { queries = held.0; has = held.1; sessions = asked.0; asked = asked.1 }
   where
     by : (queries : List Query) (asks known : Option (List ℕ))
@@ -243,12 +244,12 @@ texts_behind first [] = refl
 texts_behind first (text ∷ texts) = refl
 
 contents_are : (given : Settings) (holds : List ℕ → Option (List ℕ)) (told : Told)
-    → option_map holds given.from ≡ option_map (λ bytes. Some bytes) told.from
-    → map holds given.streams ≡ map (λ bytes. Some bytes) told.streams
+    → option_map holds (from_of given) ≡ option_map (λ bytes. Some bytes) told.from
+    → map holds (streams_of given) ≡ map (λ bytes. Some bytes) told.streams
     → stream_contents given holds ≡ map (λ (bytes : List ℕ). Some bytes) (stream_texts told)
 contents_are given holds told from streams =
     ap₂ (λ (first : Option (List ℕ)) (files : List (Option (List ℕ))). with_first first files)
-    (by given.from told.from from) streams ∙ texts_behind (unwrap_or told.from []) told.streams
+    (by (from_of given) told.from from) streams ∙ texts_behind (unwrap_or told.from []) told.streams
   where
     by : (name known : Option (List ℕ))
         → option_map holds name ≡ option_map (λ bytes. Some bytes) known
@@ -330,10 +331,10 @@ telling two_way paths told = record told { two_way = two_way; paths = paths }
 -- it holds as the settings say
 headline_of : {S K : Type 0} (means : Meanings S K) (given : Settings)
     (holds : List ℕ → Option (List ℕ)) (sinks : Sinks K) (objects : Objects) (outcome : Outcome S K)
-    (told : Told) → OneOutcomeOf given.two_way → StepsHaveTheEvents → StepsHaveJoinEvents
+    (told : Told) → OneOutcomeOf (two_way_of given) → StepsHaveTheEvents → StepsHaveJoinEvents
     → RunsStreams means given holds sinks objects outcome → outcome.status ≡ 0
     → IsTold means given holds sinks told
-    → Headline means (telling given.two_way given.paths told) sinks objects outcome
+    → Headline means (telling (two_way_of given) (paths_of given) told) sinks objects outcome
 headline_of means given holds sinks objects outcome told one law lines runs done is =
     let there = are_there means given holds sinks told is runs.understood.asks in
     let found = joins_there means given holds sinks told there.queries one is there.has
@@ -350,8 +351,8 @@ headline_of means given holds sinks objects outcome told one law lines runs done
     (means.written sinks.events_old) (means.written sinks.events_new) objects.before
     runs.told.why objects.after (unended runs.told.why refl quiet not_short) tells in
     let events = law.are options there.queries outcome.history all.steps all.are_steps in
-    let sets = from_queries given.two_way one (holds given.queries) told.queries there.queries
-    (λ queries. FrontsHold given.two_way queries outcome.history) is.queries there.has
+    let sets = from_queries (two_way_of given) one (holds given.queries) told.queries there.queries
+    (λ queries. FrontsHold (two_way_of given) queries outcome.history) is.queries there.has
     runs.events.sets in
     let bindings = from_joined means given holds sinks told there.queries found.0
     (λ queries joins. FrontsBind queries joins outcome.history) one is there.has found.1
@@ -408,22 +409,22 @@ headline_of means given holds sinks objects outcome told one law lines runs done
     unended (Some Memory) why_is quiet not_short = absurd (not_short (runs.told.memory why_is))
 
     window_is : (save : Option _)
-        → IfSome save (λ sink. ForQueries given.two_way (holds given.queries) (λ queries.
+        → IfSome save (λ sink. ForQueries (two_way_of given) (holds given.queries) (λ queries.
         GotText (Contains runs.failed Events) (Contains runs.failed Save) outcome.status
         (saved_text (saved queries outcome.history)) (means.written sink)))
         → (Contains runs.failed Save → ⊥) → (Contains runs.failed Events → ⊥) → outcome.status ≢ 8
-        → (queries : List Query) → HasQueries given.two_way told.queries queries
+        → (queries : List Query) → HasQueries (two_way_of given) told.queries queries
         → IfSome save (λ sink. IfSome (means.written sink)
         (λ bytes. bytes ≡ saved_text (saved queries outcome.history)))
     window_is None got none quiet not_short queries has = tt
     window_is (Some sink) got none quiet not_short queries has =
-        (from_queries given.two_way one (holds given.queries) told.queries queries (λ all.
+        (from_queries (two_way_of given) one (holds given.queries) told.queries queries (λ all.
         GotText (Contains runs.failed Events) (Contains runs.failed Save) outcome.status
         (saved_text (saved all outcome.history)) (means.written sink)) is.queries has got).whole
         quiet none not_short
 
-    as_many : length given.streams ≡ length told.streams
-    as_many = sym (length-map given.streams holds)
+    as_many : length (streams_of given) ≡ length told.streams
+    as_many = sym (length-map (streams_of given) holds)
         ∙ (ap (λ (fs : List (Option (List ℕ))). length fs) is.streams
         ∙ length-map told.streams (λ (bytes : List ℕ). Some bytes))
 
@@ -454,4 +455,4 @@ headline_holds means given holds sinks objects outcome told one other law lines 
     subst (λ (all : Told). Headline means all sinks objects outcome)
     (λ i. telling (is.two_way i) (is.paths i) told)
     (headline_of means given holds sinks objects outcome told
-    (either_way one other given.two_way) law lines runs done is)
+    (either_way one other (two_way_of given)) law lines runs done is)

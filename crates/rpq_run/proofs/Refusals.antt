@@ -10,11 +10,13 @@ use Rattle.std.proofs.lemmas.Option.{slice_get-get_or}
 use Rattle.rpq_io.specs.Counts.{Rose}
 use Rattle.rpq_io.proofs.Counting.{counts_none}
 use Rattle.query_file.specs.declared.fault.QueryFault.{QueryFault}
-use Rattle.conj_query.specs.declared.fault.JoinsFault.{JoinsFault}
-use Rattle.conj_query.specs.JoinsFile.{joins}
+use Rattle.join_file.specs.declared.fault.JoinFileFault.{JoinFileFault}
+use Rattle.join_file.specs.JoinsFile.{joins}
 use Rattle.ask_text.specs.declared.fault.AskFault.{AskFault}
 use Rattle.ask_text.specs.Asks.{asks}
-use Rattle.rpq_words.specs.Settings.{Settings}
+use Rattle.rpq_words.specs.declared.settings.Settings.{Settings}
+use Rattle.rpq_words.specs.Views.{asks_of, from_of, joins_of, replies_of, save_of, streams_of}
+use Rattle.rpq_words.specs.Views.{two_way_of}
 use Rattle.stream_tuples.specs.History.{IsPrefix}
 use Rattle.rpq_text.specs.declared.ends.Which.TheVariants.{Queries, Joins, Asks, From, Stream}
 use Rattle.rpq_text.specs.declared.ends.Which.TheVariants.{Replies, Save}
@@ -54,7 +56,7 @@ joins_not_long : (two_way : Bool) (queries file : Option (List ℕ)) → IsTooLo
 joins_not_long two_way queries None long some = some
 joins_not_long two_way queries (Some bytes) long some = omega (arith, long, some.short)
 
-joins_not_faulty : (two_way : Bool) (queries file : Option (List ℕ)) (fault : JoinsFault)
+joins_not_faulty : (two_way : Bool) (queries file : Option (List ℕ)) (fault : JoinFileFault)
     → AreFaultyJoins two_way queries file fault
     → IsSomeAnd file (AreFaultlessJoins two_way queries) → ⊥
 joins_not_faulty two_way queries None fault faulty some = some
@@ -118,12 +120,12 @@ wants_memory {S} {K} means given holds openings sinks outcome start cause of ope
   where
     -- the names behind that of the queries
     later_ones : All (Quiet openings.unread_old openings.unread_new)
-        (option_to_list given.joins ++ (option_to_list given.asks
-        ++ (option_to_list given.from ++ given.streams)))
+        (option_to_list (joins_of given) ++ (option_to_list (asks_of given)
+        ++ (option_to_list (from_of given) ++ streams_of given)))
     later_ones = subst (λ (names : List (List ℕ)).
         All (Quiet openings.unread_old openings.unread_new) names)
-        (append_assoc (option_to_list given.joins) (option_to_list given.asks)
-        (option_to_list given.from ++ given.streams))
+        (append_assoc (option_to_list (joins_of given)) (option_to_list (asks_of given))
+        (option_to_list (from_of given) ++ streams_of given))
         (All-tail (Quiet openings.unread_old openings.unread_new) given.queries
         (later_names given)
         (subst (λ (names : List (List ℕ)).
@@ -132,102 +134,102 @@ wants_memory {S} {K} means given holds openings sinks outcome start cause of ope
 
     -- those behind that of the joins
     asks_on : All (Quiet openings.unread_old openings.unread_new)
-        (option_to_list given.asks ++ (option_to_list given.from ++ given.streams))
+        (option_to_list (asks_of given) ++ (option_to_list (from_of given) ++ streams_of given))
     asks_on = all_behind (Quiet openings.unread_old openings.unread_new)
-        (option_to_list given.joins)
-        (option_to_list given.asks ++ (option_to_list given.from ++ given.streams)) later_ones
+        (option_to_list (joins_of given))
+        (option_to_list (asks_of given) ++ (option_to_list (from_of given) ++ streams_of given)) later_ones
 
     -- those behind that of the asks
     last_names : All (Quiet openings.unread_old openings.unread_new)
-        (option_to_list given.from ++ given.streams)
+        (option_to_list (from_of given) ++ streams_of given)
     last_names = all_behind (Quiet openings.unread_old openings.unread_new)
-        (option_to_list given.asks) (option_to_list given.from ++ given.streams) asks_on
+        (option_to_list (asks_of given)) (option_to_list (from_of given) ++ streams_of given) asks_on
 
-    joins_fault : (option : Option (List ℕ)) (fault : JoinsFault)
+    joins_fault : (option : Option (List ℕ)) (fault : JoinFileFault)
         → IsSomeAnd option (λ name.
-        AreFaultyJoins given.two_way (holds given.queries) (holds name) fault)
+        AreFaultyJoins (two_way_of given) (holds given.queries) (holds name) fault)
         → IfSome option (λ name.
-        IsSomeAnd (holds name) (AreFaultlessJoins given.two_way (holds given.queries))) → ⊥
+        IsSomeAnd (holds name) (AreFaultlessJoins (two_way_of given) (holds given.queries))) → ⊥
     joins_fault None fault cause can = cause
     joins_fault (Some name) fault cause can =
-        joins_not_faulty given.two_way (holds given.queries) (holds name) fault cause can
+        joins_not_faulty (two_way_of given) (holds given.queries) (holds name) fault cause can
 
     joins_long : (option : Option (List ℕ))
         → IsSomeAnd option (λ name.
-        IsQueriesFile given.two_way (holds given.queries) × IsTooLong (holds name))
+        IsQueriesFile (two_way_of given) (holds given.queries) × IsTooLong (holds name))
         → IfSome option (λ name.
-        IsSomeAnd (holds name) (AreFaultlessJoins given.two_way (holds given.queries))) → ⊥
+        IsSomeAnd (holds name) (AreFaultlessJoins (two_way_of given) (holds given.queries))) → ⊥
     joins_long None cause can = cause
     joins_long (Some name) cause can =
-        joins_not_long given.two_way (holds given.queries) (holds name) cause.1 can
+        joins_not_long (two_way_of given) (holds given.queries) (holds name) cause.1 can
 
-    joins_opened : (option : Option (List ℕ)) → given.joins ≡ option
-        → IsSomeAnd option (λ name. IsQueriesFile given.two_way (holds given.queries))
-        → ((name : List ℕ) → given.joins ≡ Some name
+    joins_opened : (option : Option (List ℕ)) → joins_of given ≡ option
+        → IsSomeAnd option (λ name. IsQueriesFile (two_way_of given) (holds given.queries))
+        → ((name : List ℕ) → joins_of given ≡ Some name
         → Rose (openings.unread_old name) (openings.unread_new name)) → ⊥
     joins_opened None is cause rose = cause
     joins_opened (Some name) is cause rose =
-        option_member (Quiet openings.unread_old openings.unread_new) given.joins name
-        (option_to_list given.asks ++ (option_to_list given.from ++ given.streams)) later_ones is
+        option_member (Quiet openings.unread_old openings.unread_new) (joins_of given) name
+        (option_to_list (asks_of given) ++ (option_to_list (from_of given) ++ streams_of given)) later_ones is
         (rose name is)
 
     asks_fault : (option : Option (List ℕ)) (fault : AskFault)
         → IsSomeAnd option (λ name.
-        AreFaultyAsks given.two_way (holds given.queries) (holds name) fault
+        AreFaultyAsks (two_way_of given) (holds given.queries) (holds name) fault
         × AreUnderstoodJoins given holds)
         → IfSome option (λ name.
-        IsSomeAnd (holds name) (AreFaultlessAsks given.two_way (holds given.queries))) → ⊥
+        IsSomeAnd (holds name) (AreFaultlessAsks (two_way_of given) (holds given.queries))) → ⊥
     asks_fault None fault cause can = cause
     asks_fault (Some name) fault cause can =
-        asks_not_faulty given.two_way (holds given.queries) (holds name) fault cause.0 can
+        asks_not_faulty (two_way_of given) (holds given.queries) (holds name) fault cause.0 can
 
     asks_long : (option : Option (List ℕ))
         → IsSomeAnd option (λ name. AreUnderstoodJoins given holds × IsTooLong (holds name))
         → IfSome option (λ name.
-        IsSomeAnd (holds name) (AreFaultlessAsks given.two_way (holds given.queries))) → ⊥
+        IsSomeAnd (holds name) (AreFaultlessAsks (two_way_of given) (holds given.queries))) → ⊥
     asks_long None cause can = cause
     asks_long (Some name) cause can =
-        asks_not_long given.two_way (holds given.queries) (holds name) cause.1 can
+        asks_not_long (two_way_of given) (holds given.queries) (holds name) cause.1 can
 
-    asks_opened : (option : Option (List ℕ)) → given.asks ≡ option
+    asks_opened : (option : Option (List ℕ)) → asks_of given ≡ option
         → IsSomeAnd option (λ name. AreUnderstoodJoins given holds)
-        → ((name : List ℕ) → given.asks ≡ Some name
+        → ((name : List ℕ) → asks_of given ≡ Some name
         → Rose (openings.unread_old name) (openings.unread_new name)) → ⊥
     asks_opened None is cause rose = cause
     asks_opened (Some name) is cause rose =
-        option_member (Quiet openings.unread_old openings.unread_new) given.asks name
-        (option_to_list given.from ++ given.streams) asks_on is (rose name is)
+        option_member (Quiet openings.unread_old openings.unread_new) (asks_of given) name
+        (option_to_list (from_of given) ++ streams_of given) asks_on is (rose name is)
 
-    from_opened : (option : Option (List ℕ)) → given.from ≡ option
+    from_opened : (option : Option (List ℕ)) → from_of given ≡ option
         → IsSomeAnd option (λ name. AreUnderstoodFiles given holds)
-        → ((name : List ℕ) → given.from ≡ Some name
+        → ((name : List ℕ) → from_of given ≡ Some name
         → Rose (openings.unread_old name) (openings.unread_new name)) → ⊥
     from_opened None is cause rose = cause
     from_opened (Some name) is cause rose =
-        option_member (Quiet openings.unread_old openings.unread_new) given.from name
-        given.streams last_names is (rose name is)
+        option_member (Quiet openings.unread_old openings.unread_new) (from_of given) name
+        (streams_of given) last_names is (rose name is)
 
-    replies_made : (option : Option (List ℕ)) → given.replies ≡ option
+    replies_made : (option : Option (List ℕ)) → replies_of given ≡ option
         → IsSomeAnd option (λ name. AreUnderstoodFiles given holds)
-        → ((name : List ℕ) → given.replies ≡ Some name
+        → ((name : List ℕ) → replies_of given ≡ Some name
         → Rose (openings.unmade_old name) (openings.unmade_new name)) → ⊥
     replies_made None is cause rose = cause
     replies_made (Some name) is cause rose =
-        option_member (Quiet openings.unmade_old openings.unmade_new) given.replies name
-        (option_to_list given.save) none.unmade is (rose name is)
+        option_member (Quiet openings.unmade_old openings.unmade_new) (replies_of given) name
+        (option_to_list (save_of given)) none.unmade is (rose name is)
 
-    save_made : (option : Option (List ℕ)) → given.save ≡ option
+    save_made : (option : Option (List ℕ)) → save_of given ≡ option
         → IsSomeAnd option (λ name. AreUnderstoodFiles given holds)
-        → ((name : List ℕ) → given.save ≡ Some name
+        → ((name : List ℕ) → save_of given ≡ Some name
         → Rose (openings.unmade_old name) (openings.unmade_new name)) → ⊥
     save_made None is cause rose = cause
     save_made (Some name) is cause rose =
         let quiet = all_behind (Quiet openings.unmade_old openings.unmade_new)
-        (option_to_list given.replies) (option_to_list given.save) none.unmade in
-        option_member (Quiet openings.unmade_old openings.unmade_new) given.save name []
+        (option_to_list (replies_of given)) (option_to_list (save_of given)) none.unmade in
+        option_member (Quiet openings.unmade_old openings.unmade_new) (save_of given) name []
         (subst (λ (names : List (List ℕ)).
         All (Quiet openings.unmade_old openings.unmade_new) names)
-        (sym (append-nil (option_to_list given.save))) quiet) is (rose name is)
+        (sym (append-nil (option_to_list (save_of given)))) quiet) is (rose name is)
 
     by : (fault : StartFault) → IsRefusedFor given holds fault
         → AreSourcesOf means.left means.faults (file_held (Some given) holds) fault outcome.sources
@@ -238,40 +240,57 @@ wants_memory {S} {K} means given holds openings sinks outcome start cause of ope
         → (status_of_start fault ≡ 0) ⊎ (status_of_start fault ≡ 8)
     by Words cause of opened made = absurd cause
     by (QueriesFault fault) cause of opened made =
-        absurd (not_faulty given.two_way (holds given.queries) fault cause can.understood)
+        absurd (not_faulty (two_way_of given) (holds given.queries) fault cause can.understood)
     by (JoinsFaulty fault) cause of opened made =
-        absurd (joins_fault given.joins fault cause can.joins)
-    by (AsksFault fault) cause of opened made = absurd (asks_fault given.asks fault cause can.asks)
+        absurd (joins_fault (joins_of given) fault cause can.joins)
+    by (AsksFault fault) cause of opened made = absurd (asks_fault (asks_of given) fault cause can.asks)
     by (Open Queries) cause of opened made =
         absurd (All-head (Quiet openings.unread_old openings.unread_new) given.queries
-        (((option_to_list given.joins ++ option_to_list given.asks) ++ option_to_list given.from)
-        ++ given.streams) none.unread (opened given.queries refl))
-    by (Open Joins) cause of opened made = absurd (joins_opened given.joins refl cause opened)
-    by (Open Asks) cause of opened made = absurd (asks_opened given.asks refl cause opened)
-    by (Open From) cause of opened made = absurd (from_opened given.from refl cause opened)
-    by (Open Replies) cause of opened made = absurd (replies_made given.replies refl cause made)
-    by (Open Save) cause of opened made = absurd (save_made given.save refl cause made)
+        (((option_to_list (joins_of given) ++ option_to_list (asks_of given)) ++ option_to_list (from_of given))
+        ++ streams_of given) none.unread (opened given.queries refl))
+    by (Open Joins) cause of opened made = absurd (joins_opened (joins_of given) refl cause opened)
+    by (Open Asks) cause of opened made = absurd (asks_opened (asks_of given) refl cause opened)
+    by (Open From) cause of opened made = absurd (from_opened (from_of given) refl cause opened)
+    by (Open Replies) cause of opened made = absurd (replies_made (replies_of given) refl cause made)
+    by (Open Save) cause of opened made = absurd (save_made (save_of given) refl cause made)
     by (Open (Stream zero)) cause of opened made = absurd (omega (arith, cause.0.first))
     by (Open (Stream (suc place))) cause of opened made =
-        let inside : place < length given.streams = omega (arith, cause.0.last) in
+        let inside : place < length (streams_of given) = omega (arith, cause.0.last) in
         let names = all_behind (Quiet openings.unread_old openings.unread_new)
-        (option_to_list given.from) given.streams last_names in
+        (option_to_list (from_of given)) (streams_of given) last_names in
         absurd (names place [] inside
-        (opened (get_or given.streams place [])
-        (slice_get-get_or given.streams place [] inside)))
+        (opened (get_or (streams_of given) place [])
+        (slice_get-get_or (streams_of given) place [] inside)))
     by (ReadAtStart which) cause of opened made =
         absurd (All-head (λ source. ¬ Rose 0 (means.faults source)) of.0 []
         (subst (λ (ss : List S). All (λ source. ¬ Rose 0 (means.faults source)) ss) of.1
         none.reads) of.2)
     by (Long Queries) cause of opened made =
-        absurd (not_long given.two_way (holds given.queries) cause can.understood)
-    by (Long Joins) cause of opened made = absurd (joins_long given.joins cause can.joins)
-    by (Long Asks) cause of opened made = absurd (asks_long given.asks cause can.asks)
+        absurd (not_long (two_way_of given) (holds given.queries) cause can.understood)
+    by (Long Joins) cause of opened made = absurd (joins_long (joins_of given) cause can.joins)
+    by (Long Asks) cause of opened made = absurd (asks_long (asks_of given) cause can.asks)
     by (Long From) cause of opened made = absurd cause
     by (Long Replies) cause of opened made = absurd cause
     by (Long Save) cause of opened made = absurd cause
     by (Long (Stream number)) cause of opened made = absurd cause
     by Memory cause of opened made = inr refl
+
+-- a run that doesn't begin isn't done
+pub never_done : (fault : StartFault) → status_of_start fault ≡ 0 → ⊥
+never_done Words done = omega (arith, done)
+never_done (QueriesFault fault) done = omega (arith, done)
+never_done (JoinsFaulty fault) done = omega (arith, done)
+never_done (AsksFault fault) done = omega (arith, done)
+never_done (Open Queries) done = omega (arith, done)
+never_done (Open Joins) done = omega (arith, done)
+never_done (Open Asks) done = omega (arith, done)
+never_done (Open From) done = omega (arith, done)
+never_done (Open (Stream number)) done = omega (arith, done)
+never_done (Open Replies) done = omega (arith, done)
+never_done (Open Save) done = omega (arith, done)
+never_done (ReadAtStart which) done = omega (arith, done)
+never_done (Long which) done = omega (arith, done)
+never_done Memory done = omega (arith, done)
 
 -- ---- what it did to the files
 

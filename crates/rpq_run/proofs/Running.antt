@@ -11,10 +11,11 @@ use Rattle.rpq_io.specs.Files.{IsNewSink}
 use Rattle.rpq_io.specs.Reader.{ReaderState}
 use Rattle.rpq_io.proofs.Counting.{counts_as, counts_none}
 use Rattle.rpq_model.specs.Query.{Query}
-use Rattle.conj_query.specs.FileLaws.{JoinsAreSound}
-use Rattle.conj_query.specs.Joins.{JoinValue}
-use Rattle.conj_query.specs.Sound.{IsSound}
-use Rattle.rpq_words.specs.Settings.{Settings}
+use Rattle.join_file.specs.FileLaws.{JoinsAreSound}
+use Rattle.join_file.specs.Joins.{JoinValue}
+use Rattle.join_file.specs.Sound.{IsSound}
+use Rattle.rpq_words.specs.declared.settings.Settings.{Settings}
+use Rattle.rpq_words.specs.Views.{asks_of, from_of, joins_of, streams_of, two_way_of}
 use Rattle.history_model.specs.declared.line.Why.{Why}
 use Rattle.history_model.specs.declared.line.Why.TheVariants.{Write, Memory}
 use Rattle.stream_tuples.specs.declared.ends.StreamEnd.{StreamEnd}
@@ -28,9 +29,9 @@ use Rattle.rpq_text.specs.Definitions.{compiled_line, definitions_of}
 use Rattle.rpq_text.specs.declared.ends.SinkName.{SinkName}
 use Rattle.rpq_text.specs.declared.ends.SinkName.TheVariants.{Events, Replies, Save}
 use Rattle.rpq_text.specs.ErrorLines.{run_lines}
-use Rattle.rpq_text.specs.Laws.{FrontsHoldAnswers, FrontsHoldBindings}
+use Rattle.entry_steps.specs.Laws.{FrontsHoldAnswers, FrontsHoldBindings}
 use Rattle.rpq_text.specs.Statuses.{IsStatusOf}
-use Rattle.rpq_text.specs.Steps.{OptionsValue}
+use Rattle.entry_steps.specs.Steps.{OptionsValue}
 use Rattle.rpq_text.specs.Text.{IsText}
 use Rattle.rpq_text.specs.Verdicts.{AreVerdicts}
 use Rattle.rpq_text.proofs.VerdictLines.{are_verdicts}
@@ -97,7 +98,7 @@ pub for_joins : (given : Settings) (holds : List ℕ → Option (List ℕ)) (que
     (P Q : List JoinValue → Type 0)
     → ((found : List JoinValue) → AreFrom queries found → P found → Q found)
     → ForJoins given holds queries P → ForJoins given holds queries Q
-for_joins given holds queries P Q step told = by given.joins told
+for_joins given holds queries P Q step told = by (joins_of given) told
   where
     by_file : (file : Option (List ℕ))
         → IfSome file (λ bytes. (found : List JoinValue) × HasJoins queries bytes found × P found)
@@ -116,11 +117,11 @@ for_joins given holds queries P Q step told = by given.joins told
 -- what holds of the queries and the conjunctions
 pub for_joined : (given : Settings) (holds : List ℕ → Option (List ℕ)) (queries : List Query)
     (P : List JoinValue → Type 0) (Q : List Query → List JoinValue → Type 0)
-    → IfSome (holds given.queries) (λ bytes. HasQueries given.two_way bytes queries)
+    → IfSome (holds given.queries) (λ bytes. HasQueries (two_way_of given) bytes queries)
     → ((found : List JoinValue) → AreFrom queries found → P found → Q queries found)
     → ForJoins given holds queries P → ForJoined given holds Q
 for_joined given holds queries P Q has step told =
-    for_queries given.two_way (holds given.queries) queries
+    for_queries (two_way_of given) (holds given.queries) queries
     (λ all. ForJoins given holds all (Q all)) has
     (for_joins given holds queries P (Q queries) step told)
 
@@ -142,7 +143,7 @@ pub for_sessions : (given : Settings) (holds : List ℕ → Option (List ℕ)) (
     (sessions : List (List Ask)) (P : List (List Ask) → Type 0)
     → ForSessions given holds queries (λ asked. sessions ≡ asked) → P sessions
     → ForSessions given holds queries P
-for_sessions given holds queries sessions P are p = by given.asks are
+for_sessions given holds queries sessions P are p = by (asks_of given) are
   where
     by_file : (file : Option (List ℕ))
         → IfSome file (λ bytes. (asked : List (List Ask)) × HasSessions queries bytes asked
@@ -163,11 +164,11 @@ for_sessions given holds queries sessions P are p = by given.asks are
 -- what holds of the queries and the sessions
 pub for_asked : (given : Settings) (holds : List ℕ → Option (List ℕ)) (queries : List Query)
     (sessions : List (List Ask)) (P : List Query → List (List Ask) → Type 0)
-    → IfSome (holds given.queries) (λ bytes. HasQueries given.two_way bytes queries)
+    → IfSome (holds given.queries) (λ bytes. HasQueries (two_way_of given) bytes queries)
     → ForSessions given holds queries (λ asked. sessions ≡ asked) → P queries sessions
     → ForAsked given holds P
 for_asked given holds queries sessions P has are p =
-    for_queries given.two_way (holds given.queries) queries
+    for_queries (two_way_of given) (holds given.queries) queries
     (λ all. ForSessions given holds all (P all)) has
     (for_sessions given holds queries sessions (P queries) are p)
 
@@ -305,15 +306,15 @@ module _ {S K O : Type 0} (means : Meanings S K) (given : Settings)
   holds_streams : HoldsStreams means given holds answer
   holds_streams =
       let left = left_of_both means.left in
-      let as_many : length task.readers.items ≡ length given.streams =
+      let as_many : length task.readers.items ≡ length (streams_of given) =
       sym (length-map task.readers.items (λ (reader : ReaderState (TwoSources S)).
       left reader.source))
       ∙ (ap (λ (fs : List (Option (List ℕ))). length fs)
       (sym {A = List (Option (List ℕ))} asked.contents)
-      ∙ (as_many_contents (from_content given holds) (map holds given.streams)
-      ∙ length-map given.streams holds)) in
+      ∙ (as_many_contents (from_content given holds) (map holds (streams_of given))
+      ∙ length-map (streams_of given) holds)) in
       record {
-        from = there_by_count from given.from (from_is ∙ asked.behind);
+        from = there_by_count from (from_of given) (from_is ∙ asked.behind);
         each_stream = subst
             (λ (ss : List (TwoSources S)). AreStreamsOf left (faults_of_both means.faults)
             given.history (stream_contents given holds) ss threads.history.items threads.ends.items)
@@ -340,10 +341,10 @@ module _ {S K O : Type 0} (means : Meanings S K) (given : Settings)
         (events_written means.written means.failures task.options queries_in
         threads.history.items sinks.events_old sinks.events_new threads.why
         (is_failed written.replied) (is_failed written.saved) status for_engine held.text);
-    sets = for_queries given.two_way (holds given.queries) queries_in (λ all.
-        FrontsHold given.two_way all threads.history.items) asked.has
+    sets = for_queries (two_way_of given) (holds given.queries) queries_in (λ all.
+        FrontsHold (two_way_of given) all threads.history.items) asked.has
         (λ place query events here all count pair.
-        fronts given.two_way queries_in place query threads.history.items events here all count
+        fronts (two_way_of given) queries_in place query threads.history.items events here all count
         pair);
     bindings = for_joined given holds queries_in (λ joins. task.options ≡ options_of given joins)
         (λ all joins. FrontsBind all joins threads.history.items) asked.has
@@ -480,11 +481,11 @@ module _ {S K O : Type 0} (means : Meanings S K) (given : Settings)
     where
       by : (sink : Option K) → IfSome sink (λ s. GotText (Contains failed_in Events)
           (Contains failed_in Save) status window_in (means.written s))
-          → IfSome sink (λ s. ForQueries given.two_way (holds given.queries)
+          → IfSome sink (λ s. ForQueries (two_way_of given) (holds given.queries)
           (λ queries. GotText (Contains failed_in Events) (Contains failed_in Save) status
           (saved_text (saved queries threads.history.items)) (means.written s)))
       by None got = tt
-      by (Some sink) got = for_queries given.two_way (holds given.queries) queries_in
+      by (Some sink) got = for_queries (two_way_of given) (holds given.queries) queries_in
           (λ all. GotText (Contains failed_in Events) (Contains failed_in Save) status
           (saved_text (saved all threads.history.items)) (means.written sink))
           asked.has got
@@ -686,10 +687,10 @@ verdicts_written written failures queries old new (Err e) status all told =
     }
 
 -- the check of queries
-check_runs : {S K T E : Type 0} (means : Meanings S K) (given : Settings)
-    (holds : List ℕ → Option (List ℕ)) (queries : List CompiledValue) (sinks : Sinks K)
+check_runs : {S K T E : Type 0} (means : Meanings S K) (two_way : Bool)
+    (file : Option (List ℕ)) (queries : List CompiledValue) (sinks : Sinks K)
     (result : Result T E) (status : ℕ) (all : Objects) → LeavesObjects all
-    → IfSome (holds given.queries) (λ bytes. HasQueries given.two_way bytes
+    → IfSome file (λ bytes. HasQueries two_way bytes
     (definitions_of queries))
     → All IsCompiled queries
     → Tells means.written means.failures (flat_map compiled_line queries) sinks.events_old
@@ -698,9 +699,9 @@ check_runs : {S K T E : Type 0} (means : Meanings S K) (given : Settings)
     → TellsLines means.written means.failures
     (run_lines [] (failed_sinks (is_err result) false false) status)
     sinks.errors_old sinks.errors_new
-    → RunsCheck {S = S} {K = K} means given holds sinks all (check_outcome status)
-check_runs means given holds queries sinks result status all kept has are told is lines = record {
-  understood = is_queries_file given.two_way (holds given.queries) (definitions_of queries) has;
+    → RunsCheck {S = S} {K = K} means two_way file sinks all (check_outcome status)
+check_runs means two_way file queries sinks result status all kept has are told is lines = record {
+  understood = is_queries_file two_way file (definitions_of queries) has;
   nothing = record {
     no_history = refl;
     no_stream = refl;
@@ -710,7 +711,7 @@ check_runs means given holds queries sinks result status all kept has are told i
   };
   no_source = refl;
   failed = failed_sinks (is_err result) false false;
-  text = for_queries given.two_way (holds given.queries) (definitions_of queries) (λ each.
+  text = for_queries two_way file (definitions_of queries) (λ each.
       WritesWhere (Contains (failed_sinks (is_err result) false false) Events) status
       (AreVerdicts each) (means.written sinks.events_old) (means.written sinks.events_new)) has
       (verdicts_written means.written means.failures queries sinks.events_old sinks.events_new
@@ -738,13 +739,13 @@ check_runs means given holds queries sinks result status all kept has are told i
 }
 
 -- the same with what it answers in its lists
-pub runs_check : {S K T E : Type 0} (means : Meanings S K) (given : Settings)
-    (holds : List ℕ → Option (List ℕ)) (queries : List CompiledValue) (sinks : Sinks K)
+pub runs_check : {S K T E : Type 0} (means : Meanings S K) (two_way : Bool)
+    (file : Option (List ℕ)) (queries : List CompiledValue) (sinks : Sinks K)
     (result : Result T E) (status : ℕ) (all : Objects) (history : List Entry)
     (ends : List StreamEnd) (sources : List S) (sessions : List (List AnsweredValue)) → history ≡ []
     → ends ≡ [] → sources ≡ []
     → sessions ≡ [] → LeavesObjects all
-    → IfSome (holds given.queries) (λ bytes. HasQueries given.two_way bytes
+    → IfSome file (λ bytes. HasQueries two_way bytes
     (definitions_of queries))
     → All IsCompiled queries
     → Tells means.written means.failures (flat_map compiled_line queries) sinks.events_old
@@ -753,7 +754,7 @@ pub runs_check : {S K T E : Type 0} (means : Meanings S K) (given : Settings)
     → TellsLines means.written means.failures
     (run_lines [] (failed_sinks (is_err result) false false) status)
     sinks.errors_old sinks.errors_new
-    → RunsCheck means given holds sinks all (record {
+    → RunsCheck means two_way file sinks all (record {
       status = status;
       history = history;
       ends = ends;
@@ -763,9 +764,9 @@ pub runs_check : {S K T E : Type 0} (means : Meanings S K) (given : Settings)
       replies = None;
       save = None;
     })
-runs_check {S} {K} means given holds queries sinks result status all history ends sources sessions
+runs_check {S} {K} means two_way file queries sinks result status all history ends sources sessions
     no_history no_end no_source no_session kept has compiled told status_is lines =
-    subst (λ (outcome : Outcome S K). RunsCheck means given holds sinks all outcome)
+    subst (λ (outcome : Outcome S K). RunsCheck means two_way file sinks all outcome)
     (nothing_taken status history ends sources sessions no_history no_end no_source no_session)
-    (check_runs means given holds queries sinks result status all kept has compiled told
+    (check_runs means two_way file queries sinks result status all kept has compiled told
     status_is lines)

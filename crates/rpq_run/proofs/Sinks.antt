@@ -15,7 +15,7 @@ use Rattle.rpq_model.specs.Query.{Query}
 use Rattle.rpq_text.specs.declared.ends.SinkName.{SinkName}
 use Rattle.rpq_text.specs.declared.ends.SinkName.TheVariants.{Events, Replies, Save}
 use Rattle.rpq_text.specs.Statuses.{AreSomeSinks}
-use Rattle.rpq_text.specs.Steps.{OptionsValue}
+use Rattle.entry_steps.specs.Steps.{OptionsValue}
 use Rattle.rpq_text.specs.Text.{IsText}
 use Rattle.rpq_threads.specs.Runs.{WritesText}
 use Rattle.rpq_threads.specs.Written.{Grew, GrewByPrefix, GrewByProperPrefix}

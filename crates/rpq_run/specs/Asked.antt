@@ -2,9 +2,10 @@
 use Rattle.std.specs.Prelude.{◌≡◌, ℕ, List, Option, IfSome}
 use Rattle.rpq_io.specs.Reader.{ReaderState}
 use Rattle.query_file.specs.Compiled.{CompiledValue}
-use Rattle.conj_query.specs.Joins.{JoinValue}
+use Rattle.join_file.specs.Joins.{JoinValue}
 use Rattle.ask_text.specs.declared.ask.Ask.{Ask}
-use Rattle.rpq_words.specs.Settings.{Settings}
+use Rattle.rpq_words.specs.declared.settings.Settings.{Settings}
+use Rattle.rpq_words.specs.Views.{from_of, two_way_of}
 use Rattle.rpq_text.specs.Definitions.{definitions_of}
 use Rattle.saved_window.specs.Then.{TwoSources, count_of}
 use Rattle.run_start.specs.Files.{ForJoins, ForSessions, HasQueries, stream_contents}
@@ -33,9 +34,9 @@ pub record IsAsked {S K : Type 0} (left : S → Option (List ℕ)) (written : K 
     (failures : K → ℕ) (given : Settings) (holds : List ℕ → Option (List ℕ)) (firsts : ℕ)
     (task : Task (TwoSources S)) (own : OwnSinks K) : Type 0 where
   pub has : IfSome (holds given.queries)
-      (λ bytes. HasQueries given.two_way bytes (definitions_of task.queries.items))
+      (λ bytes. HasQueries (two_way_of given) bytes (definitions_of task.queries.items))
   pub contents : stream_contents given holds ≡ lefts_of left task.readers.items
-  pub behind : firsts ≡ count_of given.from
+  pub behind : firsts ≡ count_of (from_of given)
   pub asked : ForSessions given holds (definitions_of task.queries.items)
       (λ asked. task.sessions.items ≡ asked)
   pub options : ForJoins given holds (definitions_of task.queries.items)

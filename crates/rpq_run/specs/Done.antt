@@ -2,7 +2,9 @@
 use Rattle.std.specs.Prelude.{◌≡◌, ℕ, ◌≤◌, List, length, map, sum, All, Option, option_map}
 use Rattle.std.specs.Prelude.{unwrap_or, IfSome, IsSomeAnd}
 use Rattle.rpq_io.specs.Counts.{Rose}
-use Rattle.rpq_words.specs.Settings.{Settings}
+use Rattle.rpq_words.specs.Modes.{count_of}
+use Rattle.rpq_words.specs.declared.settings.Settings.{Settings}
+use Rattle.rpq_words.specs.Views.{asks_of, joins_of, two_way_of}
 use Rattle.stream_tuples.specs.declared.ends.StreamEnd.TheVariants.{Whole}
 use Rattle.stream_tuples.specs.StreamText.{stream_tuples}
 use Rattle.run_start.specs.Files.{IsFaultless, AreFaultlessAsks, AreFaultlessJoins}
@@ -22,14 +24,14 @@ tuple_count file = unwrap_or (option_map (λ text. length (stream_tuples text).t
 -- the bytes of all files are told and have no fault, and the history can hold the streams' tuples,
 -- or those that are generated
 pub record CanBeDone (given : Settings) (holds : List ℕ → Option (List ℕ)) : Type 0 where
-  pub understood : IsSomeAnd (holds given.queries) (IsFaultless given.two_way)
-  pub joins : IfSome given.joins (λ name.
-      IsSomeAnd (holds name) (AreFaultlessJoins given.two_way (holds given.queries)))
-  pub asks : IfSome given.asks (λ name.
-      IsSomeAnd (holds name) (AreFaultlessAsks given.two_way (holds given.queries)))
+  pub understood : IsSomeAnd (holds given.queries) (IsFaultless (two_way_of given))
+  pub joins : IfSome (joins_of given) (λ name.
+      IsSomeAnd (holds name) (AreFaultlessJoins (two_way_of given) (holds given.queries)))
+  pub asks : IfSome (asks_of given) (λ name.
+      IsSomeAnd (holds name) (AreFaultlessAsks (two_way_of given) (holds given.queries)))
   pub whole : All IsWholeStream (stream_contents given holds)
   pub few : sum (map tuple_count (stream_contents given holds)) ≤ given.history
-  pub made : IfSome given.generate (λ count. count ≤ given.history)
+  pub made : IfSome (count_of given.mode) (λ count. count ≤ given.history)
 
 -- no count rose that shows a failure: of an opening of one of the files, of a read of a source, or
 -- of a write of the events, the replies or the saved window

@@ -3,17 +3,18 @@ use Rattle.std.specs.Prelude.{◌≡◌, ℕ, ◌+◌, ◌↔◌, ⊤, Bool, fal
 use Rattle.std.specs.Prelude.{map, take, All, Option, Some, option_map, unwrap_or, slice_get}
 use Rattle.std.specs.Prelude.{IfSome, MatchOption}
 use Rattle.std.specs.List.{flat_map}
-use Rattle.conj_query.specs.declared.event.JoinEvent.{JoinEvent}
-use Rattle.conj_query.specs.Histories.{AreJoinEventsOn, IsBindingOver, IsJoinHeld}
-use Rattle.conj_query.specs.Joins.{JoinValue}
-use Rattle.conj_query.specs.JoinText.{join_lines}
+use Rattle.join_bindings.specs.declared.event.JoinEvent.{JoinEvent}
+use Rattle.join_bindings.specs.Histories.{AreJoinEventsOn, IsBindingOver, IsJoinHeld}
+use Rattle.join_file.specs.Joins.{JoinValue}
+use Rattle.join_bindings.specs.JoinText.{join_lines}
 use Rattle.rpq_base.specs.declared.data.Entry.{Entry}
 use Rattle.rpq_base.specs.declared.data.Pair.{Pair}
 use Rattle.rpq_model.specs.Answers.{IsAnswer}
 use Rattle.rpq_model.specs.Events.{IsHeld}
 use Rattle.rpq_model.specs.Query.{Query, path_query}
 use Rattle.two_way.specs.TwoWay.{walked}
-use Rattle.rpq_words.specs.Settings.{Settings}
+use Rattle.rpq_words.specs.declared.settings.Settings.{Settings}
+use Rattle.rpq_words.specs.Views.{asks_of, from_of, joins_of, paths_of, streams_of, two_way_of}
 use Rattle.ask_text.specs.declared.ask.Ask.{Ask}
 use Rattle.ask_text.specs.Replies.{replies}
 use Rattle.saved_window.specs.Saved.{saved}
@@ -21,7 +22,7 @@ use Rattle.saved_window.specs.SavedText.{saved_text}
 use Rattle.standing.specs.Stood.{HaveStood}
 use Rattle.stream_tuples.specs.History.{IsNumberOf, own_tuples}
 use Rattle.stream_tuples.specs.StreamText.{stream_tuples}
-use Rattle.rpq_text.specs.Steps.{OptionsValue, StepValue, AreSteps, events_of, lines_of}
+use Rattle.entry_steps.specs.Steps.{OptionsValue, StepValue, AreSteps, events_of, lines_of}
 use Rattle.rpq_text.specs.Text.{blocks_from}
 use Rattle.run_start.specs.Files.{HasJoins, HasQueries, HasSessions}
 use Rattle.rpq_threads.specs.Runs.{AreSessionsOf, asks_answered}
@@ -52,13 +53,13 @@ stream_texts told = behind_text (unwrap_or told.from []) told.streams
 -- the settings say so, their files hold these bytes, and the sink of the events had these
 pub record IsTold {S K : Type 0} (means : Meanings S K) (given : Settings)
     (holds : List ℕ → Option (List ℕ)) (sinks : Sinks K) (told : Told) : Type 0 where
-  pub two_way : given.two_way ≡ told.two_way
-  pub paths : given.paths ≡ told.paths
+  pub two_way : (two_way_of given) ≡ told.two_way
+  pub paths : (paths_of given) ≡ told.paths
   pub queries : holds given.queries ≡ Some told.queries
-  pub joins : option_map holds given.joins ≡ option_map (λ bytes. Some bytes) told.joins
-  pub asks : option_map holds given.asks ≡ option_map (λ bytes. Some bytes) told.asks
-  pub from : option_map holds given.from ≡ option_map (λ bytes. Some bytes) told.from
-  pub streams : map holds given.streams ≡ map (λ bytes. Some bytes) told.streams
+  pub joins : option_map holds (joins_of given) ≡ option_map (λ bytes. Some bytes) told.joins
+  pub asks : option_map holds (asks_of given) ≡ option_map (λ bytes. Some bytes) told.asks
+  pub from : option_map holds (from_of given) ≡ option_map (λ bytes. Some bytes) told.from
+  pub streams : map holds (streams_of given) ≡ map (λ bytes. Some bytes) told.streams
   pub events : means.written sinks.events_old ≡ Some told.events
 
 -- the conjunctions over these queries: those of the joins file, or none

@@ -1,6 +1,9 @@
 -- What a run does that begins, and one that doesn't.
-use Rattle.std.specs.Prelude.{◌≡◌, ℕ, MatchBool, MatchOption, List, Option}
-use Rattle.rpq_words.specs.Settings.{Settings}
+use Rattle.std.specs.Prelude.{◌≡◌, ℕ, List, Option}
+use Rattle.rpq_words.specs.declared.settings.Mode.{Mode}
+use Rattle.rpq_words.specs.declared.settings.Mode.TheVariants.{Check, Generate, Streams}
+use Rattle.rpq_words.specs.declared.settings.Settings.{Settings}
+use Rattle.rpq_words.specs.Views.{is_both_ways}
 use Rattle.rpq_text.specs.declared.ends.StartFault.{StartFault}
 use Rattle.rpq_text.specs.ErrorLines.{start_line}
 use Rattle.rpq_text.specs.Statuses.{status_of_start}
@@ -11,14 +14,23 @@ use Rattle.rpq_run.specs.RunsGenerated.{RunsGenerated}
 use Rattle.rpq_run.specs.RunsStreams.{RunsStreams}
 use Rattle.rpq_run.specs.Written.{TellsLines}
 
--- what the settings ask for: the check, the run over so many generated tuples, or the run over
+-- what is asked for in each mode: the check, the run over so many generated tuples, or the run over
 -- streams
+abbrev pub RunsIn : {S K : Type 0} → Mode → Meanings S K → Settings → (List ℕ → Option (List ℕ))
+    → Sinks K → Objects → Outcome S K → Type 0
+RunsIn (Check directions) means given holds sinks objects outcome =
+    RunsCheck means (is_both_ways directions) (holds given.queries) sinks objects outcome
+RunsIn (Generate directions count) means given holds sinks objects outcome =
+    RunsGenerated means (is_both_ways directions) given.history count (holds given.queries)
+    sinks objects outcome
+RunsIn (Streams run) means given holds sinks objects outcome =
+    RunsStreams means given holds sinks objects outcome
+
+-- what the settings ask for
 abbrev pub Runs : {S K : Type 0} → Meanings S K → Settings → (List ℕ → Option (List ℕ))
     → Sinks K → Objects → Outcome S K → Type 0
-Runs means given holds sinks objects outcome = MatchBool given.check
-    (RunsCheck means given holds sinks objects outcome)
-    (MatchOption given.generate (RunsStreams means given holds sinks objects outcome)
-    (λ count. RunsGenerated means given count holds sinks objects outcome))
+Runs means given holds sinks objects outcome =
+    RunsIn given.mode means given holds sinks objects outcome
 
 -- a run that doesn't begin for this cause; its status and its line on the errors are those of the
 -- cause, it took nothing and left the sink of the events and the objects as they were, and it

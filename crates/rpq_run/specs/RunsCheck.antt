@@ -1,6 +1,5 @@
 -- What the check of a queries file does.
-use Rattle.std.specs.Prelude.{◌≡◌, ℕ, List, [], Contains, Option, None}
-use Rattle.rpq_words.specs.Settings.{Settings}
+use Rattle.std.specs.Prelude.{◌≡◌, ℕ, Bool, List, [], Contains, Option, None}
 use Rattle.rpq_text.specs.declared.ends.SinkName.{SinkName}
 use Rattle.rpq_text.specs.declared.ends.SinkName.TheVariants.{Events}
 use Rattle.rpq_text.specs.Verdicts.{AreVerdicts}
@@ -22,16 +21,16 @@ pub record LeavesObjects (objects : Objects) : Type 0 where
   pub stayed : objects.after.members ≡ objects.before
   pub none_left : objects.after.left ≡ []
 
--- the check: the queries file has queries, nothing is taken and no source left, the verdicts on the
--- queries are written, or a prefix of them, and the objects are told nothing
-pub record RunsCheck {S K : Type 0} (means : Meanings S K) (given : Settings)
-    (holds : List ℕ → Option (List ℕ)) (sinks : Sinks K) (objects : Objects) (outcome : Outcome S K)
+-- the check of this queries file: it has queries, nothing is taken and no source left, the verdicts
+-- on the queries are written, or a prefix of them, and the objects are told nothing
+pub record RunsCheck {S K : Type 0} (means : Meanings S K) (two_way : Bool)
+    (file : Option (List ℕ)) (sinks : Sinks K) (objects : Objects) (outcome : Outcome S K)
     : Type 0 where
-  pub understood : IsQueriesFile given.two_way (holds given.queries)
+  pub understood : IsQueriesFile two_way file
   pub nothing : TakesNothing outcome
   pub no_source : outcome.sources ≡ []
   pub failed : List SinkName
-  pub text : ForQueries given.two_way (holds given.queries) (λ queries.
+  pub text : ForQueries two_way file (λ queries.
       WritesWhere (Contains failed Events) outcome.status (AreVerdicts queries)
       (means.written sinks.events_old) (means.written sinks.events_new))
   pub causes : HasCauses means failed sinks outcome

@@ -2,7 +2,6 @@
 use Rattle.std.specs.Prelude.{◌≡◌, ◌≢◌, ℕ, ◌≤◌, ◌<◌, ◌⊎◌, ◌↔◌, Bool, List, [], ◌∷◌}
 use Rattle.std.specs.Prelude.{Option, None, Contains}
 use Rattle.rpq_model.specs.Query.{Query}
-use Rattle.rpq_words.specs.Settings.{Settings}
 use Rattle.stream_tuples.specs.declared.ends.StreamEnd.{StreamEnd}
 use Rattle.stream_tuples.specs.declared.ends.StreamEnd.TheVariants.{Whole, Full, Memory}
 use Rattle.tuple_generator.specs.Generator.{generated_history}
@@ -18,16 +17,16 @@ use Rattle.rpq_run.specs.Outcome.{Meanings, Sinks, Objects, Outcome}
 
 -- the history has the first generated tuples, in order, as stream 1: all that are wanted, or as
 -- many as it may have, unless memory ran out. The stream's end says which
-pub record HoldsGenerated {S K : Type 0} (given : Settings) (count : ℕ) (outcome : Outcome S K)
+pub record HoldsGenerated {S K : Type 0} (limit count : ℕ) (outcome : Outcome S K)
     : Type 0 where
   pub made : ℕ
-  pub within : (made ≤ count) × (made ≤ given.history)
+  pub within : (made ≤ count) × (made ≤ limit)
   pub history : outcome.history ≡ generated_history made
   pub end : StreamEnd
   pub one_stream : outcome.ends ≡ end ∷ []
   pub one_of : (end ≡ Whole) ⊎ ((end ≡ Full) ⊎ (end ≡ Memory))
   pub whole : end ≡ Whole → made ≡ count
-  pub full : end ≡ Full → (made ≡ given.history) × (made < count)
+  pub full : end ≡ Full → (made ≡ limit) × (made < count)
   pub memory : (end ≡ Memory) ↔ (outcome.status ≡ memory_status)
 
 -- the summary of the run was written; less than the whole of it where a write failed, and nothing
@@ -44,22 +43,23 @@ pub record WritesSummary {S K : Type 0} (means : Meanings S K) (two_way : Bool)
   pub nothing : outcome.status ≡ memory_status
       → means.written sinks.events_new ≡ means.written sinks.events_old
 
--- the run over so many generated tuples: no stream is opened, nobody asks, and no reply is written
--- and no window saved;
--- the objects were told of the events of the history, of all of them unless memory ran out
-pub record RunsGenerated {S K : Type 0} (means : Meanings S K) (given : Settings) (count : ℕ)
-    (holds : List ℕ → Option (List ℕ)) (sinks : Sinks K) (objects : Objects)
+-- the run over so many generated tuples, of which the history takes as many as its limit lets it,
+-- with the queries of this file: no stream is opened, nobody asks, and no reply is written and no
+-- window saved; the objects were told of the events of the history, of all of them unless memory
+-- ran out
+pub record RunsGenerated {S K : Type 0} (means : Meanings S K) (two_way : Bool) (limit count : ℕ)
+    (file : Option (List ℕ)) (sinks : Sinks K) (objects : Objects)
     (outcome : Outcome S K) : Type 0 where
-  pub understood : IsQueriesFile given.two_way (holds given.queries)
+  pub understood : IsQueriesFile two_way file
   pub no_source : outcome.sources ≡ []
   pub no_session : outcome.sessions ≡ []
   pub no_replies : outcome.replies ≡ None
   pub no_window : (outcome.from ≡ None) × (outcome.save ≡ None)
   pub failed : List SinkName
-  pub history : HoldsGenerated given count outcome
-  pub summary : ForQueries given.two_way (holds given.queries) (λ queries.
-      WritesSummary means given.two_way queries failed sinks objects outcome)
-  pub told : ForQueries given.two_way (holds given.queries) (λ queries.
-      AreTold given.two_way queries outcome.history
+  pub history : HoldsGenerated limit count outcome
+  pub summary : ForQueries two_way file (λ queries.
+      WritesSummary means two_way queries failed sinks objects outcome)
+  pub told : ForQueries two_way file (λ queries.
+      AreTold two_way queries outcome.history
       objects.before (outcome.status ≢ memory_status) objects.after)
   pub causes : HasCauses means failed sinks outcome

@@ -2,9 +2,9 @@
 use Rattle.std.specs.Prelude.{◌≡◌, ◌≢◌, ℕ, ◌≤◌, ◌⊎◌, ◌↔◌, Bool, List, [], length, map, take, All}
 use Rattle.std.specs.Prelude.{Contains, slice_get, Option, Some, is_some, option_map, IfSome}
 use Rattle.std.specs.List.{flat_map}
-use Rattle.conj_query.specs.declared.event.JoinEvent.{JoinEvent}
-use Rattle.conj_query.specs.Histories.{AreJoinEventsOn, IsBindingOver, IsJoinHeld}
-use Rattle.conj_query.specs.Joins.{JoinValue}
+use Rattle.join_bindings.specs.declared.event.JoinEvent.{JoinEvent}
+use Rattle.join_bindings.specs.Histories.{AreJoinEventsOn, IsBindingOver, IsJoinHeld}
+use Rattle.join_file.specs.Joins.{JoinValue}
 use Rattle.rpq_base.specs.declared.data.Entry.{Entry}
 use Rattle.rpq_base.specs.declared.data.Event.{Event}
 use Rattle.rpq_base.specs.declared.data.Pair.{Pair}
@@ -12,7 +12,8 @@ use Rattle.rpq_model.specs.Answers.{IsAnswer}
 use Rattle.rpq_model.specs.Events.{IsHeld}
 use Rattle.rpq_model.specs.Query.{Query, path_query}
 use Rattle.two_way.specs.TwoWay.{walked, AreAllWalkedEvents}
-use Rattle.rpq_words.specs.Settings.{Settings}
+use Rattle.rpq_words.specs.declared.settings.Settings.{Settings}
+use Rattle.rpq_words.specs.Views.{from_of, replies_of, save_of, streams_of, two_way_of}
 use Rattle.history_model.specs.declared.line.Why.{Why}
 use Rattle.history_model.specs.declared.line.Why.TheVariants.{Write, Memory}
 use Rattle.ask_text.specs.Replies.{replies}
@@ -39,11 +40,11 @@ use Rattle.rpq_run.specs.Written.{WritesWhere}
 -- named, come first in the first stream
 pub record HoldsStreams {S K : Type 0} (means : Meanings S K) (given : Settings)
     (holds : List ℕ → Option (List ℕ)) (outcome : Outcome S K) : Type 0 where
-  pub from : is_some outcome.from ≡ is_some given.from
+  pub from : is_some outcome.from ≡ is_some (from_of given)
   pub each_stream : AreStreamsOf (left_of_both means.left) (faults_of_both means.faults)
       given.history (stream_contents given holds)
       (stream_sources outcome.from outcome.sources) outcome.history outcome.ends
-  pub no_other : All (λ entry. IsNumberOf (length given.streams) entry.stream) outcome.history
+  pub no_other : All (λ entry. IsNumberOf (length (streams_of given)) entry.stream) outcome.history
   pub few : length outcome.history ≤ given.history
 
 -- going through the events of the first blocks of the history's text leaves exactly each query's
@@ -73,8 +74,8 @@ pub record WritesEvents {S K : Type 0} (means : Meanings S K) (given : Settings)
       WritesWhere (Contains failed Events) outcome.status
       (IsText (options_of given joins) queries outcome.history)
       (means.written sinks.events_old) (means.written sinks.events_new))
-  pub sets : ForQueries given.two_way (holds given.queries) (λ queries.
-      FrontsHold given.two_way queries outcome.history)
+  pub sets : ForQueries (two_way_of given) (holds given.queries) (λ queries.
+      FrontsHold (two_way_of given) queries outcome.history)
   pub bindings : ForJoined given holds (λ queries joins.
       FrontsBind queries joins outcome.history)
 
@@ -98,7 +99,7 @@ pub record AnswersSessions {S K : Type 0} (means : Meanings S K) (given : Settin
       AreSessionsOf queries outcome.history last asked outcome.sessions)
   pub all : outcome.status ≢ memory_status → ForAsked given holds (λ queries asked.
       map (λ own. map (λ one. one.ask) own) outcome.sessions ≡ asked)
-  pub sink : is_some outcome.replies ≡ is_some given.replies
+  pub sink : is_some outcome.replies ≡ is_some (replies_of given)
   pub text : IfSome outcome.replies (λ sink. WritesWhere (Contains failed Replies) outcome.status
       (λ text. text ≡ replies (map (λ own. map (λ one. one.text) own) outcome.sessions))
       (nothing_told (means.written sink)) (means.written sink))
@@ -119,8 +120,9 @@ pub record GotText (events_failed failed : Type 0) (status : ℕ) (text : List �
 pub record SavesWindow {S K : Type 0} (means : Meanings S K) (given : Settings)
     (holds : List ℕ → Option (List ℕ)) (failed : List SinkName) (outcome : Outcome S K)
     : Type 0 where
-  pub sink : is_some outcome.save ≡ is_some given.save
-  pub text : IfSome outcome.save (λ sink. ForQueries given.two_way (holds given.queries) (λ queries.
+  pub sink : is_some outcome.save ≡ is_some (save_of given)
+  pub text : IfSome outcome.save (λ sink.
+      ForQueries (two_way_of given) (holds given.queries) (λ queries.
       GotText (Contains failed Events) (Contains failed Save) outcome.status
       (saved_text (saved queries outcome.history)) (means.written sink)))
 

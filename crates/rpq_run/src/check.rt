@@ -1,8 +1,7 @@
 //! The check of a queries file.
 
-ghost use Rattle.std.specs.Prelude.{◌≡◌, [], IfSome, List, ℕ, Option, None, is_err};
+ghost use Rattle.std.specs.Prelude.{◌≡◌, [], Bool, IfSome, List, ℕ, Option, None, is_err};
 ghost use Rattle.std.specs.List.{flat_map};
-ghost use Rattle.rpq_words.specs.Settings.{Settings};
 ghost use Rattle.rpq_text.specs.Definitions.{compiled_line, definitions_of};
 ghost use Rattle.rpq_text.specs.WordTexts.{verdict_at_end, verdict_front};
 ghost use Rattle.run_start.specs.Files.{HasQueries};
@@ -31,12 +30,11 @@ pub fn run_check<F: Files>(
     requires { AreUnderstood queries.now }
     ensures start { result.start ≡ None }
     ensures left { result.left.items ≡ [] }
-    ensures runs { (given : Settings) (holds : List ℕ → Option (List ℕ))
-        (objects : Objects) → LeavesObjects objects
-        → IfSome (holds given.queries)
-        (λ bytes. HasQueries given.two_way bytes (definitions_of queries.now))
+    ensures runs { (two_way : Bool) (file : Option (List ℕ)) (objects : Objects)
+        → LeavesObjects objects
+        → IfSome file (λ bytes. HasQueries two_way bytes (definitions_of queries.now))
         → RunsCheck (meanings F.Source.left F.Source.faults F.Sink.written F.Sink.faults)
-        given holds (sinks events.old events.new errors.old errors.new) objects (outcome result) }
+        two_way file (sinks events.old events.new errors.old errors.new) objects (outcome result) }
 {
     let written = write_verdicts(events, queries);
     let failed = failed_sinks(written.is_err(), false, false);

@@ -1,7 +1,6 @@
 //! The run over generated tuples.
 
 ghost use Rattle.std.specs.Prelude.{◌≡◌, List, ℕ, Option, None, IfOk, OnErr, IfSome};
-ghost use Rattle.rpq_words.specs.Settings.{Settings};
 ghost use Rattle.run_start.specs.Files.{HasQueries};
 ghost use Rattle.rpq_text.specs.Definitions.{definitions_of};
 ghost use Rattle.generated_run.specs.Generates.{IsGeneration};
@@ -34,12 +33,11 @@ pub fn run_generated<R: Threads + RandomSource + Sync, G: Gate, F: Files>(
 ) -> Result<Report<F>, Memory>
     requires { IsGeneration generation }
     ensures start { IfOk result (λ report. report.start ≡ None) }
-    ensures runs { IfOk result (λ report. (given : Settings) (holds : List ℕ → Option (List ℕ))
-        → generation.limit ≡ given.history → generation.two_way ≡ given.two_way
-        → IfSome (holds given.queries) (λ bytes.
-        HasQueries given.two_way bytes (definitions_of generation.queries.items))
+    ensures runs { IfOk result (λ report. (file : Option (List ℕ)) → IfSome file (λ bytes.
+        HasQueries generation.two_way bytes (definitions_of generation.queries.items))
         → RunsGenerated (meanings F.Source.left F.Source.faults F.Sink.written F.Sink.faults)
-        given generation.count holds (sinks events.old events.new errors.old errors.new)
+        generation.two_way generation.limit generation.count file
+        (sinks events.old events.new errors.old errors.new)
         (objects (λ b. seen b) standing.old.items standing.new.items report.left.items)
         (outcome report)) }
     ensures events_kept { OnErr result (events.new ≡ events.old) }

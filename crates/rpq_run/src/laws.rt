@@ -1,15 +1,15 @@
 //! A law of the definitions. The function does nothing: its contract is the law.
 
 ghost use Rattle.std.specs.Prelude.{◌≡◌, ℕ, List, Option};
-ghost use Rattle.rpq_words.specs.Settings.{Settings};
+ghost use Rattle.rpq_words.specs.declared.settings.Settings.{Settings};
 ghost use Rattle.rpq_text.specs.Statuses.{done_status};
 ghost use Rattle.rpq_run.specs.Headline.{Headline, IsTold, Told};
 ghost use Rattle.rpq_run.specs.Outcome.{Objects, Outcome, Sinks, meanings};
 ghost use Rattle.rpq_run.specs.RunsStreams.{RunsStreams};
 
+use entry_steps::{steps_have_join_events, steps_have_the_events};
 use query_file::{one_outcome, one_two_way_outcome};
 use rpq_io::Files;
-use rpq_text::{steps_have_join_events, steps_have_the_events};
 
 /// A run over streams that is done, where the files and the sink of the events tell their bytes:
 /// the events written are those of one history that holds each stream's tuples once, in order;

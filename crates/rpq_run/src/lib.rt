@@ -30,14 +30,16 @@ mod top;
 mod word_texts;
 
 pub use ask_text::{Answered, Ask};
-pub use conj_query::{JoinsFault, JoinsKind};
+pub use entry_steps::{
+    fronts_hold_answers, fronts_hold_bindings, steps_have_join_events, steps_have_the_events,
+};
 pub use history_model::Why;
+pub use join_file::{JoinFileFault, JoinFileFaultKind};
 pub use laws::headline;
 pub use report::Report;
 pub use rpq_text::{
-    SinkName, StartFault, Which, every_history_has_a_text, fronts_hold_answers,
-    fronts_hold_bindings, line_examples, one_verdict_text, status, steps_have_join_events,
-    steps_have_the_events, without_paths_one_text,
+    SinkName, StartFault, Which, every_history_has_a_text, line_examples, one_verdict_text, status,
+    without_paths_one_text,
 };
 pub use stream_tuples::{StreamEnd, stream_by_parts};
 pub use top::run;

@@ -21,15 +21,16 @@ use crate::report::Report;
 use crate::room::Room;
 use crate::streams::run_streams;
 use ask_text::Session;
-use conj_query::JoinDef;
+use entry_steps::Options;
 use generated_run::Generation;
+use join_file::JoinDef;
 use query_file::Compiled;
 use rpq_base::Memory;
 use rpq_io::{Context, Files, Gate, LineReader, Source};
-use rpq_text::{Options, StartFault};
+use rpq_text::StartFault;
 use rpq_threads::Task;
-use rpq_words::Chosen;
-use run_start::{Readers, Reads, Ready, Refusal, begin, settings_of};
+use rpq_words::Settings;
+use run_start::{Readers, Reads, Ready, Refusal, Work, begin, settings_of};
 use standing::Standing;
 use std::alloc::Global;
 use std::random::RandomSource;
@@ -134,7 +135,7 @@ pub fn run<R: Threads + Wait + RandomSource + Sync, F: Files, G: Gate>(
 /// before anything is written or told.
 fn run_begun<R: Threads + Wait + RandomSource + Sync, G: Gate, F: Files>(
     context: &Context<'_, R, G>,
-    chosen: &Chosen,
+    chosen: &Settings,
     ready: Ready<F::Source, F::Sink>,
     standing: &mut Vec<Box<dyn Standing>>,
     events: &mut F::Sink,
@@ -142,11 +143,11 @@ fn run_begun<R: Threads + Wait + RandomSource + Sync, G: Gate, F: Files>(
 ) -> Result<Report<F>, Memory>
     requires settings { AreSettings chosen.now }
     requires ready { (holds : List ℕ → Option (List ℕ)) × IsReady F.Source.left F.Source.faults
-        F.Sink.written F.Sink.faults chosen.now holds ready.queries.items ready.reads }
+        F.Sink.written F.Sink.faults chosen.now holds ready.queries.items ready.work }
     ensures start { IfOk result (λ report. report.start ≡ None) }
     ensures runs { IfOk result (λ report. (holds : List ℕ → Option (List ℕ))
         → IsReady F.Source.left F.Source.faults F.Sink.written F.Sink.faults chosen.now holds
-        ready.queries.items ready.reads
+        ready.queries.items ready.work
         → Runs (meanings F.Source.left F.Source.faults F.Sink.written F.Sink.faults)
         chosen.now holds (sinks events.old events.new errors.old errors.new)
         (objects (λ b. seen b) standing.old.items standing.new.items report.left.items)
@@ -155,42 +156,44 @@ fn run_begun<R: Threads + Wait + RandomSource + Sync, G: Gate, F: Files>(
     ensures errors_kept { OnErr result (errors.new ≡ errors.old) }
     ensures objects_kept { OnErr result (standing.new.items ≡ standing.old.items) }
 {
-    let Ready { queries, reads } = ready;
-    if let Some(reads) = reads {
-        let Reads {
-            readers,
-            joins,
-            sessions,
-            sinks,
-        } = reads;
-        return match readers {
-            Readers::Alone(readers) => {
-                let task = task_of(chosen, queries, joins, readers, sessions);
-                run_streams(context, task, sinks, standing, events, errors)
+    let Ready { queries, work } = ready;
+    match work {
+        Work::Check => Ok(run_check(context.alloc, &queries, events, errors)),
+        Work::Generate(directions, count) => {
+            let generation = Generation {
+                queries,
+                two_way: directions.is_both_ways(),
+                workers: chosen.workers,
+                limit: chosen.history,
+                count,
+            };
+            run_generated(context, generation, standing, events, errors)
+        }
+        Work::Read(reads) => {
+            let Reads {
+                readers,
+                joins,
+                sessions,
+                sinks,
+            } = reads;
+            match readers {
+                Readers::Alone(readers) => {
+                    let task = task_of(chosen, queries, joins, readers, sessions);
+                    run_streams(context, task, sinks, standing, events, errors)
+                }
+                Readers::Behind(readers) => {
+                    let task = task_of(chosen, queries, joins, readers, sessions);
+                    run_streams(context, task, sinks, standing, events, errors)
+                }
             }
-            Readers::Behind(readers) => {
-                let task = task_of(chosen, queries, joins, readers, sessions);
-                run_streams(context, task, sinks, standing, events, errors)
-            }
-        };
+        }
     }
-    let Some(count) = chosen.generate else {
-        return Ok(run_check(context.alloc, &queries, events, errors));
-    };
-    let generation = Generation {
-        queries,
-        two_way: chosen.two_way,
-        workers: chosen.workers,
-        limit: chosen.history,
-        count,
-    };
-    run_generated(context, generation, standing, events, errors)
 }
 
 /// What the threads of a run with these settings are given: its queries, the conjunctions over
 /// them, the readers of its streams, and what is asked.
 fn task_of<S: Source>(
-    chosen: &Chosen,
+    chosen: &Settings,
     queries: Vec<Compiled>,
     joins: Arc<Vec<JoinDef>>,
     readers: Vec<LineReader<S>>,
@@ -200,8 +203,8 @@ fn task_of<S: Source>(
         result }
 {
     let options = Options {
-        two_way: chosen.two_way,
-        paths: chosen.paths,
+        two_way: chosen.is_two_way(),
+        paths: chosen.has_paths(),
         joins,
     };
     Task {

@@ -5,12 +5,14 @@ use Rattle.text_parts.specs.Numbers.{number_within}
 use Rattle.rpq_words.specs.Command.{found_in, is_taken, rpq_command}
 use Rattle.rpq_words.specs.Examples.{JoinsExamples, PathsExamples, SavedExamples}
 use Rattle.rpq_words.specs.Examples.{SettingsExamples, TwoWayExamples}
-use Rattle.rpq_words.specs.Settings.{clash, number_from_one, optional_number, settings, settings_of}
-use Rattle.rpq_words.specs.Settings.{settled}
+use Rattle.rpq_words.specs.Found.{number_from_one, optional_number, words_found}
+use Rattle.rpq_words.specs.Settings.{asked_from, forwards_from, input_from, mode_from, names_from}
+use Rattle.rpq_words.specs.Settings.{settings, settings_from, settled, shown_from, streams_from}
 
 saved_examples : SavedExamples
-unfolding clap_on_literals number_within found_in is_taken rpq_command clash number_from_one
-    optional_number settings settings_of settled
+unfolding clap_on_literals number_within found_in is_taken rpq_command number_from_one
+    optional_number words_found asked_from forwards_from input_from mode_from names_from
+    settings settings_from settled shown_from streams_from
 saved_examples = record {
   saved = refl;
   begun = refl;
@@ -24,8 +26,9 @@ saved_examples = record {
 }
 
 two_way_examples : TwoWayExamples
-unfolding clap_on_literals number_within found_in is_taken rpq_command clash number_from_one
-    optional_number settings settings_of settled
+unfolding clap_on_literals number_within found_in is_taken rpq_command number_from_one
+    optional_number words_found asked_from forwards_from input_from mode_from names_from
+    settings settings_from settled shown_from streams_from
 two_way_examples = record {
   over_stream = refl;
   checked = refl;
@@ -37,8 +40,9 @@ two_way_examples = record {
 }
 
 paths_examples : PathsExamples
-unfolding clap_on_literals number_within found_in is_taken rpq_command clash number_from_one
-    optional_number settings settings_of settled
+unfolding clap_on_literals number_within found_in is_taken rpq_command number_from_one
+    optional_number words_found asked_from forwards_from input_from mode_from names_from
+    settings settings_from settled shown_from streams_from
 paths_examples = record {
   over_stream = refl;
   checked = refl;
@@ -47,8 +51,9 @@ paths_examples = record {
 }
 
 joins_examples : JoinsExamples
-unfolding clap_on_literals number_within found_in is_taken rpq_command clash number_from_one
-    optional_number settings settings_of settled
+unfolding clap_on_literals number_within found_in is_taken rpq_command number_from_one
+    optional_number words_found asked_from forwards_from input_from mode_from names_from
+    settings settings_from settled shown_from streams_from
 joins_examples = record {
   over_stream = refl;
   all_files = refl;
@@ -60,8 +65,9 @@ joins_examples = record {
 }
 
 pub examples : SettingsExamples
-unfolding clap_on_literals number_within found_in is_taken rpq_command clash number_from_one
-    optional_number settings settings_of settled
+unfolding clap_on_literals number_within found_in is_taken rpq_command number_from_one
+    optional_number words_found asked_from forwards_from input_from mode_from names_from
+    settings settings_from settled shown_from streams_from
 examples = record {
   defaults = refl;
   between = refl;

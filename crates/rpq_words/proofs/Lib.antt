@@ -1,3 +1,4 @@
+pub mod Arranging
 pub mod Examples
 pub mod Modes
 pub mod Parsing

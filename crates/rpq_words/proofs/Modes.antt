@@ -1,306 +1,31 @@
--- Settings in their ranges, and their modes.
-use Rattle.std.proofs.Common.{arith, ◌≡◌, ◌≢◌, ◌∙◌, ap, ap₂, refl, subst, ℕ, ◌≤◌}
-use Rattle.std.proofs.Common.{Bool, true, false, List, [], ◌∷◌, codes, length, inl, inr}
+-- The settings of words are in their ranges.
+use Rattle.std.proofs.Common.{arith, ◌≡◌, ◌≢◌, ◌∙◌, ap, sym, refl, subst, ℕ, ◌≤◌}
+use Rattle.std.proofs.Common.{Bool, true, false, List, [], ◌∷◌, codes, length}
 use Rattle.std.specs.Prelude.{◌&&◌, ◌||◌, ◌==◌, bytes_eq, not, nat_le, nat_lt, if◌then◌else◌}
 use Rattle.std.specs.Prelude.{is_some, IfSome}
 use Rattle.std.specs.Prelude.{Option, Some, None, option_map, unwrap_or}
-use Rattle.std.proofs.lemmas.Bool.{eq-eqb, eqb-true, le-ltb, leb-true, ltb-false, ne_eqb}
-use Rattle.std.proofs.lemmas.Bool.{iff_false}
+use Rattle.std.proofs.lemmas.Bool.{leb-true, ltb-false, iff_false}
 use Rattle.std.proofs.lemmas.Slice.Eq.{bytes_eq-Decides}
 use Rattle.clap.specs.Walk.{Row, Text, all_of, first_of, is_empty}
-use Rattle.clap.proofs.SimpleLemmas.{is_nil}
 use Rattle.clap.proofs.WalkLemmas.{both}
 use Rattle.text_parts.specs.Numbers.{is_digit_text, number_of, number_within}
+use Rattle.rpq_words.specs.declared.found.Found.{Found}
+use Rattle.rpq_words.specs.declared.settings.Mode.{Mode}
+use Rattle.rpq_words.specs.declared.settings.Mode.TheVariants.{Check, Generate, Streams}
+use Rattle.rpq_words.specs.declared.settings.StreamSettings.TheVariants.{Forwards, BothWays}
+use Rattle.rpq_words.specs.declared.settings.ForwardSettings.{ForwardSettings}
+use Rattle.rpq_words.specs.declared.settings.Input.{Input}
+use Rattle.rpq_words.specs.declared.settings.Input.TheVariants.{Fresh, Resumed}
+use Rattle.rpq_words.specs.Clash.{clash, is_one_alone, is_same_file}
 use Rattle.rpq_words.specs.Command.{found_in, is_taken}
-use Rattle.rpq_words.specs.Settings.{Settings, clash, has_flag, is_one_alone, is_same_file}
-use Rattle.rpq_words.specs.Settings.{names_file, number_from_one}
-use Rattle.rpq_words.specs.Settings.{only_if, optional_number, reads_none, settings, settings_of}
-use Rattle.rpq_words.specs.Settings.{settled, ◌>>=◌}
-use Rattle.rpq_words.specs.Modes.{AreSettings, BeginsWith, ClashHasNoMode, HasMode, IsWithin}
-use Rattle.rpq_words.specs.Modes.{NamesNoFile, ReadsNothing, ReadsStreams, WordsAreSettings}
-
--- ---- no clash is a mode
-
-none_holds : (a b c d e f g h i : Bool) →
-    (a || (b || (c || (d || (e || (f || (g || (h || i)))))))) ≡ false
-    → (a ≡ false) × (b ≡ false) × (c ≡ false) × (d ≡ false) × (e ≡ false) × (f ≡ false)
-    × (g ≡ false) × (h ≡ false) × (i ≡ false)
-none_holds true b c d e f g h i is = absurd cc
-none_holds false true c d e f g h i is = absurd cc
-none_holds false false true d e f g h i is = absurd cc
-none_holds false false false true e f g h i is = absurd cc
-none_holds false false false false true f g h i is = absurd cc
-none_holds false false false false false true g h i is = absurd cc
-none_holds false false false false false false true h i is = absurd cc
-none_holds false false false false false false false true i is = absurd cc
-none_holds false false false false false false false false i is =
-    (refl, refl, refl, refl, refl, refl, refl, refl, is)
-
-neither : (a b : Bool) → a ≡ false → b ≡ false → (a || b) ≡ false
-neither false b first second = second
-neither true b first second = absurd cc
-
-paired_from : {A B : Type 0} (first : Option A) (second : Option B) →
-    is_one_alone first second ≡ false → is_some first ≡ is_some second
-paired_from (Some x) (Some y) is = refl
-paired_from None None is = refl
-paired_from (Some x) None is = absurd cc
-paired_from None (Some y) is = absurd cc
-
-none_alone : {A B : Type 0} (first : Option A) (second : Option B) →
-    is_some first ≡ is_some second → is_one_alone first second ≡ false
-none_alone (Some x) (Some y) is = refl
-none_alone None None is = refl
-none_alone (Some x) None is = absurd cc
-none_alone None (Some y) is = absurd cc
-
-true_from : (b : Bool) → not b ≡ false → b ≡ true
-true_from true is = refl
-true_from false is = absurd cc
-
-none_is : {A : Type 0} (option : Option A) → is_some option ≡ false → option ≡ None
-none_is (Some x) is = absurd cc
-none_is None is = refl
-
-neither_of : (a b : Bool) → (a || b) ≡ false → (a ≡ false) × (b ≡ false)
-neither_of true b is = absurd cc
-neither_of false b is = (refl, is)
-
-names_none : (given : Settings) → names_file given ≡ false → NamesNoFile given
-names_none given is =
-    let asks = neither_of (is_some given.asks)
-    (is_some given.joins || (is_some given.save || is_some given.from)) is in
-    let joins = neither_of (is_some given.joins) (is_some given.save || is_some given.from)
-    asks.1 in
-    let saved = neither_of (is_some given.save) (is_some given.from) joins.1 in
-    record {
-      no_asks = none_is given.asks asks.0;
-      no_joins = none_is given.joins joins.0;
-      no_save = none_is given.save saved.0;
-      no_from = none_is given.from saved.1;
-    }
-
-no_reply : {A B : Type 0} (asks : Option A) (replies : Option B) → asks ≡ None →
-    is_one_alone asks replies ≡ false → replies ≡ None
-no_reply (Some ask) replies none is = absurd cc
-no_reply None (Some reply) none is = absurd cc
-no_reply None None none is = refl
-
-no_paths_from : (paths : Bool) → (paths && true) ≡ false → paths ≡ false
-no_paths_from true is = absurd cc
-no_paths_from false is = refl
-
--- nothing that a check has, or a run that generates its tuples
-nothing_from : (given : Settings) → is_one_alone given.asks given.replies ≡ false →
-    (names_file given || not (is_empty given.streams)) ≡ false → (given.paths && true) ≡ false →
-    ReadsNothing given
-nothing_from given alone reads paths =
-    let parts = neither_of (names_file given) (not (is_empty given.streams)) reads in
-    let none = names_none given parts.0 in
-    record {
-      no_stream = is_nil given.streams (true_from (is_empty given.streams) parts.1);
-      no_asks = none.no_asks;
-      no_replies = no_reply given.asks given.replies none.no_asks alone;
-      no_joins = none.no_joins;
-      no_save = none.no_save;
-      no_from = none.no_from;
-      no_paths = no_paths_from given.paths paths;
-    }
-
--- where edges may be taken backwards
-both_ways_from : (given : Settings) (two_way : Bool) → (two_way && names_file given) ≡ false →
-    two_way ≡ true → NamesNoFile given
-both_ways_from given true is backwards = names_none given is
-both_ways_from given false is backwards = absurd cc
-
--- where paths are written
-forwards_from : {A : Type 0} (paths two_way : Bool) (joins : Option A) →
-    (paths && (two_way || is_some joins)) ≡ false → paths ≡ true →
-    (two_way ≡ false) × (joins ≡ None)
-forwards_from true two_way joins is written =
-    let parts = neither_of two_way (is_some joins) is in
-    (parts.0, none_is joins parts.1)
-forwards_from false two_way joins is written = absurd cc
-
-some_same : (x y : Text) → Some x ≡ Some y → x ≡ y
-some_same x y same = cc
-
-another_file : (save : Option Text) (file : Text) → is_same_file save (Some file) ≡ false →
-    save ≢ Some file
-another_file None file other same = absurd cc
-another_file (Some x) file other same =
-    iff_false (bytes_eq-Decides x file) other (some_same x file same)
-
-begins_with : (given : Settings) (from : Option Text) →
-    (is_some from && not (length given.streams == 1)) ≡ false →
-    is_same_file given.save from ≡ false → IfSome from (BeginsWith given)
-begins_with given None one other = tt
-begins_with given (Some file) one other = record {
-  one_stream = eqb-true (length given.streams) 1 (true_from (length given.streams == 1) one);
-  another = another_file given.save file other;
-}
-
-some_stream : (streams : List Text) → is_empty streams ≡ false → 1 ≤ length streams
-some_stream [] is = absurd cc
-some_stream (stream ∷ streams) is = omega arith
-
-not_empty : (streams : List Text) → 1 ≤ length streams → is_empty streams ≡ false
-not_empty streams some = ne_eqb (length streams) 0 (λ none. omega (arith, some, none))
-
-mode_by : (given : Settings) (check : Bool) (generate : Option ℕ) → given.check ≡ check →
-    given.generate ≡ generate → is_one_alone given.asks given.replies ≡ false →
-    (check && is_some generate) ≡ false →
-    ((check || is_some generate) && (names_file given || not (is_empty given.streams))) ≡ false →
-    (not (check || is_some generate) && is_empty given.streams) ≡ false →
-    nat_lt 64 (length given.streams) ≡ false → IfSome given.from (BeginsWith given) →
-    (given.two_way ≡ true → NamesNoFile given) →
-    (given.paths && ((check || is_some generate) || (given.two_way || is_some given.joins)))
-    ≡ false → HasMode given
-mode_by given true (Some number) checked made alone one reads some few begun both_ways paths =
-    absurd cc
-mode_by given true None checked made alone one reads some few begun both_ways paths =
-    inr (inl (record {
-      checked = checked;
-      none_made = made;
-      alone = nothing_from given alone reads paths;
-    }))
-mode_by given false (Some number) checked made alone one reads some few begun both_ways paths =
-    inr (inr (record {
-      unchecked = checked;
-      made = ap is_some made;
-      alone = nothing_from given alone reads paths;
-    }))
-mode_by given false None checked made alone one reads some few begun both_ways paths = inl (record {
-  unchecked = checked;
-  none_made = made;
-  some = some_stream given.streams some;
-  few = ltb-false 64 (length given.streams) few;
-  paired = paired_from given.asks given.replies alone;
-  begun = begun;
-  both_ways = both_ways;
-  forwards = λ written. (forwards_from given.paths given.two_way given.joins paths written).0;
-  unjoined = λ written. (forwards_from given.paths given.two_way given.joins paths written).1;
-})
-
-mode_from : (given : Settings) → clash given ≡ false → HasMode given
-unfolding clash
-mode_from given is =
-    let parts = none_holds (is_one_alone given.asks given.replies)
-    (given.check && is_some given.generate)
-    (reads_none given && (names_file given || not (is_empty given.streams)))
-    (given.two_way && names_file given)
-    (given.paths && (reads_none given || (given.two_way || is_some given.joins)))
-    (not (reads_none given) && is_empty given.streams) (nat_lt 64 (length given.streams))
-    (is_some given.from && not (length given.streams == 1)) (is_same_file given.save given.from)
-    is in
-    mode_by given given.check given.generate refl refl parts.0 parts.1 parts.2 parts.5 parts.6
-    (begins_with given given.from parts.7 parts.8) (both_ways_from given given.two_way parts.3)
-    parts.4
-
--- ---- a mode is no clash
-
-none_of : (a b c d e f g h i : Bool) → a ≡ false → b ≡ false → c ≡ false → d ≡ false → e ≡ false →
-    f ≡ false → g ≡ false → h ≡ false → i ≡ false →
-    (a || (b || (c || (d || (e || (f || (g || (h || i)))))))) ≡ false
-none_of a b c d e f g h i p q r s t u v w x =
-    neither a _ p (neither b _ q (neither c _ r (neither d _ s (neither e _ t (neither f _ u
-    (neither g _ v (neither h i w x)))))))
-
-one_stream : (given : Settings) (from : Option Text) → IfSome from (BeginsWith given) →
-    (is_some from && not (length given.streams == 1)) ≡ false
-one_stream given None begun = refl
-one_stream given (Some file) begun = ap not (eq-eqb (length given.streams) 1 begun.one_stream)
-
-differ : (x y : Text) (test : Bool) → bytes_eq x y ≡ test → Some x ≢ Some y → test ≡ false
-differ x y false is other = refl
-differ x y true is other = absurd (other (ap (λ text. Some text) ((bytes_eq-Decides x y).0 is)))
-
-not_same : (save : Option Text) (file : Text) → save ≢ Some file →
-    is_same_file save (Some file) ≡ false
-not_same None file other = refl
-not_same (Some x) file other = differ x file (bytes_eq x file) refl other
-
-same_as_none : (save : Option Text) → is_same_file save None ≡ false
-same_as_none None = refl
-same_as_none (Some file) = refl
-
-files_differ : (given : Settings) (from : Option Text) → IfSome from (BeginsWith given) →
-    is_same_file given.save from ≡ false
-files_differ given None begun = same_as_none given.save
-files_differ given (Some file) begun = not_same given.save file begun.another
-
-no_file : (given : Settings) → NamesNoFile given → names_file given ≡ false
-no_file given none = ap₂ (λ asks others. is_some asks || others) none.no_asks
-    (ap₂ (λ joins others. is_some joins || others) none.no_joins
-    (ap₂ (λ save from. is_some save || is_some from) none.no_save none.no_from))
-
-both_ways_agree : (given : Settings) (two_way : Bool) → (two_way ≡ true → NamesNoFile given) →
-    (two_way && names_file given) ≡ false
-both_ways_agree given true both_ways = no_file given (both_ways refl)
-both_ways_agree given false both_ways = refl
-
-forwards_agree : {A : Type 0} (paths two_way : Bool) (joins : Option A) →
-    (paths ≡ true → two_way ≡ false) → (paths ≡ true → joins ≡ None) →
-    (paths && (two_way || is_some joins)) ≡ false
-forwards_agree true two_way joins forwards unjoined =
-    neither two_way (is_some joins) (forwards refl) (ap is_some (unjoined refl))
-forwards_agree false two_way joins forwards unjoined = refl
-
-streams_agree : (given : Settings) → ReadsStreams given → clash given ≡ false
-unfolding clash
-streams_agree given reads = none_of _ _ _ _ _ _ _ _ _
-    (none_alone given.asks given.replies reads.paired)
-    (ap (λ check. check && is_some given.generate) reads.unchecked)
-    (ap₂ (λ check generate. (check || is_some generate)
-    && (names_file given || not (is_empty given.streams))) reads.unchecked reads.none_made)
-    (both_ways_agree given given.two_way reads.both_ways)
-    (ap₂ (λ check generate. given.paths
-    && ((check || is_some generate) || (given.two_way || is_some given.joins)))
-    reads.unchecked reads.none_made
-    ∙ forwards_agree given.paths given.two_way given.joins reads.forwards reads.unjoined)
-    (ap₂ (λ check generate. not (check || is_some generate) && is_empty given.streams)
-    reads.unchecked reads.none_made ∙ not_empty given.streams reads.some)
-    (le-ltb 64 (length given.streams) reads.few)
-    (one_stream given given.from reads.begun)
-    (files_differ given given.from reads.begun)
-
-alone_names_none : (given : Settings) → ReadsNothing given → NamesNoFile given
-alone_names_none given alone = record {
-  no_asks = alone.no_asks;
-  no_joins = alone.no_joins;
-  no_save = alone.no_save;
-  no_from = alone.no_from;
-}
-
--- where one of the two says that nothing is read
-alone_agrees : (given : Settings) → ReadsNothing given →
-    (given.check && is_some given.generate) ≡ false → reads_none given ≡ true → clash given ≡ false
-unfolding clash
-alone_agrees given alone one none = none_of _ _ _ _ _ _ _ _ _
-    (ap₂ is_one_alone alone.no_asks alone.no_replies)
-    one
-    (ap₂ (λ reads others. reads && others) none
-    (ap₂ (λ named streams. named || not (is_empty streams))
-    (no_file given (alone_names_none given alone)) alone.no_stream))
-    (both_ways_agree given given.two_way (λ backwards. alone_names_none given alone))
-    (ap (λ paths. paths && (reads_none given || (given.two_way || is_some given.joins)))
-    alone.no_paths)
-    (ap (λ reads. not reads && is_empty given.streams) none)
-    (ap (λ streams. nat_lt 64 (length streams)) alone.no_stream)
-    (ap (λ from. is_some from && not (length given.streams == 1)) alone.no_from)
-    (ap₂ is_same_file alone.no_save alone.no_from)
-
-agrees : (given : Settings) → HasMode given → clash given ≡ false
-agrees given (inl reads) = streams_agree given reads
-agrees given (inr (inl checks)) = alone_agrees given checks.alone
-    (ap₂ (λ check generate. check && is_some generate) checks.checked checks.none_made)
-    (ap (λ check. check || is_some given.generate) checks.checked)
-agrees given (inr (inr made)) = alone_agrees given made.alone
-    (ap (λ check. check && is_some given.generate) made.unchecked)
-    (ap₂ (λ check number. check || number) made.unchecked made.made)
-
-pub clash_has_no_mode : ClashHasNoMode
-clash_has_no_mode given = (mode_from given, agrees given)
+use Rattle.rpq_words.specs.Found.{has_flag, number_from_one, optional_number, words_found}
+use Rattle.rpq_words.specs.Modes.{AreSettings, IsInput, IsMode, IsWithin, WordsAreSettings}
+use Rattle.rpq_words.specs.Modes.{words_of}
+use Rattle.rpq_words.specs.Options.{◌>>=◌, only_if}
+use Rattle.rpq_words.specs.declared.settings.Settings.{Settings}
+use Rattle.rpq_words.specs.Settings.{settings, settings_from, settled}
+use Rattle.rpq_words.specs.Views.{asks_in, from_in, joins_in, has_paths, names_in, replies_in}
+use Rattle.rpq_words.proofs.Arranging.{settings_are_found}
 
 -- ---- numbers in their ranges
 
@@ -356,25 +81,31 @@ optional_in_range most (Some text) number is =
 optional_in_range most None None is = tt
 optional_in_range most None (Some number) is = absurd cc
 
--- ---- the settings of words
+-- ---- what was found
 
-module _ (make : ℕ → ℕ → Option ℕ → Text → Settings) where
+-- each number that was found is in its range
+record IsInRange (found : Found) : Type 0 where
+  workers_in : IsWithin 64 found.workers
+  history_in : IsWithin 2000000 found.history
+  generate_in : IfSome found.generate (IsWithin 1000000)
+
+module _ (make : ℕ → ℕ → Option ℕ → Text → Found) where
   made_by : (workers history : Option ℕ) (generate : Option (Option ℕ)) (queries : Option Text)
-      (given : Settings) →
+      (found : Found) →
       (workers >>= λ w. (history >>= λ h. (generate >>= λ g.
-      (queries >>= λ q. Some (make w h g q))))) ≡ Some given →
+      (queries >>= λ q. Some (make w h g q))))) ≡ Some found →
       (w : ℕ) × (h : ℕ) × (g : Option ℕ) × (q : Text) × (workers ≡ Some w) × (history ≡ Some h)
-      × (generate ≡ Some g) × (make w h g q ≡ given)
-  made_by (Some w) (Some h) (Some g) (Some q) given is = (w, h, g, q, refl, refl, refl, cc)
-  made_by None history generate queries given is = absurd cc
-  made_by (Some w) None generate queries given is = absurd cc
-  made_by (Some w) (Some h) None queries given is = absurd cc
-  made_by (Some w) (Some h) (Some g) None given is = absurd cc
+      × (generate ≡ Some g) × (make w h g q ≡ found)
+  made_by (Some w) (Some h) (Some g) (Some q) found is = (w, h, g, q, refl, refl, refl, cc)
+  made_by None history generate queries found is = absurd cc
+  made_by (Some w) None generate queries found is = absurd cc
+  made_by (Some w) (Some h) None queries found is = absurd cc
+  made_by (Some w) (Some h) (Some g) None found is = absurd cc
 
-are_settings : (rows : List Row) (given : Settings) → settings_of rows ≡ Some given →
-    HasMode given → AreSettings given
-unfolding settings_of
-are_settings rows given is mode =
+found_in_range : (rows : List Row) (found : Found) → words_found rows ≡ Some found
+    → IsInRange found
+unfolding words_found
+found_in_range rows found is =
     let read = made_by
     (λ workers history generate queries. record {
       workers = workers;
@@ -382,42 +113,103 @@ are_settings rows given is mode =
       check = has_flag (codes "check") rows;
       generate = generate;
       two_way = has_flag (codes "two-way") rows;
-      paths = has_flag (codes "paths") rows;
-      joins = first_of (codes "joins") rows;
-      asks = first_of (codes "asks") rows;
-      replies = first_of (codes "replies") rows;
-      save = first_of (codes "save") rows;
-      from = first_of (codes "from") rows;
       queries = queries;
-      streams = unwrap_or (all_of (codes "streams") rows) [];
+      words = record {
+        paths = has_flag (codes "paths") rows;
+        joins = first_of (codes "joins") rows;
+        asks = first_of (codes "asks") rows;
+        replies = first_of (codes "replies") rows;
+        save = first_of (codes "save") rows;
+        from = first_of (codes "from") rows;
+        streams = unwrap_or (all_of (codes "streams") rows) [];
+      };
     })
     (first_of (codes "workers") rows >>= number_from_one 64)
     (first_of (codes "history") rows >>= number_from_one 2000000)
     (optional_number 1000000 (first_of (codes "generate") rows))
-    (first_of (codes "queries") rows) given is in
-    record {
-      workers = subst (IsWithin 64) (ap (λ (s : Settings). s.workers) read.7)
-          (needed_in_range 64 (first_of (codes "workers") rows) read.0 read.4);
-      history = subst (IsWithin 2000000) (ap (λ (s : Settings). s.history) read.7)
-          (needed_in_range 2000000 (first_of (codes "history") rows) read.1 read.5);
-      generate = subst (λ number. IfSome number (IsWithin 1000000))
-          (ap (λ (s : Settings). s.generate) read.7)
-          (optional_in_range 1000000 (first_of (codes "generate") rows) read.2 read.6);
-      mode = mode;
-    }
+    (first_of (codes "queries") rows) found is in
+    subst IsInRange read.7 (record {
+      workers_in = needed_in_range 64 (first_of (codes "workers") rows) read.0 read.4;
+      history_in = needed_in_range 2000000 (first_of (codes "history") rows) read.1 read.5;
+      generate_in =
+          optional_in_range 1000000 (first_of (codes "generate") rows) read.2 read.6;
+    })
 
-false_from : (b : Bool) → not b ≡ true → b ≡ false
-false_from false is = refl
-false_from true is = absurd cc
+-- ---- the settings of it
+
+-- what doesn't clash, in its parts
+second_fails : (a b : Bool) → (a || b) ≡ false → b ≡ false
+second_fails false b is = is
+second_fails true b is = absurd cc
+
+first_fails : (a b : Bool) → (a || b) ≡ false → a ≡ false
+first_fails false b is = refl
+first_fails true b is = absurd cc
+
+fails : (test : Bool) → not test ≡ true → test ≡ false
+fails false is = refl
+fails true is = absurd cc
+
+within_by : (names : List Text) (rest : Bool)
+    → (is_empty names || (nat_lt 64 (length names) || rest)) ≡ false
+    → IsWithin 64 (length names)
+within_by [] rest is = absurd cc
+within_by (name ∷ names) rest is = (
+  omega arith,
+  ltb-false 64 (length (name ∷ names)) (first_fails (nat_lt 64 (length (name ∷ names))) rest
+      (second_fails (is_empty (name ∷ names)) (nat_lt 64 (length (name ∷ names)) || rest) is)),
+)
+
+some_same : (x y : Text) → Some x ≡ Some y → x ≡ y
+some_same x y same = cc
+
+another_file : (save : Option Text) (file : Text) → is_same_file save (Some file) ≡ false →
+    save ≢ Some file
+another_file None file other same = absurd cc
+another_file (Some x) file other same =
+    iff_false (bytes_eq-Decides x file) other (some_same x file same)
+
+input_is : (save : Option Text) (input : Input)
+    → (is_empty (names_in input) || (nat_lt 64 (length (names_in input))
+    || ((is_some (from_in input) && not (length (names_in input) == 1))
+    || is_same_file save (from_in input)))) ≡ false → IsInput save input
+input_is save (Fresh streams) is = within_by streams _ is
+input_is save (Resumed from stream) is = another_file save from is
+
+mode_is : (given : Settings) (mode : Mode) → given.mode ≡ mode → clash (words_of given) ≡ false
+    → IfSome (words_of given).generate (IsWithin 1000000) → IsMode mode
+unfolding clash
+mode_is given (Check directions) is agrees made = tt
+mode_is given (Generate directions count) is agrees made =
+    subst (λ (m : Mode). IfSome (words_of (record given { mode = m })).generate (IsWithin 1000000))
+    is made
+mode_is given (Streams (BothWays streams)) is agrees made =
+    within_by streams _ (subst (λ (m : Mode). clash (words_of (record given { mode = m })) ≡ false)
+    is agrees)
+mode_is given (Streams (Forwards run)) is agrees made = input_is run.save run.input
+    (second_fails (has_paths run.shown && is_some (joins_in run.shown)) _
+    (second_fails (is_one_alone (asks_in run.asked) (replies_in run.asked)) _
+    (subst (λ (m : Mode). clash (words_of (record given { mode = m })) ≡ false) is agrees)))
+
+are_settings : (found : Found) (given : Settings) → settings_from found ≡ Some given
+    → IsInRange found → AreSettings given
+are_settings found given is ranges =
+    let kept = guarded (not (clash found)) found (words_of given)
+    (sym (settings_are_found found) ∙ ap (option_map words_of) is) in
+    let own = subst IsInRange kept.1 ranges in
+    record {
+      workers = own.workers_in;
+      history = own.history_in;
+      mode = mode_is given given.mode refl (ap clash (sym kept.1) ∙ fails (clash found) kept.0)
+          own.generate_in;
+    }
 
 pub settled_are : (rows : List Row) (given : Settings) → settled rows ≡ Some given →
     AreSettings given
 unfolding settled
 settled_are rows given is =
-    let read = bound (settings_of rows) (only_if (λ s. not (clash s))) given is in
-    let kept = guarded (not (clash read.0)) read.0 given read.2 in
-    subst AreSettings kept.1
-    (are_settings rows read.0 read.1 (mode_from read.0 (false_from (clash read.0) kept.0)))
+    let read = bound (words_found rows) settings_from given is in
+    are_settings read.0 given read.2 (found_in_range rows read.0 read.1)
 
 taken_are : (taken : Bool) (rows : List Row) (given : Settings) →
     (if taken then settled rows else None) ≡ Some given → AreSettings given

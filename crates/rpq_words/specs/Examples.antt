@@ -1,44 +1,50 @@
 -- Some command lines with what they give.
-use Rattle.std.specs.Prelude.{◌≡◌, true, false, List, [], ◌∷◌, codes, Some, None}
+use Rattle.std.specs.Prelude.{◌≡◌, List, [], ◌∷◌, codes, Some, None}
 use Rattle.clap.specs.Walk.{Text}
-use Rattle.rpq_words.specs.Settings.{Settings, settings}
+use Rattle.rpq_words.specs.declared.settings.Mode.{Mode}
+use Rattle.rpq_words.specs.declared.settings.Mode.TheVariants.{Check, Generate, Streams}
+use Rattle.rpq_words.specs.declared.settings.Directions.TheVariants.{Forwards, BothWays}
+use Rattle.rpq_words.specs.declared.settings.StreamSettings.TheVariants.{Forwards as ForwardRun}
+use Rattle.rpq_words.specs.declared.settings.StreamSettings.TheVariants.{BothWays as TwoWayRun}
+use Rattle.rpq_words.specs.declared.settings.ForwardSettings.{ForwardSettings}
+use Rattle.rpq_words.specs.declared.settings.Input.TheVariants.{Fresh, Resumed}
+use Rattle.rpq_words.specs.declared.settings.Shown.TheVariants.{Pairs, Paths, Bindings}
+use Rattle.rpq_words.specs.declared.settings.Settings.{Settings}
+use Rattle.rpq_words.specs.Settings.{settings}
+
+-- these are the settings, where nothing else is said
+abbrev pub plain : Mode → Settings
+plain mode = record { queries = codes "q"; workers = 4; history = 1000000; mode = mode }
 
 -- a run over these streams, where nothing else is said
-abbrev pub plain : List Text → Settings
-plain streams = record {
-  workers = 4;
-  history = 1000000;
-  check = false;
-  generate = None;
-  two_way = false;
-  paths = false;
-  joins = None;
-  asks = None;
-  replies = None;
-  save = None;
-  from = None;
-  queries = codes "q";
-  streams = streams;
+abbrev pub over : List Text → ForwardSettings
+over streams = record { input = Fresh streams; shown = Pairs; asked = None; save = None }
+
+-- a run over the stream `t` behind what the file `f` has, with asks, replies, and a file to save to
+abbrev pub resumed : ForwardSettings
+resumed = record {
+  input = Resumed (codes "f") (codes "t");
+  shown = Pairs;
+  asked = Some (record { asks = codes "a"; replies = codes "r" });
+  save = Some (codes "s");
 }
+
+abbrev pub forwards : ForwardSettings → Settings
+forwards run = plain (Streams (ForwardRun run))
 
 -- A file to save to, and one to begin with; both, with asks and replies; and a file to save to with
 -- two streams. Refused: a file to begin with, and no stream or two; the same file for both; and one
 -- of them with a check or with generated tuples.
 pub record SavedExamples : Type 0 where
   pub saved : settings (codes "rpq" ∷ codes "--save" ∷ codes "s" ∷ codes "q" ∷ codes "t" ∷ [])
-      ≡ Some (record (plain (codes "t" ∷ [])) { save = Some (codes "s") })
+      ≡ Some (forwards (record (over (codes "t" ∷ [])) { save = Some (codes "s") }))
   pub begun : settings (codes "rpq" ∷ codes "--from" ∷ codes "f" ∷ codes "q" ∷ codes "t" ∷ [])
-      ≡ Some (record (plain (codes "t" ∷ [])) { from = Some (codes "f") })
+      ≡ Some (forwards (record (over []) { input = Resumed (codes "f") (codes "t") }))
   pub all_files : settings (codes "rpq" ∷ codes "--save=s" ∷ codes "--from=f" ∷ codes "--asks=a"
       ∷ codes "--replies=r" ∷ codes "q" ∷ codes "t" ∷ [])
-      ≡ Some (record (plain (codes "t" ∷ [])) {
-        asks = Some (codes "a");
-        replies = Some (codes "r");
-        save = Some (codes "s");
-        from = Some (codes "f");
-      })
+      ≡ Some (forwards resumed)
   pub of_two : settings (codes "rpq" ∷ codes "--save=s" ∷ codes "q" ∷ codes "t" ∷ codes "u" ∷ [])
-      ≡ Some (record (plain (codes "t" ∷ codes "u" ∷ [])) { save = Some (codes "s") })
+      ≡ Some (forwards (record (over (codes "t" ∷ codes "u" ∷ [])) { save = Some (codes "s") }))
   pub no_stream : settings (codes "rpq" ∷ codes "--from" ∷ codes "f" ∷ codes "q" ∷ []) ≡ None
   pub two_streams : settings (codes "rpq" ∷ codes "--from" ∷ codes "f" ∷ codes "q" ∷ codes "t"
       ∷ codes "u" ∷ []) ≡ None
@@ -53,11 +59,11 @@ pub record SavedExamples : Type 0 where
 -- with asks and replies; with a file to save to; with one to begin with; and the flag given twice.
 pub record TwoWayExamples : Type 0 where
   pub over_stream : settings (codes "rpq" ∷ codes "--two-way" ∷ codes "q" ∷ codes "t" ∷ [])
-      ≡ Some (record (plain (codes "t" ∷ [])) { two_way = true })
+      ≡ Some (plain (Streams (TwoWayRun (codes "t" ∷ []))))
   pub checked : settings (codes "rpq" ∷ codes "--check" ∷ codes "--two-way" ∷ codes "q" ∷ [])
-      ≡ Some (record (plain []) { check = true; two_way = true })
+      ≡ Some (plain (Check BothWays))
   pub made : settings (codes "rpq" ∷ codes "--generate=5" ∷ codes "--two-way" ∷ codes "q" ∷ [])
-      ≡ Some (record (plain []) { generate = Some 5; two_way = true })
+      ≡ Some (plain (Generate BothWays 5))
   pub asked : settings (codes "rpq" ∷ codes "--two-way" ∷ codes "--asks=a" ∷ codes "--replies=r"
       ∷ codes "q" ∷ codes "t" ∷ []) ≡ None
   pub saved : settings (codes "rpq" ∷ codes "--two-way" ∷ codes "--save=s" ∷ codes "q" ∷ codes "t"
@@ -71,7 +77,7 @@ pub record TwoWayExamples : Type 0 where
 -- backwards.
 pub record PathsExamples : Type 0 where
   pub over_stream : settings (codes "rpq" ∷ codes "--paths" ∷ codes "q" ∷ codes "t" ∷ [])
-      ≡ Some (record (plain (codes "t" ∷ [])) { paths = true })
+      ≡ Some (forwards (record (over (codes "t" ∷ [])) { shown = Paths }))
   pub checked : settings (codes "rpq" ∷ codes "--check" ∷ codes "--paths" ∷ codes "q" ∷ []) ≡ None
   pub made : settings (codes "rpq" ∷ codes "--generate=5" ∷ codes "--paths" ∷ codes "q" ∷ [])
       ≡ None
@@ -84,16 +90,10 @@ pub record PathsExamples : Type 0 where
 pub record JoinsExamples : Type 0 where
   pub over_stream : settings (codes "rpq" ∷ codes "--joins" ∷ codes "j" ∷ codes "q" ∷ codes "t"
       ∷ [])
-      ≡ Some (record (plain (codes "t" ∷ [])) { joins = Some (codes "j") })
+      ≡ Some (forwards (record (over (codes "t" ∷ [])) { shown = Bindings (codes "j") }))
   pub all_files : settings (codes "rpq" ∷ codes "--joins=j" ∷ codes "--asks=a"
       ∷ codes "--replies=r" ∷ codes "--save=s" ∷ codes "--from=f" ∷ codes "q" ∷ codes "t" ∷ [])
-      ≡ Some (record (plain (codes "t" ∷ [])) {
-        joins = Some (codes "j");
-        asks = Some (codes "a");
-        replies = Some (codes "r");
-        save = Some (codes "s");
-        from = Some (codes "f");
-      })
+      ≡ Some (forwards (record resumed { shown = Bindings (codes "j") }))
   pub checked : settings (codes "rpq" ∷ codes "--check" ∷ codes "--joins=j" ∷ codes "q" ∷ [])
       ≡ None
   pub made : settings (codes "rpq" ∷ codes "--generate=5" ∷ codes "--joins=j" ∷ codes "q" ∷ [])
@@ -114,24 +114,23 @@ pub record JoinsExamples : Type 0 where
 -- of conjunctions.
 pub record SettingsExamples : Type 0 where
   pub defaults : settings (codes "rpq" ∷ codes "q" ∷ codes "s" ∷ [])
-      ≡ Some (plain (codes "s" ∷ []))
+      ≡ Some (forwards (over (codes "s" ∷ [])))
   pub between : settings (codes "rpq" ∷ codes "q" ∷ codes "s" ∷ codes "--workers" ∷ codes "0008"
-      ∷ codes "t" ∷ []) ≡ Some (record (plain (codes "s" ∷ codes "t" ∷ [])) { workers = 8 })
+      ∷ codes "t" ∷ []) ≡ Some (record (forwards (over (codes "s" ∷ codes "t" ∷ []))) { workers = 8 })
   pub dashes : settings (codes "rpq" ∷ codes "--asks=-a" ∷ codes "--replies=" ∷ codes "--"
       ∷ codes "q" ∷ codes "--check" ∷ [])
-      ≡ Some (record (plain (codes "--check" ∷ [])) {
-        asks = Some (codes "-a");
-        replies = Some [];
-      })
+      ≡ Some (forwards (record (over (codes "--check" ∷ [])) {
+        asked = Some (record { asks = codes "-a"; replies = [] });
+      }))
   pub checked : settings (codes "rpq" ∷ codes "--check" ∷ codes "q" ∷ [])
-      ≡ Some (record (plain []) { check = true })
+      ≡ Some (plain (Check Forwards))
   pub made : settings (codes "rpq" ∷ codes "--generate" ∷ codes "5" ∷ codes "q" ∷ [])
-      ≡ Some (record (plain []) { generate = Some 5 })
+      ≡ Some (plain (Generate Forwards 5))
   pub greatest : settings (codes "rpq" ∷ codes "--workers=64" ∷ codes "--history=2000000"
       ∷ codes "q" ∷ codes "s" ∷ [])
-      ≡ Some (record (plain (codes "s" ∷ [])) { workers = 64; history = 2000000 })
+      ≡ Some (record (forwards (over (codes "s" ∷ []))) { workers = 64; history = 2000000 })
   pub most_made : settings (codes "rpq" ∷ codes "--generate=1000000" ∷ codes "q" ∷ [])
-      ≡ Some (record (plain []) { generate = Some 1000000 })
+      ≡ Some (plain (Generate Forwards 1000000))
   pub over_made : settings (codes "rpq" ∷ codes "--generate=1000001" ∷ codes "q" ∷ []) ≡ None
   pub no_stream : settings (codes "rpq" ∷ codes "q" ∷ []) ≡ None
   pub no_queries : settings (codes "rpq" ∷ []) ≡ None

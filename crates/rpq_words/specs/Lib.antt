@@ -1,6 +1,10 @@
+pub mod Clash
 pub mod Command
 pub mod Examples
 pub mod FaultTexts
+pub mod Found
 pub mod Modes
+pub mod Options
 pub mod Settings
 pub mod Usage
+pub mod Views

@@ -1,78 +1,81 @@
--- What can stand together, said once more: a run over streams, a check, or generated tuples.
-use Rattle.std.specs.Prelude.{◌≡◌, ◌≢◌, ◌⊎◌, ◌≤◌, ◌↔◌, ℕ, true, false, List, [], length}
-use Rattle.std.specs.Prelude.{Some, None, is_some, IfSome}
+-- What settings are, said once more by what was found in the words.
+use Rattle.std.specs.Prelude.{◌≡◌, ◌≢◌, ◌≤◌, ℕ, Bool, true, false, not, List, length}
+use Rattle.std.specs.Prelude.{Option, Some, None, option_map}
 use Rattle.clap.specs.Walk.{Text}
-use Rattle.rpq_words.specs.Settings.{Settings, clash, settings}
+use Rattle.rpq_words.specs.declared.found.Found.{Found}
+use Rattle.rpq_words.specs.declared.settings.Mode.{Mode}
+use Rattle.rpq_words.specs.declared.settings.Mode.TheVariants.{Check, Generate, Streams}
+use Rattle.rpq_words.specs.declared.settings.StreamSettings.{StreamSettings}
+use Rattle.rpq_words.specs.declared.settings.StreamSettings.TheVariants.{Forwards, BothWays}
+use Rattle.rpq_words.specs.declared.settings.Input.{Input}
+use Rattle.rpq_words.specs.declared.settings.Input.TheVariants.{Fresh, Resumed}
+use Rattle.rpq_words.specs.Clash.{clash}
+use Rattle.rpq_words.specs.Options.{only_if}
+use Rattle.rpq_words.specs.declared.settings.Settings.{Settings}
+use Rattle.rpq_words.specs.Settings.{settings, settings_from}
+use Rattle.rpq_words.specs.Views.{asks_of, from_of, joins_of, paths_of, replies_of, save_of}
+use Rattle.rpq_words.specs.Views.{streams_of, two_way_of}
 
--- a run that begins with what this file has reads one stream, and saves to no file of that name
-pub record BeginsWith (given : Settings) (file : Text) : Type 0 where
-  pub one_stream : length given.streams ≡ 1
-  pub another : given.save ≢ Some file
+-- the queries are checked, and nothing is run
+abbrev pub is_check : Mode → Bool
+is_check (Check directions) = true
+is_check (Generate directions count) = false
+is_check (Streams run) = false
 
--- nothing is asked, there are no conjunctions, and nothing is saved or taken from an earlier run
-pub record NamesNoFile (given : Settings) : Type 0 where
-  pub no_asks : given.asks ≡ None
-  pub no_joins : given.joins ≡ None
-  pub no_save : given.save ≡ None
-  pub no_from : given.from ≡ None
+-- how many tuples are generated
+abbrev pub count_of : Mode → Option ℕ
+count_of (Check directions) = None
+count_of (Generate directions count) = Some count
+count_of (Streams run) = None
 
--- some streams are read, 64 at most; asks and replies stand together; where edges may be taken
--- backwards, no such file is named; where paths are written, edges are taken forwards alone, and
--- there are no conjunctions
-pub record ReadsStreams (given : Settings) : Type 0 where
-  pub unchecked : given.check ≡ false
-  pub none_made : given.generate ≡ None
-  pub some : 1 ≤ length given.streams
-  pub few : length given.streams ≤ 64
-  pub paired : is_some given.asks ≡ is_some given.replies
-  pub begun : IfSome given.from (BeginsWith given)
-  pub both_ways : given.two_way ≡ true → NamesNoFile given
-  pub forwards : given.paths ≡ true → given.two_way ≡ false
-  pub unjoined : given.paths ≡ true → given.joins ≡ None
+-- what is found in words that have these settings
+abbrev pub words_of : Settings → Found
+words_of given = record {
+  workers = given.workers;
+  history = given.history;
+  check = is_check given.mode;
+  generate = count_of given.mode;
+  two_way = two_way_of given;
+  queries = given.queries;
+  words = record {
+    paths = paths_of given;
+    joins = joins_of given;
+    asks = asks_of given;
+    replies = replies_of given;
+    save = save_of given;
+    from = from_of given;
+    streams = streams_of given;
+  };
+}
 
--- no stream is read, nothing is asked, there are no conjunctions, nothing is saved or taken from an
--- earlier run, and no path is written
-pub record ReadsNothing (given : Settings) : Type 0 where
-  pub no_stream : given.streams ≡ []
-  pub no_asks : given.asks ≡ None
-  pub no_replies : given.replies ≡ None
-  pub no_joins : given.joins ≡ None
-  pub no_save : given.save ≡ None
-  pub no_from : given.from ≡ None
-  pub no_paths : given.paths ≡ false
-
--- the queries are checked, and nothing else is done
-pub record Checks (given : Settings) : Type 0 where
-  pub checked : given.check ≡ true
-  pub none_made : given.generate ≡ None
-  pub alone : ReadsNothing given
-
--- tuples are generated in the place of streams
-pub record Generates (given : Settings) : Type 0 where
-  pub unchecked : given.check ≡ false
-  pub made : is_some given.generate ≡ true
-  pub alone : ReadsNothing given
-
--- one of the three
-abbrev pub HasMode : Settings → Type 0
-HasMode given = ReadsStreams given ⊎ (Checks given ⊎ Generates given)
+-- what was found has settings exactly where it doesn't clash, and they say all that was found
+abbrev pub SettingsAreFound : Type 0
+SettingsAreFound = (found : Found)
+    → option_map words_of (settings_from found) ≡ only_if (λ all. not (clash all)) found
 
 -- from 1 to `most`
 abbrev pub IsWithin : ℕ → ℕ → Type 0
 IsWithin most number = (1 ≤ number) × (number ≤ most)
 
--- each number is in its range, and all can stand together
+-- from 1 to 64 streams are read; a run that begins with what a file has saves to no file of that
+-- name
+abbrev pub IsInput : Option Text → Input → Type 0
+IsInput save (Fresh streams) = IsWithin 64 (length streams)
+IsInput save (Resumed from stream) = save ≢ Some from
+
+abbrev pub IsMode : Mode → Type 0
+IsMode (Check directions) = Unit {0}
+IsMode (Generate directions count) = IsWithin 1000000 count
+IsMode (Streams (BothWays streams)) = IsWithin 64 (length streams)
+IsMode (Streams (Forwards run)) = IsInput run.save run.input
+
+-- each number is in its range, and the files and the streams are such
 pub record AreSettings (given : Settings) : Type 0 where
   pub workers : IsWithin 64 given.workers
   pub history : IsWithin 2000000 given.history
-  pub generate : IfSome given.generate (IsWithin 1000000)
-  pub mode : HasMode given
+  pub mode : IsMode given.mode
 
--- settings clash exactly where they have none of the three modes
-abbrev pub ClashHasNoMode : Type 0
-ClashHasNoMode = (given : Settings) → (clash given ≡ false) ↔ HasMode given
-
--- the settings of words are in their ranges, and have a mode
+-- the settings of words are so
 abbrev pub WordsAreSettings : Type 0
 WordsAreSettings =
     (words : List Text) (given : Settings) → settings words ≡ Some given → AreSettings given

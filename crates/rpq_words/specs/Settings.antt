@@ -1,140 +1,120 @@
 -- The settings that the words of a command line are.
-use Rattle.std.specs.Prelude.{ℕ, Bool, true, false, not, ◌&&◌, ◌||◌, ◌==◌, nat_le, nat_lt}
-use Rattle.std.specs.Prelude.{List, [], length, codes, if◌then◌else◌, bytes_eq}
-use Rattle.std.specs.Prelude.{Option, Some, None, is_some, option_map, unwrap_or}
-use Rattle.std.specs.Prelude.{map, string_bytes, String}
+use Rattle.std.specs.Prelude.{ℕ, Bool, true, false, not, ◌||◌, nat_lt, List, [], ◌∷◌, length}
+use Rattle.std.specs.Prelude.{Option, Some, None, is_some, if◌then◌else◌, map, string_bytes, String}
+use Rattle.std.specs.Prelude.{bytes_eq}
 use Rattle.std.specs.Global.{Global}
-use Rattle.std.specs.Option.{option_map_or}
-use Rattle.clap.specs.Walk.{Row, Text, all_of, first_of, is_empty}
-use Rattle.text_parts.specs.Numbers.{number_within}
+use Rattle.clap.specs.Walk.{Row, Text, is_empty}
+use Rattle.rpq_words.specs.declared.found.Found.{Found}
+use Rattle.rpq_words.specs.declared.found.StreamWords.{StreamWords}
+use Rattle.rpq_words.specs.declared.settings.Mode.{Mode}
+use Rattle.rpq_words.specs.declared.settings.Mode.TheVariants.{Check, Generate, Streams}
+use Rattle.rpq_words.specs.declared.settings.Directions.{Directions}
+use Rattle.rpq_words.specs.declared.settings.Directions.TheVariants.{Forwards, BothWays}
+use Rattle.rpq_words.specs.declared.settings.StreamSettings.{StreamSettings}
+use Rattle.rpq_words.specs.declared.settings.StreamSettings.TheVariants.{Forwards as ForwardRun}
+use Rattle.rpq_words.specs.declared.settings.StreamSettings.TheVariants.{BothWays as TwoWayRun}
+use Rattle.rpq_words.specs.declared.settings.ForwardSettings.{ForwardSettings}
+use Rattle.rpq_words.specs.declared.settings.Input.{Input}
+use Rattle.rpq_words.specs.declared.settings.Input.TheVariants.{Fresh, Resumed}
+use Rattle.rpq_words.specs.declared.settings.Shown.{Shown}
+use Rattle.rpq_words.specs.declared.settings.Shown.TheVariants.{Pairs, Paths, Bindings}
+use Rattle.rpq_words.specs.declared.settings.AskFiles.{AskFiles}
+use Rattle.rpq_words.specs.Clash.{names_file}
 use Rattle.rpq_words.specs.Command.{found_in, is_taken}
+use Rattle.rpq_words.specs.Found.{words_found}
+use Rattle.rpq_words.specs.Options.{◌>>=◌}
+use Rattle.rpq_words.specs.declared.settings.Settings.{Settings}
 
 -- the words as texts
 abbrev pub texts : List (String Global) → List Text
 texts words = map (λ word. string_bytes word) words
 
--- the numbers of workers and of entries in the history; whether the queries are to be checked
--- alone; how many tuples are to be generated; whether expressions may take edges backwards; whether
--- a path that shows it is written behind each gained pair; and the names of the files. The
--- bindings of the conjunctions in `joins` are told. The run saves to `save` what a later run needs,
--- and begins with what an earlier one saved in `from`
-pub record Settings : Type 0 where
-  pub workers : ℕ
-  pub history : ℕ
-  pub check : Bool
-  pub generate : Option ℕ
-  pub two_way : Bool
-  pub paths : Bool
-  pub joins : Option Text
-  pub asks : Option Text
-  pub replies : Option Text
-  pub save : Option Text
-  pub from : Option Text
-  pub queries : Text
-  pub streams : List Text
+-- how edges may be taken
+abbrev pub directions_from : Bool → Directions
+directions_from false = Forwards
+directions_from true = BothWays
 
-infixl 10 ◌>>=◌
-abbrev pub ◌>>=◌ : {A B : Type 0} → Option A → (A → Option B) → Option B
-(Some x) >>= next = next x
-None >>= next = None
+-- the names of streams, where there are 1 to 64
+unfoldable pub names_from : List Text → Option (List Text)
+names_from names = if is_empty names || nat_lt 64 (length names) then None else Some names
 
--- the value, where it passes the test
-abbrev pub only_if : {A : Type 0} → (A → Bool) → A → Option A
-only_if test x = if test x then Some x else None
+-- the name of the one stream, where there is exactly one
+abbrev pub only_name : List Text → Option Text
+only_name [] = None
+only_name (name ∷ []) = Some name
+only_name (first ∷ second ∷ rest) = None
 
--- the number that a text writes in digits, where it is from 1 to `most`; zeros may stand in front
-unfoldable pub number_from_one : ℕ → Text → Option ℕ
-number_from_one most text = number_within most text >>= only_if (nat_le 1)
+-- what is read: some streams, or what an earlier run saved and one stream
+unfoldable pub input_from : Option Text → List Text → Option Input
+input_from None names = names_from names >>= λ streams. Some (Fresh streams)
+input_from (Some from) names = only_name names >>= λ stream. Some (Resumed from stream)
 
--- the number of an option that need not stand there: there is none, or it is in its range
-unfoldable pub optional_number : ℕ → Option Text → Option (Option ℕ)
-optional_number most None = Some None
-optional_number most (Some text) = option_map (λ number. Some number) (number_from_one most text)
+-- what is told beside the pairs: not paths and bindings at once
+unfoldable pub shown_from : Bool → Option Text → Option Shown
+shown_from false None = Some Pairs
+shown_from false (Some joins) = Some (Bindings joins)
+shown_from true None = Some Paths
+shown_from true (Some joins) = None
 
--- the flag stands there: clap notes the text `true` for it, and else `false`
-abbrev pub has_flag : Text → List Row → Bool
-has_flag name rows = option_map_or (bytes_eq (codes "true")) (first_of name rows) false
+-- the files of asks and replies: both or none
+unfoldable pub asked_from : Option Text → Option Text → Option (Option AskFiles)
+asked_from None None = Some None
+asked_from (Some asks) (Some replies) = Some (Some (record { asks = asks; replies = replies }))
+asked_from None (Some replies) = None
+asked_from (Some asks) None = None
 
--- what was found, where each number is in its range and there is a word for the queries
-unfoldable pub settings_of : List Row → Option Settings
-settings_of rows =
-    first_of (codes "workers") rows >>= number_from_one 64 >>= λ workers.
-    first_of (codes "history") rows >>= number_from_one 2000000 >>= λ history.
-    optional_number 1000000 (first_of (codes "generate") rows) >>= λ generate.
-    first_of (codes "queries") rows >>= λ queries.
+-- the file to save to is the one that a run begins with
+abbrev pub saves_over : Option Text → Input → Bool
+saves_over (Some save) (Resumed from stream) = bytes_eq save from
+saves_over (Some save) (Fresh streams) = false
+saves_over None input = false
+
+-- a run over streams that takes edges forwards alone; it doesn't save to the file that it begins
+-- with
+unfoldable pub forwards_from : StreamWords → Option ForwardSettings
+forwards_from words =
+    asked_from words.asks words.replies >>= λ asked.
+    shown_from words.paths words.joins >>= λ shown.
+    input_from words.from words.streams >>= λ input.
+    if saves_over words.save input then None
+    else Some (record { input = input; shown = shown; asked = asked; save = words.save })
+
+-- something stands there that only a run over streams has that takes edges forwards alone
+abbrev pub has_forward_words : StreamWords → Bool
+has_forward_words words = is_some words.replies || (names_file words || words.paths)
+
+-- something stands there that only a run over streams has
+abbrev pub has_stream_words : StreamWords → Bool
+has_stream_words words = has_forward_words words || not (is_empty words.streams)
+
+-- a run over streams
+unfoldable pub streams_from : Bool → StreamWords → Option StreamSettings
+streams_from false words = forwards_from words >>= λ run. Some (ForwardRun run)
+streams_from true words = if has_forward_words words then None
+    else (names_from words.streams >>= λ streams. Some (TwoWayRun streams))
+
+-- what is done with the queries
+unfoldable pub mode_from : Bool → Option ℕ → Bool → StreamWords → Option Mode
+mode_from true (Some count) two_way words = None
+mode_from true None two_way words =
+    if has_stream_words words then None else Some (Check (directions_from two_way))
+mode_from false (Some count) two_way words =
+    if has_stream_words words then None else Some (Generate (directions_from two_way) count)
+mode_from false None two_way words = streams_from two_way words >>= λ run. Some (Streams run)
+
+-- the settings, where all that was found can stand together
+unfoldable pub settings_from : Found → Option Settings
+settings_from found = mode_from found.check found.generate found.two_way found.words >>= λ mode.
     Some (record {
-      workers = workers;
-      history = history;
-      check = has_flag (codes "check") rows;
-      generate = generate;
-      two_way = has_flag (codes "two-way") rows;
-      paths = has_flag (codes "paths") rows;
-      joins = first_of (codes "joins") rows;
-      asks = first_of (codes "asks") rows;
-      replies = first_of (codes "replies") rows;
-      save = first_of (codes "save") rows;
-      from = first_of (codes "from") rows;
-      queries = queries;
-      streams = unwrap_or (all_of (codes "streams") rows) [];
+      queries = found.queries;
+      workers = found.workers;
+      history = found.history;
+      mode = mode;
     })
-
--- no stream is to be read: the queries are checked alone, or tuples are generated
-abbrev pub reads_none : Settings → Bool
-reads_none settings = settings.check || is_some settings.generate
-
--- exactly one of the two is there
-abbrev pub is_one_alone : {A B : Type 0} → Option A → Option B → Bool
-is_one_alone (Some x) None = true
-is_one_alone None (Some y) = true
-is_one_alone _ _ = false
-
--- a file is named that only a run over streams has; it can't stand with edges taken backwards
-abbrev pub names_file : Settings → Bool
-names_file settings =
-    is_some settings.asks
-    || (is_some settings.joins || (is_some settings.save || is_some settings.from))
-
--- paths are written, but no stream is read, edges may be taken backwards, or there is a file of
--- conjunctions
-abbrev pub paths_clash : Settings → Bool
-paths_clash settings =
-    settings.paths && (reads_none settings || (settings.two_way || is_some settings.joins))
-
--- both are there, and are the same text
-abbrev pub is_same_file : Option Text → Option Text → Bool
-is_same_file (Some x) (Some y) = bytes_eq x y
-is_same_file _ _ = false
-
--- a file to begin with is there, but not exactly one stream, or it is the file to save to
-abbrev pub from_clashes : Settings → Bool
-from_clashes settings =
-    (is_some settings.from && not (length settings.streams == 1))
-    || is_same_file settings.save settings.from
-
--- no stream is there where some are to be read, or more than are taken, or a file to begin with
--- clashes
-abbrev pub streams_clash : Settings → Bool
-streams_clash settings =
-    (not (reads_none settings) && is_empty settings.streams)
-    || (nat_lt 64 (length settings.streams) || from_clashes settings)
-
--- what can't stand together does: one of the asks and the replies without the other; a check and
--- generated tuples; one of these and asks, conjunctions, a file to save to or to begin with, or a
--- stream; edges taken backwards and asks, conjunctions, or a file to save to or to begin with;
--- paths and a check, generated tuples, edges taken backwards, or conjunctions; neither a check nor
--- generated tuples, and no stream; more streams than are taken; or a file to begin with and not
--- exactly one stream, or the same file to save to
-unfoldable pub clash : Settings → Bool
-clash settings =
-    is_one_alone settings.asks settings.replies
-    || ((settings.check && is_some settings.generate)
-    || ((reads_none settings && (names_file settings || not (is_empty settings.streams)))
-    || ((settings.two_way && names_file settings)
-    || (paths_clash settings || streams_clash settings))))
 
 -- what was found, where each number is in its range and all can stand together
 unfoldable pub settled : List Row → Option Settings
-settled rows = settings_of rows >>= only_if (λ settings. not (clash settings))
+settled rows = words_found rows >>= settings_from
 
 -- the settings of the words, where the command takes them, each number is in its range and all can
 -- stand together; else none

@@ -1,15 +1,15 @@
 //! Laws of the definitions. The functions do nothing: their contracts are the laws.
 
 ghost use Rattle.rpq_words.specs.Examples.{SettingsExamples};
-ghost use Rattle.rpq_words.specs.Modes.{ClashHasNoMode, WordsAreSettings};
+ghost use Rattle.rpq_words.specs.Modes.{SettingsAreFound, WordsAreSettings};
 
-/// Settings clash exactly where they are neither a run over streams, nor a check, nor generated
-/// tuples.
-pub fn clash_has_no_mode()
-    ensures { ClashHasNoMode }
+/// What was found has settings exactly where it doesn't clash, and they say all that was found.
+pub fn settings_are_found()
+    ensures { SettingsAreFound }
 {}
 
-/// The settings of words are in their ranges, and are one of the three.
+/// The numbers in the settings of words are in their ranges, 1 to 64 streams are read where some
+/// are, and a run doesn't save to the file that it begins with.
 pub fn words_are_settings()
     ensures { WordsAreSettings }
 {}

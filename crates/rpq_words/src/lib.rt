@@ -5,26 +5,31 @@
 //! [STREAM...]`, read by `clap` as one simple command. The contract for the layer above:
 //! [`read_words`] answers the settings of the words, as `specs/Settings` defines them by clap's own
 //! definition of such a command and the table of the ranges, or that the words have none, unless
-//! memory runs out.
+//! memory runs out. What can't stand together can't be said by a [`Settings`].
 //!
-//! A word that names a file is copied once; the rest of the cost is clap's. The laws say which
-//! settings can stand together once more, by the three things that a run may be, and give some
-//! command lines with their settings.
+//! A word that names a file is copied once; the rest of the cost is clap's. The laws say that what
+//! was found has settings exactly where it doesn't clash (`specs/Clash`), and that these say all of
+//! it, and give some command lines with their settings.
 #![tactic(auto)]
 
-mod chosen;
 mod command;
 mod fault;
 mod file_word;
+mod found;
 mod laws;
 mod matches;
 mod numbers;
 mod read;
+mod settings;
+mod stream_names;
 mod usage;
 
-pub use chosen::Chosen;
 pub use fault::WordsFault;
 pub use file_word::FileWord;
-pub use laws::{clash_has_no_mode, settings_examples, words_are_settings};
+pub use laws::{settings_are_found, settings_examples, words_are_settings};
 pub use read::read_words;
+pub use settings::{
+    AskFiles, Directions, ForwardSettings, Input, Mode, Settings, Shown, StreamSettings,
+};
+pub use stream_names::StreamNames;
 pub use usage::usage_line;

@@ -3,7 +3,7 @@
 ghost use Rattle.std.specs.Prelude.{◌≡◌, map, option_map, unwrap_or, []};
 ghost use Rattle.clap.specs.Walk.{all_of, first_of, rows_of};
 ghost use Rattle.clap.specs.Matches.{found_of};
-ghost use Rattle.rpq_words.specs.Settings.{has_flag};
+ghost use Rattle.rpq_words.specs.Found.{has_flag};
 
 use clap::ArgMatches;
 

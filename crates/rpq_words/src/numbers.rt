@@ -1,13 +1,13 @@
 //! The numbers of the options.
 
 ghost use Rattle.std.specs.Prelude.{◌≡◌, ◌≤◌, IfSome, option_and_then, option_map};
-ghost use Rattle.rpq_words.specs.Settings.{number_from_one, optional_number};
+ghost use Rattle.rpq_words.specs.Found.{number_from_one, optional_number};
 
 use rpq_base::{MAX_WORKERS, Workers};
 use text_parts::read_number;
 
 /// The number that the text writes in digits, where it is from 1 to `most`.
-#[tactic(auto, unfolding(crate::specs::Settings::number_from_one))]
+#[tactic(auto, unfolding(crate::specs::Found::number_from_one))]
 pub(crate) fn number_from_one(text: &str, most: u64) -> Option<u64>
     ensures number { result ≡ number_from_one most text.now }
     ensures some { IfSome result (λ number. 1 ≤ number) }
@@ -40,7 +40,7 @@ pub(crate) fn needed_workers(text: Option<&str>) -> Option<Workers>
 
 /// The number of an option that need not stand there; `None` where it stands there with no number
 /// in its range.
-#[tactic(auto, unfolding(crate::specs::Settings::optional_number))]
+#[tactic(auto, unfolding(crate::specs::Found::optional_number))]
 pub(crate) fn optional_number(text: Option<&str>, most: u64) -> Option<Option<u64>>
     ensures { result ≡ optional_number most (option_map (λ known. known.now) text.entry) }
 {

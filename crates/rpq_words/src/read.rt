@@ -5,14 +5,17 @@ ghost use Rattle.clap.specs.Walk.{rows_of};
 ghost use Rattle.clap.specs.Matches.{found_of};
 ghost use Rattle.rpq_words.specs.Command.{found_in, is_taken};
 ghost use Rattle.rpq_words.specs.Modes.{AreSettings};
-ghost use Rattle.rpq_words.specs.Settings.{settings, settings_of, settled, texts};
+ghost use Rattle.rpq_words.specs.Found.{words_found};
+ghost use Rattle.rpq_words.specs.Settings.{settings, settled, texts};
 
-use crate::chosen::Chosen;
 use crate::command::command;
 use crate::fault::WordsFault;
 use crate::file_word::{FileWord, file_words, optional_file_word};
+use crate::found::{Found, StreamWords};
 use crate::matches::{all_of, first_of, has_flag};
 use crate::numbers::{needed_number, needed_workers, optional_number};
+use crate::settings::Settings;
+use crate::stream_names::StreamNames;
 use clap::ArgMatches;
 use clap::error::ErrorKind;
 use std::alloc::Global;
@@ -27,7 +30,7 @@ const MAX_GENERATED: u64 = 1_000_000;
 ///
 /// The words are refused exactly where they have no settings, unless memory runs out.
 #[tactic(auto, unfolding(crate::specs::Settings::settings))]
-pub fn read_words(alloc: Global, words: &[String]) -> Result<Chosen, WordsFault>
+pub fn read_words(alloc: Global, words: &[String]) -> Result<Settings, WordsFault>
     ensures ok { IfOk result (λ chosen. settings (texts words.now) ≡ Some chosen) }
     ensures sound { IfOk result AreSettings }
     ensures refused { result ≡ Err WordsFault.Refused → settings (texts words.now) ≡ None }
@@ -66,25 +69,23 @@ fn fault_of(kind: ErrorKind) -> WordsFault
 
 /// What was found, where each number is in its range and all can stand together.
 #[tactic(auto, unfolding(crate::specs::Settings::settled))]
-fn settings_of_matches(alloc: Global, matches: &ArgMatches<'_>) -> Result<Chosen, WordsFault>
-    ensures ok { IfOk result (λ chosen. settled (rows_of (found_of matches.now)) ≡ Some chosen) }
+fn settings_of_matches(alloc: Global, matches: &ArgMatches<'_>) -> Result<Settings, WordsFault>
+    ensures ok { IfOk result (λ chosen.
+        settled (rows_of (found_of matches.now)) ≡ Some chosen) }
     ensures refused { result ≡ Err WordsFault.Refused
         → settled (rows_of (found_of matches.now)) ≡ None }
 {
-    let chosen = read_choices(alloc, matches)?;
-    if chosen.clashes() {
-        return Err(WordsFault::Refused);
-    }
-    Ok(chosen)
+    let found = read_found(alloc, matches)?;
+    found.into_settings().ok_or(WordsFault::Refused)
 }
 
 /// What was found, where each number is in its range.
-#[tactic(auto, unfolding(crate::specs::Settings::settings_of))]
-fn read_choices(alloc: Global, matches: &ArgMatches<'_>) -> Result<Chosen, WordsFault>
-    ensures ok { IfOk result
-        (λ chosen. settings_of (rows_of (found_of matches.now)) ≡ Some chosen) }
+#[tactic(auto, unfolding(crate::specs::Found::words_found))]
+fn read_found(alloc: Global, matches: &ArgMatches<'_>) -> Result<Found, WordsFault>
+    ensures ok { IfOk result (λ found.
+        words_found (rows_of (found_of matches.now)) ≡ Some found) }
     ensures refused { result ≡ Err WordsFault.Refused
-        → settings_of (rows_of (found_of matches.now)) ≡ None }
+        → words_found (rows_of (found_of matches.now)) ≡ None }
 {
     let workers = needed_workers(first_of(matches, "workers")).ok_or(WordsFault::Refused)?;
     let history = needed_number(first_of(matches, "history"), MAX_HISTORY).ok_or(
@@ -94,19 +95,21 @@ fn read_choices(alloc: Global, matches: &ArgMatches<'_>) -> Result<Chosen, Words
         WordsFault::Refused,
     )?;
     let queries = first_of(matches, "queries").ok_or(WordsFault::Refused)?;
-    Ok(Chosen {
+    Ok(Found {
         workers,
         history,
         check: has_flag(matches, "check"),
         generate,
         two_way: has_flag(matches, "two-way"),
-        paths: has_flag(matches, "paths"),
-        joins: optional_file_word(alloc, first_of(matches, "joins"))?,
-        asks: optional_file_word(alloc, first_of(matches, "asks"))?,
-        replies: optional_file_word(alloc, first_of(matches, "replies"))?,
-        save: optional_file_word(alloc, first_of(matches, "save"))?,
-        from: optional_file_word(alloc, first_of(matches, "from"))?,
         queries: FileWord::new(alloc, queries)?,
-        streams: file_words(alloc, all_of(matches, "streams"))?,
+        words: StreamWords {
+            paths: has_flag(matches, "paths"),
+            joins: optional_file_word(alloc, first_of(matches, "joins"))?,
+            asks: optional_file_word(alloc, first_of(matches, "asks"))?,
+            replies: optional_file_word(alloc, first_of(matches, "replies"))?,
+            save: optional_file_word(alloc, first_of(matches, "save"))?,
+            from: optional_file_word(alloc, first_of(matches, "from"))?,
+            streams: StreamNames::new(file_words(alloc, all_of(matches, "streams"))?),
+        },
     })
 }

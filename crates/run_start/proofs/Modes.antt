@@ -1,30 +1,65 @@
--- What settings ask for by which streams are read, and by which none is.
-use Rattle.std.proofs.Common.{◌≡◌, ◌⊎◌, ◌∙◌, true, false, sym, ap, ap₂, inl, inr}
-use Rattle.std.specs.Prelude.{◌||◌, is_some}
-use Rattle.rpq_words.specs.Modes.{AreSettings, Checks, Generates, HasMode, ReadsStreams}
-use Rattle.rpq_words.specs.Settings.{Settings, reads_none}
+-- What settings say of a run over streams.
+use Rattle.std.proofs.Common.{arith, ◌≡◌, true, false, List, [], ◌∷◌, length, refl, subst, sym}
+use Rattle.std.specs.Prelude.{Option, Some, None, is_some}
+use Rattle.rpq_words.specs.declared.settings.Mode.{Mode}
+use Rattle.rpq_words.specs.declared.settings.Mode.TheVariants.{Check, Generate, Streams}
+use Rattle.rpq_words.specs.declared.settings.StreamSettings.{StreamSettings}
+use Rattle.rpq_words.specs.declared.settings.StreamSettings.TheVariants.{BothWays, Forwards}
+use Rattle.rpq_words.specs.declared.settings.Input.{Input}
+use Rattle.rpq_words.specs.declared.settings.Input.TheVariants.{Fresh, Resumed}
+use Rattle.rpq_words.specs.Modes.{AreSettings, IsInput, IsMode, IsWithin}
+use Rattle.rpq_words.specs.declared.settings.Settings.{Settings}
+use Rattle.rpq_words.specs.Views.{asks_of, forwards_in, from_in, from_of, names_in, paths_in, paths_of}
+use Rattle.rpq_words.specs.Views.{streams_in, streams_of, two_way_in, two_way_of}
 
--- where some stream is to be read, the run is one over streams
-pub reads_streams : (given : Settings) → AreSettings given → reads_none given ≡ false → ReadsStreams given
-reads_streams given are some = by are.mode
+-- 1 to 64 streams are read
+pub some_streams : (given : Settings) (run : StreamSettings) → given.mode ≡ Streams run
+    → AreSettings given → IsWithin 64 (length (streams_of given))
+some_streams given run is are = by given.mode is are.mode
   where
-    by : HasMode given → ReadsStreams given
-    by (inl reads) = reads
-    by (inr (inl checks)) =
-        let both : true ≡ false = sym (ap (λ check. check || is_some given.generate) checks.checked) ∙ some in
-        absurd (cc both)
-    by (inr (inr made)) =
-        let both : true ≡ false = sym (ap₂ (λ check number. check || number) made.unchecked made.made) ∙ some in
-        absurd (cc both)
+    by_input : (save : Option _) (input : Input) → IsInput save input
+        → IsWithin 64 (length (names_in input))
+    by_input save (Fresh streams) within = within
+    by_input save (Resumed from stream) another = (omega arith, omega arith)
 
--- where none is, the queries are checked, or tuples are generated
-pub checks_or_generates : (given : Settings) → AreSettings given → reads_none given ≡ true
-    → Checks given ⊎ Generates given
-checks_or_generates given are none = by are.mode
+    by : (mode : Mode) → mode ≡ Streams run → IsMode mode → IsWithin 64 (length (streams_in mode))
+    by (Check directions) is within = absurd (cc is)
+    by (Generate directions count) is within = absurd (cc is)
+    by (Streams (BothWays streams)) is within = within
+    by (Streams (Forwards forwards)) is within = by_input forwards.save forwards.input within
+
+-- and one where a saved window is read first
+pub one_stream : (given : Settings) → true ≡ is_some (from_of given)
+    → length (streams_of given) ≡ 1
+one_stream given is = by given.mode is
   where
-    by : HasMode given → Checks given ⊎ Generates given
-    by (inl reads) =
-        let both : true ≡ false =
-        sym none ∙ ap₂ (λ check generate. check || is_some generate) reads.unchecked reads.none_made in
-        absurd (cc both)
-    by (inr alone) = alone
+    by_input : (input : Input) → true ≡ is_some (from_in input) → length (names_in input) ≡ 1
+    by_input (Fresh streams) is = absurd (cc is)
+    by_input (Resumed from stream) is = refl
+
+    by : (mode : Mode) → true ≡ is_some (from_of (record given { mode = mode }))
+        → length (streams_in mode) ≡ 1
+    by (Check directions) is = absurd (cc is)
+    by (Generate directions count) is = absurd (cc is)
+    by (Streams (BothWays streams)) is = absurd (cc is)
+    by (Streams (Forwards forwards)) is = by_input forwards.input is
+
+-- nobody asks where edges may be taken backwards
+pub unasked : (given : Settings) → two_way_of given ≡ true → asks_of given ≡ None
+unasked given is = by given.mode is
+  where
+    by : (mode : Mode) → two_way_in mode ≡ true → asks_of (record given { mode = mode }) ≡ None
+    by (Check directions) is = refl
+    by (Generate directions count) is = refl
+    by (Streams (BothWays streams)) is = refl
+    by (Streams (Forwards forwards)) is = absurd (cc is)
+
+-- and no path is told there
+pub forwards_alone : (given : Settings) → paths_of given ≡ true → two_way_of given ≡ false
+forwards_alone given is = by given.mode is
+  where
+    by : (mode : Mode) → paths_in (forwards_in mode) ≡ true → two_way_in mode ≡ false
+    by (Check directions) is = absurd (cc is)
+    by (Generate directions count) is = absurd (cc is)
+    by (Streams (BothWays streams)) is = absurd (cc is)
+    by (Streams (Forwards forwards)) is = refl

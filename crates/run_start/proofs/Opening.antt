@@ -9,14 +9,15 @@ use Rattle.std.proofs.Math.Seq.{take-suc}
 use Rattle.rpq_io.specs.Counts.{CountsFault, CountsOpening, Rose}
 use Rattle.rpq_io.specs.Reader.{ReaderState}
 use Rattle.rpq_model.specs.Query.{Query}
-use Rattle.rpq_words.specs.Settings.{Settings}
+use Rattle.rpq_words.specs.declared.settings.Settings.{Settings}
+use Rattle.rpq_words.specs.Views.{asks_of, from_of, joins_of, streams_of}
 use Rattle.stream_tuples.specs.History.{IsPrefix}
 use Rattle.rpq_text.specs.declared.ends.Which.{Which}
 use Rattle.rpq_text.specs.declared.ends.Which.TheVariants.{Queries, Joins, Asks, From}
 use Rattle.rpq_text.specs.declared.ends.Which.TheVariants.{Stream, Replies, Save}
 use Rattle.rpq_text.specs.declared.ends.StartFault.{StartFault}
 use Rattle.rpq_text.specs.declared.ends.StartFault.TheVariants.{Words, Queries as QueriesFault}
-use Rattle.rpq_text.specs.declared.ends.StartFault.TheVariants.{Joins as JoinsFault}
+use Rattle.rpq_text.specs.declared.ends.StartFault.TheVariants.{Joins as JoinsFaulty}
 use Rattle.rpq_text.specs.declared.ends.StartFault.TheVariants.{Asks as AsksFault, Open, Read, Long}
 use Rattle.rpq_text.specs.declared.ends.StartFault.TheVariants.{Memory}
 use Rattle.saved_window.specs.Then.{join_known}
@@ -41,8 +42,8 @@ pub record IsPlace (given : Settings) (which : Which) (before : List (List ℕ))
 
 -- the names of all files that are read behind that of the queries
 abbrev behind_queries : Settings → List (List ℕ)
-behind_queries given = ((option_to_list given.joins ++ option_to_list given.asks)
-    ++ option_to_list given.from) ++ given.streams
+behind_queries given = ((option_to_list (joins_of given) ++ option_to_list (asks_of given))
+    ++ option_to_list (from_of given)) ++ (streams_of given)
 
 -- the queries file
 pub queries_place : (given : Settings) (name : List ℕ) → name ≡ given.queries
@@ -61,7 +62,7 @@ queries_place given name is = record {
 }
 
 -- the joins file
-pub joins_place : (given : Settings) (name : List ℕ) → given.joins ≡ Some name
+pub joins_place : (given : Settings) (name : List ℕ) → joins_of given ≡ Some name
     → IsPlace given Joins (given.queries ∷ []) name
 joins_place given name is =
     let only = ap (λ (a : Option (List ℕ)). option_to_list a) is in
@@ -69,9 +70,9 @@ joins_place given name is =
       behind = refl;
       up_to = ap (λ (ns : List (List ℕ)). given.queries ∷ ns) only;
       front = record {
-        rest = (option_to_list given.asks ++ option_to_list given.from) ++ given.streams;
-        cut = ap (λ (ns : List (List ℕ)). given.queries ∷ (((ns ++ option_to_list given.asks)
-            ++ option_to_list given.from) ++ given.streams)) only;
+        rest = (option_to_list (asks_of given) ++ option_to_list (from_of given)) ++ streams_of given;
+        cut = ap (λ (ns : List (List ℕ)). given.queries ∷ (((ns ++ option_to_list (asks_of given))
+            ++ option_to_list (from_of given)) ++ streams_of given)) only;
       };
       named = λ any opening.
           let found : ◌≡◌ {A = Option (List ℕ)} (Some any) (Some name) = sym opening ∙ is in
@@ -82,20 +83,20 @@ joins_place given name is =
     }
 
 -- the asks file
-pub asks_place : (given : Settings) (name : List ℕ) → given.asks ≡ Some name
+pub asks_place : (given : Settings) (name : List ℕ) → asks_of given ≡ Some name
     → IsPlace given Asks (understood_names given) name
 asks_place given name is =
     let only = ap (λ (a : Option (List ℕ)). option_to_list a) is in
-    let front = option_to_list given.joins ++ name ∷ [] in
+    let front = option_to_list (joins_of given) ++ name ∷ [] in
     record {
       behind = refl;
       up_to = ap (λ (ns : List (List ℕ)). understood_names given ++ ns) only;
       front = record {
-        rest = option_to_list given.from ++ given.streams;
-        cut = ap (λ (ns : List (List ℕ)). given.queries ∷ (((option_to_list given.joins ++ ns)
-            ++ option_to_list given.from) ++ given.streams)) only
+        rest = option_to_list (from_of given) ++ streams_of given;
+        cut = ap (λ (ns : List (List ℕ)). given.queries ∷ (((option_to_list (joins_of given) ++ ns)
+            ++ option_to_list (from_of given)) ++ streams_of given)) only
             ∙ ap (λ (ns : List (List ℕ)). given.queries ∷ ns)
-            (append_assoc front (option_to_list given.from) given.streams);
+            (append_assoc front (option_to_list (from_of given)) (streams_of given));
       };
       named = λ any opening.
           let found : ◌≡◌ {A = Option (List ℕ)} (Some any) (Some name) = sym opening ∙ is in
@@ -106,7 +107,7 @@ asks_place given name is =
     }
 
 -- the saved window
-pub from_place : (given : Settings) (name : List ℕ) → given.from ≡ Some name
+pub from_place : (given : Settings) (name : List ℕ) → from_of given ≡ Some name
     → IsPlace given From (whole_names given) name
 from_place given name is =
     let only = ap (λ (a : Option (List ℕ)). option_to_list a) is in
@@ -114,8 +115,8 @@ from_place given name is =
       behind = refl;
       up_to = ap (λ (ns : List (List ℕ)). whole_names given ++ ns) only;
       front = record {
-        rest = given.streams;
-        cut = ap (λ (ns : List (List ℕ)). (whole_names given ++ ns) ++ given.streams) only;
+        rest = streams_of given;
+        cut = ap (λ (ns : List (List ℕ)). (whole_names given ++ ns) ++ streams_of given) only;
       };
       named = λ any opening.
           let found : ◌≡◌ {A = Option (List ℕ)} (Some any) (Some name) = sym opening ∙ is in
@@ -127,30 +128,30 @@ from_place given name is =
 
 -- one stream more
 pub one_stream_more : (given : Settings) (place : ℕ) (name : List ℕ)
-    → slice_get given.streams place ≡ Some name
-    → take (suc place) given.streams ≡ take place given.streams ++ name ∷ []
+    → slice_get (streams_of given) place ≡ Some name
+    → take (suc place) (streams_of given) ≡ take place (streams_of given) ++ name ∷ []
 one_stream_more given place name is =
-    take-suc given.streams place name (slice_get_within given.streams place name is)
-    ∙ ap (λ (n : List ℕ). take place given.streams ++ n ∷ [])
-    (get_or_from_slice_get given.streams place name name is)
+    take-suc (streams_of given) place name (slice_get_within (streams_of given) place name is)
+    ∙ ap (λ (n : List ℕ). take place (streams_of given) ++ n ∷ [])
+    (get_or_from_slice_get (streams_of given) place name name is)
 
 -- a stream
-pub stream_place : (given : Settings) (place : ℕ) (name : List ℕ) → slice_get given.streams place ≡ Some name
-    → IsPlace given (Stream (suc place)) (first_names given ++ take place given.streams) name
+pub stream_place : (given : Settings) (place : ℕ) (name : List ℕ) → slice_get (streams_of given) place ≡ Some name
+    → IsPlace given (Stream (suc place)) (first_names given ++ take place (streams_of given)) name
 stream_place given place name is =
-    let up_to : first_names given ++ take (suc place) given.streams
-    ≡ (first_names given ++ take place given.streams) ++ name ∷ [] =
+    let up_to : first_names given ++ take (suc place) (streams_of given)
+    ≡ (first_names given ++ take place (streams_of given)) ++ name ∷ [] =
     ap (λ (ns : List (List ℕ)). first_names given ++ ns) (one_stream_more given place name is)
-    ∙ sym (append_assoc (first_names given) (take place given.streams) (name ∷ [])) in
+    ∙ sym (append_assoc (first_names given) (take place (streams_of given)) (name ∷ [])) in
     record {
       behind = refl;
       up_to = up_to;
       front = record {
-        rest = drop (suc place) given.streams;
-        cut = ap (λ (ns : List (List ℕ)). first_names given ++ ns) (sym (take-append-drop (suc place) given.streams))
-            ∙ (sym (append_assoc (first_names given) (take (suc place) given.streams)
-            (drop (suc place) given.streams))
-            ∙ ap (λ (ns : List (List ℕ)). ns ++ drop (suc place) given.streams) up_to);
+        rest = drop (suc place) (streams_of given);
+        cut = ap (λ (ns : List (List ℕ)). first_names given ++ ns) (sym (take-append-drop (suc place) (streams_of given)))
+            ∙ (sym (append_assoc (first_names given) (take (suc place) (streams_of given))
+            (drop (suc place) (streams_of given)))
+            ∙ ap (λ (ns : List (List ℕ)). ns ++ drop (suc place) (streams_of given)) up_to);
       };
       named = λ any opening.
           let found : ◌≡◌ {A = Option (List ℕ)} (Some any) (Some name) = sym opening ∙ is in
@@ -165,7 +166,7 @@ other_than : (which other : Which) (file : Option (List ℕ)) (fault : StartFaul
     → IsFaultOfFile which file fault → fault ≢ Open other
 other_than which other file Words apart is opens = is
 other_than which other file (QueriesFault fault) apart is opens = is
-other_than which other file (JoinsFault fault) apart is opens = is
+other_than which other file (JoinsFaulty fault) apart is opens = is
 other_than which other file (AsksFault fault) apart is opens = is
 other_than which other file (Open one) apart is opens =
     let same : one ≡ other = cc opens in
@@ -181,7 +182,7 @@ is_opening : (given : Settings) (which : Which) (before : List (List ℕ)) (name
     → (fault ≡ Open which) × (any ≡ name)
 is_opening given which before name file Words at is any opening = absurd opening
 is_opening given which before name file (QueriesFault fault) at is any opening = absurd opening
-is_opening given which before name file (JoinsFault fault) at is any opening = absurd opening
+is_opening given which before name file (JoinsFaulty fault) at is any opening = absurd opening
 is_opening given which before name file (AsksFault fault) at is any opening = absurd opening
 is_opening given which before name file (Open one) at is any opening =
     let same : Open one ≡ Open which = ap (λ w. Open w) is in
@@ -197,7 +198,7 @@ opened_to : (given : Settings) (which : Which) (before : List (List ℕ)) (name 
     → AreOpened given (Some fault) (before ++ names)
 opened_to given which before name file Words names at is are = absurd is
 opened_to given which before name file (QueriesFault fault) names at is are = absurd is
-opened_to given which before name file (JoinsFault fault) names at is are = absurd is
+opened_to given which before name file (JoinsFaulty fault) names at is are = absurd is
 opened_to given which before name file (AsksFault fault) names at is are = absurd is
 opened_to given which before name file (Open one) names at is are =
     ap (λ (ns : List (List ℕ)). before ++ ns) are ∙ (append-nil before
@@ -221,7 +222,7 @@ quietly : (given : Settings) (which : Which) (before : List (List ℕ)) (name : 
     → (any : List ℕ) → (IsOpeningOf given any fault → ⊥) → new any ≡ old any
 quietly given which before name file Words old new at is counts any none = absurd is
 quietly given which before name file (QueriesFault fault) old new at is counts any none = absurd is
-quietly given which before name file (JoinsFault fault) old new at is counts any none = absurd is
+quietly given which before name file (JoinsFaulty fault) old new at is counts any none = absurd is
 quietly given which before name file (AsksFault fault) old new at is counts any none = absurd is
 quietly given which before name file (Open one) old new at is counts any none =
     let opening : IsOpeningOf given name (Open one) =
@@ -290,9 +291,9 @@ opening_refusal {S} which refusal is = elim is.cause [
 -- the saved window was opened, or not
 pub from_opened : {F : Type 0} {holds : F → List ℕ → Option (List ℕ)} {opened made : F → List (List ℕ)}
     {unread unmade : F → List ℕ → ℕ} (given : Settings) (name : List ℕ) (start : Option StartFault) (old new : F)
-    → given.from ≡ Some name → IfSome start (IsFaultOfFile From None)
+    → from_of given ≡ Some name → IfSome start (IsFaultOfFile From None)
     → OpensFile holds opened made unread unmade From name start old new
-    → UsesMore holds opened made unread unmade given (whole_names given) (option_to_list given.from) [] start old new
+    → UsesMore holds opened made unread unmade given (whole_names given) (option_to_list (from_of given)) [] start old new
 from_opened {F} {holds} {opened} {made} {unread} {unmade} given name start old new named cause opens =
     subst (λ (ns : List (List ℕ)). UsesMore holds opened made unread unmade given (whole_names given) ns [] start old new)
     (sym (ap (λ (o : Option (List ℕ)). option_to_list o) named))
@@ -302,11 +303,11 @@ from_opened {F} {holds} {opened} {made} {unread} {unmade} given name start old n
 pub uses_asks : {F : Type 0} {holds : F → List ℕ → Option (List ℕ)}
     {opened made : F → List (List ℕ)} {unread unmade : F → List ℕ → ℕ} (given : Settings)
     (name : List ℕ) (queries : List Query) (bytes : List ℕ) (start : Option StartFault) (old new : F)
-    → given.asks ≡ Some name
+    → asks_of given ≡ Some name
     → IfSome start (IsFaultOfAsks queries bytes)
     → OpensFile holds opened made unread unmade Asks name None old new
     → UsesMore holds opened made unread unmade given (understood_names given)
-    (option_to_list given.asks) [] start old new
+    (option_to_list (asks_of given)) [] start old new
 uses_asks {F} {holds} {opened} {made} {unread} {unmade} given name queries bytes start old new is
     cause opens =
     by start cause
@@ -316,52 +317,52 @@ uses_asks {F} {holds} {opened} {made} {unread} {unmade} given name queries bytes
     taken = uses_file given Asks (understood_names given) name None None old new
         (asks_place given name is) tt opens
 
-    only : name ∷ [] ≡ option_to_list given.asks
+    only : name ∷ [] ≡ option_to_list (asks_of given)
     only = ap (λ (a : Option (List ℕ)). option_to_list a) (sym is)
 
     by : (s : Option StartFault) → IfSome s (IsFaultOfAsks queries bytes)
         → UsesMore holds opened made unread unmade given (understood_names given)
-        (option_to_list given.asks) [] s old new
+        (option_to_list (asks_of given)) [] s old new
     by None cause = subst (λ (ns : List (List ℕ)). UsesMore holds opened made unread unmade given
         (understood_names given) ns [] None old new) only taken
     by (Some Words) cause = absurd cause
     by (Some (QueriesFault fault)) cause = absurd cause
-    by (Some (JoinsFault fault)) cause = absurd cause
-    by (Some (AsksFault fault)) cause = then_refused (option_to_list given.asks) (AsksFault fault)
+    by (Some (JoinsFaulty fault)) cause = absurd cause
+    by (Some (AsksFault fault)) cause = then_refused (option_to_list (asks_of given)) (AsksFault fault)
         tt (ap (λ (ns : List (List ℕ)). understood_names given ++ ns) only) taken
     by (Some (Open which)) cause = absurd cause
     by (Some (Read which)) cause = absurd cause
     by (Some (Long which)) cause = absurd cause
-    by (Some Memory) cause = then_refused (option_to_list given.asks) Memory tt
+    by (Some Memory) cause = then_refused (option_to_list (asks_of given)) Memory tt
         (asks_place given name is).front taken
 
 -- one stream more was opened, or not, behind those before it
 pub uses_stream : {F : Type 0} {holds : F → List ℕ → Option (List ℕ)} {opened made : F → List (List ℕ)}
     {unread unmade : F → List ℕ → ℕ} (given : Settings) (place number : ℕ) (name : List ℕ)
     (start : Option StartFault) (old between new : F) → number ≡ suc place
-    → slice_get given.streams place ≡ Some name
-    → UsesMore holds opened made unread unmade given (first_names given) (take place given.streams) [] None old between
+    → slice_get (streams_of given) place ≡ Some name
+    → UsesMore holds opened made unread unmade given (first_names given) (take place (streams_of given)) [] None old between
     → IfSome start (IsFaultOfFile (Stream number) None)
     → OpensFile holds opened made unread unmade (Stream number) name start between new
-    → UsesMore holds opened made unread unmade given (first_names given) (take number given.streams) [] start old new
+    → UsesMore holds opened made unread unmade given (first_names given) (take number (streams_of given)) [] start old new
 uses_stream {F} {holds} {opened} {made} {unread} {unmade} given place number name start old between new next is
     before cause opens =
-    let at : IsPlace given (Stream number) (first_names given ++ take place given.streams) name =
-    subst (λ (n : ℕ). IsPlace given (Stream n) (first_names given ++ take place given.streams) name) (sym next)
+    let at : IsPlace given (Stream number) (first_names given ++ take place (streams_of given)) name =
+    subst (λ (n : ℕ). IsPlace given (Stream n) (first_names given ++ take place (streams_of given)) name) (sym next)
     (stream_place given place name is) in
-    let names : take place given.streams ++ name ∷ [] ≡ take number given.streams =
-    sym (one_stream_more given place name is) ∙ ap (λ (n : ℕ). take n given.streams) (sym next) in
+    let names : take place (streams_of given) ++ name ∷ [] ≡ take number (streams_of given) =
+    sym (one_stream_more given place name is) ∙ ap (λ (n : ℕ). take n (streams_of given)) (sym next) in
     subst (λ (ns : List (List ℕ)). UsesMore holds opened made unread unmade given (first_names given) ns [] start old new)
-    names (one_by_one before (uses_file given (Stream number) (first_names given ++ take place given.streams) name
+    names (one_by_one before (uses_file given (Stream number) (first_names given ++ take place (streams_of given)) name
     None start between new at cause opens))
 
 -- where memory ran out behind some streams, their names stand at the front of all
 pub front_of_streams : (given : Settings) (place : ℕ)
-    → AreOpened given (Some Memory) (first_names given ++ take place given.streams)
+    → AreOpened given (Some Memory) (first_names given ++ take place (streams_of given))
 front_of_streams given place = record {
-  rest = drop place given.streams;
-  cut = ap (λ (ns : List (List ℕ)). first_names given ++ ns) (sym (take-append-drop place given.streams))
-      ∙ sym (append_assoc (first_names given) (take place given.streams) (drop place given.streams));
+  rest = drop place (streams_of given);
+  cut = ap (λ (ns : List (List ℕ)). first_names given ++ ns) (sym (take-append-drop place (streams_of given)))
+      ∙ sym (append_assoc (first_names given) (take place (streams_of given)) (drop place (streams_of given)));
 }
 
 -- behind no byte stands all that a file holds
@@ -369,19 +370,10 @@ pub join_nothing : (file : Option (List ℕ)) → join_known (Some []) file ≡ 
 join_nothing None = refl
 join_nothing (Some bytes) = refl
 
--- a list of one name
-pub one_name : (names : List (List ℕ)) (name : List ℕ) → length names ≡ 1 → slice_get names 0 ≡ Some name
-    → names ≡ name ∷ []
-one_name [] name one is = absurd (cc is)
-one_name (first ∷ []) name one is =
-    let same : first ≡ name = cc is in
-    ap (λ (n : List ℕ). n ∷ []) same
-one_name (first ∷ second ∷ rest) name one is = absurd (omega (arith, one))
-
 -- what the one stream is that reads a saved window before its file
 pub behind_contents : {S : Type 0} (left : S → Option (List ℕ)) (holds now : List ℕ → Option (List ℕ))
     (given : Settings) (name stream : List ℕ) (first : Option (List ℕ)) (reader : ReaderState S)
-    (readers : List (ReaderState S)) → given.from ≡ Some name → given.streams ≡ stream ∷ [] → now ≡ holds
+    (readers : List (ReaderState S)) → from_of given ≡ Some name → streams_of given ≡ stream ∷ [] → now ≡ holds
     → first ≡ holds name → left reader.source ≡ join_known first (now stream) → readers ≡ reader ∷ []
     → stream_contents given holds ≡ map (λ (r : ReaderState S). left r.source) readers
 behind_contents {S} left holds now given name stream first reader readers named one same content read all =
@@ -394,15 +386,15 @@ behind_contents {S} left holds now given name stream first reader readers named 
 -- what the streams hold, with one stream more
 pub one_content_more : {S : Type 0} (left : S → Option (List ℕ)) (holds now : List ℕ → Option (List ℕ))
     (given : Settings) (place number : ℕ) (name : List ℕ) (readers more : List (ReaderState S))
-    (reader : ReaderState S) → number ≡ suc place → slice_get given.streams place ≡ Some name → now ≡ holds
-    → map holds (take place given.streams) ≡ map (λ (r : ReaderState S). left r.source) readers
+    (reader : ReaderState S) → number ≡ suc place → slice_get (streams_of given) place ≡ Some name → now ≡ holds
+    → map holds (take place (streams_of given)) ≡ map (λ (r : ReaderState S). left r.source) readers
     → left reader.source ≡ now name → more ≡ readers ++ reader ∷ []
-    → map holds (take number given.streams) ≡ map (λ (r : ReaderState S). left r.source) more
+    → map holds (take number (streams_of given)) ≡ map (λ (r : ReaderState S). left r.source) more
 one_content_more {S} left holds now given place number name readers more reader next is same before content
     pushed =
-    ap (λ (n : ℕ). map holds (take n given.streams)) next
+    ap (λ (n : ℕ). map holds (take n (streams_of given))) next
     ∙ (ap (λ (ns : List (List ℕ)). map holds ns) (one_stream_more given place name is)
-    ∙ (map-append holds (take place given.streams) (name ∷ [])
+    ∙ (map-append holds (take place (streams_of given)) (name ∷ [])
     ∙ (ap (λ (fs : List (Option (List ℕ))). fs ++ holds name ∷ []) before
     ∙ (ap (λ (f : Option (List ℕ)). map (λ (r : ReaderState S). left r.source) readers ++ f ∷ [])
     (ap (λ (h : List ℕ → Option (List ℕ)). h name) (sym same) ∙ sym content)

@@ -6,7 +6,8 @@ use Rattle.std.proofs.lemmas.List.{append_cancel_left}
 use Rattle.std.proofs.lemmas.List.Elements.{Contains-append_left, Contains-append_right}
 use Rattle.rpq_io.specs.Counts.{CountsFault}
 use Rattle.rpq_io.proofs.Counting.{counts_as}
-use Rattle.rpq_words.specs.Settings.{Settings}
+use Rattle.rpq_words.specs.declared.settings.Settings.{Settings}
+use Rattle.rpq_words.specs.Views.{replies_of, save_of}
 use Rattle.rpq_text.specs.declared.ends.Which.{Which}
 use Rattle.rpq_text.specs.declared.ends.Which.TheVariants.{Replies, Save}
 use Rattle.rpq_text.specs.declared.ends.StartFault.{StartFault}
@@ -29,20 +30,20 @@ pub record IsSink (given : Settings) (which : Which) (before : List (List ℕ)) 
   pub none_read : (any : List ℕ) → IsOpeningOf given any (Open which) → ⊥
   pub opened : AreOpened given (Some (Open which)) (file_names given)
 
-pub replies_sink : (given : Settings) → IsSink given Replies [] given.replies
+pub replies_sink : (given : Settings) → IsSink given Replies [] (replies_of given)
 replies_sink given = record {
   behind = refl;
-  front = (option_to_list given.save, refl);
+  front = (option_to_list (save_of given), refl);
   making = λ any is. is;
   named = λ any is. is;
   none_read = λ any opening. opening;
   opened = refl;
 }
 
-pub save_sink : (given : Settings) → IsSink given Save (option_to_list given.replies) given.save
+pub save_sink : (given : Settings) → IsSink given Save (option_to_list (replies_of given)) (save_of given)
 save_sink given = record {
   behind = refl;
-  front = ([], ap (λ (ns : List (List ℕ)). option_to_list given.replies ++ ns) (sym (append-nil (option_to_list given.save))));
+  front = ([], ap (λ (ns : List (List ℕ)). option_to_list (replies_of given) ++ ns) (sym (append-nil (option_to_list (save_of given)))));
   making = λ any is. is;
   named = λ any is. is;
   none_read = λ any opening. opening;

@@ -6,15 +6,16 @@ use Rattle.std.specs.Result.{IsErrAnd}
 use Rattle.rpq_io.specs.Counts.{CountsFault}
 use Rattle.rpq_io.specs.Files.{KeepsFiles}
 use Rattle.rpq_model.specs.Query.{Query}
-use Rattle.conj_query.specs.Joins.{JoinValue}
+use Rattle.join_file.specs.Joins.{JoinValue}
 use Rattle.ask_text.specs.declared.ask.Ask.{Ask}
-use Rattle.rpq_words.specs.Settings.{Settings}
+use Rattle.rpq_words.specs.declared.settings.Settings.{Settings}
+use Rattle.rpq_words.specs.Views.{asks_of, from_of, joins_of, streams_of, two_way_of}
 use Rattle.rpq_text.specs.declared.ends.Which.{Which}
 use Rattle.rpq_text.specs.declared.ends.Which.TheVariants.{Queries, Joins, Asks, From}
 use Rattle.rpq_text.specs.declared.ends.Which.TheVariants.{Stream, Replies, Save}
 use Rattle.rpq_text.specs.declared.ends.StartFault.{StartFault}
 use Rattle.rpq_text.specs.declared.ends.StartFault.TheVariants.{Words, Queries as QueriesFault}
-use Rattle.rpq_text.specs.declared.ends.StartFault.TheVariants.{Joins as JoinsFault}
+use Rattle.rpq_text.specs.declared.ends.StartFault.TheVariants.{Joins as JoinsFaulty}
 use Rattle.rpq_text.specs.declared.ends.StartFault.TheVariants.{Asks as AsksFault, Open, Read, Long}
 use Rattle.rpq_text.specs.declared.ends.StartFault.TheVariants.{Memory}
 use Rattle.run_start.specs.Files.{AreUnderstoodFiles, AreUnderstoodJoins, ForJoins, ForQueries}
@@ -35,7 +36,7 @@ pub record IsToRead (fault : StartFault) : Type 0 where
 none_made : (given : Settings) (fault : StartFault) → IsToRead fault → AreMade given (Some fault) []
 none_made given Words reads = refl
 none_made given (QueriesFault fault) reads = refl
-none_made given (JoinsFault fault) reads = refl
+none_made given (JoinsFaulty fault) reads = refl
 none_made given (AsksFault fault) reads = refl
 none_made given (Open Queries) reads = refl
 none_made given (Open Joins) reads = refl
@@ -58,7 +59,7 @@ no_making : (given : Settings) (name : List ℕ) (fault : StartFault) → IsToRe
     → IsMakingOf given name fault → ⊥
 no_making given name Words other making = making
 no_making given name (QueriesFault fault) other making = making
-no_making given name (JoinsFault fault) other making = making
+no_making given name (JoinsFaulty fault) other making = making
 no_making given name (AsksFault fault) other making = making
 no_making given name (Open Queries) other making = making
 no_making given name (Open Joins) other making = making
@@ -157,7 +158,7 @@ one_by_one {F} {holds} {opened} {made} {unread} {unmade} {given} {before} {own} 
 abbrev pub IsFoundLater : StartFault → Type 0
 IsFoundLater Words = ⊥
 IsFoundLater (QueriesFault fault) = Unit {0}
-IsFoundLater (JoinsFault fault) = Unit {0}
+IsFoundLater (JoinsFaulty fault) = Unit {0}
 IsFoundLater (AsksFault fault) = Unit {0}
 IsFoundLater (Open which) = ⊥
 IsFoundLater (Read which) = ⊥
@@ -206,7 +207,7 @@ then_refused {F} {holds} {opened} {made} {unread} {unmade} {given} {before} {own
     no_opening : (f : StartFault) → IsFoundLater f → (name : List ℕ) → IsOpeningOf given name f → ⊥
     no_opening Words is name opening = opening
     no_opening (QueriesFault fault) is name opening = opening
-    no_opening (JoinsFault fault) is name opening = opening
+    no_opening (JoinsFaulty fault) is name opening = opening
     no_opening (AsksFault fault) is name opening = opening
     no_opening (Open which) is name opening = is
     no_opening (Read which) is name opening = opening
@@ -216,7 +217,7 @@ then_refused {F} {holds} {opened} {made} {unread} {unmade} {given} {before} {own
     none_later : (f : StartFault) → IsFoundLater f → (name : List ℕ) → IsMakingOf given name f → ⊥
     none_later Words is name making = making
     none_later (QueriesFault fault) is name making = making
-    none_later (JoinsFault fault) is name making = making
+    none_later (JoinsFaulty fault) is name making = making
     none_later (AsksFault fault) is name making = making
     none_later (Open which) is name making = is
     none_later (Read which) is name making = making
@@ -249,8 +250,8 @@ refused_as other other_write uses = record {
 pub names_in_order : (given : Settings)
     → given.queries ∷ later_names given ≡ file_names given
 names_in_order given = ap (λ (ns : List (List ℕ)). given.queries ∷ ns)
-    (sym (append_assoc (option_to_list given.joins ++ option_to_list given.asks)
-    (option_to_list given.from) given.streams))
+    (sym (append_assoc (option_to_list (joins_of given) ++ option_to_list (asks_of given))
+    (option_to_list (from_of given)) (streams_of given)))
 
 -- the step behind all files that are read
 pub behind_all : {F : Type 0} {holds : F → List ℕ → Option (List ℕ)} {opened made : F → List (List ℕ)}
@@ -361,7 +362,7 @@ opening_refuses {S} left faults given holds which refusal may is = record {
 -- the queries file and the joins file that were read whole are understood
 pub joins_understood : (given : Settings) (holds : List ℕ → Option (List ℕ)) (queries : List Query)
     (joins : List JoinValue) → IfSome (holds given.queries)
-    (λ bytes. HasQueries given.two_way bytes queries)
+    (λ bytes. HasQueries (two_way_of given) bytes queries)
     → ForJoins given holds queries (λ found. joins ≡ found) → AreUnderstoodJoins given holds
 joins_understood given holds queries joins has are = by (holds given.queries) has
   where
@@ -380,15 +381,15 @@ joins_understood given holds queries joins has are = by (holds given.queries) ha
     by_joins None same = tt
     by_joins (Some name) told = by_file (holds name) told
 
-    by : (file : Option (List ℕ)) → IfSome file (λ bytes. HasQueries given.two_way bytes queries)
-        → ForQueries given.two_way file (λ all. ForJoins given holds all (λ found. Unit {0}))
+    by : (file : Option (List ℕ)) → IfSome file (λ bytes. HasQueries (two_way_of given) bytes queries)
+        → ForQueries (two_way_of given) file (λ all. ForJoins given holds all (λ found. Unit {0}))
     by None has = tt
-    by (Some bytes) has = (queries, has, by_joins given.joins are)
+    by (Some bytes) has = (queries, has, by_joins (joins_of given) are)
 
 -- and so are all files that were read whole
 pub understood_by : (given : Settings) (holds : List ℕ → Option (List ℕ)) (queries : List Query)
     (sessions : List (List Ask)) → AreUnderstoodJoins given holds → IfSome (holds given.queries)
-    (λ bytes. HasQueries given.two_way bytes queries)
+    (λ bytes. HasQueries (two_way_of given) bytes queries)
     → ForSessions given holds queries (λ asked. sessions ≡ asked) → AreUnderstoodFiles given holds
 understood_by given holds queries sessions joined has are = record {
   joins = joined;
@@ -409,16 +410,16 @@ understood_by given holds queries sessions joined has are = record {
     by_asks None same = tt
     by_asks (Some name) told = by_file (holds name) told
 
-    by : (file : Option (List ℕ)) → IfSome file (λ bytes. HasQueries given.two_way bytes queries)
-        → ForQueries given.two_way file (λ all. ForSessions given holds all (λ asked. Unit {0}))
+    by : (file : Option (List ℕ)) → IfSome file (λ bytes. HasQueries (two_way_of given) bytes queries)
+        → ForQueries (two_way_of given) file (λ all. ForSessions given holds all (λ asked. Unit {0}))
     by None has = tt
-    by (Some bytes) has = (queries, has, by_asks given.asks are)
+    by (Some bytes) has = (queries, has, by_asks (asks_of given) are)
 
 -- and are so where the files hold what they held
 pub all_understood : (given : Settings) (holds now later : List ℕ → Option (List ℕ))
     (queries : List Query)
     (joins : List JoinValue) (sessions : List (List Ask)) → now ≡ holds → later ≡ holds
-    → IfSome (holds given.queries) (λ bytes. HasQueries given.two_way bytes queries)
+    → IfSome (holds given.queries) (λ bytes. HasQueries (two_way_of given) bytes queries)
     → ForJoins given holds queries (λ found. joins ≡ found)
     → ForSessions given now queries (λ asked. sessions ≡ asked) → AreUnderstoodFiles given later
 all_understood given holds now later queries joins sessions same still has joined asked =

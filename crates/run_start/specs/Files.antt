@@ -6,15 +6,16 @@ use Rattle.rpq_model.specs.Query.{Query}
 use Rattle.query_file.specs.declared.fault.QueryFault.{QueryFault}
 use Rattle.query_file.specs.declared.fault.QueryKind.TheVariants.{Memory}
 use Rattle.query_file.specs.Queries.{QueriesOf}
-use Rattle.conj_query.specs.declared.fault.JoinsFault.{JoinsFault}
-use Rattle.conj_query.specs.declared.fault.JoinsKind.TheVariants.{Memory as MemoryOfJoins}
-use Rattle.conj_query.specs.Joins.{JoinValue}
-use Rattle.conj_query.specs.JoinsFile.{joins}
+use Rattle.join_file.specs.declared.fault.JoinFileFault.{JoinFileFault}
+use Rattle.join_file.specs.declared.fault.JoinFileFaultKind.TheVariants.{Memory as MemoryOfJoins}
+use Rattle.join_file.specs.Joins.{JoinValue}
+use Rattle.join_file.specs.JoinsFile.{joins}
 use Rattle.ask_text.specs.declared.ask.Ask.{Ask}
 use Rattle.ask_text.specs.declared.fault.AskFault.{AskFault}
 use Rattle.ask_text.specs.declared.fault.AskKind.TheVariants.{Memory as MemoryOfAsks}
 use Rattle.ask_text.specs.Asks.{asks}
-use Rattle.rpq_words.specs.Settings.{Settings}
+use Rattle.rpq_words.specs.declared.settings.Settings.{Settings}
+use Rattle.rpq_words.specs.Views.{asks_of, from_of, joins_of, streams_of, two_way_of}
 use Rattle.saved_window.specs.Then.{join_known}
 use Rattle.rpq_text.specs.Limits.{file_limit}
 
@@ -49,7 +50,7 @@ abbrev pub HasJoins : List Query → List ℕ → List JoinValue → Type 0
 HasJoins queries bytes found = (length bytes < file_limit) × (joins queries bytes ≡ Ok found)
 
 -- a joins file over these queries has these bytes, which are not too many, and this fault
-abbrev pub HasJoinsFault : List Query → List ℕ → JoinsFault → Type 0
+abbrev pub HasJoinsFault : List Query → List ℕ → JoinFileFault → Type 0
 HasJoinsFault queries bytes fault =
     (length bytes < file_limit) × (joins queries bytes ≡ Err fault)
 
@@ -57,14 +58,14 @@ HasJoinsFault queries bytes fault =
 -- this holds of them; where no joins file is named there is none
 abbrev pub ForJoins : Settings → (List ℕ → Option (List ℕ)) → List Query
     → (List JoinValue → Type 0) → Type 0
-ForJoins given holds queries P = MatchOption given.joins (P []) (λ name. IfSome (holds name)
+ForJoins given holds queries P = MatchOption (joins_of given) (P []) (λ name. IfSome (holds name)
     (λ bytes. (found : List JoinValue) × HasJoins queries bytes found × P found))
 
 -- what is evaluated in a run: its queries and the conjunctions over them, where the bytes of their
 -- files are told, and this holds of them
 abbrev pub ForJoined : Settings → (List ℕ → Option (List ℕ))
     → (List Query → List JoinValue → Type 0) → Type 0
-ForJoined given holds P = ForQueries given.two_way (holds given.queries)
+ForJoined given holds P = ForQueries (two_way_of given) (holds given.queries)
     (λ queries. ForJoins given holds queries (P queries))
 
 -- an asks file about these queries has these bytes, which are not too many, and these sessions
@@ -80,19 +81,19 @@ HasAskFault queries bytes fault = (length bytes < file_limit) × (asks queries b
 -- holds of them; where no asks file is named there is none
 abbrev pub ForSessions : Settings → (List ℕ → Option (List ℕ)) → List Query
     → (List (List Ask) → Type 0) → Type 0
-ForSessions given holds queries P = MatchOption given.asks (P []) (λ name. IfSome (holds name)
+ForSessions given holds queries P = MatchOption (asks_of given) (P []) (λ name. IfSome (holds name)
     (λ bytes. (sessions : List (List Ask)) × HasSessions queries bytes sessions × P sessions))
 
 -- what is asked in a run: its queries and its sessions, where the bytes of their files are told,
 -- and this holds of them
 abbrev pub ForAsked : Settings → (List ℕ → Option (List ℕ))
     → (List Query → List (List Ask) → Type 0) → Type 0
-ForAsked given holds P = ForQueries given.two_way (holds given.queries)
+ForAsked given holds P = ForQueries (two_way_of given) (holds given.queries)
     (λ queries. ForSessions given holds queries (P queries))
 
 -- what is read of the saved window with which a run begins: no byte where none is named
 abbrev pub from_content : Settings → (List ℕ → Option (List ℕ)) → Option (List ℕ)
-from_content given holds = unwrap_or (option_map holds given.from) (Some [])
+from_content given holds = unwrap_or (option_map holds (from_of given)) (Some [])
 
 -- what is read as each stream: what its file holds, and as the first stream before that what the
 -- saved window holds
@@ -101,7 +102,7 @@ with_first first [] = []
 with_first first (file ∷ files) = join_known first file ∷ files
 
 abbrev pub stream_contents : Settings → (List ℕ → Option (List ℕ)) → List (Option (List ℕ))
-stream_contents given holds = with_first (from_content given holds) (map holds given.streams)
+stream_contents given holds = with_first (from_content given holds) (map holds (streams_of given))
 
 -- the queries file has no fault, nor has the joins file, if there is one
 abbrev pub AreUnderstoodJoins : Settings → (List ℕ → Option (List ℕ)) → Type 0
@@ -114,7 +115,7 @@ pub record AreUnderstoodFiles (given : Settings) (holds : List ℕ → Option (L
 
 -- the bytes of a joins file, where they are told, have this fault, which isn't out of memory, over
 -- the queries of the queries file, where its bytes are told
-abbrev pub AreFaultyJoins : Bool → Option (List ℕ) → Option (List ℕ) → JoinsFault → Type 0
+abbrev pub AreFaultyJoins : Bool → Option (List ℕ) → Option (List ℕ) → JoinFileFault → Type 0
 AreFaultyJoins two_way queries_file file fault = (fault.kind ≢ MemoryOfJoins)
     × ForQueries two_way queries_file
     (λ queries. IfSome file (λ bytes. HasJoinsFault queries bytes fault))
@@ -144,7 +145,7 @@ pub record IsFaultless (two_way : Bool) (bytes : List ℕ) : Type 0 where
 pub record AreFaultlessJoins (two_way : Bool) (queries_file : Option (List ℕ)) (bytes : List ℕ)
     : Type 0 where
   pub short : length bytes < file_limit
-  pub no_fault : (fault : JoinsFault)
+  pub no_fault : (fault : JoinFileFault)
       → ForQueries two_way queries_file (λ queries. joins queries bytes ≡ Err fault) → ⊥
 
 -- an asks file that isn't too long and has no fault about the queries of this queries file, whose

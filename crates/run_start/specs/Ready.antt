@@ -1,12 +1,16 @@
 -- What a run begins with, and why its words alone begin none.
-use Rattle.std.specs.Prelude.{◌≡◌, ℕ, ◌≤◌, true, false, List, [], length, All, Option, Some}
-use Rattle.std.specs.Prelude.{None, is_some, option_map, IfSome, MatchOption, Result, Ok, Err}
+use Rattle.std.specs.Prelude.{◌≡◌, ℕ, ◌≤◌, List, [], length, All, Option, Some}
+use Rattle.std.specs.Prelude.{None, is_some, option_map, IfSome, Result, Ok, Err}
 use Rattle.containment_laws.specs.Accepted.{IsAccepted}
 use Rattle.rpq_io.specs.Files.{IsNewSink}
 use Rattle.query_file.specs.Compiled.{CompiledValue, IsCompiled}
-use Rattle.conj_query.specs.Sound.{IsSound}
+use Rattle.join_file.specs.Sound.{IsSound}
 use Rattle.ask_text.specs.Ranges.{IsSession}
-use Rattle.rpq_words.specs.Settings.{Settings, reads_none}
+use Rattle.rpq_words.specs.declared.settings.Directions.{Directions}
+use Rattle.rpq_words.specs.declared.settings.Mode.TheVariants.{Check, Generate, Streams}
+use Rattle.rpq_words.specs.declared.settings.StreamSettings.{StreamSettings}
+use Rattle.rpq_words.specs.declared.settings.Settings.{Settings}
+use Rattle.rpq_words.specs.Views.{asks_of, from_of, joins_of, replies_of, save_of, two_way_of}
 use Rattle.rpq_text.specs.Definitions.{definitions_of}
 use Rattle.rpq_text.specs.Limits.{query_limit}
 use Rattle.rpq_text.specs.declared.ends.StartFault.{StartFault}
@@ -15,6 +19,9 @@ use Rattle.rpq_text.specs.declared.ends.StartFault.TheVariants.{Open, Read, Long
 use Rattle.run_start.specs.Files.{ForJoins, ForSessions, HasQueries, stream_contents}
 use Rattle.run_start.specs.Readers.{AreNew, contents_of, is_behind}
 use Rattle.run_start.specs.declared.ready.Reads.{Reads}
+use Rattle.run_start.specs.declared.ready.Work.{Work}
+use Rattle.run_start.specs.declared.ready.Work.TheVariants.{Check as Checks, Generate as Generates}
+use Rattle.run_start.specs.declared.ready.Work.TheVariants.{Read as Reading}
 use Rattle.run_start.specs.declared.sinks.OwnSinks.{OwnSinks}
 use Rattle.run_start.specs.declared.refusal.Refusal.{Refusal}
 
@@ -41,9 +48,9 @@ pub record AreUnderstood (queries : List CompiledValue) : Type 0 where
 -- that of the replies, and that of the saved window
 pub record AreNewSinks {K : Type 0} (written : K → Option (List ℕ)) (failures : K → ℕ)
     (given : Settings) (sinks : OwnSinks K) : Type 0 where
-  pub replies : is_some sinks.replies ≡ is_some given.replies
+  pub replies : is_some sinks.replies ≡ is_some (replies_of given)
   pub new_replies : IfSome sinks.replies (IsNewSink written failures)
-  pub save : is_some sinks.save ≡ is_some given.save
+  pub save : is_some sinks.save ≡ is_some (save_of given)
   pub new_save : IfSome sinks.save (IsNewSink written failures)
 
 -- what is read and answered in a run over streams: a new reader of each stream, in order, with the
@@ -53,9 +60,10 @@ pub record IsReading {S K : Type 0} (left : S → Option (List ℕ)) (faults : S
     (written : K → Option (List ℕ)) (failures : K → ℕ) (given : Settings)
     (holds : List ℕ → Option (List ℕ)) (queries : List CompiledValue) (reading : Reads S K)
     : Type 0 where
-  pub reads_some : reads_none given ≡ false
+  pub run : StreamSettings
+  pub mode : given.mode ≡ Streams run
   pub contents : stream_contents given holds ≡ contents_of left reading.readers
-  pub behind : is_behind reading.readers ≡ is_some given.from
+  pub behind : is_behind reading.readers ≡ is_some (from_of given)
   pub fresh : AreNew left faults reading.readers
   pub joined : ForJoins given holds (definitions_of queries)
       (λ found. reading.joins.value.items ≡ found)
@@ -67,17 +75,22 @@ pub record IsReading {S K : Type 0} (left : S → Option (List ℕ)) (faults : S
   pub ranges : All (IsSession (length queries)) reading.sessions.items
   pub sinks : AreNewSinks written failures given reading.sinks
 
--- what a run begins with: the queries of its file, understood, and what is read and answered, or
--- nothing where the queries are only checked, or tuples are generated
+-- the work that the settings ask for: a check, the evaluation over so many generated tuples, or
+-- that over streams, for which this holds of what is read
+abbrev pub IsWork : {S K : Type 0} → Settings → (Reads S K → Type 0) → Work S K → Type 0
+IsWork given P Checks = (directions : Directions) × (given.mode ≡ Check directions)
+IsWork given P (Generates directions count) = given.mode ≡ Generate directions count
+IsWork given P (Reading reads) = P reads
+
+-- what a run begins with: the queries of its file, understood, and what is done with them
 pub record IsReady {S K : Type 0} (left : S → Option (List ℕ)) (faults : S → ℕ)
     (written : K → Option (List ℕ)) (failures : K → ℕ) (given : Settings)
     (holds : List ℕ → Option (List ℕ)) (queries : List CompiledValue)
-    (reading : Option (Reads S K)) : Type 0 where
+    (work : Work S K) : Type 0 where
   pub has : IfSome (holds given.queries)
-      (λ bytes. HasQueries given.two_way bytes (definitions_of queries))
+      (λ bytes. HasQueries (two_way_of given) bytes (definitions_of queries))
   pub understood : AreUnderstood queries
-  pub reads : MatchOption reading (reads_none given ≡ true)
-      (IsReading left faults written failures given holds queries)
+  pub asked_for : IsWork given (IsReading left faults written failures given holds queries) work
 
 -- all bytes of a file were taken, by reads of which none failed
 pub record IsReadWhole {S : Type 0} (left : S → Option (List ℕ)) (faults : S → ℕ)
@@ -91,8 +104,8 @@ pub record IsReadWhole {S : Type 0} (left : S → Option (List ℕ)) (faults : S
 pub record AreReadWhole {S : Type 0} (left : S → Option (List ℕ)) (faults : S → ℕ)
     (given : Settings) (holds : List ℕ → Option (List ℕ)) : Type 0 where
   pub queries : IsReadWhole left faults (holds given.queries)
-  pub joins : IfSome given.joins (λ name. IsReadWhole left faults (holds name))
-  pub asks : IfSome given.asks (λ name. IsReadWhole left faults (holds name))
+  pub joins : IfSome (joins_of given) (λ name. IsReadWhole left faults (holds name))
+  pub asks : IfSome (asks_of given) (λ name. IsReadWhole left faults (holds name))
 
 -- why a run didn't begin, if it didn't
 abbrev pub fault_of : {A S : Type 0} → Result A (Refusal S) → Option StartFault

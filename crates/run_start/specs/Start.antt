@@ -2,13 +2,15 @@
 use Rattle.std.specs.Prelude.{◌≡◌, ℕ, ◌⊎◌, List, [], ◌∷◌, ◌++◌, length, Option, Some, None}
 use Rattle.std.specs.Prelude.{IsSomeAnd, Contains, option_and_then, option_to_list}
 use Rattle.rpq_io.specs.Counts.{Rose, CountsFault}
-use Rattle.rpq_words.specs.Settings.{Settings}
+use Rattle.rpq_words.specs.declared.settings.Settings.{Settings}
+use Rattle.rpq_words.specs.Views.{asks_of, from_of, joins_of, replies_of, save_of, streams_of}
+use Rattle.rpq_words.specs.Views.{two_way_of}
 use Rattle.rpq_text.specs.declared.ends.Which.{Which}
 use Rattle.rpq_text.specs.declared.ends.Which.TheVariants.{Queries, Joins, Asks, From}
 use Rattle.rpq_text.specs.declared.ends.Which.TheVariants.{Stream, Replies, Save}
 use Rattle.rpq_text.specs.declared.ends.StartFault.{StartFault}
 use Rattle.rpq_text.specs.declared.ends.StartFault.TheVariants.{Words, Queries as QueriesFault}
-use Rattle.rpq_text.specs.declared.ends.StartFault.TheVariants.{Joins as JoinsFault}
+use Rattle.rpq_text.specs.declared.ends.StartFault.TheVariants.{Joins as JoinsFaulty}
 use Rattle.rpq_text.specs.declared.ends.StartFault.TheVariants.{Asks as AsksFault, Open, Read, Long}
 use Rattle.rpq_text.specs.declared.ends.StartFault.TheVariants.{Memory}
 use Rattle.stream_tuples.specs.History.{IsNumberOf, IsPrefix}
@@ -23,42 +25,42 @@ use Rattle.run_start.specs.Given.{sink_names, names_before, names_up_to}
 abbrev pub IsRefusedFor : Settings → (List ℕ → Option (List ℕ)) → StartFault → Type 0
 IsRefusedFor given holds Words = ⊥
 IsRefusedFor given holds (QueriesFault fault) =
-    IsFaultyFile given.two_way (holds given.queries) fault
-IsRefusedFor given holds (JoinsFault fault) =
-    IsSomeAnd given.joins (λ name.
-    AreFaultyJoins given.two_way (holds given.queries) (holds name) fault)
+    IsFaultyFile (two_way_of given) (holds given.queries) fault
+IsRefusedFor given holds (JoinsFaulty fault) =
+    IsSomeAnd (joins_of given) (λ name.
+    AreFaultyJoins (two_way_of given) (holds given.queries) (holds name) fault)
 IsRefusedFor given holds (AsksFault fault) =
-    IsSomeAnd given.asks (λ name.
-    AreFaultyAsks given.two_way (holds given.queries) (holds name) fault
+    IsSomeAnd (asks_of given) (λ name.
+    AreFaultyAsks (two_way_of given) (holds given.queries) (holds name) fault
     × AreUnderstoodJoins given holds)
 IsRefusedFor given holds (Open Queries) = Unit {0}
 IsRefusedFor given holds (Open Joins) =
-    IsSomeAnd given.joins (λ name. IsQueriesFile given.two_way (holds given.queries))
+    IsSomeAnd (joins_of given) (λ name. IsQueriesFile (two_way_of given) (holds given.queries))
 IsRefusedFor given holds (Open Asks) =
-    IsSomeAnd given.asks (λ name. AreUnderstoodJoins given holds)
+    IsSomeAnd (asks_of given) (λ name. AreUnderstoodJoins given holds)
 IsRefusedFor given holds (Open From) =
-    IsSomeAnd given.from (λ name. AreUnderstoodFiles given holds)
+    IsSomeAnd (from_of given) (λ name. AreUnderstoodFiles given holds)
 IsRefusedFor given holds (Open (Stream number)) =
-    IsNumberOf (length given.streams) number × AreUnderstoodFiles given holds
+    IsNumberOf (length (streams_of given)) number × AreUnderstoodFiles given holds
 IsRefusedFor given holds (Open Replies) =
-    IsSomeAnd given.replies (λ name. AreUnderstoodFiles given holds)
+    IsSomeAnd (replies_of given) (λ name. AreUnderstoodFiles given holds)
 IsRefusedFor given holds (Open Save) =
-    IsSomeAnd given.save (λ name. AreUnderstoodFiles given holds)
+    IsSomeAnd (save_of given) (λ name. AreUnderstoodFiles given holds)
 IsRefusedFor given holds (Read Queries) = Unit {0}
 IsRefusedFor given holds (Read Joins) =
-    IsSomeAnd given.joins (λ name. IsQueriesFile given.two_way (holds given.queries))
+    IsSomeAnd (joins_of given) (λ name. IsQueriesFile (two_way_of given) (holds given.queries))
 IsRefusedFor given holds (Read Asks) =
-    IsSomeAnd given.asks (λ name. AreUnderstoodJoins given holds)
+    IsSomeAnd (asks_of given) (λ name. AreUnderstoodJoins given holds)
 IsRefusedFor given holds (Read From) = ⊥
 IsRefusedFor given holds (Read (Stream number)) = ⊥
 IsRefusedFor given holds (Read Replies) = ⊥
 IsRefusedFor given holds (Read Save) = ⊥
 IsRefusedFor given holds (Long Queries) = IsTooLong (holds given.queries)
 IsRefusedFor given holds (Long Joins) =
-    IsSomeAnd given.joins (λ name.
-    IsQueriesFile given.two_way (holds given.queries) × IsTooLong (holds name))
+    IsSomeAnd (joins_of given) (λ name.
+    IsQueriesFile (two_way_of given) (holds given.queries) × IsTooLong (holds name))
 IsRefusedFor given holds (Long Asks) =
-    IsSomeAnd given.asks (λ name. AreUnderstoodJoins given holds × IsTooLong (holds name))
+    IsSomeAnd (asks_of given) (λ name. AreUnderstoodJoins given holds × IsTooLong (holds name))
 IsRefusedFor given holds (Long From) = ⊥
 IsRefusedFor given holds (Long (Stream number)) = ⊥
 IsRefusedFor given holds (Long Replies) = ⊥
@@ -75,12 +77,12 @@ IsCause (Some given) holds fault = IsRefusedFor given holds fault
 abbrev pub IsOpeningOf : Settings → List ℕ → StartFault → Type 0
 IsOpeningOf given name Words = ⊥
 IsOpeningOf given name (QueriesFault fault) = ⊥
-IsOpeningOf given name (JoinsFault fault) = ⊥
+IsOpeningOf given name (JoinsFaulty fault) = ⊥
 IsOpeningOf given name (AsksFault fault) = ⊥
 IsOpeningOf given name (Open Queries) = name ≡ given.queries
-IsOpeningOf given name (Open Joins) = given.joins ≡ Some name
-IsOpeningOf given name (Open Asks) = given.asks ≡ Some name
-IsOpeningOf given name (Open From) = given.from ≡ Some name
+IsOpeningOf given name (Open Joins) = joins_of given ≡ Some name
+IsOpeningOf given name (Open Asks) = asks_of given ≡ Some name
+IsOpeningOf given name (Open From) = from_of given ≡ Some name
 IsOpeningOf given name (Open (Stream number)) = stream_name given number ≡ Some name
 IsOpeningOf given name (Open Replies) = ⊥
 IsOpeningOf given name (Open Save) = ⊥
@@ -92,15 +94,15 @@ IsOpeningOf given name Memory = ⊥
 abbrev pub IsMakingOf : Settings → List ℕ → StartFault → Type 0
 IsMakingOf given name Words = ⊥
 IsMakingOf given name (QueriesFault fault) = ⊥
-IsMakingOf given name (JoinsFault fault) = ⊥
+IsMakingOf given name (JoinsFaulty fault) = ⊥
 IsMakingOf given name (AsksFault fault) = ⊥
 IsMakingOf given name (Open Queries) = ⊥
 IsMakingOf given name (Open Joins) = ⊥
 IsMakingOf given name (Open Asks) = ⊥
 IsMakingOf given name (Open From) = ⊥
 IsMakingOf given name (Open (Stream number)) = ⊥
-IsMakingOf given name (Open Replies) = given.replies ≡ Some name
-IsMakingOf given name (Open Save) = given.save ≡ Some name
+IsMakingOf given name (Open Replies) = replies_of given ≡ Some name
+IsMakingOf given name (Open Save) = save_of given ≡ Some name
 IsMakingOf given name (Read which) = ⊥
 IsMakingOf given name (Long which) = ⊥
 IsMakingOf given name Memory = ⊥
@@ -109,9 +111,9 @@ IsMakingOf given name Memory = ⊥
 abbrev pub file_held : Option Settings → (List ℕ → Option (List ℕ)) → Which → Option (List ℕ)
 file_held None holds which = None
 file_held (Some given) holds Queries = holds given.queries
-file_held (Some given) holds Joins = option_and_then holds given.joins
-file_held (Some given) holds Asks = option_and_then holds given.asks
-file_held (Some given) holds From = option_and_then holds given.from
+file_held (Some given) holds Joins = option_and_then holds (joins_of given)
+file_held (Some given) holds Asks = option_and_then holds (asks_of given)
+file_held (Some given) holds From = option_and_then holds (from_of given)
 file_held (Some given) holds (Stream number) = option_and_then holds (stream_name given number)
 file_held (Some given) holds Replies = None
 file_held (Some given) holds Save = None
@@ -122,7 +124,7 @@ abbrev pub AreSourcesOf : {S : Type 0} → (S → Option (List ℕ)) → (S → 
     → (Which → Option (List ℕ)) → StartFault → List S → Type 0
 AreSourcesOf {S} left faults held Words sources = sources ≡ []
 AreSourcesOf {S} left faults held (QueriesFault fault) sources = sources ≡ []
-AreSourcesOf {S} left faults held (JoinsFault fault) sources = sources ≡ []
+AreSourcesOf {S} left faults held (JoinsFaulty fault) sources = sources ≡ []
 AreSourcesOf {S} left faults held (AsksFault fault) sources = sources ≡ []
 AreSourcesOf {S} left faults held (Open which) sources = sources ≡ []
 AreSourcesOf {S} left faults held (Read which) sources = (source : S) × (sources ≡ source ∷ [])
@@ -140,7 +142,7 @@ abbrev pub AreOpened : Settings → Option StartFault → List (List ℕ) → Ty
 AreOpened given None names = names ≡ file_names given
 AreOpened given (Some Words) names = names ≡ []
 AreOpened given (Some (QueriesFault fault)) names = names ≡ given.queries ∷ []
-AreOpened given (Some (JoinsFault fault)) names = names ≡ understood_names given
+AreOpened given (Some (JoinsFaulty fault)) names = names ≡ understood_names given
 AreOpened given (Some (AsksFault fault)) names = names ≡ whole_names given
 AreOpened given (Some (Open which)) names = names ≡ names_before given which
 AreOpened given (Some (Read which)) names = names ≡ names_up_to given which
@@ -155,14 +157,14 @@ sinks_before given Asks = []
 sinks_before given From = []
 sinks_before given (Stream number) = []
 sinks_before given Replies = []
-sinks_before given Save = option_to_list given.replies
+sinks_before given Save = option_to_list (replies_of given)
 
 -- the names of the files that a run opened to write, by why it didn't begin, if it didn't
 abbrev pub AreMade : Settings → Option StartFault → List (List ℕ) → Type 0
 AreMade given None names = names ≡ sink_names given
 AreMade given (Some Words) names = names ≡ []
 AreMade given (Some (QueriesFault fault)) names = names ≡ []
-AreMade given (Some (JoinsFault fault)) names = names ≡ []
+AreMade given (Some (JoinsFaulty fault)) names = names ≡ []
 AreMade given (Some (AsksFault fault)) names = names ≡ []
 AreMade given (Some (Open which)) names = names ≡ sinks_before given which
 AreMade given (Some (Read which)) names = names ≡ []

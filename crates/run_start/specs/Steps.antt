@@ -2,13 +2,13 @@
 use Rattle.std.specs.Prelude.{◌≡◌, ◌≢◌, ◌⊎◌, ℕ, List, [], ◌∷◌, ◌++◌, option_to_list}
 use Rattle.std.specs.Prelude.{Option, Some, None, IsSomeAnd, Contains, Err}
 use Rattle.rpq_model.specs.Query.{Query}
-use Rattle.conj_query.specs.declared.fault.JoinsKind.TheVariants.{Memory as MemoryOfJoins}
-use Rattle.conj_query.specs.JoinsFile.{joins}
+use Rattle.join_file.specs.declared.fault.JoinFileFaultKind.TheVariants.{Memory as MemoryOfJoins}
+use Rattle.join_file.specs.JoinsFile.{joins}
 use Rattle.ask_text.specs.declared.fault.AskKind.TheVariants.{Memory as MemoryOfAsks}
 use Rattle.ask_text.specs.Asks.{asks}
 use Rattle.rpq_io.specs.Counts.{CountsFault, CountsOpening}
 use Rattle.rpq_io.specs.Files.{KeepsFiles}
-use Rattle.rpq_words.specs.Settings.{Settings}
+use Rattle.rpq_words.specs.declared.settings.Settings.{Settings}
 use Rattle.stream_tuples.specs.History.{IsPrefix}
 use Rattle.rpq_text.specs.declared.ends.Which.{Which}
 use Rattle.rpq_text.specs.declared.ends.StartFault.{StartFault}

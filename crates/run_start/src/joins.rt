@@ -2,23 +2,24 @@
 
 ghost use Rattle.std.specs.Prelude.{◌≡◌, ◌≢◌, ◌⊎◌, ◌<◌, ◌≤◌, ◌∷◌, [], All, length, Ok, IfOk};
 ghost use Rattle.std.specs.Prelude.{IfErr, IfSome, option_to_list};
-ghost use Rattle.conj_query.specs.declared.fault.JoinsKind.{JoinsKind};
-ghost use Rattle.conj_query.specs.JoinsFile.{joins};
-ghost use Rattle.conj_query.specs.Sound.{IsSound};
+ghost use Rattle.join_file.specs.declared.fault.JoinFileFaultKind.{JoinFileFaultKind};
+ghost use Rattle.join_file.specs.JoinsFile.{joins};
+ghost use Rattle.join_file.specs.Sound.{IsSound};
 ghost use Rattle.rpq_text.specs.Definitions.{definitions_of};
 ghost use Rattle.rpq_text.specs.Limits.{file_limit};
 ghost use Rattle.run_start.specs.Files.{ForJoins, HasQueries};
 ghost use Rattle.run_start.specs.Ready.{IsReadWhole, fault_of};
 ghost use Rattle.run_start.specs.Steps.{IsFaultOfJoins, IsRefusal, UsesMore};
+ghost use Rattle.rpq_words.specs.Views.{joins_of, two_way_of};
 
 use crate::refusal::{Refusal, without_source};
 use crate::whole::whole_file;
-use conj_query::{JoinDef, JoinsFault, JoinsKind, read_joins};
+use join_file::{JoinDef, JoinFileFault, JoinFileFaultKind, read_joins};
 use query_file::{Compiled, copied_definitions};
 use rpq_base::Memory;
 use rpq_io::Files;
 use rpq_text::{StartFault, Which};
-use rpq_words::Chosen;
+use rpq_words::Settings;
 use std::alloc::Global;
 use std::sync::Arc;
 
@@ -27,26 +28,26 @@ use std::sync::Arc;
 pub fn joins_of_file<F: Files>(
     alloc: Global,
     files: &mut F,
-    chosen: &Chosen,
+    chosen: &Settings,
     queries: &[Compiled],
 ) -> Result<Arc<Vec<JoinDef>>, Refusal<F::Source>>
     requires few { length queries.now ≤ 64 }
     requires has { IfSome (F.holds files.old chosen.now.queries)
-        (λ bytes. HasQueries chosen.now.two_way bytes (definitions_of queries.now)) }
+        (λ bytes. HasQueries (two_way_of chosen.now) bytes (definitions_of queries.now)) }
     ensures joins { IfOk result (λ joins. ForJoins chosen.now (F.holds files.old)
         (definitions_of queries.now) (λ found. joins.value.items ≡ found)) }
     ensures few { IfOk result (λ joins. length joins.value.items ≤ 32) }
     ensures sound { IfOk result (λ joins.
         All (IsSound (length queries.now)) joins.value.items) }
-    ensures read { IfOk result (λ joins. IfSome chosen.now.joins (λ name.
+    ensures read { IfOk result (λ joins. IfSome (joins_of chosen.now) (λ name.
         IsReadWhole F.Source.left F.Source.faults (F.holds files.old name))) }
     ensures refused { IfErr result
         (IsRefusal F.Source.left F.Source.faults chosen.now (F.holds files.old)) }
     ensures files { UsesMore F.holds F.opened F.made F.unread F.unmade chosen.now
-        (chosen.now.queries ∷ []) (option_to_list chosen.now.joins) [] (fault_of result)
+        (chosen.now.queries ∷ []) (option_to_list (joins_of chosen.now)) [] (fault_of result)
         files.old files.new }
 {
-    let Some(name) = &chosen.joins else {
+    let Some(name) = chosen.joins() else {
         return match shared(alloc, Vec::new(alloc)) {
             Ok(joins) => Ok(joins),
             Err(Memory) => Err(without_source(StartFault::Memory)),
@@ -95,12 +96,12 @@ fn joins_over(
 }
 
 /// Why a run doesn't begin for this fault of its joins file.
-fn start_fault(fault: JoinsFault) -> StartFault
-    ensures { ((fault.kind ≡ JoinsKind.Memory) × (result ≡ StartFault.Memory))
-        ⊎ ((fault.kind ≢ JoinsKind.Memory) × (result ≡ StartFault.Joins fault)) }
+fn start_fault(fault: JoinFileFault) -> StartFault
+    ensures { ((fault.kind ≡ JoinFileFaultKind.Memory) × (result ≡ StartFault.Memory))
+        ⊎ ((fault.kind ≢ JoinFileFaultKind.Memory) × (result ≡ StartFault.Joins fault)) }
 {
     match fault.kind {
-        JoinsKind::Memory => StartFault::Memory,
+        JoinFileFaultKind::Memory => StartFault::Memory,
         _ => StartFault::Joins(fault),
     }
 }

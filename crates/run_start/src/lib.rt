@@ -20,7 +20,7 @@ mod streams;
 mod whole;
 mod words;
 
-pub use ready::{Reads, Ready, begin};
+pub use ready::{Reads, Ready, Work, begin};
 pub use refusal::Refusal;
 pub use sinks::OwnSinks;
 pub use streams::Readers;

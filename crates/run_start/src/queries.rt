@@ -9,23 +9,24 @@ ghost use Rattle.rpq_text.specs.Limits.{file_limit};
 ghost use Rattle.run_start.specs.Files.{HasQueries};
 ghost use Rattle.run_start.specs.Ready.{AreUnderstood, IsReadWhole, fault_of};
 ghost use Rattle.run_start.specs.Steps.{IsRefusal, UsesMore};
+ghost use Rattle.rpq_words.specs.Views.{two_way_of};
 
 use crate::refusal::{Refusal, without_source};
 use crate::whole::whole_file;
 use query_file::{Compiled, QueryFault, QueryKind, read_queries, read_two_way_queries};
 use rpq_io::Files;
 use rpq_text::{StartFault, Which};
-use rpq_words::Chosen;
+use rpq_words::Settings;
 use std::alloc::Global;
 
 /// The queries of the queries file, each with its automaton and verdict.
 pub fn queries_of_file<F: Files>(
     alloc: Global,
     files: &mut F,
-    chosen: &Chosen,
+    chosen: &Settings,
 ) -> Result<Vec<Compiled>, Refusal<F::Source>>
     ensures queries { IfOk result (λ queries. IfSome (F.holds files.old chosen.now.queries)
-        (λ bytes. HasQueries chosen.now.two_way bytes (definitions_of queries.items))) }
+        (λ bytes. HasQueries (two_way_of chosen.now) bytes (definitions_of queries.items))) }
     ensures understood { IfOk result (λ queries. AreUnderstood queries.items) }
     ensures read { IfOk result (λ queries. IsReadWhole F.Source.left F.Source.faults
         (F.holds files.old chosen.now.queries)) }
@@ -35,7 +36,7 @@ pub fn queries_of_file<F: Files>(
         [] (chosen.now.queries ∷ []) [] (fault_of result) files.old files.new }
 {
     let bytes = whole_file(alloc, files, chosen.queries.as_str(), Which::Queries)?;
-    match read(alloc, chosen.two_way, &bytes) {
+    match read(alloc, chosen.is_two_way(), &bytes) {
         Ok(queries) => Ok(queries),
         Err(fault) => Err(without_source(start_fault(fault))),
     }

@@ -1,9 +1,10 @@
 //! What a run begins with, or why it doesn't.
 
-ghost use Rattle.std.specs.Prelude.{◌≡◌, ◌∷◌, [], false, Some, option_to_list, IfOk, IfErr};
+ghost use Rattle.std.specs.Prelude.{◌≡◌, ◌∷◌, [], Some, option_to_list, IfOk, IfErr};
 ghost use Rattle.std.specs.Prelude.{IfSome};
 ghost use Rattle.rpq_words.specs.Modes.{AreSettings};
-ghost use Rattle.rpq_words.specs.Settings.{reads_none};
+ghost use Rattle.rpq_words.specs.declared.settings.Mode.{Mode};
+ghost use Rattle.rpq_words.specs.Views.{asks_of, joins_of, two_way_of};
 ghost use Rattle.rpq_text.specs.Definitions.{definitions_of};
 ghost use Rattle.run_start.specs.Files.{HasQueries};
 ghost use Rattle.run_start.specs.Given.{later_names, sink_names};
@@ -19,10 +20,10 @@ use crate::sessions::sessions_of_file;
 use crate::sinks::{OwnSinks, open_sinks};
 use crate::streams::{Readers, open_readers};
 use ask_text::Session;
-use conj_query::JoinDef;
+use join_file::JoinDef;
 use query_file::Compiled;
 use rpq_io::{Files, Sink, Source};
-use rpq_words::Chosen;
+use rpq_words::{Directions, Mode, Settings, StreamSettings};
 use std::alloc::Global;
 use std::sync::Arc;
 
@@ -30,8 +31,19 @@ use std::sync::Arc;
 #[derive(Drop)]
 pub struct Ready<S: Source, K: Sink> {
     pub queries: Vec<Compiled>,
-    /// What is read and answered; none where the queries are only checked, or tuples are generated.
-    pub reads: Option<Reads<S, K>>,
+    /// What is done with them.
+    pub work: Work<S, K>,
+}
+
+/// What is done with the queries of a run.
+#[derive(Drop)]
+pub enum Work<S: Source, K: Sink> {
+    /// They are checked.
+    Check,
+    /// They are evaluated over this many generated tuples.
+    Generate(Directions, u64),
+    /// They are evaluated over what is read.
+    Read(Reads<S, K>),
 }
 
 /// What is read and answered in a run.
@@ -55,12 +67,12 @@ pub struct Reads<S: Source, K: Sink> {
 pub fn begin<F: Files>(
     alloc: Global,
     files: &mut F,
-    chosen: &Chosen,
+    chosen: &Settings,
 ) -> Result<Ready<F::Source, F::Sink>, Refusal<F::Source>>
     requires { AreSettings chosen.now }
     ensures ready { IfOk result (λ ready. IsReady F.Source.left F.Source.faults
         F.Sink.written F.Sink.faults chosen.now (F.holds files.old)
-        ready.queries.items ready.reads) }
+        ready.queries.items ready.work) }
     ensures read { IfOk result (λ ready.
         AreReadWhole F.Source.left F.Source.faults chosen.now (F.holds files.old)) }
     ensures cause { IfErr result (λ refusal.
@@ -72,44 +84,44 @@ pub fn begin<F: Files>(
         (Some chosen.now) (fault_of result) files.old files.new }
 {
     let queries = queries_of_file(alloc, files, chosen)?;
-    if reads_none(chosen) {
-        return Ok(Ready {
+    match &chosen.mode {
+        Mode::Check(_directions) => Ok(Ready {
             queries,
-            reads: None,
-        });
+            work: Work::Check,
+        }),
+        Mode::Generate(directions, count) => Ok(Ready {
+            queries,
+            work: Work::Generate(*directions, *count),
+        }),
+        Mode::Streams(run) => {
+            let reads = begin_reading(alloc, files, chosen, run, &queries)?;
+            Ok(Ready {
+                queries,
+                work: Work::Read(reads),
+            })
+        }
     }
-    let reads = begin_reading(alloc, files, chosen, &queries)?;
-    Ok(Ready {
-        queries,
-        reads: Some(reads),
-    })
 }
 
-/// Whether no stream is to be read: the queries are checked alone, or tuples are generated.
-fn reads_none(chosen: &Chosen) -> bool
-    ensures { result ≡ reads_none chosen.now }
-{
-    chosen.check || chosen.generate.is_some()
-}
-
-/// Reads the joins file and the asks file, and opens the streams and the sinks, in a run with these
-/// queries, which are those of its queries file.
+/// Reads the joins file and the asks file, and opens the streams and the sinks, in a run over
+/// streams with these queries, which are those of its queries file.
 fn begin_reading<F: Files>(
     alloc: Global,
     files: &mut F,
-    chosen: &Chosen,
+    chosen: &Settings,
+    run: &StreamSettings,
     queries: &[Compiled],
 ) -> Result<Reads<F::Source, F::Sink>, Refusal<F::Source>>
     requires settings { AreSettings chosen.now }
-    requires reads_some { reads_none chosen.now ≡ false }
+    requires streams { chosen.now.mode ≡ Mode.Streams run.now }
     requires understood { AreUnderstood queries.now }
     requires has { IfSome (F.holds files.old chosen.now.queries)
-        (λ bytes. HasQueries chosen.now.two_way bytes (definitions_of queries.now)) }
+        (λ bytes. HasQueries (two_way_of chosen.now) bytes (definitions_of queries.now)) }
     ensures reading { IfOk result (IsReading F.Source.left F.Source.faults
         F.Sink.written F.Sink.faults chosen.now (F.holds files.old) queries.now) }
-    ensures read_joins { IfOk result (λ reads. IfSome chosen.now.joins (λ name.
+    ensures read_joins { IfOk result (λ reads. IfSome (joins_of chosen.now) (λ name.
         IsReadWhole F.Source.left F.Source.faults (F.holds files.old name))) }
-    ensures read_asks { IfOk result (λ reads. IfSome chosen.now.asks (λ name.
+    ensures read_asks { IfOk result (λ reads. IfSome (asks_of chosen.now) (λ name.
         IsReadWhole F.Source.left F.Source.faults (F.holds files.old name))) }
     ensures refused { IfErr result
         (IsRefusal F.Source.left F.Source.faults chosen.now (F.holds files.old)) }
@@ -119,7 +131,7 @@ fn begin_reading<F: Files>(
 {
     let joins = joins_of_file(alloc, files, chosen, queries)?;
     let sessions = sessions_of_file(alloc, files, chosen, queries)?;
-    let readers = open_readers(alloc, files, chosen)?;
+    let readers = open_readers(alloc, files, chosen, run)?;
     let sinks = open_sinks(files, chosen)?;
     Ok(Reads {
         readers,

@@ -11,6 +11,7 @@ ghost use Rattle.run_start.specs.Files.{AreUnderstoodJoins, ForSessions, HasQuer
 ghost use Rattle.run_start.specs.Given.{understood_names};
 ghost use Rattle.run_start.specs.Ready.{IsReadWhole, fault_of};
 ghost use Rattle.run_start.specs.Steps.{IsFaultOfAsks, IsRefusal, UsesMore};
+ghost use Rattle.rpq_words.specs.Views.{asks_of, two_way_of};
 
 use crate::refusal::{Refusal, without_source};
 use crate::whole::whole_file;
@@ -18,7 +19,7 @@ use ask_text::{AskFault, AskKind, Session, read_asks};
 use query_file::{Compiled, copied_definitions};
 use rpq_io::Files;
 use rpq_text::{StartFault, Which};
-use rpq_words::Chosen;
+use rpq_words::Settings;
 use std::alloc::Global;
 
 /// The sessions of the asks file about these queries, which are those of the queries file; none
@@ -26,27 +27,27 @@ use std::alloc::Global;
 pub fn sessions_of_file<F: Files>(
     alloc: Global,
     files: &mut F,
-    chosen: &Chosen,
+    chosen: &Settings,
     queries: &[Compiled],
 ) -> Result<Vec<Session>, Refusal<F::Source>>
     requires few { length queries.now ≤ 64 }
     requires has { IfSome (F.holds files.old chosen.now.queries)
-        (λ bytes. HasQueries chosen.now.two_way bytes (definitions_of queries.now)) }
+        (λ bytes. HasQueries (two_way_of chosen.now) bytes (definitions_of queries.now)) }
     requires joins { AreUnderstoodJoins chosen.now (F.holds files.old) }
     ensures sessions { IfOk result (λ sessions. ForSessions chosen.now (F.holds files.old)
         (definitions_of queries.now) (λ asked. sessions.items ≡ asked)) }
     ensures few { IfOk result (λ sessions. length sessions.items ≤ 64) }
     ensures ranges { IfOk result (λ sessions.
         All (IsSession (length queries.now)) sessions.items) }
-    ensures read { IfOk result (λ sessions. IfSome chosen.now.asks (λ name.
+    ensures read { IfOk result (λ sessions. IfSome (asks_of chosen.now) (λ name.
         IsReadWhole F.Source.left F.Source.faults (F.holds files.old name))) }
     ensures refused { IfErr result
         (IsRefusal F.Source.left F.Source.faults chosen.now (F.holds files.old)) }
     ensures files { UsesMore F.holds F.opened F.made F.unread F.unmade chosen.now
-        (understood_names chosen.now) (option_to_list chosen.now.asks) [] (fault_of result)
+        (understood_names chosen.now) (option_to_list (asks_of chosen.now)) [] (fault_of result)
         files.old files.new }
 {
-    let Some(name) = &chosen.asks else {
+    let Some(name) = chosen.asks() else {
         return Ok(Vec::new(alloc));
     };
     let bytes = whole_file(alloc, files, name.as_str(), Which::Asks)?;

@@ -1,6 +1,6 @@
 //! The sinks that are written beside the events are opened.
 
-ghost use Rattle.std.specs.Prelude.{◌≡◌, [], is_some, IfOk, IfErr, IfSome, IsSome};
+ghost use Rattle.std.specs.Prelude.{◌≡◌, [], is_some, option_copied, IfOk, IfErr, IfSome, IsSome};
 ghost use Rattle.rpq_io.specs.Files.{IsNewSink};
 ghost use Rattle.run_start.specs.Files.{AreUnderstoodFiles};
 ghost use Rattle.run_start.specs.Given.{file_names, sink_names};
@@ -10,7 +10,7 @@ ghost use Rattle.run_start.specs.Steps.{IsRefusal, IsRefusalOfOpening, OpensSink
 use crate::refusal::{Refusal, without_source};
 use rpq_io::{Files, OpenFault, Sink};
 use rpq_text::{StartFault, Which};
-use rpq_words::{Chosen, FileWord};
+use rpq_words::{FileWord, Settings};
 
 /// The sinks that a run opens, and writes beside its events.
 #[derive(Drop)]
@@ -24,7 +24,7 @@ pub struct OwnSinks<K: Sink> {
 /// New sinks for the replies and then for the saved window, as far as files are named for them.
 pub fn open_sinks<F: Files>(
     files: &mut F,
-    chosen: &Chosen,
+    chosen: &Settings,
 ) -> Result<OwnSinks<F::Sink>, Refusal<F::Source>>
     requires { AreUnderstoodFiles chosen.now (F.holds files.old) }
     ensures sinks { IfOk result (AreNewSinks F.Sink.written F.Sink.faults chosen.now) }
@@ -34,24 +34,24 @@ pub fn open_sinks<F: Files>(
         (file_names chosen.now) [] (sink_names chosen.now) (fault_of result)
         files.old files.new }
 {
-    let replies = open_sink(files, &chosen.replies, Which::Replies)?;
-    let save = open_sink(files, &chosen.save, Which::Save)?;
+    let replies = open_sink(files, chosen.replies(), Which::Replies)?;
+    let save = open_sink(files, chosen.save(), Which::Save)?;
     Ok(OwnSinks { replies, save })
 }
 
 /// A new sink for the file of this name, where there is one.
 fn open_sink<F: Files>(
     files: &mut F,
-    name: &Option<FileWord>,
+    name: Option<&FileWord>,
     which: Which,
 ) -> Result<Option<F::Sink>, Refusal<F::Source>>
-    ensures wanted { IfOk result (λ sink. is_some sink ≡ is_some name.now) }
+    ensures wanted { IfOk result (λ sink. is_some sink ≡ is_some name.entry) }
     ensures unwritten { IfOk result (λ sink.
         IfSome sink (IsNewSink F.Sink.written F.Sink.faults)) }
     ensures cause { IfErr result (IsRefusalOfOpening which) }
-    ensures named { IfErr result (λ refusal. IsSome name.now) }
-    ensures files { OpensSink F.holds F.opened F.made F.unread F.unmade which name.now
-        (fault_of result) files.old files.new }
+    ensures named { IfErr result (λ refusal. IsSome name.entry) }
+    ensures files { OpensSink F.holds F.opened F.made F.unread F.unmade which
+        (option_copied name.entry) (fault_of result) files.old files.new }
 {
     let Some(name) = name else {
         return Ok(None);

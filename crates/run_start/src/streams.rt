@@ -1,10 +1,11 @@
 //! The streams are opened, and the saved window before them.
 
-ghost use Rattle.std.specs.Prelude.{◌≡◌, ◌≤◌, ◌++◌, [], false, length, map, is_some};
+ghost use Rattle.std.specs.Prelude.{◌≡◌, ◌≤◌, ◌∷◌, ◌++◌, [], false, length, map, is_some};
 ghost use Rattle.std.specs.Prelude.{Some, option_to_list, IfOk, IfErr, IfSome};
 ghost use Rattle.rpq_io.specs.Files.{IsNewSource};
 ghost use Rattle.rpq_words.specs.Modes.{AreSettings};
-ghost use Rattle.rpq_words.specs.Settings.{reads_none};
+ghost use Rattle.rpq_words.specs.declared.settings.Mode.{Mode};
+ghost use Rattle.rpq_words.specs.Views.{from_of, streams_of};
 ghost use Rattle.saved_window.specs.Then.{count_of, left_of_both, left_of_first, faults_of_both};
 ghost use Rattle.saved_window.specs.Then.{faults_of_first, join_known};
 ghost use Rattle.stream_tuples.specs.Progress.{IsNewReader};
@@ -18,7 +19,7 @@ use crate::refusal::{Refusal, without_source};
 use rpq_base::Memory;
 use rpq_io::{Files, LineReader, OpenFault, Source};
 use rpq_text::{StartFault, Which};
-use rpq_words::{Chosen, FileWord};
+use rpq_words::{FileWord, Input, Settings, StreamNames, StreamSettings};
 use saved_window::{Alone, Behind, Front, Then};
 use std::alloc::Global;
 use stream_tuples::{BYTE_LIMIT, LINE_LIMIT};
@@ -37,48 +38,59 @@ pub enum Readers<S: Source> {
 pub fn open_readers<F: Files>(
     alloc: Global,
     files: &mut F,
-    chosen: &Chosen,
+    chosen: &Settings,
+    run: &StreamSettings,
 ) -> Result<Readers<F::Source>, Refusal<F::Source>>
     requires settings { AreSettings chosen.now }
-    requires reads_some { reads_none chosen.now ≡ false }
+    requires streams { chosen.now.mode ≡ Mode.Streams run.now }
     requires understood { AreUnderstoodFiles chosen.now (F.holds files.old) }
     ensures contents { IfOk result (λ readers.
         stream_contents chosen.now (F.holds files.old) ≡ contents_of F.Source.left readers) }
-    ensures behind { IfOk result (λ readers. is_behind readers ≡ is_some chosen.now.from) }
+    ensures behind { IfOk result (λ readers. is_behind readers ≡ is_some (from_of chosen.now)) }
     ensures fresh { IfOk result (AreNew F.Source.left F.Source.faults) }
     ensures refused { IfErr result
         (IsRefusal F.Source.left F.Source.faults chosen.now (F.holds files.old)) }
     ensures files { UsesMore F.holds F.opened F.made F.unread F.unmade chosen.now
-        (whole_names chosen.now) (option_to_list chosen.now.from ++ chosen.now.streams) []
+        (whole_names chosen.now) (option_to_list (from_of chosen.now) ++ streams_of chosen.now) []
         (fault_of result) files.old files.new }
 {
-    match &chosen.from {
-        None => Ok(Readers::Alone(open_streams(alloc, files, chosen)?)),
-        Some(name) => Ok(Readers::Behind(open_behind(alloc, files, chosen, name)?)),
+    let run = match run {
+        StreamSettings::BothWays(names) => {
+            return Ok(Readers::Alone(open_streams(alloc, files, chosen, names)?));
+        }
+        StreamSettings::Forwards(run) => run,
+    };
+    match &run.input {
+        Input::Fresh(names) => Ok(Readers::Alone(open_streams(alloc, files, chosen, names)?)),
+        Input::Resumed { from, stream } => Ok(Readers::Behind(open_behind(
+            alloc, files, chosen, from, stream,
+        )?)),
     }
 }
 
-/// Readers of the lines of all streams, which read nothing before them.
+/// Readers of the lines of all streams, which have these names and read nothing before them.
 fn open_streams<F: Files>(
     alloc: Global,
     files: &mut F,
-    chosen: &Chosen,
+    chosen: &Settings,
+    names: &StreamNames,
 ) -> Result<Vec<LineReader<Then<F::Source, Alone>>>, Refusal<F::Source>>
-    requires few { length chosen.now.streams ≤ 64 }
+    requires named { streams_of chosen.now ≡ names.now }
+    requires few { length names.now ≤ 64 }
     requires understood { AreUnderstoodFiles chosen.now (F.holds files.old) }
-    ensures contents { IfOk result (λ readers. map (F.holds files.old) chosen.now.streams
+    ensures contents { IfOk result (λ readers. map (F.holds files.old) (streams_of chosen.now)
         ≡ lefts_of F.Source.left readers.items) }
     ensures fresh { IfOk result (λ readers.
         AreNewReaders F.Source.left F.Source.faults readers.items) }
     ensures refused { IfErr result
         (IsRefusal F.Source.left F.Source.faults chosen.now (F.holds files.old)) }
     ensures files { UsesMore F.holds F.opened F.made F.unread F.unmade chosen.now
-        (first_names chosen.now) chosen.now.streams [] (fault_of result) files.old files.new }
+        (first_names chosen.now) (streams_of chosen.now) [] (fault_of result) files.old files.new }
 {
-    let Ok(mut readers) = Vec::with_capacity(alloc, chosen.streams.len()) else {
+    let Ok(mut readers) = Vec::with_capacity(alloc, names.as_slice().len()) else {
         return Err(without_source(StartFault::Memory));
     };
-    for (place, name) in chosen.streams.iter().enumerate() {
+    for (place, name) in names.as_slice().iter().enumerate() {
         let reader = open_stream(alloc, files, name.as_str(), place as u32 + 1, None)?;
         let Ok(()) = readers.push(reader) else {
             return Err(without_source(StartFault::Memory));
@@ -87,15 +99,16 @@ fn open_streams<F: Files>(
     Ok(readers)
 }
 
-/// A reader of the lines of the one stream, which reads the saved window of this name before it.
+/// A reader of the lines of this one stream, which reads the saved window of this name before it.
 fn open_behind<F: Files>(
     alloc: Global,
     files: &mut F,
-    chosen: &Chosen,
+    chosen: &Settings,
     name: &FileWord,
+    stream: &FileWord,
 ) -> Result<Vec<LineReader<Then<F::Source, Behind>>>, Refusal<F::Source>>
-    requires one_stream { length chosen.now.streams ≡ 1 }
-    requires named { chosen.now.from ≡ Some name.now }
+    requires named { from_of chosen.now ≡ Some name.now }
+    requires one_stream { streams_of chosen.now ≡ stream.now ∷ [] }
     requires understood { AreUnderstoodFiles chosen.now (F.holds files.old) }
     ensures contents { IfOk result (λ readers. stream_contents chosen.now (F.holds files.old)
         ≡ lefts_of F.Source.left readers.items) }
@@ -104,14 +117,13 @@ fn open_behind<F: Files>(
     ensures refused { IfErr result
         (IsRefusal F.Source.left F.Source.faults chosen.now (F.holds files.old)) }
     ensures files { UsesMore F.holds F.opened F.made F.unread F.unmade chosen.now
-        (whole_names chosen.now) (option_to_list chosen.now.from ++ chosen.now.streams) []
+        (whole_names chosen.now) (option_to_list (from_of chosen.now) ++ streams_of chosen.now) []
         (fault_of result) files.old files.new }
 {
     let Ok(mut readers) = Vec::with_capacity(alloc, 1) else {
         return Err(without_source(StartFault::Memory));
     };
     let from = open_file(files, name.as_str(), Which::From)?;
-    let stream = &chosen.streams[0];
     readers.push_reserved(open_stream(alloc, files, stream.as_str(), 1, Some(from))?);
     Ok(readers)
 }

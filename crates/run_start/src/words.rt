@@ -7,11 +7,11 @@ ghost use Rattle.run_start.specs.Ready.{IsWordsCause};
 ghost use Rattle.run_start.specs.Start.{IsDecided};
 
 use rpq_text::StartFault;
-use rpq_words::{Chosen, WordsFault, read_words};
+use rpq_words::{Settings, WordsFault, read_words};
 use std::alloc::Global;
 
 /// The settings of the words, where they have any.
-pub fn settings_of(alloc: Global, words: &[String]) -> Result<Chosen, StartFault>
+pub fn settings_of(alloc: Global, words: &[String]) -> Result<Settings, StartFault>
     ensures ok { IfOk result (λ chosen. settings (texts words.now) ≡ Some chosen) }
     ensures taken { IfOk result AreSettings }
     ensures cause { IfErr result (IsWordsCause (settings (texts words.now))) }

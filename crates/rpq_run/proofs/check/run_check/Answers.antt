@@ -13,7 +13,7 @@ use Rattle.rpq_run.proofs.Running.{runs_check}
 use Rattle.rpq_run.proofs.check.run_check.Goals as goal
 
 pub returns-clause-runs : goal.returns-clause-runs
-returns-clause-runs g c = λ given holds kept leaves has.
+returns-clause-runs g c = λ two_way file kept leaves has.
     let left = g.F.Source.Source.left in
     let faults = g.F.Source.Source.faults in
     let written = g.F.Sink.Sink.written in
@@ -31,7 +31,7 @@ returns-clause-runs g c = λ given holds kept leaves has.
     let told = subst (λ (fs : List SinkName). TellsLines written failures (run_lines [] fs status) errors errors')
     failed_are (told_lines written failures (run_lines [] c.failed_sinks-failed.result.now status)
     errors errors' c.tell_end.result c.tell_end.ensures) in
-    runs_check (meanings left faults written failures) given holds c.args.queries.now all result status kept
+    runs_check (meanings left faults written failures) two_way file c.args.queries.now all result status kept
     c.new.result.items c.new-2.result.items c.new-3.result.items
     (map (λ (own : Vec AnsweredValue). own.items) c.new-4.result.items)
     c.new.ensures.items c.new-2.ensures.items c.new-3.ensures.items

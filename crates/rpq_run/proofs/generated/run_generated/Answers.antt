@@ -15,7 +15,7 @@ use Rattle.rpq_run.proofs.Generating.{runs_generated}
 use Rattle.rpq_run.proofs.generated.run_generated.Goals as goal
 
 pub returns-clause-runs : goal.returns-clause-runs
-returns-clause-runs g c = λ given holds limit both_ways has.
+returns-clause-runs g c = λ file has.
     let written = g.F.Sink.Sink.written in
     let failures = g.F.Sink.Sink.faults in
     let task = c.args.generation in
@@ -38,9 +38,9 @@ returns-clause-runs g c = λ given holds limit both_ways has.
     (run_lines es fs status) errors errors') (c.deref-2.ensures.value ∙ ends_are) failed_are
     (told_lines written failures (run_lines c.deref-2.result.now c.failed_sinks-failed.result.now status)
     errors errors' c.tell_end.result c.tell_end.ensures) in
-    runs_generated (meanings g.F.Source.Source.left g.F.Source.Source.faults written failures) given holds
+    runs_generated (meanings g.F.Source.Source.left g.F.Source.Source.faults written failures) file
     task (sinks c.args.events.now c.write_summary.new.events errors errors') _ c.in_ok-circle.circle run
-    wrote status limit both_ways has c.generate-history.ensures c.write_summary.ensures
+    wrote status has c.generate-history.ensures c.write_summary.ensures
     (λ none. c.run_status-status.ensures.memory (ap not (c.is_some-is_done.ensures ∙ none)))
     (λ some. c.run_status-status.ensures.others (ap not (c.is_some-is_done.ensures ∙ some))
     ∙ ap₂ first_status (c.deref.ensures.value ∙ ends_are) failed_are)

@@ -5,7 +5,8 @@ use Rattle.rpq_text.specs.declared.ends.StartFault.TheVariants.{Memory}
 use Rattle.run_start.specs.Start.{AreSourcesOf, UsesFiles, file_held}
 use Rattle.rpq_run.specs.Outcome.{meanings, openings, outcome, sinks}
 use Rattle.rpq_run.proofs.Done.{runs_done, runs_quiet}
-use Rattle.rpq_run.proofs.Refusals.{files_untouched, stopped_for_memory, uses_files, wants_memory}
+use Rattle.rpq_run.proofs.Refusals.{files_untouched, never_done, stopped_for_memory, uses_files}
+use Rattle.rpq_run.proofs.Refusals.{wants_memory}
 use Rattle.rpq_run.proofs.Tops.{for_given}
 use Rattle.rpq_run.proofs.top.run.Goals as goal
 
@@ -38,6 +39,10 @@ returns-in-Err-begin-clause-complete g c = for_given _ c.in-Ok.chosen _ c.in-Ok.
     (subst (λ ss. AreSourcesOf left faults (file_held (Some given) holds) fault ss)
     (sym (told.sources ∙ c.of_source.ensures)) c.in-Err-begin.ensures.source)
     (λ name is. (used.openings name).rose is) (λ name is. (used.makings name).rose is) form none))
+
+pub returns-in-Err-begin-clause-done : goal.returns-in-Err-begin-clause-done
+returns-in-Err-begin-clause-done g c = λ done. absurd (never_done c.in-Err-begin.field-0.fault
+    (sym c.report_of_refusal-in-Err-begin.ensures.status ∙ done))
 
 -- ---- a run that begins
 

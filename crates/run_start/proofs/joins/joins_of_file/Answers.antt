@@ -7,18 +7,19 @@ use Rattle.run_start.specs.Steps.{UsesMore}
 use Rattle.run_start.proofs.Opening.{joins_place, uses_file}
 use Rattle.run_start.proofs.Using.{refused_as}
 use Rattle.run_start.proofs.joins.joins_of_file.Goals as goal
+use Rattle.rpq_words.specs.Views.{joins_of}
 
 pub returns-in_err-bytes-clause-files : goal.returns-in_err-bytes-clause-files
 returns-in_err-bytes-clause-files g c =
     let given = c.args.chosen.now in
     let name = c.as_str.result.now in
-    let is : given.joins ≡ Some name = search rules in
+    let is : (joins_of given) ≡ Some name = search rules in
     let start : Some c.in_err-bytes.field-0.0.fault ≡ fault_of c.from_residual.result =
     search rules in
     subst (λ (s : Option StartFault). UsesMore g.F.Files.holds g.F.Files.opened g.F.Files.made
     g.F.Files.unread g.F.Files.unmade given (given.queries ∷ [])
-    (option_to_list given.joins) [] s c.args.files.now c.whole_file.new.files) start
-    (refused_as (option_to_list given.joins) []
+    (option_to_list (joins_of given)) [] s c.args.files.now c.whole_file.new.files) start
+    (refused_as (option_to_list (joins_of given)) []
     (uses_file given Joins (given.queries ∷ []) name (g.F.Files.holds c.args.files.now name)
     (Some c.in_err-bytes.field-0.0.fault) c.args.files.now c.whole_file.new.files
     (joins_place given name is) c.in_err-bytes.ensures.cause c.in_err-bytes.ensures.files))

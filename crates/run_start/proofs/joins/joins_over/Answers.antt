@@ -4,7 +4,7 @@ use Rattle.std.proofs.lemmas.List.{length-map}
 use Rattle.std.proofs.lemmas.List.Elements.{All-same}
 use Rattle.rpq_model.specs.Query.{Query}
 use Rattle.query_file.specs.Compiled.{CompiledValue}
-use Rattle.conj_query.specs.Sound.{IsSound}
+use Rattle.join_file.specs.Sound.{IsSound}
 use Rattle.rpq_text.specs.Definitions.{definitions_of}
 use Rattle.run_start.proofs.joins.joins_over.Goals as goal
 

@@ -11,13 +11,14 @@ use Rattle.run_start.proofs.Using.{all_understood, behind_all, files_behind, hol
 use Rattle.run_start.proofs.Using.{joins_understood, one_by_one}
 use Rattle.run_start.proofs.Using.{refused_behind}
 use Rattle.run_start.proofs.ready.begin_reading.Goals as goal
+use Rattle.rpq_words.specs.Views.{asks_of, two_way_of}
 
 -- ---- the sessions
 
 pub sessions_of_file-requires-clause-has : goal.sessions_of_file-requires-clause-has
 sessions_of_file-requires-clause-has g c κs within =
     subst (λ (holds : List ℕ → Option (List ℕ)). IfSome (holds c.args.chosen.now.queries)
-    (λ bytes. HasQueries c.args.chosen.now.two_way bytes (definitions_of c.args.queries.now)))
+    (λ bytes. HasQueries (two_way_of c.args.chosen.now) bytes (definitions_of c.args.queries.now)))
     (sym (holds_stays c.in_ok-joins.ensures.files)) c.requires.has
 
 pub sessions_of_file-requires-clause-joins : goal.sessions_of_file-requires-clause-joins
@@ -118,13 +119,14 @@ returns-in_err-sinks-clause-files g c =
 
 pub returns-clause-read_asks : goal.returns-clause-read_asks
 returns-clause-read_asks g c =
-    subst (λ (holds : List ℕ → Option (List ℕ)). IfSome c.args.chosen.now.asks (λ name.
+    subst (λ (holds : List ℕ → Option (List ℕ)). IfSome (asks_of c.args.chosen.now) (λ name.
     IsReadWhole g.F.Source.Source.left g.F.Source.Source.faults (holds name)))
     (holds_stays c.in_ok-joins.ensures.files) c.in_ok-sessions.ensures.read
 
 pub returns-clause-reading : goal.returns-clause-reading
 returns-clause-reading g c = record {
-  reads_some = c.requires.reads_some;
+  run = c.args.run.now;
+  mode = c.requires.streams;
   contents = subst (λ (holds : List ℕ → Option (List ℕ)). stream_contents c.args.chosen.now holds
       ≡ contents_of g.F.Source.Source.left c.in_ok-readers.readers)
       (holds_stays c.in_ok-sessions.ensures.files ∙ holds_stays c.in_ok-joins.ensures.files)

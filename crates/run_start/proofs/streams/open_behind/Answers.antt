@@ -11,24 +11,25 @@ use Rattle.rpq_text.specs.declared.ends.Which.TheVariants.{From, Stream}
 use Rattle.run_start.specs.Given.{first_names, whole_names}
 use Rattle.run_start.specs.Ready.{fault_of}
 use Rattle.run_start.specs.Steps.{UsesMore}
-use Rattle.run_start.proofs.Opening.{behind_contents, from_opened, from_place, one_name, opening_refusal, uses_file}
+use Rattle.run_start.proofs.Opening.{behind_contents, from_opened, from_place, opening_refusal, uses_file}
 use Rattle.run_start.proofs.Opening.{uses_stream}
 use Rattle.run_start.proofs.SinkSteps.{no_step}
 use Rattle.run_start.proofs.Using.{holds_stays, one_by_one, refused_as, start_is, then_refused}
 use Rattle.run_start.proofs.streams.open_behind.Goals as goal
+use Rattle.rpq_words.specs.Views.{from_of, streams_of}
 
 pub returns-in_default-clause-files : goal.returns-in_default-clause-files
 returns-in_default-clause-files g c =
     let given = c.args.chosen.now in
     let fault : Memory ≡ c.without_source.result.fault = search rules in
     subst (λ (f : StartFault). UsesMore g.F.Files.holds g.F.Files.opened g.F.Files.made g.F.Files.unread
-    g.F.Files.unmade given (whole_names given) (option_to_list given.from ++ given.streams) [] (Some f)
+    g.F.Files.unmade given (whole_names given) (option_to_list (from_of given) ++ streams_of given) [] (Some f)
     c.args.files.now c.args.files.now) fault
-    (then_refused (option_to_list given.from ++ given.streams) Memory tt
+    (then_refused (option_to_list (from_of given) ++ streams_of given) Memory tt
     (record {
-      rest = option_to_list given.from ++ given.streams;
-      cut = append_assoc (whole_names given) (option_to_list given.from) given.streams
-          ∙ ap (λ (ns : List (List ℕ)). ns ++ (option_to_list given.from ++ given.streams))
+      rest = option_to_list (from_of given) ++ streams_of given;
+      cut = append_assoc (whole_names given) (option_to_list (from_of given)) (streams_of given)
+          ∙ ap (λ (ns : List (List ℕ)). ns ++ (option_to_list (from_of given) ++ streams_of given))
           (sym (append-nil (whole_names given)));
     })
     (no_step given (whole_names given) c.args.files.now))
@@ -37,13 +38,13 @@ pub returns-in_err-from-clause-files : goal.returns-in_err-from-clause-files
 returns-in_err-from-clause-files g c =
     let given = c.args.chosen.now in
     let name = c.as_str.result.now in
-    let named : given.from ≡ Some name = search rules in
+    let named : (from_of given) ≡ Some name = search rules in
     let refusal = c.in_err-from.field-0.0 in
     let start : Some refusal.fault ≡ fault_of c.from_residual.result = search rules in
     subst (λ (s : Option StartFault). UsesMore g.F.Files.holds g.F.Files.opened g.F.Files.made g.F.Files.unread
-    g.F.Files.unmade given (whole_names given) (option_to_list given.from ++ given.streams) [] s c.args.files.now
+    g.F.Files.unmade given (whole_names given) (option_to_list (from_of given) ++ streams_of given) [] s c.args.files.now
     c.open_file.new.files) start
-    (refused_as (option_to_list given.from ++ given.streams) []
+    (refused_as (option_to_list (from_of given) ++ streams_of given) []
     (uses_file given From (whole_names given) name None (Some refusal.fault) c.args.files.now
     c.open_file.new.files (from_place given name named)
     (opening_refusal From refusal c.in_err-from.ensures.cause) c.in_err-from.ensures.files))
@@ -54,18 +55,18 @@ pub returns-in_err-open_stream-clause-files : goal.returns-in_err-open_stream-cl
 returns-in_err-open_stream-clause-files g c =
     let given = c.args.chosen.now in
     let name = c.as_str.result.now in
-    let named : given.from ≡ Some name = search rules in
+    let named : (from_of given) ≡ Some name = search rules in
     let stream = c.as_str-2.result.now in
-    let read : stream ≡ get_or given.streams 0 stream = search rules in
-    let is : slice_get given.streams 0 ≡ Some stream =
-    slice_get_read given.streams (length given.streams) 0 stream refl (omega (arith, c.requires.one_stream)) read in
+    let one : streams_of given ≡ stream ∷ [] = search rules in
+    let is : slice_get (streams_of given) 0 ≡ Some stream =
+    ap (λ (names : List (List ℕ)). slice_get names 0) one in
     let refusal = c.in_err-open_stream.field-0.0 in
     let first = from_opened given name None c.args.files.now c.open_file.new.files named tt c.in_ok-from.ensures.files in
     subst (λ (s : Option StartFault). UsesMore g.F.Files.holds g.F.Files.opened g.F.Files.made g.F.Files.unread
-    g.F.Files.unmade given (whole_names given) (option_to_list given.from ++ given.streams) [] s c.args.files.now
+    g.F.Files.unmade given (whole_names given) (option_to_list (from_of given) ++ streams_of given) [] s c.args.files.now
     c.open_stream.new.files)
     (start_is c.from_residual-in_err-open_stream.result refusal c.from_residual-in_err-open_stream.ensures.1)
-    (refused_as (option_to_list given.from ++ given.streams) []
+    (refused_as (option_to_list (from_of given) ++ streams_of given) []
     (one_by_one {start = Some refusal.fault} first
     (uses_stream given 0 1 stream (Some refusal.fault) c.open_file.new.files c.open_file.new.files
     c.open_stream.new.files refl is (no_step given (first_names given) c.open_file.new.files)
@@ -75,11 +76,11 @@ pub returns-clause-files : goal.returns-clause-files
 returns-clause-files g c =
     let given = c.args.chosen.now in
     let name = c.as_str.result.now in
-    let named : given.from ≡ Some name = search rules in
+    let named : (from_of given) ≡ Some name = search rules in
     let stream = c.as_str-2.result.now in
-    let read : stream ≡ get_or given.streams 0 stream = search rules in
-    let is : slice_get given.streams 0 ≡ Some stream =
-    slice_get_read given.streams (length given.streams) 0 stream refl (omega (arith, c.requires.one_stream)) read in
+    let one : streams_of given ≡ stream ∷ [] = search rules in
+    let is : slice_get (streams_of given) 0 ≡ Some stream =
+    ap (λ (names : List (List ℕ)). slice_get names 0) one in
     let first = from_opened given name None c.args.files.now c.open_file.new.files named tt c.in_ok-from.ensures.files in
     let second = uses_stream given 0 1 stream None c.open_file.new.files c.open_file.new.files
     c.open_stream.new.files refl is (no_step given (first_names given) c.open_file.new.files) tt
@@ -87,22 +88,22 @@ returns-clause-files g c =
     one_by_one {start = None} first
     (subst (λ (ns : List (List ℕ)). UsesMore g.F.Files.holds g.F.Files.opened g.F.Files.made g.F.Files.unread
     g.F.Files.unmade given (first_names given) ns [] None c.open_file.new.files c.open_stream.new.files)
-    (take_all 1 given.streams (omega (arith, c.requires.one_stream))) second)
+    (take_all 1 (streams_of given) (omega (arith, ap (λ (names : List (List ℕ)). length names) one))) second)
 
 pub returns-clause-contents : goal.returns-clause-contents
 returns-clause-contents g c =
     let given = c.args.chosen.now in
     let name = c.as_str.result.now in
-    let named : given.from ≡ Some name = search rules in
+    let named : (from_of given) ≡ Some name = search rules in
     let stream = c.as_str-2.result.now in
-    let read : stream ≡ get_or given.streams 0 stream = search rules in
-    let is : slice_get given.streams 0 ≡ Some stream =
-    slice_get_read given.streams (length given.streams) 0 stream refl (omega (arith, c.requires.one_stream)) read in
+    let one : streams_of given ≡ stream ∷ [] = search rules in
+    let is : slice_get (streams_of given) 0 ≡ Some stream =
+    ap (λ (names : List (List ℕ)). slice_get names 0) one in
     let first = from_opened given name None c.args.files.now c.open_file.new.files named tt c.in_ok-from.ensures.files in
     behind_contents (left_of_both g.F.Source.Source.left) (g.F.Files.holds c.args.files.now)
     (g.F.Files.holds c.open_file.new.files) given name stream (g.F.Source.Source.left c.in_ok-from.from)
     c.in_ok-open_stream.field-0 c.push_reserved.new.self.items named
-    (one_name given.streams stream c.requires.one_stream is) (holds_stays first) c.in_ok-from.ensures.new.content
+    one (holds_stays first) c.in_ok-from.ensures.new.content
     c.in_ok-open_stream.ensures.content
     (c.push_reserved.ensures.items
     ∙ ap (λ (rs : List (ReaderState _)). rs ++ c.in_ok-open_stream.field-0 ∷ []) c.in-Ok.ensures.items)

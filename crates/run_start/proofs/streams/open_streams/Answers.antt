@@ -16,6 +16,16 @@ use Rattle.run_start.proofs.Opening.{front_of_streams, join_nothing, one_content
 use Rattle.run_start.proofs.SinkSteps.{no_step}
 use Rattle.run_start.proofs.Using.{holds_stays, opening_refuses, refused_as, refused_by, then_refused}
 use Rattle.run_start.proofs.streams.open_streams.Goals as goal
+use Rattle.rpq_words.specs.Views.{streams_of}
+
+pub returns-in_default-clause-files : goal.returns-in_default-clause-files
+returns-in_default-clause-files g c =
+    let given = c.args.chosen.now in
+    let fault : Memory ≡ c.without_source.result.fault = search rules in
+    subst (λ (f : StartFault). UsesMore g.F.Files.holds g.F.Files.opened g.F.Files.made g.F.Files.unread
+    g.F.Files.unmade given (first_names given) (streams_of given) [] (Some f) c.args.files.now c.args.files.now)
+    fault (then_refused (streams_of given) Memory tt (front_of_streams given 0)
+    (no_step given (first_names given) c.args.files.now))
 
 pub returns-in_err-reader-clause-files : goal.returns-in_err-reader-clause-files
 returns-in_err-reader-clause-files g c =
@@ -24,15 +34,15 @@ returns-in_err-reader-clause-files g c =
     let name = c.as_str.result.now in
     let refusal = c.in_err-reader.field-0.0 in
     let next : place + 1 ≡ suc place = omega arith in
-    let names = c.deref-name-items.result.now in
+    let names = c.as_slice-name-items.result.now in
     let read : name ≡ get_or names place name = search rules in
-    let is : slice_get given.streams place ≡ Some name =
+    let is : slice_get (streams_of given) place ≡ Some name =
     subst (λ (ns : List (List ℕ)). slice_get ns place ≡ Some name) c.loop-place.invariant.names
     (slice_get_read names (length names) place name refl c.loop-place-test.true read) in
     let start : Some refusal.fault ≡ fault_of c.from_residual.result = search rules in
     subst (λ (s : Option StartFault). UsesMore g.F.Files.holds g.F.Files.opened g.F.Files.made g.F.Files.unread
-    g.F.Files.unmade given (first_names given) given.streams [] s c.args.files.now c.open_stream.new.files) start
-    (refused_as given.streams [] (uses_stream given place (place + 1) name (Some refusal.fault) c.args.files.now
+    g.F.Files.unmade given (first_names given) (streams_of given) [] s c.args.files.now c.open_stream.new.files) start
+    (refused_as (streams_of given) [] (uses_stream given place (place + 1) name (Some refusal.fault) c.args.files.now
     c.loop-place.files c.open_stream.new.files next is c.loop-place.invariant.files
     (opening_refusal (Stream (place + 1)) refusal c.in_err-reader.ensures.cause) c.in_err-reader.ensures.files))
 
@@ -42,15 +52,15 @@ returns-in_default-push-clause-files g c =
     let place = c.loop-place.place in
     let name = c.as_str.result.now in
     let next : place + 1 ≡ suc place = omega arith in
-    let names = c.deref-name-items.result.now in
+    let names = c.as_slice-name-items.result.now in
     let read : name ≡ get_or names place name = search rules in
-    let is : slice_get given.streams place ≡ Some name =
+    let is : slice_get (streams_of given) place ≡ Some name =
     subst (λ (ns : List (List ℕ)). slice_get ns place ≡ Some name) c.loop-place.invariant.names
     (slice_get_read names (length names) place name refl c.loop-place-test.true read) in
     let fault : Memory ≡ c.without_source-in_default-push.result.fault = search rules in
     subst (λ (f : StartFault). UsesMore g.F.Files.holds g.F.Files.opened g.F.Files.made g.F.Files.unread
-    g.F.Files.unmade given (first_names given) given.streams [] (Some f) c.args.files.now c.open_stream.new.files)
-    fault (then_refused given.streams Memory tt (front_of_streams given (place + 1))
+    g.F.Files.unmade given (first_names given) (streams_of given) [] (Some f) c.args.files.now c.open_stream.new.files)
+    fault (then_refused (streams_of given) Memory tt (front_of_streams given (place + 1))
     (uses_stream given place (place + 1) name None c.args.files.now c.loop-place.files c.open_stream.new.files next is
     c.loop-place.invariant.files tt c.in_ok-reader.ensures.files))
 
@@ -60,9 +70,9 @@ loop-place-preserved g c =
     let place = c.loop-place.place in
     let name = c.as_str.result.now in
     let next : place + 1 ≡ suc place = omega arith in
-    let names = c.deref-name-items.result.now in
+    let names = c.as_slice-name-items.result.now in
     let read : name ≡ get_or names place name = search rules in
-    let is : slice_get given.streams place ≡ Some name =
+    let is : slice_get (streams_of given) place ≡ Some name =
     subst (λ (ns : List (List ℕ)). slice_get ns place ≡ Some name) c.loop-place.invariant.names
     (slice_get_read names (length names) place name refl c.loop-place-test.true read) in
     let inv = c.loop-place.invariant in
@@ -100,8 +110,8 @@ returns-in_err-reader-clause-refused g c =
     let given = c.args.chosen.now in
     let place = c.loop-place.place in
     let refusal = c.in_err-reader.field-0.0 in
-    let names = c.deref-name-items.result.now in
-    let inside : place < length given.streams =
+    let names = c.as_slice-name-items.result.now in
+    let inside : place < length (streams_of given) =
     omega (arith, c.loop-place-test.true, ap (λ (ns : List (List ℕ)). length ns) c.loop-place.invariant.names) in
     refused_by (IsRefusal g.F.Source.Source.left g.F.Source.Source.faults given (g.F.Files.holds c.args.files.now))
     c.from_residual.result refusal c.from_residual.ensures.1

@@ -1,0 +1,60 @@
+-- What can't stand together.
+use Rattle.std.specs.Prelude.{ℕ, Bool, true, false, not, ◌&&◌, ◌||◌, ◌==◌, nat_lt, List, length}
+use Rattle.std.specs.Prelude.{bytes_eq, Option, Some, None, is_some}
+use Rattle.clap.specs.Walk.{Text, is_empty}
+use Rattle.rpq_words.specs.declared.found.Found.{Found}
+use Rattle.rpq_words.specs.declared.found.StreamWords.{StreamWords}
+
+-- no stream is to be read: the queries are checked alone, or tuples are generated
+abbrev pub reads_none : Found → Bool
+reads_none found = found.check || is_some found.generate
+
+-- exactly one of the two is there
+abbrev pub is_one_alone : {A B : Type 0} → Option A → Option B → Bool
+is_one_alone (Some x) None = true
+is_one_alone None (Some y) = true
+is_one_alone _ _ = false
+
+-- a file is named that only a run over streams has; it can't stand with edges taken backwards
+abbrev pub names_file : StreamWords → Bool
+names_file words =
+    is_some words.asks
+    || (is_some words.joins || (is_some words.save || is_some words.from))
+
+-- paths are written, but no stream is read, edges may be taken backwards, or there is a file of
+-- conjunctions
+abbrev pub paths_clash : Found → Bool
+paths_clash found = found.words.paths
+    && (reads_none found || (found.two_way || is_some found.words.joins))
+
+-- both are there, and are the same text
+abbrev pub is_same_file : Option Text → Option Text → Bool
+is_same_file (Some x) (Some y) = bytes_eq x y
+is_same_file _ _ = false
+
+-- a file to begin with is there, but not exactly one stream, or it is the file to save to
+abbrev pub from_clashes : StreamWords → Bool
+from_clashes words =
+    (is_some words.from && not (length words.streams == 1))
+    || is_same_file words.save words.from
+
+-- no stream is there where some are to be read, or more than are taken, or a file to begin with
+-- clashes
+abbrev pub streams_clash : Found → Bool
+streams_clash found =
+    (not (reads_none found) && is_empty found.words.streams)
+    || (nat_lt 64 (length found.words.streams) || from_clashes found.words)
+
+-- what can't stand together does: one of the asks and the replies without the other; a check and
+-- generated tuples; one of these and asks, conjunctions, a file to save to or to begin with, or a
+-- stream; edges taken backwards and asks, conjunctions, or a file to save to or to begin with;
+-- paths and a check, generated tuples, edges taken backwards, or conjunctions; neither a check nor
+-- generated tuples, and no stream; more streams than are taken; or a file to begin with and not
+-- exactly one stream, or the same file to save to
+unfoldable pub clash : Found → Bool
+clash found =
+    is_one_alone found.words.asks found.words.replies
+    || ((found.check && is_some found.generate)
+    || ((reads_none found && (names_file found.words || not (is_empty found.words.streams)))
+    || ((found.two_way && names_file found.words)
+    || (paths_clash found || streams_clash found))))

@@ -1,0 +1,107 @@
+-- What settings say, one by one: those that only some runs have are no file, none, or not so in
+-- another run.
+use Rattle.std.specs.Prelude.{ℕ, Bool, true, false, List, [], ◌∷◌, Option, Some, None}
+use Rattle.clap.specs.Walk.{Text}
+use Rattle.rpq_words.specs.declared.settings.Settings.{Settings}
+use Rattle.rpq_words.specs.declared.settings.Mode.{Mode}
+use Rattle.rpq_words.specs.declared.settings.Mode.TheVariants.{Check, Generate, Streams}
+use Rattle.rpq_words.specs.declared.settings.Directions.{Directions}
+use Rattle.rpq_words.specs.declared.settings.Directions.TheVariants.{Forwards, BothWays}
+use Rattle.rpq_words.specs.declared.settings.StreamSettings.{StreamSettings}
+use Rattle.rpq_words.specs.declared.settings.StreamSettings.TheVariants.{Forwards as ForwardRun}
+use Rattle.rpq_words.specs.declared.settings.StreamSettings.TheVariants.{BothWays as TwoWayRun}
+use Rattle.rpq_words.specs.declared.settings.ForwardSettings.{ForwardSettings}
+use Rattle.rpq_words.specs.declared.settings.Input.{Input}
+use Rattle.rpq_words.specs.declared.settings.Input.TheVariants.{Fresh, Resumed}
+use Rattle.rpq_words.specs.declared.settings.Shown.{Shown}
+use Rattle.rpq_words.specs.declared.settings.Shown.TheVariants.{Pairs, Paths, Bindings}
+use Rattle.rpq_words.specs.declared.settings.AskFiles.{AskFiles}
+use Rattle.rpq_words.specs.Options.{◌>>=◌}
+
+-- edges may be taken backwards
+abbrev pub is_both_ways : Directions → Bool
+is_both_ways Forwards = false
+is_both_ways BothWays = true
+
+abbrev pub two_way_in : Mode → Bool
+two_way_in (Check directions) = is_both_ways directions
+two_way_in (Generate directions count) = is_both_ways directions
+two_way_in (Streams (TwoWayRun streams)) = true
+two_way_in (Streams (ForwardRun run)) = false
+
+abbrev pub two_way_of : Settings → Bool
+two_way_of given = two_way_in given.mode
+
+-- the settings of a run over streams that takes edges forwards alone
+abbrev pub forwards_in : Mode → Option ForwardSettings
+forwards_in (Check directions) = None
+forwards_in (Generate directions count) = None
+forwards_in (Streams (TwoWayRun streams)) = None
+forwards_in (Streams (ForwardRun run)) = Some run
+
+abbrev pub forwards_of : Settings → Option ForwardSettings
+forwards_of given = forwards_in given.mode
+
+-- a path is told behind each gained pair
+abbrev pub has_paths : Shown → Bool
+has_paths Pairs = false
+has_paths Paths = true
+has_paths (Bindings joins) = false
+
+abbrev pub paths_in : Option ForwardSettings → Bool
+paths_in None = false
+paths_in (Some run) = has_paths run.shown
+
+abbrev pub paths_of : Settings → Bool
+paths_of given = paths_in (forwards_of given)
+
+-- the file of the conjunctions whose bindings are told
+abbrev pub joins_in : Shown → Option Text
+joins_in Pairs = None
+joins_in Paths = None
+joins_in (Bindings joins) = Some joins
+
+abbrev pub joins_of : Settings → Option Text
+joins_of given = forwards_of given >>= λ run. joins_in run.shown
+
+-- the file of the asks
+abbrev pub asks_in : Option AskFiles → Option Text
+asks_in None = None
+asks_in (Some files) = Some files.asks
+
+abbrev pub asks_of : Settings → Option Text
+asks_of given = forwards_of given >>= λ run. asks_in run.asked
+
+-- the file that the replies are written to
+abbrev pub replies_in : Option AskFiles → Option Text
+replies_in None = None
+replies_in (Some files) = Some files.replies
+
+abbrev pub replies_of : Settings → Option Text
+replies_of given = forwards_of given >>= λ run. replies_in run.asked
+
+-- the file that gets what a later run needs
+abbrev pub save_of : Settings → Option Text
+save_of given = forwards_of given >>= λ run. run.save
+
+-- the file of what an earlier run saved
+abbrev pub from_in : Input → Option Text
+from_in (Fresh streams) = None
+from_in (Resumed from stream) = Some from
+
+abbrev pub from_of : Settings → Option Text
+from_of given = forwards_of given >>= λ run. from_in run.input
+
+-- the files of the streams
+abbrev pub names_in : Input → List Text
+names_in (Fresh streams) = streams
+names_in (Resumed from stream) = stream ∷ []
+
+abbrev pub streams_in : Mode → List Text
+streams_in (Check directions) = []
+streams_in (Generate directions count) = []
+streams_in (Streams (TwoWayRun streams)) = streams
+streams_in (Streams (ForwardRun run)) = names_in run.input
+
+abbrev pub streams_of : Settings → List Text
+streams_of given = streams_in given.mode

@@ -1,0 +1,188 @@
+//! The settings of a run.
+
+ghost use Rattle.std.specs.Prelude.{◌≡◌, option_copied};
+ghost use Rattle.rpq_words.specs.Views.{asks_of, forwards_of, from_of, is_both_ways, joins_of};
+ghost use Rattle.rpq_words.specs.Views.{paths_of, replies_of, save_of, two_way_of};
+
+use crate::file_word::FileWord;
+use crate::stream_names::StreamNames;
+use rpq_base::Workers;
+
+/// The settings of a run.
+#[derive(Debug, Drop)]
+pub struct Settings {
+    /// The file of the queries.
+    pub queries: FileWord,
+    /// How many workers keep the answers up to date.
+    pub workers: Workers,
+    /// How many tuples the history holds at most.
+    pub history: u64,
+    /// What is done with the queries.
+    pub mode: Mode,
+}
+
+/// What is done with the queries.
+#[derive(Debug, Drop)]
+pub enum Mode {
+    /// They are checked, and nothing is run.
+    Check(Directions),
+    /// They are evaluated over this many generated tuples.
+    Generate(Directions, u64),
+    /// They are evaluated over streams.
+    Streams(StreamSettings),
+}
+
+/// How the expressions of the queries may take edges.
+#[derive(Clone, Copy, Debug, PartialEq, Eq)]
+pub enum Directions {
+    /// Forwards alone.
+    Forwards,
+    /// Backwards, too.
+    BothWays,
+}
+
+/// The settings of a run over streams.
+#[derive(Debug, Drop)]
+pub enum StreamSettings {
+    /// Edges may be taken backwards. Then the streams are all that there is to set.
+    BothWays(StreamNames),
+    /// Edges are taken forwards alone.
+    Forwards(ForwardSettings),
+}
+
+/// The settings of a run over streams that takes edges forwards alone.
+#[derive(Debug, Drop)]
+pub struct ForwardSettings {
+    /// What is read.
+    pub input: Input,
+    /// What is told beside the pairs.
+    pub shown: Shown,
+    /// The files of the asks and the replies, if readers ask.
+    pub asked: Option<AskFiles>,
+    /// The file that gets what a later run needs, if there is one.
+    pub save: Option<FileWord>,
+}
+
+/// What a run over streams reads.
+#[derive(Debug, Drop)]
+pub enum Input {
+    /// These streams.
+    Fresh(StreamNames),
+    /// What an earlier run saved in one file, and then one stream.
+    Resumed { from: FileWord, stream: FileWord },
+}
+
+/// What is told beside the pairs that are gained and lost.
+#[derive(Debug, Drop)]
+pub enum Shown {
+    /// Nothing.
+    Pairs,
+    /// Behind each gained pair a path that shows it.
+    Paths,
+    /// The bindings of the conjunctions in this file.
+    Bindings(FileWord),
+}
+
+/// The files of the asks and of the replies to them.
+#[derive(Debug, Drop)]
+pub struct AskFiles {
+    pub asks: FileWord,
+    pub replies: FileWord,
+}
+
+impl Directions {
+    /// Whether edges may be taken backwards.
+    pub fn is_both_ways(self) -> bool
+        ensures { result ≡ is_both_ways self }
+    {
+        match self {
+            Directions::Forwards => false,
+            Directions::BothWays => true,
+        }
+    }
+}
+
+impl Settings {
+    /// Whether edges may be taken backwards.
+    pub fn is_two_way(&self) -> bool
+        ensures { result ≡ two_way_of self.now }
+    {
+        match &self.mode {
+            Mode::Check(directions) => directions.is_both_ways(),
+            Mode::Generate(directions, _count) => directions.is_both_ways(),
+            Mode::Streams(StreamSettings::BothWays(_names)) => true,
+            Mode::Streams(StreamSettings::Forwards(_run)) => false,
+        }
+    }
+
+    /// The settings of a run over streams that takes edges forwards alone, if it is one.
+    pub fn forwards(&self) -> Option<&ForwardSettings>
+        ensures { option_copied result ≡ forwards_of self.now }
+    {
+        match &self.mode {
+            Mode::Streams(StreamSettings::Forwards(run)) => Some(run),
+            Mode::Check(_) | Mode::Generate(_, _) => None,
+            Mode::Streams(StreamSettings::BothWays(_)) => None,
+        }
+    }
+
+    /// Whether a path is told behind each gained pair.
+    pub fn has_paths(&self) -> bool
+        ensures { result ≡ paths_of self.now }
+    {
+        match self.forwards() {
+            Some(run) => matches!(run.shown, Shown::Paths),
+            None => false,
+        }
+    }
+
+    /// The file of the conjunctions over the queries, if there is one.
+    pub fn joins(&self) -> Option<&FileWord>
+        ensures { option_copied result ≡ joins_of self.now }
+    {
+        match &self.forwards()?.shown {
+            Shown::Bindings(joins) => Some(joins),
+            Shown::Pairs | Shown::Paths => None,
+        }
+    }
+
+    /// The file of the asks, if there is one.
+    pub fn asks(&self) -> Option<&FileWord>
+        ensures { option_copied result ≡ asks_of self.now }
+    {
+        match &self.forwards()?.asked {
+            Some(files) => Some(&files.asks),
+            None => None,
+        }
+    }
+
+    /// The file that the replies are written to, if there is one.
+    pub fn replies(&self) -> Option<&FileWord>
+        ensures { option_copied result ≡ replies_of self.now }
+    {
+        match &self.forwards()?.asked {
+            Some(files) => Some(&files.replies),
+            None => None,
+        }
+    }
+
+    /// The file that gets what a later run needs, if there is one.
+    pub fn save(&self) -> Option<&FileWord>
+        ensures { option_copied result ≡ save_of self.now }
+    {
+        self.forwards()?.save.as_ref()
+    }
+
+    /// The file of what an earlier run saved, if there is one.
+    pub fn from(&self) -> Option<&FileWord>
+        ensures { option_copied result ≡ from_of self.now }
+    {
+        match &self.forwards()?.input {
+            Input::Resumed {
+                from,
+                stream: _stream,
+            } => Some(from),
+            Input::Fresh(_names) => None,
+        }
+    }
+}
