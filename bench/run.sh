@@ -1,6 +1,7 @@
 #!/usr/bin/env bash
 # Measures rpq, outside the gate:
-#   bench/run.sh [--fast]             times on streams of bench/workloads.py, as a table
+#   bench/run.sh                      this text
+#   bench/run.sh [--fast] --times ..  times on streams of bench/workloads.py, as a table
 #   bench/run.sh [--fast] --FORM ..   a form of bench/measure.py, which says what they are: --beside
 #                                     OTHER, --attacks, --states, --hostile, --sqlite, --workers,
 #                                     --memory
@@ -11,6 +12,8 @@
 #                                     its words are: --sizes, --changes, --runs, --instructions
 #   bench/run.sh [--fast] --refused   each allocation refused in turn, by tools/refused-allocations.py:
 #                                     rpq, the embedding example and bench/rebuilds.rattle
+#   bench/run.sh [--fast] --report OTHER FOLDER ..
+#                                     every table of docs/performance.md, by bench/report.py
 #   bench/run.sh [--fast] NAME ..     the program NAME.rattle with these words: edge_store, fronts,
 #                                     rebuilds
 # Words of measure.py can follow a form, as --kinds uniform,so --tuples 10000.
@@ -26,6 +29,10 @@ is_fast=no
 if [ "${1:-}" = --fast ]; then
     is_fast=yes
     shift
+fi
+if [ $# -eq 0 ]; then
+    sed -n '2,/^set -eu$/{/^set -eu$/d;s/^# \{0,1\}//;p}' "$0"
+    exit 1
 fi
 place="$(mktemp -d)"
 trap 'rm -rf "$place"' EXIT
@@ -51,9 +58,12 @@ build() {
 }
 
 queries="$top/crates/rpq/data/queries.txt"
-case "${1:-}" in
-    "" | --*)
+case "$1" in
+    --*)
         build "$top" rpq "$place/rpq" "$queries" /dev/null
+        if [ "$1" = --times ]; then
+            shift
+        fi
         if [ "${1:-}" = --fronts ]; then
             shift
             copy_with fronts
@@ -70,6 +80,9 @@ case "${1:-}" in
         elif [ "${1:-}" = --joins ]; then
             shift
             python3 "$top/bench/joins.py" "$place/rpq" "$@"
+        elif [ "${1:-}" = --report ]; then
+            shift
+            python3 "$top/bench/report.py" "$place/rpq" "$@"
         elif [ "${1:-}" = --live ]; then
             shift
             python3 "$top/bench/live.py" "$place/rpq" "$@"
