@@ -5,7 +5,7 @@
 
 Each table goes to a file of its own in the folder, FOLDER/NAME.md, as Markdown. OTHER is another
 program of the same command line, with which rpq is compared. All but the instructions wants a
-machine with nothing beside; the whole takes some forty minutes on one.
+machine with nothing beside; the whole takes a quarter of an hour on one.
 """
 
 import argparse
