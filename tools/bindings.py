@@ -1,5 +1,5 @@
 #!/usr/bin/env python3
-"""Finds from scratch what a run with conjunctions of queries writes, outside the gate.
+"""Finds from scratch what a run with joins of queries writes, outside the gate.
 
     bindings.py QUERIES JOINS STREAM
 
