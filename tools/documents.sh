@@ -14,10 +14,15 @@
 # - What `main` makes of words that aren't UTF-8, of too many words, of `--two-way` beside readers
 #   or a saved window, of options with three streams and readers, of files that are too long, and of
 #   a closed output: no contract says it.
+# - That what packaging/ installs runs, and that its man page and completion have each option.
 # - That a file which a run reads, or which is one of its outputs, isn't opened to write by any of
-#   its names, that a file that is written is emptied first, what stands on the output where a
-#   signal ends the program, and that ten runs, each going on with the window of the one before,
-#   write what one run writes.
+#   its names, that a name is taken as it is, that a file that is written is emptied first, what
+#   stands on the output where a signal ends the program, and that ten runs, each going on with the
+#   window of the one before, write what one run writes.
+# - That 64 streams are read beside all options, that a run over 70,001 vertices has each answer,
+#   also where one tuple brings 70,001 of them, that a live run takes no processor time while no
+#   line comes, that each of its readers is woken, and that a run goes on when memory runs out for
+#   the first time. This last check wants a C compiler.
 #
 # The commands of a document run one after another in a copy of examples/, those of the README in
 # the folder above it. Small stand-ins are there for the packages of the machine, a collector, the
@@ -47,6 +52,10 @@ count() {
 # What stands for the world: the program, and commands that the documents name.
 mkdir "$place/bin"
 ln -s "$program" "$place/bin/rpq"
+ln -s "$top/scripts/to-stream.py" "$place/bin/rpq-to-stream"
+ln -s "$top/scripts/rpq-json.py" "$place/bin/rpq-json"
+ln -s "$top/scripts/alerts.py" "$place/bin/rpq-alerts"
+ln -s "$top/scripts/labels.py" "$place/bin/rpq-labels"
 cat > "$place/bin/rt" <<'END'
 #!/bin/sh
 case "$1 $2" in "try --" | "run --") shift 2; exec rpq "$@" ;; *) exit 1 ;; esac
@@ -392,6 +401,137 @@ count $? "continue.sh: the status isn't 0"
 cmp -s one <(cat state/events.*)
 count $? "continue.sh: ten runs write another text than one"
 
+# All options that go together, and as many streams as may be: the last stream is read like the
+# first one, and nothing is missing behind the streams.
+mkdir "$place/many"
+cd "$place/many" || exit 1
+cp "$place"/files/queries .
+printf 'session\nwait 640\ncount %s\n' "$(awk '/^query/ { print $2; exit }' queries)" > asks
+names=()
+for number in $(seq 64); do
+    names+=("stream$number")
+    for line in $(seq 10); do echo "$line from$number transfer to$line"; done > "stream$number"
+done
+rpq --workers 2 --history 640 --paths --asks asks --replies replies --save saved \
+    queries "${names[@]}" > events
+count $? "64 streams and all options: the status isn't 0"
+for number in 1 33 64; do
+    cmp -s <(sed -n "s/^@[0-9]* $number \(.*\) +/\1/p" events) "stream$number"
+    count $? "64 streams and all options: the tuples of stream $number aren't there"
+done
+[ "$(sed -n 1p replies)" = "session 1" ] && grep -q '^@640 wait 640$' replies && [ -s saved ]
+count $? "64 streams and all options: no reply at the end, or no saved window"
+
+# More vertices, trees and nodes of one tree than 16 bits count. The last tuple brings a pair of its
+# source with each vertex of the chain behind it, all in one block.
+mkdir "$place/large"
+cd "$place/large" || exit 1
+awk 'BEGIN {
+    for (line = 0; line < 70000; line++) print line, "v" line, "a", "v" line + 1
+    print 70000, "r b v0"
+}' > chain
+echo 'query behind window 1000000 slide 1 arbitrary: b/a*' > queries
+rpq queries chain | grep '^[+-]' > pairs
+[ "${PIPESTATUS[0]}" -eq 0 ]
+count $? "a chain of 70,001 vertices: the status isn't 0"
+cmp -s <(sort pairs) <(seq 0 70000 | sed 's/.*/+ behind r v&/' | sort)
+count $? "a chain of 70,001 vertices: it is another set of pairs"
+echo 'query edge window 1000000 slide 1 arbitrary: a' > queries
+rpq queries chain | grep '^[+-]' | cmp -s - <(awk '$3 == "a" { print "+ edge", $2, $4 }' chain)
+count $? "a chain of 70,001 vertices: its edges aren't the pairs"
+
+# A live run of nine readers: one waits for its tenth tuple and is answered long before the last one
+# is there, though the others wait for a later one. While no line comes, no thread takes processor
+# time, also behind so many tuples: in one second of twenty the run takes a twentieth at most. And
+# the end of the stream wakes every reader.
+printf 'session\nwait 10\n' > asks
+for reader in $(seq 8); do printf 'session\nwait 1000000\n'; done >> asks
+has_written() {
+    local turn
+    for turn in $(seq 600); do
+        [ "$(tail -n 1 events)" = "$1" ] && return 0
+        /bin/sleep 0.1
+    done
+    return 1
+}
+taken() { awk '{ sub(/.*\) /, ""); print $12 + $13 }' "/proc/$1/stat"; }
+is_idle() {
+    local before turn
+    for turn in $(seq 20); do
+        before=$(taken "$1")
+        /bin/sleep 1
+        [ $(($(taken "$1") - before)) -le $(($(getconf CLK_TCK) / 20)) ] && return 0
+    done
+    return 1
+}
+has_ended() {
+    local turn
+    for turn in $(seq 300); do
+        kill -0 "$1" 2> /dev/null || return 0
+        /bin/sleep 0.1
+    done
+    kill -KILL "$1"
+    return 1
+}
+mkfifo live
+rpq --asks asks --replies replies queries live > events &
+run=$!
+exec 3> live
+head -n 10 chain >&3
+has_written "+ edge v9 v10"
+count $? "a live run: the block of the tenth tuple isn't there"
+is_idle "$run"
+count $? "a live run of ten tuples that waits takes processor time"
+tail -n +11 chain >&3
+has_written "@70001 1 70000 r b v0 +"
+count $? "a live run: the block of the last tuple isn't there"
+is_idle "$run"
+count $? "a live run of 70,001 tuples that waits takes processor time"
+exec 3>&-
+has_ended "$run"
+count $? "a live run of nine readers: it doesn't end with its stream"
+wait "$run"
+count $? "a live run of nine readers: the status isn't 0"
+rpq queries chain | cmp -s - events
+count $? "a live run of nine readers: it writes another text"
+grep -q '^@[0-9]* wait 10$' replies && ! grep -q '^@70001 wait 10$' replies
+count $? "a live run of nine readers: the one that waits for the tenth tuple is answered at the end"
+[ "$(grep -c '^@70001 wait 1000000 ended$' replies)" -eq 8 ]
+count $? "a live run of nine readers: the others aren't answered at the end"
+
+# Where one allocation is refused, a run ends with the same bytes or with 8. Most meet the engine,
+# which is rebuilt for the first one, and then the run goes on: more than half end with all bytes.
+refusing="$place/refusing.so"
+if cc -shared -fPIC -o "$refusing" "$top/tools/refusing_malloc.c" -ldl 2> /dev/null; then
+    awk 'BEGIN {
+        for (line = 1; line <= 600; line++) {
+            for (one = 0; one < 3; one++) number[one] = last = (last * 75 + 74) % 65537
+            print int(line / 4), "v" number[0] % 12, substr("abc", 1 + number[1] % 3, 1),
+                "v" number[2] % 12 (number[1] % 16 == 15 ? " -" : "")
+        }
+    }' > stream
+    echo 'query q window 30 slide 5 arbitrary: a/(b|c)*' > queries
+    rpq --workers 1 queries stream > whole
+    refused() { timeout 10 env LD_PRELOAD="$refusing" "$@" rpq --workers 1 queries stream; }
+    refused REFUSED=0 REFUSED_COUNT=count > /dev/null
+    runs=0 alike=0 faults=0
+    for number in $(seq 1 23 "$(cat count)"); do
+        refused REFUSED="$number" > events 2> errors
+        case $? in
+            0) cmp -s events whole && alike=$((alike + 1)) || faults=$((faults + 1)) ;;
+            8) cmp -s errors <(echo "rpq: memory") || faults=$((faults + 1)) ;;
+            *) faults=$((faults + 1)) ;;
+        esac
+        runs=$((runs + 1))
+    done
+    [ "$faults" -eq 0 ]
+    count $? "one allocation refused: $faults of $runs runs end in another way"
+    [ "$runs" -gt 0 ] && [ $((2 * alike)) -gt "$runs" ]
+    count $? "one allocation refused: $alike of $runs runs go on"
+else
+    echo "documents: no C compiler, so no allocation is refused"
+fi
+
 # Where a signal ends the program, the blocks of the lines that came stand there whole.
 cd "$place/files" || exit 1
 mkfifo live
@@ -405,6 +545,32 @@ for signal in INT TERM; do
     count $? "SIG$signal: the events aren't the blocks of the lines that came"
     wait
 done
+
+# What packaging/install.sh installs runs, and a package has it.
+prefix="$place/prefix"
+cd "$place/files" || exit 1
+"$top/packaging/install.sh" "$prefix" "$program" > /dev/null
+count $? "install.sh: the status isn't 0"
+"$prefix/bin/rpq" queries stream > events && cmp -s events <(rpq queries stream)
+count $? "install.sh: the installed program writes another text"
+for script in rpq-to-stream rpq-json rpq-alerts; do
+    "$prefix/bin/$script" --help > /dev/null
+    count $? "install.sh: $script --help"
+done
+words="$(bash -c '. "$1"; COMP_WORDS=(rpq --pa); COMP_CWORD=1; _rpq; echo "${COMPREPLY[*]}"' \
+    - "$prefix/share/bash-completion/completions/rpq")"
+[ "$words" = "--paths" ]
+count $? "the completion of --pa is $words"
+for option in $(rpq 2>&1 | grep -oE -- '--[a-z-]+' | sort -u); do
+    grep -q -- "$(echo "$option" | sed 's/-/\\\\-/g')" "$prefix/share/man/man1/rpq.1" &&
+        grep -q -- "$option" "$prefix/share/bash-completion/completions/rpq"
+    count $? "$option isn't in the man page or the completion"
+done
+if command -v dpkg-deb > /dev/null; then
+    "$top/packaging/package.sh" "$program" 1.0 > /dev/null &&
+        dpkg-deb -c rpq_1.0_*.deb | grep ' \./usr/bin/rpq$' > /dev/null
+    count $? "package.sh: no package with the program"
+fi
 
 echo "$passed passed, $failed failed"
 [ "$failed" -eq 0 ]

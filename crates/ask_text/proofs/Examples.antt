@@ -1,5 +1,6 @@
 -- Some files and replies, by going through them.
-use Rattle.std.proofs.Common.{refl}
+use Rattle.std.proofs.Common.{◌≡◌, ℕ, ◌<◌, true, refl}
+use Rattle.std.proofs.lemmas.Bool.{ltb-true}
 use Rattle.std.specs.Fmt.{digits}
 use Rattle.text_parts.specs.Lines.{raw_lines, without_return}
 use Rattle.text_parts.specs.Fields.{fields}
@@ -13,7 +14,10 @@ use Rattle.ask_text.specs.Asks.{begun, grown, begins_session, asked, after_field
 use Rattle.ask_text.specs.Asks.{asks}
 use Rattle.ask_text.specs.Reply.{answers_text, from_text, pair_text, count_text, wait_text, told}
 use Rattle.ask_text.specs.Reply.{reply}
-use Rattle.ask_text.specs.Examples.{AskExamples, ReplyExamples}
+use Rattle.ask_text.specs.declared.ask.Ask.{Ask}
+use Rattle.ask_text.specs.declared.ask.Ask.TheVariants.{Answers, From, Pair, Count, Wait, Until}
+use Rattle.ask_text.specs.Ranges.{ended_at}
+use Rattle.ask_text.specs.Examples.{AskExamples, EndedExamples, ReplyExamples}
 
 pub ask_examples : AskExamples
 unfolding raw_lines without_return fields number_within is_name query_named vertex_of position_of
@@ -47,4 +51,23 @@ reply_examples = record {
   wait = λ queries. refl;
   ended = λ queries. refl;
   sessions = refl;
+}
+
+-- an ask that is told as ended is a wait for a later position
+ended_waits : (ask : Ask) (position : ℕ) → ended_at ask position ≡ true
+    → (number : ℕ) × (ask ≡ Wait number) × (position < number)
+ended_waits (Answers query) position is = absurd cc
+ended_waits (From query from) position is = absurd cc
+ended_waits (Pair query from to) position is = absurd cc
+ended_waits (Count query) position is = absurd cc
+ended_waits (Wait number) position is = (number, refl, ltb-true position number is)
+ended_waits (Until query from to) position is = absurd cc
+
+pub ended_examples : EndedExamples
+unfolding digits wait_text told reply
+ended_examples = record {
+  beyond = λ queries. refl;
+  there = λ queries. refl;
+  before = λ queries. refl;
+  others = ended_waits;
 }

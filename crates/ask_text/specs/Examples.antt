@@ -1,10 +1,12 @@
 -- Some asks files with what they give, and some replies.
-use Rattle.std.specs.Prelude.{◌≡◌, false, true, List, [], ◌∷◌, ◌++◌, codes, Ok, Err}
+use Rattle.std.specs.Prelude.{◌≡◌, ℕ, ◌<◌, false, true, List, [], ◌∷◌, ◌++◌, codes, Ok, Err}
 use Rattle.rpq_model.specs.Query.{Query}
 use Rattle.answer_view.specs.View.{ViewValue}
+use Rattle.ask_text.specs.declared.ask.Ask.{Ask}
 use Rattle.ask_text.specs.declared.ask.Ask.TheVariants.{Answers, From, Pair, Count, Wait, Until}
 use Rattle.ask_text.specs.declared.fault.AskKind.TheVariants.{Shape, UnknownQuery, BadName, Number}
 use Rattle.ask_text.specs.Asks.{asks, fault_at}
+use Rattle.ask_text.specs.Ranges.{ended_at}
 use Rattle.ask_text.specs.Replies.{replies}
 use Rattle.ask_text.specs.Reply.{reply}
 
@@ -73,3 +75,17 @@ pub record ReplyExamples : Type 0 where
       reply queries one_pair (Wait 3) true ≡ codes "@2 wait 3 ended\n"
   pub sessions : replies ([] ∷ (codes "@0 count q 0\n" ∷ codes "@0 wait 0\n" ∷ []) ∷ [])
       ≡ codes "session 1\nsession 2\n@0 count q 0\n@0 wait 0\n"
+
+-- the last reply of a run at the view of one pair, whose position is 2
+abbrev pub last_reply : List Query → Ask → List ℕ
+last_reply queries ask = reply queries one_pair ask (ended_at ask 2)
+
+-- a wait is told as ended where its position didn't come; where it did, it isn't; and no other ask
+-- is
+pub record EndedExamples : Type 0 where
+  pub beyond : (queries : List Query) →
+      last_reply queries (Wait 3) ≡ codes "@2 wait 3 ended\n"
+  pub there : (queries : List Query) → last_reply queries (Wait 2) ≡ codes "@2 wait 2\n"
+  pub before : (queries : List Query) → last_reply queries (Wait 1) ≡ codes "@2 wait 1\n"
+  pub others : (ask : Ask) (position : ℕ) → ended_at ask position ≡ true →
+      (number : ℕ) × (ask ≡ Wait number) × (position < number)

@@ -2,7 +2,7 @@
 //! rests on one of the layer below calls it.
 
 ghost use Rattle.ask_text.specs.ByParts.{AsksByParts};
-ghost use Rattle.ask_text.specs.Examples.{AskExamples, ReplyExamples};
+ghost use Rattle.ask_text.specs.Examples.{AskExamples, EndedExamples, ReplyExamples};
 ghost use Rattle.ask_text.specs.Laws.{SessionsAreFew, OneReply, RepliesTellAnswers};
 ghost use Rattle.ask_text.specs.Parts.{LineByParts};
 
@@ -48,4 +48,9 @@ pub fn ask_examples()
 /// Some replies.
 pub fn reply_examples()
     ensures { ReplyExamples }
+{}
+
+/// Which asks are told as ended at a position.
+pub fn ended_examples()
+    ensures { EndedExamples }
 {}

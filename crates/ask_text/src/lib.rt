@@ -24,8 +24,8 @@ mod session;
 pub use ask::{Answered, Ask, Session};
 pub use fault::{AskFault, AskKind};
 pub use laws::{
-    ask_examples, asks_by_parts, line_by_parts, one_reply, replies_tell_answers, reply_examples,
-    sessions_are_few,
+    ask_examples, asks_by_parts, ended_examples, line_by_parts, one_reply, replies_tell_answers,
+    reply_examples, sessions_are_few,
 };
 pub use read::read_asks;
 pub use reply::reply_text;

@@ -18,7 +18,7 @@ use Rattle.source_tree.specs.Product.{AreFinals}
 use Rattle.delta_forest.specs.Keeping.{IsDueFor, IsKept, forest_with}
 use Rattle.delta_forest.specs.declared.index.Index.{Index}
 use Rattle.delta_forest.specs.declared.index.Findings.{Findings}
-use Rattle.delta_forest.specs.declared.index.State.{State}
+use Rattle.delta_forest.specs.declared.index.ForestState.{ForestState}
 
 -- the root is held at all places of the list, or at none of them, and elsewhere as before
 pub record HoldsAnew (old new : HoldersValue) (root : ℕ) (held : Bool) (ids : List NodeId)
@@ -97,13 +97,13 @@ pub record FindsMore (old new : Findings) (source : SourceValue) (root : ℕ) : 
   pub log : new.log.items ≡ old.log.items ++ log_of source
 
 -- the forest that a state is, over an automaton
-abbrev pub forest_of : DfaValue → Bool → State → ForestValue
+abbrev pub forest_of : DfaValue → Bool → ForestState → ForestValue
 forest_of dfa broken state =
     forest_with dfa state.store state.index.sources state.calls broken state.found.touched.items
     state.found.log.items
 
 -- while a forest isn't broken, it keeps what it keeps between changes; its final states are known
-pub record IsIntact (dfa : DfaValue) (finals : List ℕ) (broken : Bool) (state : State)
+pub record IsIntact (dfa : DfaValue) (finals : List ℕ) (broken : Bool) (state : ForestState)
     : Type 0 where
   pub finals_are : AreFinals dfa finals
   pub kept : broken ≡ false → IsKept dfa state.store state.calls state.index
@@ -115,7 +115,7 @@ pub record FindsAt (sources : List SourceValue) (old new : Findings) (root : ℕ
   pub log : new.log.items ≡ old.log.items ++ log_at sources root
 
 -- nothing was changed yet
-pub record IsNewState (state : State) : Type 0 where
+pub record IsNewState (state : ForestState) : Type 0 where
   pub store : IsEmpty state.store
   pub sources : state.index.sources ≡ []
   pub holders : state.index.holders ≡ []

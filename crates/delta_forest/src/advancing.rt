@@ -8,12 +8,12 @@ ghost use Rattle.delta_forest.specs.Keeping.{IsKept};
 ghost use Rattle.delta_forest.specs.Settling.{forest_of};
 
 use crate::candidates::find_candidates;
-use crate::index::State;
+use crate::index::ForestState;
 use crate::settling::settle_all;
 use dfa_table::Dfa;
 use edge_store::{EdgeStore, Raised};
 use rpq_base::{Memory, Workers};
-use rpq_io::{Context, Gate};
+use run_context::{Context, Gate};
 use source_tree::{Change, ProductGraph};
 use std::thread::Threads;
 use tree_delete::removal_elsewhere_keeps_optimal;
@@ -64,7 +64,7 @@ pub(crate) fn advance<R: Threads + Sync, G: Gate>(
     context: &Context<'_, R, G>,
     dfa: &Dfa,
     finals: &[u32],
-    state: &mut State,
+    state: &mut ForestState,
     change: Change,
     workers: Workers,
 ) -> Result<(), Memory>

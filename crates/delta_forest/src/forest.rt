@@ -12,11 +12,11 @@ ghost use Rattle.source_tree.specs.Product.{AreFinals};
 ghost use Rattle.delta_forest.specs.Settling.{IsNewState};
 
 use crate::advancing::advance;
-use crate::index::{Findings, Index, State};
+use crate::index::{Findings, ForestState, Index};
 use dfa_table::Dfa;
 use edge_store::{EdgeId, EdgeStore};
 use rpq_base::{Memory, Workers};
-use rpq_io::{Context, Gate};
+use run_context::{Context, Gate};
 use source_index::{Dues, Holders};
 use source_table::SourceTable;
 use source_tree::{Change, EndChange, Reached};
@@ -33,7 +33,7 @@ pub struct Forest {
     dfa: Dfa,
     /// The final states of the automaton but the state 0, with which no node stands.
     finals: Vec<u32>,
-    state: State,
+    state: ForestState,
     /// Whether a change was begun and not taken to its end.
     broken: bool,
 }
@@ -87,7 +87,7 @@ fn finals_of(alloc: Global, dfa: &Dfa) -> Result<Vec<u32>, Memory>
 }
 
 /// Nothing was changed yet.
-fn new_state(alloc: Global) -> Result<State, Memory>
+fn new_state(alloc: Global) -> Result<ForestState, Memory>
     ensures { IfOk result IsNewState }
 {
     let store = EdgeStore::new(alloc)?;
@@ -101,7 +101,7 @@ fn new_state(alloc: Global) -> Result<State, Memory>
         touched: Vec::new(alloc),
         log: Vec::new(alloc),
     };
-    Ok(State {
+    Ok(ForestState {
         store,
         index,
         roots,
@@ -111,7 +111,7 @@ fn new_state(alloc: Global) -> Result<State, Memory>
 }
 
 /// The state as it was when nothing was changed yet.
-fn clear_state(state: &mut State)
+fn clear_state(state: &mut ForestState)
     ensures { IsNewState state.new }
 {
     state.store.clear();

@@ -24,7 +24,7 @@ pub(crate) struct Findings {
 /// All that a change changes: the store, the index over it, what was found, and the number of
 /// changes.
 #[derive(Drop)]
-pub(crate) struct State {
+pub(crate) struct ForestState {
     pub(crate) store: EdgeStore,
     pub(crate) index: Index,
     /// Room for the roots whose trees a change may touch; each change fills it anew.

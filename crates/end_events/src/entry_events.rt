@@ -14,12 +14,12 @@ use std::marker::Model;
 /// with names of their own. Contracts see the list of the events with their names either way.
 #[derive(Drop)]
 pub struct EntryEvents<'a> {
-    held: Held<'a>,
+    held: HeldEvents<'a>,
 }
 
 /// How the events of an entry are held.
 #[derive(Drop)]
-pub(crate) enum Held<'a> {
+pub(crate) enum HeldEvents<'a> {
     /// By the numbers of these names.
     Numbered(&'a Names, Vec<NumberedEvent>),
     /// With names of their own.
@@ -54,7 +54,7 @@ impl<'a> EntryEvents<'a> {
         ensures { result ≡ map (named names.now) events.items }
     {
         EntryEvents {
-            held: Held::Numbered(names, events),
+            held: HeldEvents::Numbered(names, events),
         }
     }
 
@@ -63,7 +63,7 @@ impl<'a> EntryEvents<'a> {
         ensures { result ≡ events.items }
     {
         EntryEvents {
-            held: Held::Owned(events),
+            held: HeldEvents::Owned(events),
         }
     }
 
@@ -72,8 +72,8 @@ impl<'a> EntryEvents<'a> {
         ensures { result ≡ length self.now }
     {
         match &self.held {
-            Held::Numbered(_, events) => events.len(),
-            Held::Owned(events) => events.len(),
+            HeldEvents::Numbered(_, events) => events.len(),
+            HeldEvents::Owned(events) => events.len(),
         }
     }
 
@@ -94,8 +94,8 @@ impl<'a> EntryEvents<'a> {
         }) }
     {
         match &self.held {
-            Held::Numbered(names, events) => numbered_at(names, events, place),
-            Held::Owned(events) => owned_at(events, place),
+            HeldEvents::Numbered(names, events) => numbered_at(names, events, place),
+            HeldEvents::Owned(events) => owned_at(events, place),
         }
     }
 
@@ -104,8 +104,8 @@ impl<'a> EntryEvents<'a> {
         ensures { IfOk result (λ events. events.items ≡ self.now) }
     {
         match &self.held {
-            Held::Numbered(names, events) => name_events(alloc, names, events),
-            Held::Owned(events) => copy_all(alloc, events),
+            HeldEvents::Numbered(names, events) => name_events(alloc, names, events),
+            HeldEvents::Owned(events) => copy_all(alloc, events),
         }
     }
 }

@@ -89,6 +89,8 @@ pub netted_feeds : EventsAreDifferences → AllNetAreTwoWay → (entries : List 
 netted_feeds differences two_way entries old new lists netted feeds nets = record {
   stands = λ history stands.
       subst (StandsFor new) (sym (flat_map-append doubled_by history entries)) (feeds.stands (doubled history) stands);
+  keeps = λ history stands. feeds.keeps (doubled history) stands;
+  known = feeds.known;
   events = λ history stands. two_way (definitions old) history entries lists netted (feeds.events (doubled history) stands) nets;
   numbers = all_net_keep (λ (event : Event). event.query < length old.queries) entries lists netted nets feeds.numbers;
 }
@@ -97,5 +99,7 @@ pub front_feeds : (entries : List Entry) (old new : EngineValue) (lists : List (
 front_feeds entries old new lists feeds = record {
   stands = λ history stands. feeds.stands history stands;
   events = λ history stands. feeds.events history stands;
+  keeps = λ history stands. feeds.keeps history stands;
+  known = feeds.known;
   numbers = feeds.numbers;
 }

@@ -1,2 +1,2 @@
-pub mod Fed
+pub mod EventLists
 pub mod Feeding

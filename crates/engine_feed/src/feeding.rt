@@ -7,14 +7,14 @@ ghost use Rattle.path_engine.specs.Engine.{StandsFor};
 ghost use Rattle.path_engine.specs.Feeding.{FeedsFront};
 ghost use Rattle.two_way.specs.Doubled.{doubled};
 ghost use Rattle.two_way.specs.TwoWay.{walked};
-ghost use Rattle.engine_feed.specs.Fed.{lists_of, HaveNames};
+ghost use Rattle.engine_feed.specs.EventLists.{lists_of, HaveNames};
 ghost use Rattle.engine_feed.specs.Feeding.{FeedsEntries};
 
-use crate::fed::Fed;
+use crate::event_lists::EventLists;
 use end_events::NumberedEvent;
 use path_engine::{Engine, FeedFault};
 use rpq_base::{Entry, Event, Memory, Workers};
-use rpq_io::{Context, Gate};
+use run_context::{Context, Gate};
 use std::thread::Threads;
 use two_way::{all_net_are_two_way, doubled, events_are_differences, net_each};
 
@@ -31,7 +31,7 @@ pub fn feed_entries<R: Threads + Sync, G: Gate>(
     two_way: bool,
     entries: &[Entry],
     workers: Workers,
-) -> Result<Fed, Memory>
+) -> Result<EventLists, Memory>
     requires stands { (history : List EntryTaken) × StandsFor engine.old (walked two_way history)
         × (length history + length entries.now ≤ 2 ^ 29) }
     ensures feeds { IfOk result (λ fed. FeedsEntries two_way engine.old entries.now engine.new
@@ -40,9 +40,9 @@ pub fn feed_entries<R: Threads + Sync, G: Gate>(
     ensures queries { engine.new.queries ≡ engine.old.queries }
 {
     if two_way {
-        Ok(Fed::Named(feed_both_ways(engine, context, entries, workers)?))
+        Ok(EventLists::Named(feed_both_ways(engine, context, entries, workers)?))
     } else {
-        Ok(Fed::Numbered(feed_numbered(engine, context, entries, workers)?))
+        Ok(EventLists::Numbered(feed_by_numbers(engine, context, entries, workers)?))
     }
 }
 
@@ -64,13 +64,13 @@ fn feed_both_ways<R: Threads + Sync, G: Gate>(
     events_are_differences();
     all_net_are_two_way();
     let both = doubled(context.alloc, entries)?;
-    let lists = feed(engine, context, &both, workers)?;
+    let lists = feed_by_names(engine, context, &both, workers)?;
     net_each(context.alloc, entries, &lists)
 }
 
 /// The events of each of the entries that the engine is fed, which isn't spent. The only error is
 /// [`Memory`].
-fn feed<R: Threads + Sync, G: Gate>(
+fn feed_by_names<R: Threads + Sync, G: Gate>(
     engine: &mut Engine,
     context: &Context<'_, R, G>,
     entries: &[Entry],
@@ -90,7 +90,7 @@ fn feed<R: Threads + Sync, G: Gate>(
 }
 
 /// The same by numbers.
-fn feed_numbered<R: Threads + Sync, G: Gate>(
+fn feed_by_numbers<R: Threads + Sync, G: Gate>(
     engine: &mut Engine,
     context: &Context<'_, R, G>,
     entries: &[Entry],

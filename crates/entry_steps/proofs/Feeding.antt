@@ -4,7 +4,7 @@ use Rattle.std.proofs.Common.{Result, Ok, Err, ◌++◌}
 use Rattle.std.specs.Prelude.{IfOk}
 use Rattle.rpq_base.specs.declared.data.Entry.{Entry}
 use Rattle.join_bindings.specs.State.{JoinsValue}
-use Rattle.engine_feed.specs.declared.fed.Fed.{Fed}
+use Rattle.engine_feed.specs.declared.event_lists.EventLists.{EventLists}
 use Rattle.path_engine.specs.Engine.{EngineValue, StandsFor}
 use Rattle.path_witness.specs.Marks.{MarksValue}
 use Rattle.query_file.specs.Compiled.{CompiledValue}
@@ -16,7 +16,7 @@ use Rattle.entry_steps.specs.Joining.{HaveJoins}
 use Rattle.entry_steps.specs.Showing.{AreFound, HaveMarks}
 use Rattle.entry_steps.specs.Steps.{OptionsValue, AreEvaluable}
 use Rattle.entry_steps.specs.Telling.{AreToldBeside}
-use Rattle.entry_steps.specs.declared.told.Told.{Told}
+use Rattle.entry_steps.specs.declared.unnamed_steps.UnnamedSteps.{UnnamedSteps}
 use Rattle.entry_steps.proofs.Telling.{events_with}
 
 -- a fact of a value from three others
@@ -53,7 +53,7 @@ tells_still old new history keeps tells =
 
 -- so the engine is ahead once it was fed what comes next
 pub ahead_by : (before : List Entry) (old new : EvaluatorValue) (later : List Entry)
-    (found : Fed) → TellsUpTo old before → OnlyFeeds old new → Finds before new later found →
+    (found : EventLists) → TellsUpTo old before → OnlyFeeds old new → Finds before new later found →
     IsAhead before new later found
 ahead_by before old new later found tells keeps finds =
     record { finds = finds; tells = tells_still old new before keeps tells }
@@ -68,7 +68,7 @@ pub record MayTell (evaluator : EvaluatorValue) (later : List Entry) : Type 0 wh
   pub one : evaluator.options.paths ≡ true → length later ≤ 1
 
 -- an engine that is ahead found the events of the entries that are still to be told
-pub found_ahead : (evaluator : EvaluatorValue) (before later : List Entry) (found : Fed) →
+pub found_ahead : (evaluator : EvaluatorValue) (before later : List Entry) (found : EventLists) →
     MayTell evaluator later → IsAhead before evaluator later found →
     AreFound evaluator.options evaluator.engine evaluator.marks evaluator.joins before later
     (found_in evaluator found)
@@ -82,8 +82,8 @@ found_ahead evaluator before later found may ahead = record {
   one = may.one;
 }
 
--- where the marks took the entries and the conjunctions their events, the steps are told
-pub tells_steps : (evaluator : EvaluatorValue) (before later : List Entry) (told : Told)
+-- where the marks took the entries and the joins their events, the steps are told
+pub tells_steps : (evaluator : EvaluatorValue) (before later : List Entry) (told : UnnamedSteps)
     (marks : Option MarksValue) (joins : Option JoinsValue) →
     IsAhead before evaluator later told.found →
     AreToldBeside evaluator.options evaluator.engine marks joins before later

@@ -1,5 +1,5 @@
 -- What the entries bring that the engine answered: their events, what is shown of them, and what
--- the conjunctions tell.
+-- the joins tell.
 use Rattle.std.proofs.Common.{◌≡◌, ℕ, zero, suc, ◌+◌, ◌^◌, ◌<◌, ◌≤◌, Bool, true, false}
 use Rattle.std.proofs.Common.{List, [], ◌∷◌, ◌++◌, length, map, get_or, take, cond}
 use Rattle.std.proofs.Common.{Option, Some, None, slice_get}
@@ -32,7 +32,7 @@ use Rattle.containment_laws.specs.Accepted.{IsAccepted}
 use Rattle.query_file.specs.Compiled.{CompiledValue}
 use Rattle.index_laws.specs.LawsOfPaths.{IsBestPathOf}
 use Rattle.path_engine.specs.Engine.{EngineValue, StandsFor, definitions}
-use Rattle.path_engine.specs.Paths.{ShowsPair}
+use Rattle.query_index.specs.Paths.{ShowsPair}
 use Rattle.path_witness.specs.BestPaths.{IsBestFor}
 use Rattle.path_witness.specs.Marks.{MarksValue}
 use Rattle.path_witness.specs.Shows.{Shown, Shows}
@@ -42,7 +42,7 @@ use Rattle.entry_steps.specs.Joining.{HaveJoins, MayTakeEach, TakesEach}
 use Rattle.entry_steps.specs.Showing.{TakesAll, IsOver, IsGained, CanShow, MayShow, AreShownBy}
 use Rattle.entry_steps.specs.Showing.{AreFound, AreStepsOf, HaveMarks}
 use Rattle.entry_steps.specs.Telling.{steps_with, TellsNothing, AreToldBeside}
-use Rattle.entry_steps.specs.declared.told.Beside.{Beside}
+use Rattle.entry_steps.specs.declared.unnamed_steps.PathsAndJoins.{PathsAndJoins}
 use Rattle.entry_steps.proofs.Taking.{AreLinesFrom, may_take_each, told_each}
 use Rattle.entry_steps.proofs.Telling.{as_many_lists, events_with, none_shown, none_taken}
 
@@ -170,7 +170,7 @@ module _ (options : OptionsValue) (engine : EngineValue) (joins : Option JoinsVa
 
 -- ---- the steps
 
--- where no paths are told, there are the events and the lines of the conjunctions
+-- where no paths are told, there are the events and the lines of the joins
 steps_untold : (options : OptionsValue) (queries : List Query) → options.paths ≡ false →
     (later before : List Entry) (steps : List StepValue) →
     AreAllWalkedEventsFrom options.two_way queries before later (events_of steps) →
@@ -226,7 +226,7 @@ steps_told options queries paths forwards before (entry ∷ next ∷ later) (ste
     absurd (omega (arith, few))
 
 -- the steps have the events that were found, what the marks show of these, and the lines that the
--- conjunctions tell of them
+-- joins tell of them
 module _ (options : OptionsValue) (engine : EngineValue) (joins_old joins_new : Option JoinsValue)
     (before later : List Entry) (lists : List (List Event)) (steps : List StepValue)
     (same : events_of steps ≡ lists)
@@ -268,7 +268,7 @@ module _ (options : OptionsValue) (engine : EngineValue) (joins_old joins_new : 
         joined = told.1;
       }
 
--- the events that were found can be taken by the conjunctions
+-- the events that were found can be taken by the joins
 pub found_may_take : EventsLeadOn → (options : OptionsValue) (engine : EngineValue)
     (marks : Option MarksValue) (joins : Option JoinsValue) (before later : List Entry)
     (lists : List (List Event)) → AreFound options engine marks joins before later lists →
@@ -304,10 +304,10 @@ steps_follow law some options engine old new joins_old joins_new before later li
     later before lists (lines_of steps) joins_old joins_new found.events found.joined taken)
     old new takes shown found
 
--- where there are neither marks nor conjunctions, nothing is told beside the events
+-- where there are neither marks nor joins, nothing is told beside the events
 pub nothing_told : EventsLeadOn → HaveJoinEvents → (options : OptionsValue)
     (engine : EngineValue) (before later : List Entry) (lists : List (List Event))
-    (beside : List Beside) → length beside ≡ length later → All TellsNothing beside →
+    (beside : List PathsAndJoins) → length beside ≡ length later → All TellsNothing beside →
     AreFound options engine None None before later lists →
     AreToldBeside options engine None None before later lists beside
 nothing_told law some options engine before later lists beside many nothing found =

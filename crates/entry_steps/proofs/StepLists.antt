@@ -95,7 +95,7 @@ have_the_events = record {
       (steps_have_events history [] others queries second other));
 }
 
--- the lines of conjunctions over the queries are one text
+-- the lines of joins over the queries are one text
 lines_are_one : HaveJoinEvents → (queries : List Query) (joins : List JoinValue) →
     All (IsSound (length queries)) joins → (before after : List Entry) (first second : List ℕ) →
     AreJoinLines queries joins before after first →

@@ -1,4 +1,4 @@
--- What conjunctions make of the events of entries.
+-- What joins make of the events of entries.
 use Rattle.std.proofs.Common.{◌≡◌, ℕ, zero, suc, ◌<◌, Bool, true, false, List, [], ◌∷◌, ◌++◌}
 use Rattle.std.proofs.Common.{length, Option, Some, None}
 use Rattle.std.proofs.Common.{refl, sym, subst, ◌∙◌, append_assoc, append-nil}
@@ -42,7 +42,7 @@ none_walked : (two_way : Bool) (query : Query) (pair : Pair) →
 none_walked false query pair answer = none_at_first (path_query query) pair answer
 none_walked true query pair answer = none_at_first (path_query query) pair answer
 
--- conjunctions without pairs have the answers over no entries
+-- joins without pairs have the answers over no entries
 pub have_at_first : (two_way : Bool) (joins : List JoinValue) (queries : List Query)
     (state : JoinsValue) → state.joins ≡ joins → state.spent ≡ false →
     length state.pairs ≡ length queries → All (λ (pairs : List Pair). pairs ≡ []) state.pairs →
@@ -62,7 +62,7 @@ have_at_first two_way joins queries state same fresh many all = (
 
 -- ---- the events of an entry
 
--- the changes have the numbers of conjunctions
+-- the changes have the numbers of joins
 pub numbers_of_changes : (joins : List JoinValue) (before after : Family)
     (changes : List JoinEvent) → AreJoinEvents joins before after changes →
     All (λ (each : JoinEvent). each.join < length joins) changes
@@ -73,7 +73,7 @@ numbers_of_changes joins before after changes are =
     slice_get_within joins each.join found.0 found.1)
     changes (All-contains_itself changes)
 
--- the events from one history to another, of queries of whose answers conjunctions are told
+-- the events from one history to another, of queries of whose answers joins are told
 module _ (law : EventsLeadOn) (queries : List Query) (before after : List Entry)
     (events : List Event) (come : AreEventsUnder 0 queries before after events)
     (joins : List JoinValue) where
@@ -159,8 +159,8 @@ module _ (law : EventsLeadOn) (two_way : Bool) (queries : List Query) (joins : L
               (then_have law queries first second events are.0 joins old next lines have takes),
         )
 
-    -- where they were taken, the lines are those of the entries, and the conjunctions have the
-    -- answers over all of them
+    -- where they were taken, the lines are those of the entries, and the joins have the answers
+    -- over all of them
     pub told_each : HaveJoinEvents → All IsAccepted queries → (later before : List Entry)
         (lists : List (List Event)) (told : List (List ℕ)) (old new : Option JoinsValue) →
         AreAllWalkedEventsFrom two_way queries before later lists →

@@ -13,16 +13,16 @@ use Rattle.join_bindings.specs.State.{JoinsValue}
 use Rattle.entry_steps.specs.Joining.{TakesEach}
 use Rattle.entry_steps.specs.Steps.{StepValue, events_of, lines_of}
 use Rattle.entry_steps.specs.Telling.{steps_with, TellsNothing}
-use Rattle.entry_steps.specs.declared.told.Beside.{Beside}
+use Rattle.entry_steps.specs.declared.unnamed_steps.PathsAndJoins.{PathsAndJoins}
 
 -- the step of these events, and what is told beside them
-abbrev pub step_with : List Event → Beside → StepValue
+abbrev pub step_with : List Event → PathsAndJoins → StepValue
 step_with events own =
     record { events = events; shown = own.shown.items; joined = own.joined.items }
 
 -- one entry more
-pub with_push : (lists : List (List Event)) (beside : List Beside) (events : List Event)
-    (own : Beside) → length beside ≡ length lists →
+pub with_push : (lists : List (List Event)) (beside : List PathsAndJoins) (events : List Event)
+    (own : PathsAndJoins) → length beside ≡ length lists →
     steps_with (lists ++ events ∷ []) (beside ++ own ∷ [])
     ≡ steps_with lists beside ++ step_with events own ∷ []
 with_push [] [] events own many = refl
@@ -33,7 +33,7 @@ with_push (first ∷ lists) (one ∷ beside) events own many =
     (with_push lists beside events own (omega (arith, many)))
 
 -- the steps have the events
-pub events_with : (lists : List (List Event)) (beside : List Beside) →
+pub events_with : (lists : List (List Event)) (beside : List PathsAndJoins) →
     length beside ≡ length lists → events_of (steps_with lists beside) ≡ lists
 events_with [] [] many = refl
 events_with [] (first ∷ beside) many = absurd (omega (arith, many))
@@ -44,7 +44,8 @@ events_with (first ∷ lists) (one ∷ beside) many =
 
 -- ---- where nothing is told
 
-pub none_shown : (lists : List (List Event)) (beside : List Beside) → All TellsNothing beside →
+pub none_shown : (lists : List (List Event)) (beside : List PathsAndJoins) →
+    All TellsNothing beside →
     All (λ (step : StepValue). step.shown ≡ []) (steps_with lists beside)
 none_shown [] beside nothing = All-nil (λ (step : StepValue). step.shown ≡ [])
 none_shown (events ∷ lists) [] nothing = All-nil (λ (step : StepValue). step.shown ≡ [])
@@ -53,7 +54,7 @@ none_shown (events ∷ lists) (own ∷ beside) nothing =
     (steps_with lists beside) (All-head TellsNothing own beside nothing).shown
     (none_shown lists beside (All-tail TellsNothing own beside nothing))
 
-pub none_taken : (lists : List (List Event)) (beside : List Beside) →
+pub none_taken : (lists : List (List Event)) (beside : List PathsAndJoins) →
     length beside ≡ length lists → All TellsNothing beside →
     TakesEach None lists None (lines_of (steps_with lists beside))
 none_taken [] [] many nothing = refl

@@ -5,8 +5,8 @@ use Rattle.rpq_base.specs.declared.data.Event.{Event}
 use Rattle.rpq_model.specs.Query.{Query}
 use Rattle.two_way.specs.TwoWay.{walked, AreAllWalkedEventsFrom}
 use Rattle.join_bindings.specs.State.{JoinsValue}
-use Rattle.engine_feed.specs.declared.fed.Fed.{Fed}
-use Rattle.engine_feed.specs.Fed.{lists_of, HaveNames}
+use Rattle.engine_feed.specs.declared.event_lists.EventLists.{EventLists}
+use Rattle.engine_feed.specs.EventLists.{lists_of, HaveNames}
 use Rattle.path_engine.specs.Engine.{EngineValue, StandsFor, definitions}
 use Rattle.path_witness.specs.Marks.{MarksValue}
 use Rattle.query_file.specs.Compiled.{CompiledValue}
@@ -14,11 +14,11 @@ use Rattle.entry_steps.specs.Joining.{HaveJoins}
 use Rattle.entry_steps.specs.Showing.{HaveMarks}
 use Rattle.entry_steps.specs.Steps.{OptionsValue, StepValue, AreStepsFrom, events_of}
 use Rattle.entry_steps.specs.Telling.{steps_with}
-use Rattle.entry_steps.specs.declared.told.Told.{Told}
+use Rattle.entry_steps.specs.declared.unnamed_steps.UnnamedSteps.{UnnamedSteps}
 
 -- an engine; how its queries are evaluated, and what is told of them; the marks of live entries and
--- the conjunctions with the answers of their queries, where they are wanted; how many entries the
--- engine was fed; and how many workers it has
+-- the joins with the answers of their queries, where they are wanted; how many entries the engine
+-- was fed; and how many workers it has
 pub record EvaluatorValue : Type 0 where
   pub engine : EngineValue
   pub options : OptionsValue
@@ -42,7 +42,7 @@ pub record IsFedOver (evaluator : EvaluatorValue) (history : List Entry) : Type 
   pub counted : evaluator.position ≡ length history
 
 -- what is told beside the events is told up to this history: the marks that are wanted stand for
--- it, and the conjunctions have the answers over what the queries are evaluated over, of it
+-- it, and the joins have the answers over what the queries are evaluated over, of it
 pub record TellsUpTo (evaluator : EvaluatorValue) (history : List Entry) : Type 0 where
   pub marked : HaveMarks evaluator.options.paths (queries_of evaluator) history evaluator.marks
   pub joined : HaveJoins evaluator.options.joins (queries_of evaluator)
@@ -59,13 +59,13 @@ AreNumbered evaluator lists = All (λ (own : List Event).
     All (λ (event : Event). event.query < length (compiled_of evaluator)) own) lists
 
 -- the events of each entry that the engine was fed, with their names
-abbrev pub found_in : EvaluatorValue → Fed → List (List Event)
+abbrev pub found_in : EvaluatorValue → EventLists → List (List Event)
 found_in evaluator found = lists_of evaluator.engine.names found
 
 -- behind this history the engine was fed these entries, and found of each the events in its place,
 -- which have the numbers of queries
 pub record Finds (before : List Entry) (evaluator : EvaluatorValue) (later : List Entry)
-    (found : Fed) : Type 0 where
+    (found : EventLists) : Type 0 where
   pub fed : IsFedOver evaluator (before ++ later)
   pub events : AreAllWalkedEventsFrom evaluator.options.two_way (queries_of evaluator) before later
       (found_in evaluator found)
@@ -74,7 +74,7 @@ pub record Finds (before : List Entry) (evaluator : EvaluatorValue) (later : Lis
 
 -- the engine is ahead of what is told by these entries, of which it found these events
 pub record IsAhead (before : List Entry) (evaluator : EvaluatorValue) (later : List Entry)
-    (found : Fed) : Type 0 where
+    (found : EventLists) : Type 0 where
   pub finds : Finds before evaluator later found
   pub tells : TellsUpTo evaluator before
 
@@ -87,18 +87,18 @@ pub record Brings (before : List Entry) (evaluator : EvaluatorValue) (later : Li
   pub numbers : AreNumbered evaluator (events_of steps)
 
 -- the steps that are told, by the names of the evaluator
-abbrev pub steps_told : EvaluatorValue → Told → List StepValue
+abbrev pub steps_told : EvaluatorValue → UnnamedSteps → List StepValue
 steps_told evaluator told = steps_with (found_in evaluator told.found) told.beside.items
 
 -- what is told is of this evaluator: its events have numbers of the evaluator's names, and there is
 -- something beside the events of each entry
-pub record IsToldBy (evaluator : EvaluatorValue) (told : Told) : Type 0 where
+pub record IsToldBy (evaluator : EvaluatorValue) (told : UnnamedSteps) : Type 0 where
   pub have_names : HaveNames evaluator.engine.names told.found
   pub many : length told.beside.items ≡ length (found_in evaluator told.found)
 
 -- behind this history each of these entries brought the step that is told in its place
 pub record Tells (before : List Entry) (evaluator : EvaluatorValue) (later : List Entry)
-    (told : Told) : Type 0 where
+    (told : UnnamedSteps) : Type 0 where
   pub brings : Brings before evaluator later (steps_told evaluator told)
   pub told_is : IsToldBy evaluator told
 

@@ -1,5 +1,5 @@
--- The conjunctions of a run, and what they make of the events of entries. Only private contracts
--- cite this file.
+-- The joins of a run, and what they make of the events of entries. Only private contracts cite this
+-- file.
 use Rattle.std.specs.Prelude.{◌≡◌, ℕ, false, List, [], ◌∷◌, length, Option, Some, None}
 use Rattle.rpq_base.specs.declared.data.Entry.{Entry}
 use Rattle.rpq_base.specs.declared.data.Event.{Event}
@@ -11,20 +11,20 @@ use Rattle.join_bindings.specs.JoinText.{join_lines}
 use Rattle.join_bindings.specs.Leading.{HoldAnswers}
 use Rattle.join_bindings.specs.State.{JoinsValue, family, MayCome, ArePut}
 
--- these conjunctions are kept with the answers of each query over the history; where nothing is
--- kept, there are none
+-- these joins are kept with the answers of each query over the history; where nothing is kept,
+-- there are none
 abbrev pub HaveJoins : List JoinValue → List Query → List Entry → Option JoinsValue → Type 0
 HaveJoins joins queries history None = joins ≡ []
 HaveJoins joins queries history (Some state) =
     (state.joins ≡ joins) × (state.spent ≡ false) × HoldAnswers queries history state.pairs
 
--- conjunctions that are kept can take these events
+-- joins that are kept can take these events
 abbrev pub MayTake : Option JoinsValue → List Event → Type 0
 MayTake None events = Unit {0}
 MayTake (Some state) events = (state.spent ≡ false) × MayCome state.pairs events
 
--- the conjunctions took the events, and these are the lines of the bindings that they lost and
--- gained by them
+-- the joins took the events, and these are the lines of the bindings that they lost and gained by
+-- them
 pub record HaveTaken (old : JoinsValue) (events : List Event) (new : JoinsValue) (lines : List ℕ)
     : Type 0 where
   pub same : new.joins ≡ old.joins
@@ -35,7 +35,7 @@ pub record HaveTaken (old : JoinsValue) (events : List Event) (new : JoinsValue)
   pub are : AreJoinEvents old.joins (family old.pairs) (family new.pairs) changes
   pub lines_are : lines ≡ join_lines old.joins changes
 
--- conjunctions that are kept took the events; where none are, there are no lines
+-- joins that are kept took the events; where none are, there are no lines
 abbrev pub Takes : Option JoinsValue → List Event → Option JoinsValue → List ℕ → Type 0
 Takes None events None lines = lines ≡ []
 Takes None events (Some new) lines = ⊥

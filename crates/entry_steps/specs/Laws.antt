@@ -17,7 +17,7 @@ use Rattle.two_way.specs.TwoWay.{walked, AreAllWalkedEvents}
 use Rattle.entry_steps.specs.Steps.{OptionsValue, StepValue, IsStep, AreSteps, CanRun, events_of}
 use Rattle.entry_steps.specs.Steps.{lines_of}
 
--- each entry that follows a history brings a step, where queries and conjunctions can be evaluated
+-- each entry that follows a history brings a step, where queries and joins can be evaluated
 abbrev pub EveryEntryHasAStep : Type 0
 EveryEntryHasAStep =
     (options : OptionsValue) (queries : List Query) → CanRun options queries →
@@ -55,8 +55,8 @@ StepsHaveJoinEvents =
     × AreJoinEventsOn queries options.joins [] history changes
     × (lines_of steps ≡ map (join_lines options.joins) changes)
 
--- going through the changes of the first entries leaves exactly the bindings of each conjunction
--- over the answers over as many entries
+-- going through the changes of the first entries leaves exactly the bindings of each join over the
+-- answers over as many entries
 abbrev pub FrontsHoldBindings : Type 0
 FrontsHoldBindings =
     (queries : List Query) (joins : List JoinValue) (number : ℕ) (join : JoinValue)

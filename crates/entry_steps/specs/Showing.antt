@@ -64,8 +64,8 @@ AreShownBy engine (Some marks) events shown = (history : List Entry) →
     AreShown (definitions engine) history (additions events) shown
 
 -- behind this history the engine answered these entries, each by the events in its place, and now
--- it stands for all of them, where the marks and the conjunctions stand for the history alone;
--- where paths are told, edges aren't taken backwards, and there is one entry at most
+-- it stands for all of them, where the marks and the joins stand for the history alone; where paths
+-- are told, edges aren't taken backwards, and there is one entry at most
 pub record AreFound (options : OptionsValue) (engine : EngineValue) (marks : Option MarksValue)
     (joins : Option JoinsValue) (before later : List Entry) (lists : List (List Event))
     : Type 0 where
@@ -77,8 +77,8 @@ pub record AreFound (options : OptionsValue) (engine : EngineValue) (marks : Opt
   pub forwards : options.paths ≡ true → options.two_way ≡ false
   pub one : options.paths ≡ true → length later ≤ 1
 
--- behind this history these are the steps of the entries, and the marks and the conjunctions stand
--- for all of them
+-- behind this history these are the steps of the entries, and the marks and the joins stand for all
+-- of them
 pub record AreStepsOf (options : OptionsValue) (engine : EngineValue) (marks : Option MarksValue)
     (joins : Option JoinsValue) (before later : List Entry) (steps : List StepValue)
     : Type 0 where

@@ -1,5 +1,5 @@
 -- What each entry of a history brings: its events, what shows those that gain a pair, and how the
--- bindings of conjunctions change.
+-- bindings of joins change.
 use Rattle.std.specs.Prelude.{◌≡◌, ℕ, Bool, true, false, List, [], ◌∷◌, ◌++◌, filter, map, All}
 use Rattle.std.specs.Prelude.{◌<◌, Some, length, slice_get}
 use Rattle.std.specs.List.{AllZip}
@@ -16,13 +16,13 @@ use Rattle.two_way.specs.TwoWay.{walked, AreWalkedEvents}
 use Rattle.path_witness.specs.Shows.{Shown, Shows}
 
 -- how a run evaluates its queries, and what it tells: edges are taken backwards or not, paths are
--- told or not, and these are the conjunctions whose bindings are told
+-- told or not, and these are the joins whose bindings are told
 pub record OptionsValue : Type 0 where
   pub two_way : Bool
   pub paths : Bool
   pub joins : List JoinValue
 
--- the events of an entry, the paths that are told of them, and the lines of the conjunctions
+-- the events of an entry, the paths that are told of them, and the lines of the joins
 pub record StepValue : Type 0 where
   pub events : List Event
   pub shown : List Shown
@@ -43,7 +43,7 @@ pub record IsShown (queries : List Query) (history : List Entry) (event : Event)
 abbrev pub AreShown : List Query → List Entry → List Event → List Shown → Type 0
 AreShown queries history events shown = AllZip (IsShown queries history) events shown
 
--- the lines of the bindings that conjunctions lose and gain from one history to another
+-- the lines of the bindings that joins lose and gain from one history to another
 pub record AreJoinLines (queries : List Query) (joins : List JoinValue)
     (before after : List Entry) (lines : List ℕ) : Type 0 where
   pub changes : List JoinEvent
@@ -52,7 +52,7 @@ pub record AreJoinLines (queries : List Query) (joins : List JoinValue)
 
 -- what the step from one history to another brings: the events; where paths are told, for each
 -- addition a path that shows it over the second history, else none; and the lines of the
--- conjunctions
+-- joins
 pub record IsStep (options : OptionsValue) (queries : List Query) (before after : List Entry)
     (step : StepValue) : Type 0 where
   pub events : AreWalkedEvents options.two_way queries before after step.events
@@ -76,7 +76,7 @@ AreStepsFrom options queries before (entry ∷ later) (step ∷ rest) =
 abbrev pub AreSteps : OptionsValue → List Query → List Entry → List StepValue → Type 0
 AreSteps options queries history steps = AreStepsFrom options queries [] history steps
 
--- the lines of the conjunctions of each step
+-- the lines of the joins of each step
 abbrev pub lines_of : List StepValue → List (List ℕ)
 lines_of steps = map (λ step. step.joined) steps
 
@@ -89,11 +89,11 @@ pub record AreEvaluable (queries : List Query) : Type 0 where
   pub accepted : All IsAccepted queries
   pub move : All (λ query. 0 < query.window.slide) queries
 
--- the conjunctions are over so many queries
+-- the joins are over so many queries
 abbrev pub HaveSoundJoins : ℕ → OptionsValue → Type 0
 HaveSoundJoins queries options = All (IsSound queries) options.joins
 
--- such queries, and conjunctions over them
+-- such queries, and joins over them
 pub record CanRun (options : OptionsValue) (queries : List Query) : Type 0 where
   pub evaluable : AreEvaluable queries
   pub sound : HaveSoundJoins (length queries) options

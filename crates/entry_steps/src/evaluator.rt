@@ -15,16 +15,16 @@ ghost use Rattle.entry_steps.specs.Steps.{AreEvaluable, HaveSoundJoins};
 use crate::options::Options;
 use crate::step::Step;
 use crate::steps::{steps_of, tell_of};
-use crate::told::Told;
+use crate::unnamed_steps::UnnamedSteps;
 use answer_view::View;
-use engine_feed::{Fed, feed_entries};
+use engine_feed::{EventLists, feed_entries};
 use join_bindings::Joins;
 use path_engine::Engine;
 use path_witness::Marks;
 use query_file::Compiled;
 use rpq_base::{Entry, Memory, Workers};
-use rpq_io::{Context, Gate};
 use rpq_model::QueryDef;
+use run_context::{Context, Gate};
 use std::alloc::Global;
 use std::marker::Model;
 use std::random::RandomSource;
@@ -44,7 +44,7 @@ pub struct Evaluator {
     options: Options,
     /// The live entries of each edge that last longest, where paths are told.
     marks: Option<Marks>,
-    /// The conjunctions with the answers of their queries, where there are any.
+    /// The joins with the answers of their queries, where there are any.
     joins: Option<Joins>,
     /// How many entries the engine was fed.
     position: u64,
@@ -144,11 +144,11 @@ impl Evaluator {
     ///
     /// The only error is [`Memory`], after which the engine may stand for anything: it has to start
     /// anew, and be fed all entries again. It costs what the entries cost the engine.
-    pub fn feed<R: Threads + Sync, G: Gate>(
+    pub fn find_events<R: Threads + Sync, G: Gate>(
         &mut self,
         context: &Context<'_, R, G>,
         entries: &[Entry],
-    ) -> Result<Fed, Memory>
+    ) -> Result<EventLists, Memory>
         requires fed { (history : List EntryTaken) × IsFedOver self.old history }
         requires short { self.old.position + length entries.now ≤ 2 ^ 29 }
         ensures finds { IfOk result (λ found. (history : List EntryTaken)
@@ -177,13 +177,18 @@ impl Evaluator {
     }
 
     /// What the entries bring that the engine was fed last, of which it found these events: marks
-    /// take the entries, and each addition gets a path that shows it; conjunctions take the events
-    /// of one entry after another, and tell how their bindings change.
+    /// take the entries, and each addition gets a path that shows it; joins take the events of one
+    /// entry after another, and tell how their bindings change.
     ///
     /// Where paths are told, edges aren't taken backwards, and there is one entry at most. The only
     /// error is [`Memory`], after which nothing is said of what was told. Names are copied only
-    /// where there are marks or conjunctions.
-    pub fn tell(&mut self, alloc: Global, entries: &[Entry], found: Fed) -> Result<Told, Memory>
+    /// where there are marks or joins.
+    pub fn tell(
+        &mut self,
+        alloc: Global,
+        entries: &[Entry],
+        found: EventLists,
+    ) -> Result<UnnamedSteps, Memory>
         requires ahead { (before : List EntryTaken) × IsAhead before self.old entries.now found }
         requires evaluable { AreEvaluable (queries_of self.old) }
         requires forwards { self.old.options.paths ≡ true → self.old.options.two_way ≡ false }
@@ -200,16 +205,16 @@ impl Evaluator {
             entries,
             &found,
         )?;
-        Ok(Told { found, beside })
+        Ok(UnnamedSteps { found, beside })
     }
 
     /// The steps that are told, which have the evaluator's names lent. The only error is
     /// [`Memory`].
-    pub fn steps(&self, alloc: Global, told: Told) -> Result<Vec<Step<'_>>, Memory>
+    pub fn steps(&self, alloc: Global, told: UnnamedSteps) -> Result<Vec<Step<'_>>, Memory>
         requires { IsToldBy self.now told }
         ensures { IfOk result (λ steps. steps.items ≡ steps_told self.now told) }
     {
-        let Told { found, beside } = told;
+        let UnnamedSteps { found, beside } = told;
         let events = found.into_events(alloc, self.engine.names())?;
         steps_of(alloc, events, beside)
     }
@@ -246,8 +251,8 @@ fn marks_of<R: RandomSource>(
     Ok(Some(Marks::new(rt, alloc, own)?))
 }
 
-/// The conjunctions over queries with these definitions, which have no pairs yet, where there are
-/// any. The only error is [`Memory`].
+/// The joins over queries with these definitions, which have no pairs yet, where there are any. The
+/// only error is [`Memory`].
 fn joins_of<R: RandomSource>(
     rt: &R,
     alloc: Global,

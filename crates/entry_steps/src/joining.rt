@@ -1,4 +1,4 @@
-//! What conjunctions tell of the events of an entry.
+//! What joins tell of the events of an entry.
 
 ghost use Rattle.std.specs.Prelude.{◌≡◌, false, IfOk};
 ghost use Rattle.join_bindings.specs.State.{MayCome};
@@ -8,8 +8,8 @@ use join_bindings::{ApplyFault, Joins, join_text};
 use rpq_base::{Event, Memory};
 use std::alloc::Global;
 
-/// Conjunctions that are there take the events of an entry. It answers the lines of the bindings
-/// that they lose and gain by them. The only error is [`Memory`].
+/// Joins that are there take the events of an entry. It answers the lines of the bindings that they
+/// lose and gain by them. The only error is [`Memory`].
 pub fn joined_of(
     alloc: Global,
     joins: &mut Option<Joins>,
@@ -24,7 +24,7 @@ pub fn joined_of(
     }
 }
 
-/// The conjunctions take the events of an entry, and tell of them as [`joined_of`] does.
+/// The joins take the events of an entry, and tell of them as [`joined_of`] does.
 fn lines_of(alloc: Global, joins: &mut Joins, events: &[Event]) -> Result<Vec<u8>, Memory>
     requires sound { joins.old.spent ≡ false }
     requires may { MayCome joins.old.pairs events.now }

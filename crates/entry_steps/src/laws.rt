@@ -9,7 +9,7 @@ use join_bindings::{accepted_queries_have_join_events, joins_hold_bindings};
 use path_witness::answers_are_shown;
 use rpq_base::same_is_equal;
 
-/// Each entry brings a step, where the queries can be evaluated and the conjunctions are over them.
+/// Each entry brings a step, where the queries can be evaluated and the joins are over them.
 pub fn every_entry_has_a_step()
     ensures { EveryEntryHasAStep }
 {
@@ -37,8 +37,8 @@ pub fn steps_have_join_events()
     ensures { StepsHaveJoinEvents }
 {}
 
-/// Going through the changes of the first entries leaves exactly the bindings of each conjunction
-/// over the answers over as many entries.
+/// Going through the changes of the first entries leaves exactly the bindings of each join over the
+/// answers over as many entries.
 pub fn fronts_hold_bindings()
     ensures { FrontsHoldBindings }
 {

@@ -1,25 +1,24 @@
 //! What the entries of a history bring: their steps.
 //!
 //! A step has the events of its entry; where paths are told, for each gained pair a path that shows
-//! it; and the lines of the bindings that conjunctions lose and gain. The definitions of
-//! `specs/Steps` say it over a history of entries, and the laws say what it comes to: each entry
-//! brings a step ([`every_entry_has_a_step`]), and what the steps of the first entries say holds
-//! exactly the answers and the bindings over these ([`fronts_hold_answers`],
-//! [`fronts_hold_bindings`]).
+//! it; and the lines of the bindings that joins lose and gain. The definitions of `specs/Steps` say
+//! it over a history of entries, and the laws say what it comes to: each entry brings a step
+//! ([`every_entry_has_a_step`]), and what the steps of the first entries say holds exactly the
+//! answers and the bindings over these ([`fronts_hold_answers`], [`fronts_hold_bindings`]).
 //!
 //! An [`Evaluator`] finds them. It is an engine with what stands beside it: the marks of the live
-//! entries, where paths are told, and the conjunctions with the answers of their queries, where
-//! there are any. Its one relation for the layers above is `StandsAfter` of `specs/Evaluator`: each
-//! entry of the history has brought its step. A front of entries is taken by three calls.
+//! entries, where paths are told, and the joins with the answers of their queries, where there are
+//! any. Its one relation for the layers above is `StandsAfter` of `specs/Evaluator`: each entry of
+//! the history has brought its step. A front of entries is taken by three calls.
 //! [`Evaluator::feed`] feeds the engine, which is ahead then of what is told (`IsAhead`);
-//! [`Evaluator::tell`] makes the marks and the conjunctions follow; and [`Evaluator::steps`] gives
-//! the steps, which have the engine's names lent. So an engine for which memory ran out starts
-//! anew, and is fed all entries again, while what is told stays where it was. A new kind of what is
-//! told of an entry changes this crate and the texts above it.
+//! [`Evaluator::tell`] makes the marks and the joins follow; and [`Evaluator::steps`] gives the
+//! steps, which have the engine's names lent. So an engine for which memory ran out starts anew,
+//! and is fed all entries again, while what is told stays where it was. A new kind of what is told
+//! of an entry changes this crate and the texts above it.
 //!
-//! What it costs beside the engine: without paths and conjunctions nothing for each event, whose
-//! names aren't copied; with paths a mark for each entry, and for each addition a look-up for each
-//! edge of its path; with conjunctions a search from each pair that comes or goes.
+//! What it costs beside the engine: without paths and joins nothing for each event, whose names
+//! aren't copied; with paths a mark for each entry, and for each addition a look-up for each edge
+//! of its path; with joins a search from each pair that comes or goes.
 #![tactic(auto)]
 
 mod evaluator;
@@ -28,9 +27,9 @@ mod laws;
 mod options;
 mod step;
 mod steps;
-mod told;
+mod unnamed_steps;
 
-pub use engine_feed::Fed;
+pub use engine_feed::EventLists;
 pub use evaluator::Evaluator;
 pub use laws::{
     every_entry_has_a_step, fronts_hold_answers, fronts_hold_bindings, steps_have_join_events,
@@ -38,4 +37,4 @@ pub use laws::{
 };
 pub use options::Options;
 pub use step::Step;
-pub use told::{Beside, Told};
+pub use unnamed_steps::{PathsAndJoins, UnnamedSteps};

@@ -10,7 +10,7 @@ pub struct Options {
     pub two_way: bool,
     /// Whether a path is told behind each gained pair that shows it.
     pub paths: bool,
-    /// The conjunctions over the queries, whose bindings are told behind the pairs.
+    /// The joins over the queries, whose bindings are told behind the pairs.
     pub joins: Arc<Vec<JoinDef>>,
 }
 

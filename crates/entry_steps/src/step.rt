@@ -10,7 +10,7 @@ pub struct Step<'a> {
     pub events: EntryEvents<'a>,
     /// Where paths are told, for each addition in order a path that shows it.
     pub shown: Vec<ShownPath>,
-    /// The lines of the bindings that the conjunctions lose and gain, as text.
+    /// The lines of the bindings that the joins lose and gain, as text.
     pub joined: Vec<u8>,
 }
 

@@ -1,5 +1,5 @@
 //! What entries bring: their events, the paths that show those which gain a pair, and the lines of
-//! the bindings that conjunctions lose and gain.
+//! the bindings that joins lose and gain.
 
 ghost use Rattle.std.specs.Prelude.{◌≡◌, ◌<◌, ◌+◌, ◌^◌, ◌++◌, List, length, map, All, IfOk, IfSome};
 ghost use Rattle.std.specs.Prelude.{OnOk};
@@ -8,7 +8,7 @@ ghost use Rattle.path_engine.specs.Engine.{definitions};
 ghost use Rattle.path_witness.specs.Marks.{MarksValue, StandsFor as MarksStandFor};
 ghost use Rattle.entry_steps.specs.Steps.{OptionsValue, IsShown, AreShown, additions};
 ghost use Rattle.entry_steps.specs.Steps.{lines_of};
-ghost use Rattle.engine_feed.specs.Fed.{lists_of, HaveNames};
+ghost use Rattle.engine_feed.specs.EventLists.{lists_of, HaveNames};
 ghost use Rattle.entry_steps.specs.Joining.{MayTakeEach, TakesEach};
 ghost use Rattle.entry_steps.specs.Telling.{steps_with, lists_in, TellsNothing, AreToldBeside};
 ghost use Rattle.entry_steps.specs.Showing.{AreFound, AreShownBy, CanShow, IsGained};
@@ -16,9 +16,9 @@ ghost use Rattle.entry_steps.specs.Showing.{IsOver, MayShow, TakesAll};
 
 use crate::joining::joined_of;
 use crate::step::Step;
-use crate::told::Beside;
+use crate::unnamed_steps::PathsAndJoins;
 use end_events::{EntryEvents, name_lists};
-use engine_feed::Fed;
+use engine_feed::EventLists;
 use join_bindings::{Joins, accepted_queries_have_join_events, events_lead_on};
 use path_engine::Engine;
 use path_witness::{Marks, ShownPath};
@@ -26,8 +26,8 @@ use rpq_base::{Entry, Event, Memory};
 use std::alloc::Global;
 
 /// What is told of these entries beside their events, which the engine found. Marks that are there
-/// take the entries, and each addition gets a path that shows it. Conjunctions that are there take
-/// the events of one entry after another, and tell how their bindings change. The only error is
+/// take the entries, and each addition gets a path that shows it. Joins that are there take the
+/// events of one entry after another, and tell how their bindings change. The only error is
 /// [`Memory`].
 pub fn tell_of(
     alloc: Global,
@@ -35,8 +35,8 @@ pub fn tell_of(
     marks: &mut Option<Marks>,
     joins: &mut Option<Joins>,
     entries: &[Entry],
-    found: &Fed,
-) -> Result<Vec<Beside>, Memory>
+    found: &EventLists,
+) -> Result<Vec<PathsAndJoins>, Memory>
     requires names { HaveNames engine.now.names found.now }
     requires found { (options : OptionsValue) × (before : List EntryTaken)
         × AreFound options engine.now marks.old joins.old before entries.now
@@ -53,22 +53,22 @@ pub fn tell_of(
         return nothing_beside(alloc, entries.len());
     }
     match found {
-        Fed::Numbered(lists) => {
+        EventLists::Numbered(lists) => {
             let own = name_lists(alloc, engine.names(), lists)?;
             take_found(alloc, engine, marks, joins, entries, &own)
         }
-        Fed::Named(lists) => take_found(alloc, engine, marks, joins, entries, lists),
+        EventLists::Named(lists) => take_found(alloc, engine, marks, joins, entries, lists),
     }
 }
 
 /// For so many entries that nothing is told beside their events. The only error is [`Memory`].
-fn nothing_beside(alloc: Global, entries: usize) -> Result<Vec<Beside>, Memory>
+fn nothing_beside(alloc: Global, entries: usize) -> Result<Vec<PathsAndJoins>, Memory>
     ensures many { IfOk result (λ beside. length beside.items ≡ entries) }
     ensures nothing { IfOk result (λ beside. All TellsNothing beside.items) }
 {
     let mut beside = Vec::with_capacity(alloc, entries)?;
     for _ in 0..entries {
-        beside.push(Beside {
+        beside.push(PathsAndJoins {
             shown: Vec::new(alloc),
             joined: Vec::new(alloc),
         })?;
@@ -84,7 +84,7 @@ fn take_found(
     joins: &mut Option<Joins>,
     entries: &[Entry],
     found: &[Vec<Event>],
-) -> Result<Vec<Beside>, Memory>
+) -> Result<Vec<PathsAndJoins>, Memory>
     requires found { (options : OptionsValue) × (before : List EntryTaken)
         × AreFound options engine.now marks.old joins.old before entries.now (lists_in found.now) }
     ensures { IfOk result (λ beside. (options : OptionsValue) (before : List EntryTaken)
@@ -104,7 +104,7 @@ fn take_found(
 pub fn steps_of<'a>(
     alloc: Global,
     events: Vec<EntryEvents<'a>>,
-    beside: Vec<Beside>,
+    beside: Vec<PathsAndJoins>,
 ) -> Result<Vec<Step<'a>>, Memory>
     requires { length beside.items ≡ length events.items }
     ensures { IfOk result (λ steps. steps.items ≡ steps_with events.entry.items beside.items) }
@@ -112,7 +112,7 @@ pub fn steps_of<'a>(
     let mut steps = Vec::with_capacity(alloc, events.len())?;
     let mut beside = beside.into_iter();
     for own in events {
-        let Some(Beside { shown, joined }) = beside.next() else {
+        let Some(PathsAndJoins { shown, joined }) = beside.next() else {
             unreachable!()
         };
         steps.push(Step {
@@ -148,15 +148,15 @@ fn take_each(marks: &mut Marks, entries: &[Entry]) -> Result<(), Memory>
     Ok(())
 }
 
-/// For each of these lists of events what is shown of them, and the lines that the conjunctions
-/// tell of them. The only error is [`Memory`].
+/// For each of these lists of events what is shown of them, and the lines that the joins tell of
+/// them. The only error is [`Memory`].
 fn make_beside(
     alloc: Global,
     engine: &Engine,
     marks: &Option<Marks>,
     joins: &mut Option<Joins>,
     found: &[Vec<Event>],
-) -> Result<Vec<Beside>, Memory>
+) -> Result<Vec<PathsAndJoins>, Memory>
     requires may_show { All (λ own. MayShow engine.now marks.now own.items) found.now }
     requires may_take { MayTakeEach joins.old (lists_in found.now) }
     ensures many { IfOk result (λ beside. length beside.items ≡ length found.now) }
@@ -170,7 +170,7 @@ fn make_beside(
     for events in found {
         let shown = shown_of(alloc, engine, marks, events)?;
         let joined = joined_of(alloc, joins, events)?;
-        beside.push(Beside { shown, joined })?;
+        beside.push(PathsAndJoins { shown, joined })?;
     }
     Ok(beside)
 }

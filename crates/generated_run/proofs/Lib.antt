@@ -1,6 +1,7 @@
 mod Histories
 mod Told
-mod Answering
+mod Counting
+mod Beginning
 mod Running
 mod Lines
 mod OneText

@@ -1,155 +1,125 @@
 -- A run from its start to its end.
-use Rattle.std.proofs.Common.{◌≡◌, ℕ, ◌≤◌, min, Bool, true, false, List, [], length, map, refl}
-use Rattle.std.proofs.Common.{sym, ap, subst, ◌∙◌, arith}
-use Rattle.std.proofs.Common.{Result, Ok, Err}
-use Rattle.std.specs.Prelude.{⊤, OnOk, OnErr, IfOk, IsSome, Some}
+use Rattle.std.proofs.Common.{◌≡◌, ℕ, ◌≤◌, min, Bool, List, [], ◌++◌, length, map}
+use Rattle.std.proofs.Common.{sym, ap, subst, ◌∙◌, arith, Option, Some, None, Result, Ok, Err}
+use Rattle.std.specs.Prelude.{⊤, OnOk, OnErr, IfOk, IsSome}
 use Rattle.std.specs.Result.{result_ok}
 use Rattle.std.specs.Global.{Vec}
-use Rattle.std.proofs.lemmas.List.Elements.{All-map, All-same}
-use Rattle.rpq_base.specs.declared.data.Entry.{Entry}
-use Rattle.rpq_base.specs.declared.memory.Memory.{Memory}
-use Rattle.rpq_model.specs.Query.{Query}
-use Rattle.two_way.specs.TwoWay.{walked, AreAllWalkedEvents}
-use Rattle.containment_laws.specs.Accepted.{IsAccepted}
-use Rattle.query_file.specs.Compiled.{CompiledValue}
 use Rattle.answer_rows.specs.Answers.{Answer}
 use Rattle.answer_view.specs.View.{ViewValue, IsViewOf}
-use Rattle.path_engine.specs.Engine.{EngineValue, StandsFor, definitions}
-use Rattle.standing.specs.Circles.{CircleValue, Parts, as_seen}
+use Rattle.engine_loop.specs.Loop.{TakesMore}
+use Rattle.entry_steps.proofs.StepLists.{steps_have_events}
+use Rattle.entry_steps.specs.Evaluator.{EvaluatorValue, queries_of as queries_in}
+use Rattle.entry_steps.specs.Steps.{AreSteps, AreStepsFrom, events_of}
+use Rattle.history_model.specs.declared.line.Why.{Why}
+use Rattle.rpq_base.specs.declared.data.Entry.{Entry}
+use Rattle.rpq_model.specs.Query.{Query}
+use Rattle.standing.specs.Circles.{Parts, as_seen}
 use Rattle.standing.specs.Objects.{ObjectValue}
 use Rattle.standing.specs.Stood.{HaveStood}
 use Rattle.standing.proofs.HavingStood.{none_told, stood_weaker}
 use Rattle.tuple_generator.specs.Generator.{generated_history}
-use Rattle.generated_run.specs.declared.evaluator.Evaluator.{Evaluator}
+use Rattle.two_way.specs.TwoWay.{walked, AreAllWalkedEvents}
+use Rattle.generated_run.specs.Counts.{CountsSteps, AreNew}
+use Rattle.generated_run.specs.Generates.{AreTold, Generates, queries_of, said_by}
+use Rattle.generated_run.specs.Summary.{all_of, additions, retractions, summary_text, IsSummary}
+use Rattle.generated_run.specs.Totals.{TotalsValue, no_totals, HasCounted}
+use Rattle.generated_run.specs.declared.counts.EventCounts.{EventCounts}
 use Rattle.generated_run.specs.declared.generation.Generation.{Generation}
-use Rattle.generated_run.specs.Generates.{AreTold, Generates, IsGeneration, queries_of, said_by}
-use Rattle.generated_run.specs.Going.{IsReady, HaveHeardAll, GoesOn, Stops}
-use Rattle.generated_run.specs.Summary.{all_of, additions, summary_text, IsSummary}
-use Rattle.generated_run.specs.Totals.{TotalsValue, no_totals}
 
--- a circle that nothing was told yet
-module _ (two_way : Bool) (queries : List Query) (circle : CircleValue)
-    (fresh : circle.left ≡ []) where
-  untold : (whole : Type 0) → HaveStood circle.members [] whole circle.members circle.left
-  untold whole = subst (HaveStood circle.members [] whole circle.members) (sym fresh)
-      (none_told circle.members whole)
+-- objects that weren't told of anything
+untold : {O : Type 0} (seen : O → ObjectValue) (circle : Parts O) → circle.left ≡ [] →
+    HaveStood (map seen circle.members) [] ⊤ (map seen circle.members) (map seen circle.left)
+untold seen circle fresh =
+    subst (λ (left : List ObjectValue). HaveStood (map seen circle.members) [] ⊤
+    (map seen circle.members) left) (sym (ap (map seen) fresh))
+    (none_told (map seen circle.members) ⊤)
 
-  pub told_none : (whole : Type 0) → AreTold two_way queries [] circle.members whole circle
-  told_none whole = record { events = []; are_events = tt; told = untold whole }
+-- of no entry nothing is told
+pub told_none : {O : Type 0} (seen : O → ObjectValue) (two_way : Bool) (queries : List Query)
+    (circle : Parts O) → circle.left ≡ [] → (whole : Type 0) →
+    AreTold two_way queries [] (map seen circle.members) whole (as_seen seen circle)
+told_none seen two_way queries circle fresh whole = record {
+  events = [];
+  are_events = tt;
+  told = stood_weaker (map seen circle.members) [] ⊤ whole (map seen circle.members)
+      (map seen circle.left) (λ _. tt) (untold seen circle fresh);
+}
 
-  pub heard_none : HaveHeardAll two_way queries [] circle.members no_totals circle
-  heard_none = record {
-    events = [];
-    are_events = tt;
-    told = untold ⊤;
-    added = refl;
-    retracted = refl;
+-- ---- from a start with no entries the loop went on to this history
+
+module _ {O : Type 0} (seen : O → ObjectValue) (task : Generation) (evaluator : EvaluatorValue)
+    (two_way : evaluator.options.two_way ≡ task.two_way)
+    (queries : queries_in evaluator ≡ queries_of task) (before after : List Entry)
+    (none : before ≡ []) (why : Option Why) (old new : EventCounts O) (fresh : AreNew old)
+    (did : TakesMore (λ (own : List Query) entries steps reason first last.
+    CountsSteps seen entries steps reason first last) evaluator before after why old new) where
+  all_are : did.later ≡ after
+  all_are = sym (did.all ∙ ap (λ (h : List Entry). h ++ did.later) none)
+
+  steps_are : AreSteps evaluator.options (queries_in evaluator) after did.steps
+  steps_are = subst (λ (later : List Entry). AreStepsFrom evaluator.options
+      (queries_in evaluator) [] later did.steps) all_are
+      (subst (λ (h : List Entry). AreStepsFrom evaluator.options (queries_in evaluator) h
+      did.later did.steps) none did.are_steps)
+
+  events_are : AreAllWalkedEvents task.two_way (queries_of task) after (events_of did.steps)
+  events_are =
+      subst (λ (taken : Bool). AreAllWalkedEvents taken (queries_of task) after
+      (events_of did.steps)) two_way
+      (subst (λ (qs : List Query). AreAllWalkedEvents evaluator.options.two_way qs after
+      (events_of did.steps)) queries
+      (steps_have_events after [] evaluator.options (queries_in evaluator) did.steps steps_are))
+
+  -- the objects were told of its events
+  pub told_so : (whole : Type 0) → (whole → why ≡ None) →
+      AreTold task.two_way (queries_of task) after (map seen old.circle.members) whole
+      (as_seen seen new.circle)
+  told_so whole since = record {
+    events = events_of did.steps;
+    are_events = events_are;
+    told = stood_weaker (map seen old.circle.members) (all_of (events_of did.steps))
+        (why ≡ None) whole (map seen new.circle.members) (map seen new.circle.left) since
+        (did.did.told (map seen old.circle.members) [] (untold seen old.circle fresh.fresh));
   }
 
--- the summary that the code writes is that of the history
-pub summary_is : (two_way : Bool) (queries : List Query) (history : List Entry)
-    (objects : List ObjectValue) (totals : TotalsValue) (circle : CircleValue) (view : ViewValue)
-    (text : List ℕ) → HaveHeardAll two_way queries history objects totals circle →
-    totals.entries ≡ length history → IsViewOf queries (walked two_way history) view →
-    text ≡ summary_text totals.entries totals.added totals.retracted queries
-    (map (λ (own : List Answer). length own) view.rows) (said_by circle) →
-    IsSummary two_way queries history (said_by circle) text
-summary_is two_way queries history objects totals circle view text heard entries shows is =
-    let counts = map (λ (own : List Answer). length own) view.rows in
-    record {
-      events = heard.events;
-      are_events = heard.are_events;
-      answers = view.rows;
-      are_answers = shows.rows;
-      is = is
-          ∙ (ap (λ (n : ℕ). summary_text n totals.added totals.retracted queries counts
-          (said_by circle)) entries
-          ∙ (ap (λ (n : ℕ). summary_text (length history) n totals.retracted queries counts
-          (said_by circle)) heard.added
-          ∙ ap (λ (n : ℕ). summary_text (length history) (additions (all_of heard.events)) n
-          queries counts (said_by circle)) heard.retracted));
-    }
-
--- ---- from the start of a run, with an engine of its queries
-
--- an engine that stands for nothing stands for what queries are evaluated over, of no entry
-stands_first : (two_way : Bool) (engine : EngineValue) → StandsFor engine [] →
-    StandsFor engine (walked two_way [])
-stands_first false engine stands = stands
-stands_first true engine stands = stands
-
-module _ (task : Generation) (given : IsGeneration task) (evaluator : Evaluator)
-    (queries : evaluator.engine.queries ≡ task.queries.items)
-    (two_way : evaluator.two_way ≡ task.two_way) (totals : evaluator.totals ≡ no_totals)
-    (made : ℕ) (none : made ≡ 0) where
-  same : definitions evaluator.engine ≡ queries_of task
-  same = ap (map (λ (each : CompiledValue). each.def)) queries
-
-  pub ready_first : StandsFor evaluator.engine [] → IsReady (generated_history made) evaluator
-  ready_first stands =
-      subst (λ (n : ℕ). IsReady (generated_history n) evaluator) (sym none)
-      (record {
-        accepted = All-same IsAccepted (definitions evaluator.engine) (queries_of task) same
-            (All-map IsAccepted (λ (each : CompiledValue). each.def) task.queries.items
-            given.accepted);
-        stands = stands_first evaluator.two_way evaluator.engine stands;
-        entries = ap (λ (counted : TotalsValue). counted.entries) totals;
-      })
-
-  module _ (circle : CircleValue) (fresh : circle.left ≡ []) (after : List Entry)
-      (last : CircleValue) where
-    heard_first : HaveHeardAll evaluator.two_way (definitions evaluator.engine)
-        (generated_history made) circle.members evaluator.totals circle
-    heard_first =
-        subst (λ (n : ℕ). HaveHeardAll evaluator.two_way (definitions evaluator.engine)
-        (generated_history n) circle.members evaluator.totals circle) (sym none)
-        (subst (λ (counted : TotalsValue). HaveHeardAll evaluator.two_way
-        (definitions evaluator.engine) [] circle.members counted circle) (sym totals)
-        (heard_none evaluator.two_way (definitions evaluator.engine) circle fresh))
-
-    -- it stops
-    pub told_part : Stops (generated_history made) after evaluator circle last →
-        AreTold task.two_way (queries_of task) after circle.members ⊥ last
-    told_part stop =
-        subst (λ (taken : Bool). AreTold taken (queries_of task) after circle.members ⊥ last)
-        two_way (subst (λ (qs : List Query). AreTold evaluator.two_way qs after circle.members ⊥
-        last) same (stop circle.members heard_first))
-
-    -- it goes on to the end
-    module _ (new : Evaluator)
-        (on : GoesOn (generated_history made) after evaluator new circle last) where
-      heard_then : HaveHeardAll task.two_way (queries_of task) after circle.members new.totals last
-      heard_then =
-          subst (λ (taken : Bool). HaveHeardAll taken (queries_of task) after circle.members
-          new.totals last) two_way (subst (λ (qs : List Query). HaveHeardAll evaluator.two_way qs
-          after circle.members new.totals last) same (on.heard circle.members heard_first))
-
-      pub told_then : (whole : Type 0) →
-          AreTold task.two_way (queries_of task) after circle.members whole last
-      told_then whole = record {
-        events = heard_then.events;
-        are_events = heard_then.are_events;
-        told = stood_weaker circle.members (all_of heard_then.events) ⊤ whole last.members
-            last.left (λ holds. tt) heard_then.told;
+  -- and the summary that the code writes is its own
+  pub summary_so : why ≡ None → (view : ViewValue) (text : List ℕ) →
+      IsViewOf (queries_in evaluator) (walked evaluator.options.two_way after) view →
+      text ≡ summary_text new.totals.entries new.totals.added new.totals.retracted
+      (queries_in evaluator) (map (λ (own : List Answer). length own) view.rows)
+      (said_by (as_seen seen new.circle)) →
+      IsSummary task.two_way (queries_of task) after (said_by (as_seen seen new.circle)) text
+  summary_so whole view text shows is =
+      let said = said_by (as_seen seen new.circle) in
+      let counts = map (λ (own : List Answer). length own) view.rows in
+      let events = all_of (events_of did.steps) in
+      let counted : HasCounted (length did.later) events no_totals new.totals =
+      subst (λ (totals : TotalsValue). HasCounted (length did.later) events totals new.totals)
+      fresh.none (did.did.counted whole) in
+      let entries : new.totals.entries ≡ length after =
+      omega (arith, counted.entries, ap (λ (h : List Entry). length h) all_are) in
+      let added : new.totals.added ≡ additions events = omega (arith, counted.added) in
+      let retracted : new.totals.retracted ≡ retractions events =
+      omega (arith, counted.retracted) in
+      let sees : IsViewOf (queries_of task) (walked task.two_way after) view =
+      subst (λ (taken : Bool). IsViewOf (queries_of task) (walked taken after) view) two_way
+      (subst (λ (qs : List Query). IsViewOf qs (walked evaluator.options.two_way after) view)
+      queries shows) in
+      record {
+        events = events_of did.steps;
+        are_events = events_are;
+        answers = view.rows;
+        are_answers = sees.rows;
+        is = is
+            ∙ (ap (λ (qs : List Query). summary_text new.totals.entries new.totals.added
+            new.totals.retracted qs counts said) queries
+            ∙ (ap (λ (n : ℕ). summary_text n new.totals.added new.totals.retracted
+            (queries_of task) counts said) entries
+            ∙ (ap (λ (n : ℕ). summary_text (length after) n new.totals.retracted
+            (queries_of task) counts said) added
+            ∙ ap (λ (n : ℕ). summary_text (length after) (additions events) n
+            (queries_of task) counts said) retracted)));
       }
-
-      pub summary_then : (view : ViewValue) (text : List ℕ) →
-          IsViewOf (definitions new.engine) (walked new.two_way after) view →
-          text ≡ summary_text new.totals.entries new.totals.added new.totals.retracted
-          (definitions new.engine) (map (λ (own : List Answer). length own) view.rows)
-          (said_by last) → IsSummary task.two_way (queries_of task) after (said_by last) text
-      summary_then view text shows is =
-          let kept : definitions new.engine ≡ queries_of task =
-          ap (map (λ (each : CompiledValue). each.def)) on.queries ∙ same in
-          let sees : IsViewOf (queries_of task) (walked task.two_way after) view =
-          subst (λ (taken : Bool). IsViewOf (queries_of task) (walked taken after) view)
-          (on.two_way ∙ two_way) (subst (λ (qs : List Query). IsViewOf qs
-          (walked new.two_way after) view) kept shows) in
-          summary_is task.two_way (queries_of task) after circle.members new.totals last view text
-          heard_then on.ready.entries sees
-          (is ∙ ap (λ (qs : List Query). summary_text new.totals.entries new.totals.added
-          new.totals.retracted qs (map (λ (own : List Answer). length own) view.rows)
-          (said_by last)) kept)
 
 -- ---- what a run gives
 
@@ -171,7 +141,7 @@ module _ {O : Type 0} (seen : O → ObjectValue) (task : Generation) (circle las
   }
 
   -- with a summary, and without
-  pub generates : (result : Result (Vec ℕ) Memory) →
+  pub generates : (result : Result (Vec ℕ) Why) →
       OnOk result (made ≡ min task.count task.limit) →
       OnOk result (AreTold task.two_way (queries_of task) (generated_history made)
       (map seen circle.members) ⊤ (as_seen seen last)) →

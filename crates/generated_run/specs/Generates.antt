@@ -10,7 +10,7 @@ use Rattle.standing.specs.Circles.{Parts, CircleValue, as_seen}
 use Rattle.standing.specs.Objects.{ObjectValue}
 use Rattle.standing.specs.Stood.{HaveStood}
 use Rattle.generated_run.specs.declared.generation.Generation.{Generation}
-use Rattle.generated_run.specs.declared.generation.Generated.{Generated}
+use Rattle.generated_run.specs.declared.generation.GenerationResult.{GenerationResult}
 use Rattle.generated_run.specs.Summary.{all_of, IsSummary}
 
 -- the definitions of the queries, in order
@@ -42,7 +42,7 @@ said_by circle =
 -- Where there is no summary, memory ran out: there may be fewer tuples, and the objects were told
 -- of the first events
 pub record Generates {O : Type 0} (seen : O → ObjectValue) (task : Generation)
-    (circle : Parts O) (run : Generated O) : Type 0 where
+    (circle : Parts O) (run : GenerationResult O) : Type 0 where
   pub made : ℕ
   pub history : run.history.items ≡ generated_history made
   pub wanted : made ≤ task.count

@@ -1,7 +1,11 @@
 -- What the definitions are meant to say, as laws.
-use Rattle.std.specs.Prelude.{◌≡◌, ℕ, Bool, List, [], ◌∷◌, codes}
+use Rattle.std.specs.Prelude.{◌≡◌, ℕ, Bool, false, List, [], ◌∷◌, None, codes}
 use Rattle.rpq_base.specs.declared.data.Entry.{Entry}
 use Rattle.rpq_model.specs.Query.{Query}
+use Rattle.standing.specs.Circles.{circle_value}
+use Rattle.standing.specs.New.{no_numbers}
+use Rattle.standing.specs.Objects.{ObjectValue}
+use Rattle.generated_run.specs.Generates.{said_by}
 use Rattle.generated_run.specs.Summary.{IsSummary, summary_text}
 
 -- a history has at most one summary of what is said
@@ -16,3 +20,20 @@ abbrev pub SummaryExample : Type 0
 SummaryExample = (first second : Query) → first.name ≡ codes "q" → second.name ≡ codes "r" →
     summary_text 3 2 0 (first ∷ second ∷ []) (2 ∷ 0 ∷ []) (codes "tally 2 0" ∷ [])
     ≡ codes "entries 3\nadded 2\nretracted 0\nquery q 2\nquery r 0\ntally 2 0\n"
+
+-- an object that says this
+abbrev pub that_says : List ℕ → ObjectValue
+that_says text = record {
+  wanted = [];
+  numbers = no_numbers;
+  heard = None;
+  said = text;
+  gone = false;
+}
+
+-- what is said by two objects that stayed and one that left: those that stayed come first
+abbrev pub SaidExample : Type 0
+SaidExample =
+    said_by (circle_value (that_says (codes "tally 2 0") ∷ that_says (codes "roll 1 0") ∷ [])
+    (that_says (codes "tail +0,y,x") ∷ []))
+    ≡ codes "tally 2 0" ∷ codes "roll 1 0" ∷ codes "tail +0,y,x" ∷ []

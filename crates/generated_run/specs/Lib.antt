@@ -1,6 +1,6 @@
 pub mod Summary
 pub mod Totals
 pub mod Made
+pub mod Counts
 pub mod Generates
-pub mod Going
 pub mod Laws

@@ -21,7 +21,7 @@ pub struct Generation {
 
 /// What a run over generated tuples gives.
 #[derive(Drop)]
-pub struct Generated<O> {
+pub struct GenerationResult<O> {
     /// The entries, in the order in which they were made.
     pub history: Vec<Entry>,
     /// The text of the summary; none where memory ran out.

@@ -1,6 +1,6 @@
 //! Laws of the definitions. The functions do nothing: their contracts are the laws.
 
-ghost use Rattle.generated_run.specs.Laws.{OneSummary, SummaryExample};
+ghost use Rattle.generated_run.specs.Laws.{OneSummary, SaidExample, SummaryExample};
 
 use answer_view::views_are_one;
 
@@ -14,4 +14,9 @@ pub fn one_summary()
 /// The lines of a summary, written out.
 pub fn summary_example()
     ensures { SummaryExample }
+{}
+
+/// Objects that stayed and one that left, and in which order they say what they say.
+pub fn said_example()
+    ensures { SaidExample }
 {}

@@ -7,19 +7,20 @@
 //! says (`specs/Generates`, `specs/Summary`). A history has one summary of what is said
 //! ([`one_summary`]).
 //!
-//! The engine takes up to 256 entries at once, in the calling thread. Memory is taken for the
-//! history and the engine, as for a stream of that length, and for one front of events.
+//! The loop is that of `engine_loop`: here is where its entries come from, and what takes their
+//! steps. The engine takes up to 256 entries at once, in the calling thread. Memory is taken for
+//! the history and the engine, as for a stream of that length, and for one front of events. Where
+//! it runs out for the first time while the engine is fed, the engine is rebuilt.
 #![tactic(auto)]
 
-mod evaluator;
+mod counts;
+mod entries;
 mod generating;
 mod generation;
 mod laws;
-mod making;
 mod summary;
-mod telling;
 mod totals;
 
 pub use generating::generate;
-pub use generation::{Generated, Generation};
-pub use laws::{one_summary, summary_example};
+pub use generation::{Generation, GenerationResult};
+pub use laws::{one_summary, said_example, summary_example};

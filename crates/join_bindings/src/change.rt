@@ -14,7 +14,7 @@ pub(crate) fn change(sets: &mut QueryPairs, events: &[Event]) -> Result<(), Memo
     ensures put { OnOk result (ArePut sets.old sets.new events.now) }
 {
     for event in events {
-        sets.apply(event)?;
+        sets.take_event(event)?;
     }
     Ok(())
 }

@@ -9,8 +9,8 @@ ghost use Rattle.join_bindings.specs.Partial.{IsMetIn, AreMet};
 ghost use Rattle.join_bindings.specs.Overlaps.{Narrows};
 ghost use Rattle.join_file.specs.Sound.{IsAtomWithin};
 
-use crate::pairs::Ends;
-use crate::partial::Partial;
+use crate::pairs::PairEnds;
+use crate::partial::PartialBinding;
 use crate::query_pairs::QueryPairs;
 use join_file::JoinAtom;
 use rpq_base::Memory;
@@ -18,11 +18,11 @@ use std::alloc::Global;
 
 /// Adds what is bound once the atom takes the pair, if it can.
 fn add_pair(
-    out: &mut Vec<Partial>,
+    out: &mut Vec<PartialBinding>,
     alloc: Global,
-    bound: &Partial,
+    bound: &PartialBinding,
     atom: &JoinAtom,
-    ends: &Ends,
+    ends: &PairEnds,
 ) -> Result<(), Memory>
     requires { IsAtomWithin (length bound.now) atom.now }
     ensures covers { OnOk result ((names : List (List ℕ)) → Covers out.new.items names
@@ -40,12 +40,12 @@ fn add_pair(
 /// Adds what is bound once the atom takes one of the pairs of its query. What meets no binding of
 /// all these atoms may lack.
 fn extend(
-    out: &mut Vec<Partial>,
+    out: &mut Vec<PartialBinding>,
     alloc: Global,
     sets: &QueryPairs,
     atoms: &[&JoinAtom],
     atom: &JoinAtom,
-    bound: &Partial,
+    bound: &PartialBinding,
 ) -> Result<(), Memory>
     requires within { IsAtomWithin (length bound.now) atom.now }
     requires below { atom.now.query < length sets.now }
@@ -71,8 +71,8 @@ fn extended(
     sets: &QueryPairs,
     atoms: &[&JoinAtom],
     atom: &JoinAtom,
-    partials: &[Partial],
-) -> Result<Vec<Partial>, Memory>
+    partials: &[PartialBinding],
+) -> Result<Vec<PartialBinding>, Memory>
     requires within { All (λ bound. IsAtomWithin (length bound) atom.now) partials.now }
     requires below { atom.now.query < length sets.now }
     ensures covers { IfOk result (λ all. (names : List (List ℕ)) →
@@ -97,8 +97,8 @@ pub(crate) fn taken(
     alloc: Global,
     sets: &QueryPairs,
     atoms: &[&JoinAtom],
-    bound: Partial,
-) -> Result<Vec<Partial>, Memory>
+    bound: PartialBinding,
+) -> Result<Vec<PartialBinding>, Memory>
     requires within { (atom : JoinAtom) → Contains (atoms_at atoms.now) atom →
         IsAtomWithin (length bound) atom }
     requires below { (atom : JoinAtom) → Contains (atoms_at atoms.now) atom →

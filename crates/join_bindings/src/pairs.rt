@@ -6,7 +6,7 @@ ghost use Rattle.join_bindings.specs.Pairs.{pairs_of, Sets};
 ghost use Rattle.join_bindings.specs.Overlaps.{StandsIn};
 
 use crate::columns::Side;
-use crate::rows::Rows;
+use crate::rows::VertexRows;
 use crate::vertex::Vertex;
 use rpq_base::{KeyedHash, Memory, Name, Pair};
 use std::alloc::Global;
@@ -14,12 +14,12 @@ use std::marker::Model;
 
 /// The two ends of a pair. Contracts see the pair.
 #[derive(Drop)]
-pub(crate) struct Ends<'a> {
+pub(crate) struct PairEnds<'a> {
     pub(crate) from: &'a Name,
     pub(crate) to: &'a Name,
 }
 
-impl<'a> Model for Ends<'a> {
+impl<'a> Model for PairEnds<'a> {
     ghost use Rattle.rpq_base.specs.declared.data.Pair.{Pair};
 
     ghost Value = { Pair };
@@ -36,9 +36,9 @@ pub(crate) struct PairSet {
     alloc: Global,
     hash: KeyedHash,
     /// The targets of each source.
-    sources: Rows,
+    sources: VertexRows,
     /// The sources of each target.
-    targets: Rows,
+    targets: VertexRows,
 }
 
 impl Model for PairSet {
@@ -55,7 +55,7 @@ impl Model for PairSet {
 
 /// Adds the pairs of a source with these targets.
 fn add_targets<'a>(
-    found: &mut Vec<Ends<'a>>,
+    found: &mut Vec<PairEnds<'a>>,
     from: &'a Name,
     targets: &'a [Vertex],
 ) -> Result<(), Memory>
@@ -64,7 +64,7 @@ fn add_targets<'a>(
         ⊎ ((from.now ≡ pair.from) × Contains targets.now pair.to))) }
 {
     for target in targets {
-        found.push(Ends {
+        found.push(PairEnds {
             from,
             to: target.name(),
         })?;
@@ -74,7 +74,7 @@ fn add_targets<'a>(
 
 /// Adds the pairs of a target with these sources.
 fn add_sources<'a>(
-    found: &mut Vec<Ends<'a>>,
+    found: &mut Vec<PairEnds<'a>>,
     to: &'a Name,
     sources: &'a [Vertex],
 ) -> Result<(), Memory>
@@ -83,7 +83,7 @@ fn add_sources<'a>(
         ⊎ ((to.now ≡ pair.to) × Contains sources.now pair.from))) }
 {
     for source in sources {
-        found.push(Ends {
+        found.push(PairEnds {
             from: source.name(),
             to,
         })?;
@@ -92,7 +92,7 @@ fn add_sources<'a>(
 }
 
 /// All pairs of these rows of targets.
-fn all_pairs<'a>(alloc: Global, sources: &'a Rows) -> Result<Vec<Ends<'a>>, Memory>
+fn all_pairs<'a>(alloc: Global, sources: &'a VertexRows) -> Result<Vec<PairEnds<'a>>, Memory>
     ensures { IfOk result (λ found. (pair : Pair) → Contains found.items pair
         ↔ Contains (pairs_of sources.now) pair) }
 {
@@ -105,7 +105,12 @@ fn all_pairs<'a>(alloc: Global, sources: &'a Rows) -> Result<Vec<Ends<'a>>, Memo
 }
 
 /// Puts the pair into both sides, or takes it out.
-fn set_both(sources: &mut Rows, targets: &mut Rows, pair: &Pair, added: bool) -> Result<(), Memory>
+fn set_both(
+    sources: &mut VertexRows,
+    targets: &mut VertexRows,
+    pair: &Pair,
+    added: bool,
+) -> Result<(), Memory>
     ensures sources { OnOk result
         (Sets sources.old sources.new pair.now.from pair.now.to added) }
     ensures targets { OnOk result
@@ -123,8 +128,8 @@ impl PairSet {
         PairSet {
             alloc,
             hash,
-            sources: Rows::new(alloc, hash),
-            targets: Rows::new(alloc, hash),
+            sources: VertexRows::new(alloc, hash),
+            targets: VertexRows::new(alloc, hash),
         }
     }
 
@@ -165,7 +170,7 @@ impl PairSet {
     /// Adds the pair with these two ends, if it is there, by two look-ups.
     fn add_one<'a>(
         &self,
-        found: &mut Vec<Ends<'a>>,
+        found: &mut Vec<PairEnds<'a>>,
         from: &'a Name,
         to: &'a Name,
     ) -> Result<(), Memory>
@@ -174,7 +179,7 @@ impl PairSet {
             ⊎ (Contains self.now pair × ((from.now ≡ pair.from) × (to.now ≡ pair.to))))) }
     {
         if self.sources.has(from, to) {
-            found.push(Ends { from, to })?;
+            found.push(PairEnds { from, to })?;
         }
         Ok(())
     }
@@ -185,7 +190,7 @@ impl PairSet {
         alloc: Global,
         from: &'a Name,
         to: &'a Name,
-    ) -> Result<Vec<Ends<'a>>, Memory>
+    ) -> Result<Vec<PairEnds<'a>>, Memory>
         ensures { IfOk result (λ found. (pair : Pair) → Contains found.items pair
             ↔ (Contains self.now pair × ((from.now ≡ pair.from) × (to.now ≡ pair.to)))) }
     {
@@ -200,7 +205,7 @@ impl PairSet {
         alloc: Global,
         from: &'a Name,
         targets: &'a [Vertex],
-    ) -> Result<Vec<Ends<'a>>, Memory>
+    ) -> Result<Vec<PairEnds<'a>>, Memory>
         ensures { IfOk result (λ found. (pair : Pair) → Contains found.items pair
             ↔ (Contains self.now pair
             × ((from.now ≡ pair.from) × Contains targets.now pair.to))) }
@@ -218,7 +223,7 @@ impl PairSet {
         alloc: Global,
         to: &'a Name,
         sources: &'a [Vertex],
-    ) -> Result<Vec<Ends<'a>>, Memory>
+    ) -> Result<Vec<PairEnds<'a>>, Memory>
         ensures { IfOk result (λ found. (pair : Pair) → Contains found.items pair
             ↔ (Contains self.now pair
             × ((to.now ≡ pair.to) × Contains sources.now pair.from))) }
@@ -235,7 +240,7 @@ impl PairSet {
         &'a self,
         alloc: Global,
         from: &'a Name,
-    ) -> Result<Vec<Ends<'a>>, Memory>
+    ) -> Result<Vec<PairEnds<'a>>, Memory>
         ensures { IfOk result (λ found. (pair : Pair) → Contains found.items pair
             ↔ (Contains self.now pair × (from.now ≡ pair.from))) }
     {
@@ -249,7 +254,7 @@ impl PairSet {
         &'a self,
         alloc: Global,
         to: &'a Name,
-    ) -> Result<Vec<Ends<'a>>, Memory>
+    ) -> Result<Vec<PairEnds<'a>>, Memory>
         ensures { IfOk result (λ found. (pair : Pair) → Contains found.items pair
             ↔ (Contains self.now pair × (to.now ≡ pair.to))) }
     {
@@ -259,7 +264,7 @@ impl PairSet {
     }
 
     /// All pairs.
-    pub(crate) fn all<'a>(&'a self, alloc: Global) -> Result<Vec<Ends<'a>>, Memory>
+    pub(crate) fn all<'a>(&'a self, alloc: Global) -> Result<Vec<PairEnds<'a>>, Memory>
         ensures { IfOk result (λ found. (pair : Pair) → Contains found.items pair
             ↔ Contains self.now pair) }
     {
@@ -274,8 +279,8 @@ impl PairSet {
     {
         let set = set_both(&mut self.sources, &mut self.targets, pair, added);
         if let Err(memory) = set {
-            self.sources = Rows::new(self.alloc, self.hash);
-            self.targets = Rows::new(self.alloc, self.hash);
+            self.sources = VertexRows::new(self.alloc, self.hash);
+            self.targets = VertexRows::new(self.alloc, self.hash);
             return Err(memory);
         }
         Ok(())

@@ -16,11 +16,11 @@ use std::marker::Model;
 
 /// For each variable its name, if it is bound.
 #[derive(Debug, Drop)]
-pub(crate) struct Partial {
+pub(crate) struct PartialBinding {
     names: Vec<Option<Name>>,
 }
 
-impl Model for Partial {
+impl Model for PartialBinding {
     ghost use Rattle.join_bindings.specs.Partial.{Bound};
 
     ghost Value = { Bound };
@@ -30,7 +30,7 @@ impl Model for Partial {
 
 /// How a term stands to a name.
 #[derive(Clone, Copy, Debug, PartialEq, Eq)]
-enum Standing {
+enum TermMatch {
     /// It stands for it.
     Same,
     /// It stands for another one.
@@ -39,25 +39,25 @@ enum Standing {
     Open(usize),
 }
 
-fn same_or_other(known: &Name, name: &Name) -> Standing
-    ensures same { result ≡ Standing.Same → known.now ≡ name.now }
-    ensures other { result ≡ Standing.Other → known.now ≡ name.now → ⊥ }
-    ensures open { (place : ℕ) → result ≡ Standing.Open place → ⊥ }
+fn same_or_other(known: &Name, name: &Name) -> TermMatch
+    ensures same { result ≡ TermMatch.Same → known.now ≡ name.now }
+    ensures other { result ≡ TermMatch.Other → known.now ≡ name.now → ⊥ }
+    ensures open { (place : ℕ) → result ≡ TermMatch.Open place → ⊥ }
 {
     if known == name {
-        Standing::Same
+        TermMatch::Same
     } else {
-        Standing::Other
+        TermMatch::Other
     }
 }
 
 /// How the term stands to the name, where these variables are bound.
-fn compared(bound: &[Option<Name>], term: &Term, name: &Name) -> Standing
+fn compared(bound: &[Option<Name>], term: &Term, name: &Name) -> TermMatch
     requires { IsWithin (length bound.now) term.now }
-    ensures same { result ≡ Standing.Same → Binds bound.now term.now name.now bound.now }
-    ensures other { result ≡ Standing.Other → Clashes bound.now term.now name.now }
-    ensures open { (place : ℕ) → result ≡ Standing.Open place → term.now ≡ Term.Variable place }
-    ensures free { (place : ℕ) → result ≡ Standing.Open place → IsOpen bound.now place }
+    ensures same { result ≡ TermMatch.Same → Binds bound.now term.now name.now bound.now }
+    ensures other { result ≡ TermMatch.Other → Clashes bound.now term.now name.now }
+    ensures open { (place : ℕ) → result ≡ TermMatch.Open place → term.now ≡ Term.Variable place }
+    ensures free { (place : ℕ) → result ≡ TermMatch.Open place → IsOpen bound.now place }
 {
     match term {
         Term::Vertex(vertex) => same_or_other(vertex, name),
@@ -65,7 +65,7 @@ fn compared(bound: &[Option<Name>], term: &Term, name: &Name) -> Standing
             let place = *number as usize;
             match &bound[place] {
                 Some(known) => same_or_other(known, name),
-                None => Standing::Open(place),
+                None => TermMatch::Open(place),
             }
         }
     }
@@ -81,16 +81,16 @@ fn copy_of(name: &Option<Name>) -> Result<Option<Name>, Memory>
     }
 }
 
-impl Partial {
+impl PartialBinding {
     /// Binds the term to the name; none where it stands for another name.
-    fn bind(mut self, term: &Term, name: &Name) -> Result<Option<Partial>, Memory>
+    fn bind(mut self, term: &Term, name: &Name) -> Result<Option<PartialBinding>, Memory>
         requires { IsWithin (length self) term.now }
         ensures { IfOk result (λ given. MayBind self term.now name.now given) }
     {
         match compared(&self.names, term, name) {
-            Standing::Same => Ok(Some(self)),
-            Standing::Other => Ok(None),
-            Standing::Open(place) => {
+            TermMatch::Same => Ok(Some(self)),
+            TermMatch::Other => Ok(None),
+            TermMatch::Open(place) => {
                 self.names[place] = Some(name.copy()?);
                 Ok(Some(self))
             }
@@ -98,7 +98,7 @@ impl Partial {
     }
 
     /// Nothing bound of so many variables.
-    pub(crate) fn unbound(alloc: Global, count: u32) -> Result<Partial, Memory>
+    pub(crate) fn unbound(alloc: Global, count: u32) -> Result<PartialBinding, Memory>
         ensures many { IfOk result (λ blank. length blank ≡ count) }
         ensures all { IfOk result (λ blank. (names : List (List ℕ)) →
             Agrees blank names ↔ (length names ≡ count)) }
@@ -107,7 +107,7 @@ impl Partial {
         for number in 0..count {
             names.push(None)?;
         }
-        Ok(Partial { names })
+        Ok(PartialBinding { names })
     }
 
     /// The binding, where nothing is open.
@@ -126,14 +126,14 @@ impl Partial {
     }
 
     /// The same by a copy.
-    fn copied(&self, alloc: Global) -> Result<Partial, Memory>
+    fn copied(&self, alloc: Global) -> Result<PartialBinding, Memory>
         ensures { IfOk result (λ copy. copy ≡ self.now) }
     {
         let mut names = Vec::new(alloc);
         for name in &self.names {
             names.push(copy_of(name)?)?;
         }
-        Ok(Partial { names })
+        Ok(PartialBinding { names })
     }
 
     /// The name that the term stands for, as far as it is bound.
@@ -157,7 +157,7 @@ impl Partial {
         atom: &JoinAtom,
         from: &Name,
         to: &Name,
-    ) -> Result<Option<Partial>, Memory>
+    ) -> Result<Option<PartialBinding>, Memory>
         requires { IsAtomWithin (length self.now) atom.now }
         ensures { IfOk result (λ given. MayTake self.now atom.now (pair from.now to.now) given) }
     {

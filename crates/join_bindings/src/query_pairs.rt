@@ -7,7 +7,7 @@ ghost use Rattle.join_bindings.specs.Partial.{Fits, atoms_at};
 
 use crate::columns::columns_of;
 use crate::overlap::{Overlap, narrowest, overlaps_of, renew_all};
-use crate::pairs::{Ends, PairSet};
+use crate::pairs::{PairEnds, PairSet};
 use join_file::{JoinAtom, JoinDef};
 use rpq_base::{Event, KeyedHash, Memory, Name};
 use std::alloc::Global;
@@ -116,7 +116,7 @@ impl QueryPairs {
         atoms: &[&JoinAtom],
         atom: &JoinAtom,
         from: &'a Name,
-    ) -> Result<Vec<Ends<'a>>, Memory>
+    ) -> Result<Vec<PairEnds<'a>>, Memory>
         requires { atom.now.query < length self.now }
         ensures { IfOk result (λ found. Suffice self.now (atoms_at atoms.now) atom.now
             (λ pair. from.now ≡ pair.from) found.items) }
@@ -135,7 +135,7 @@ impl QueryPairs {
         atoms: &[&JoinAtom],
         atom: &JoinAtom,
         to: &'a Name,
-    ) -> Result<Vec<Ends<'a>>, Memory>
+    ) -> Result<Vec<PairEnds<'a>>, Memory>
         requires { atom.now.query < length self.now }
         ensures { IfOk result (λ found. Suffice self.now (atoms_at atoms.now) atom.now
             (λ pair. to.now ≡ pair.to) found.items) }
@@ -156,7 +156,7 @@ impl QueryPairs {
         atom: &JoinAtom,
         from: Option<&'a Name>,
         to: Option<&'a Name>,
-    ) -> Result<Vec<Ends<'a>>, Memory>
+    ) -> Result<Vec<PairEnds<'a>>, Memory>
         requires { atom.now.query < length self.now }
         ensures { IfOk result (λ found. Suffice self.now (atoms_at atoms.now) atom.now
             (λ pair. Fits from.entry pair.from × Fits to.entry pair.to) found.items) }
@@ -172,7 +172,7 @@ impl QueryPairs {
 
     /// Puts the pair of the event in or takes it out. Where memory runs out no vertex is known to
     /// be shared.
-    pub(crate) fn apply(&mut self, event: &Event) -> Result<(), Memory>
+    pub(crate) fn take_event(&mut self, event: &Event) -> Result<(), Memory>
         requires { event.now.query < length self.old }
         ensures many { length self.new ≡ length self.old }
         ensures put { OnOk result (IsPut self.old self.new event.now) }

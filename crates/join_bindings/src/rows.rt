@@ -18,12 +18,12 @@ use std::marker::Model;
 ///
 /// Contracts see the list of the rows, each with its vertex.
 #[derive(Drop)]
-pub(crate) struct Rows {
+pub(crate) struct VertexRows {
     alloc: Global,
     rows: IndexMap<Vertex, VertexSet, KeyedHash>,
 }
 
-impl Model for Rows {
+impl Model for VertexRows {
     ghost use Rattle.rpq_base.specs.Same.{same_name};
     ghost use Rattle.std.specs.List.{IsDistinct};
     ghost use Rattle.std.specs.Map.{keys_of};
@@ -36,12 +36,12 @@ impl Model for Rows {
     ghost invariant = { λ rows. IsDistinct same_name (keys_of rows.rows.entries) };
 }
 
-impl Rows {
+impl VertexRows {
     /// No rows.
-    pub(crate) fn new(alloc: Global, hash: KeyedHash) -> Rows
+    pub(crate) fn new(alloc: Global, hash: KeyedHash) -> VertexRows
         ensures { result ≡ [] }
     {
-        Rows {
+        VertexRows {
             alloc,
             rows: IndexMap::with_hasher(alloc, hash),
         }
@@ -92,8 +92,8 @@ impl Rows {
         }
     }
 
-    /// Takes the row of the vertex out. It is put back, if need be, by [`Rows::put`]: so a row is
-    /// changed while nothing borrows it.
+    /// Takes the row of the vertex out. It is put back, if need be, by [`VertexRows::put`]: so a
+    /// row is changed while nothing borrows it.
     fn take(&mut self, vertex: &Name) -> Option<(Vertex, VertexSet)>
         ensures key { IfSome result (λ taken. taken.0 ≡ vertex.now) }
         ensures row { option_map_or (λ taken. taken.1) result [] ≡ row_of self.old vertex.now }

@@ -6,7 +6,7 @@ ghost use Rattle.join_file.specs.Sound.{IsAtomWithin, Mentions};
 
 use crate::binding::Binding;
 use crate::extension::taken;
-use crate::partial::Partial;
+use crate::partial::PartialBinding;
 use crate::plan::planned;
 use crate::query_pairs::QueryPairs;
 use join_file::{JoinAtom, JoinDef};
@@ -14,7 +14,7 @@ use rpq_base::{Memory, Pair};
 use std::alloc::Global;
 
 /// The bindings of these, in which nothing is open.
-fn closed(alloc: Global, partials: &[Partial]) -> Result<Vec<Binding>, Memory>
+fn closed(alloc: Global, partials: &[PartialBinding]) -> Result<Vec<Binding>, Memory>
     requires { All IsFull partials.now }
     ensures { IfOk result (λ found. (names : List (List ℕ)) →
         Contains found.items names ↔ Covers partials.now names) }
@@ -43,7 +43,7 @@ pub(crate) fn through(
     ensures { IfOk result (λ found. (names : List (List ℕ)) → Contains found.items names
         ↔ IsThrough sets.now def.now atom.now pair.now names) }
 {
-    let blank = Partial::unbound(alloc, def.variables)?;
+    let blank = PartialBinding::unbound(alloc, def.variables)?;
     match blank.with_ends(alloc, atom, &pair.from, &pair.to)? {
         Some(bound) => {
             let plan = planned(alloc, &def.atoms, atom)?;

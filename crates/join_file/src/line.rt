@@ -37,12 +37,12 @@ impl<'a> Model for AtomText<'a> {
 
 /// The parts of a line: the name, and the atoms.
 #[derive(Drop)]
-pub(crate) struct LineText<'a> {
+pub(crate) struct JoinLineText<'a> {
     pub(crate) name: Name,
     pub(crate) atoms: Vec<AtomText<'a>>,
 }
 
-impl<'a> Model for LineText<'a> {
+impl<'a> Model for JoinLineText<'a> {
     ghost use Rattle.join_file.specs.JoinLine.{LineText as LineOf};
 
     ghost Value = { LineOf };
@@ -171,13 +171,13 @@ fn read_join_name(alloc: Global, field: &[u8]) -> Result<Name, JoinFileFaultKind
 
 /// The parts of a line with these atoms, if they are sound.
 #[tactic(auto, unfolding(crate::specs::JoinLine::checked_text))]
-fn checked_text(name: Name, atoms: Vec<AtomText>) -> Result<LineText, JoinFileFaultKind>
+fn checked_text(name: Name, atoms: Vec<AtomText>) -> Result<JoinLineText, JoinFileFaultKind>
     ensures ok { IfOk result (λ text. checked_text name atoms.entry.items ≡ Ok text) }
     ensures err { IfErr result (λ kind. checked_text name atoms.entry.items ≡ Err kind) }
     ensures atoms { IfOk result (λ text. text.atoms ≡ atoms.entry.items) }
 {
     if are_sound(&atoms) {
-        Ok(LineText { name, atoms })
+        Ok(JoinLineText { name, atoms })
     } else {
         Err(JoinFileFaultKind::Shape)
     }
@@ -188,7 +188,7 @@ fn checked_text(name: Name, atoms: Vec<AtomText>) -> Result<LineText, JoinFileFa
 pub(crate) fn read_text<'a>(
     alloc: Global,
     fields: &[&'a [u8]],
-) -> Result<LineText<'a>, JoinFileFaultKind>
+) -> Result<JoinLineText<'a>, JoinFileFaultKind>
     ensures ok { IfOk result (λ text.
         text_of_fields (map (λ field. field.now) fields.now) ≡ Ok text) }
     ensures err { IfErr result (λ kind. kind ≢ JoinFileFaultKind.Memory →

@@ -24,11 +24,11 @@ const MAX_JOINS: usize = 32;
 
 /// The joins of the lines so far.
 #[derive(Drop)]
-struct Found {
+struct JoinsSoFar {
     joins: Vec<JoinDef>,
 }
 
-impl Model for Found {
+impl Model for JoinsSoFar {
     ghost use Rattle.std.specs.Prelude.{List};
     ghost use Rattle.join_file.specs.Joins.{JoinValue};
 
@@ -45,7 +45,7 @@ struct JoinReader<'a> {
 }
 
 impl<'a> LineReader for JoinReader<'a> {
-    type Progress = Found;
+    type Progress = JoinsSoFar;
 
     type Fault = JoinFileFault;
 
@@ -57,10 +57,15 @@ impl<'a> LineReader for JoinReader<'a> {
 
     ghost told = { λ fault. fault.kind ≢ JoinFileFaultKind.Memory };
 
-    fn with_line(&self, number: u64, before: Found, line: &[u8]) -> Result<Found, JoinFileFault> {
-        let Found { mut joins } = before;
+    fn with_line(
+        &self,
+        number: u64,
+        before: JoinsSoFar,
+        line: &[u8],
+    ) -> Result<JoinsSoFar, JoinFileFault> {
+        let JoinsSoFar { mut joins } = before;
         match take_line(self.alloc, self.queries, &mut joins, line) {
-            Ok(()) => Ok(Found { joins }),
+            Ok(()) => Ok(JoinsSoFar { joins }),
             Err(kind) => Err(JoinFileFault { line: number, kind }),
         }
     }
@@ -89,7 +94,7 @@ pub fn read_joins(
     ensures variables { IfOk result (λ found. All (λ join. 0 < join.variables) found.items) }
 {
     let reader = JoinReader { alloc, queries };
-    let none = Found {
+    let none = JoinsSoFar {
         joins: Vec::new(alloc),
     };
     let (found, _) = read_lines(&reader, none, bytes)?;

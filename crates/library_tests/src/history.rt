@@ -1,19 +1,24 @@
 //! Tests of a history that threads share.
 
-ghost use Rattle.std.specs.Prelude.{◌≡◌, ℕ, ◌+◌, ◌<◌, ◌≤◌, ◌^◌, length, slice_index_or};
+ghost use Rattle.std.specs.Prelude.{◌≡◌, ◌↔◌, ◌⊎◌, ℕ, ◌+◌, ◌<◌, ◌≤◌, ◌^◌, true, Some, length};
+ghost use Rattle.std.specs.Prelude.{slice_index_or};
+ghost use Rattle.std.specs.Prelude.{IsTrue, IfOk, OnErr};
 ghost use Rattle.turn_lock.specs.Passes.{newcomers};
-ghost use Rattle.history_model.specs.Lines.{HasEnded, IsShut};
+ghost use Rattle.history_model.specs.declared.line.Why.{Why as Reason};
+ghost use Rattle.history_model.specs.Lines.{entries, published, AllEnded, HasEnded, IsShut};
+ghost use Rattle.history_model.specs.Lines.{IsShutFor};
 ghost use Rattle.stream_history.specs.History.{IsPassOf, IsOpenPass, IsFeedingPass, HasSeen};
 
 use crate::journal::{first_view, one_query, tick};
 use history_model::Why;
 use plain_checks::plain_view;
+use rpq_base::Memory;
 use rpq_model::QueryDef;
 use std::alloc::Global;
 use std::process::Abort;
 use std::sync::{Arc, Wait};
 use std::thread::{Threads, for_each_mut};
-use stream_history::{AppendFault, History, Journal, Pass, PublishFault};
+use stream_history::{AppendFault, History, Journal, Looked, Pass, PublishFault};
 
 /// More looks than a test needs until all streams have ended.
 const LOOKS: u32 = 10_000_000;
@@ -66,7 +71,7 @@ fn end<R: Wait>(rt: &R, history: &History, pass: &mut Pass)
 
 /// What a look finds.
 #[derive(Clone, Copy, PartialEq)]
-struct Found {
+struct LookResult {
     position: u64,
     length: u64,
     all_ended: bool,
@@ -74,17 +79,74 @@ struct Found {
 }
 
 /// Looks at a history.
-fn look<R: Wait>(rt: &R, history: &History, pass: &mut Pass) -> Option<Found>
+fn look<R: Wait>(rt: &R, history: &History, pass: &mut Pass) -> Option<LookResult>
     requires { IsPassOf history.now pass.old }
     ensures { HasSeen history.now pass.old pass.new }
 {
-    let looked = history.look(rt, pass).ok()?;
-    Some(Found {
+    look_and_sleep(rt, history, pass, 0)
+}
+
+/// Looks at a history, and then sleeps until this position is published, if it isn't and may come.
+fn look_and_sleep<R: Wait>(
+    rt: &R,
+    history: &History,
+    pass: &mut Pass,
+    wanted: u64,
+) -> Option<LookResult>
+    requires { IsPassOf history.now pass.old }
+    ensures { HasSeen history.now pass.old pass.new }
+{
+    let Ok(looked) = look_at(rt, history, pass) else {
+        return None;
+    };
+    let found = LookResult {
         position: looked.view.position(),
         length: looked.length,
         all_ended: looked.all_ended,
         shut: looked.shut,
-    })
+    };
+    let _slept = sleep_from(rt, history, looked, wanted);
+    Some(found)
+}
+
+/// What a look finds, said of what was heard by then.
+fn look_at<R: Wait>(rt: &R, history: &History, pass: &mut Pass) -> Result<Looked, Memory>
+    requires { IsPassOf history.now pass.old }
+    ensures seen { HasSeen history.now pass.old pass.new }
+    ensures position { IfOk result (λ looked.
+        looked.view.value.position ≡ published looked.heard) }
+    ensures length { IfOk result (λ looked. looked.length ≡ length (entries looked.heard)) }
+    ensures all_ended { IfOk result (λ looked.
+        IsTrue looked.all_ended ↔ AllEnded history.now.terms.streams looked.heard) }
+    ensures shut { IfOk result (λ looked. (why : Reason) →
+        (looked.shut ≡ Some why) ↔ IsShutFor looked.heard why) }
+{
+    let looked = history.look(rt, pass)?;
+    Ok(looked)
+}
+
+/// Whether a look found that no further position is to come.
+fn is_over(looked: &Looked) -> bool
+    ensures { IsTrue result ↔ (((why : Reason) × (looked.now.shut ≡ Some why))
+        ⊎ ((looked.now.all_ended ≡ true)
+        × (looked.now.view.value.position ≡ looked.now.length))) }
+{
+    looked.shut.is_some() || looked.all_ended && looked.view.position() == looked.length
+}
+
+/// Sleeps until this position is published, if by this look it isn't and may come. Answers whether
+/// it slept.
+fn sleep_from<R: Wait>(rt: &R, history: &History, looked: Looked, wanted: u64) -> bool
+    requires position { looked.view.value.position ≡ published looked.heard }
+    requires length { looked.length ≡ length (entries looked.heard) }
+    requires all_ended { IsTrue looked.all_ended ↔ AllEnded history.now.terms.streams looked.heard }
+    requires shut { (why : Reason) → (looked.shut ≡ Some why) ↔ IsShutFor looked.heard why }
+{
+    if looked.view.position() >= wanted || is_over(&looked) {
+        return false;
+    }
+    history.sleep_until_views(rt, looked.heard, wanted);
+    true
 }
 
 /// How many entries the engine gets from the first on, how many there are, and whether all streams
@@ -102,21 +164,28 @@ fn get<R: Wait>(
     Some((front.entries.len(), front.length, front.all_ended))
 }
 
-/// Publishes the view over the entries so far, at most 256 of them, from scratch.
+/// Publishes the view over the entries so far, at most 256 of them, from scratch, and answers how
+/// many these are.
 fn publish<R: Wait>(
     rt: &R,
     alloc: Global,
     queries: &[QueryDef],
     history: &History,
     pass: &mut Pass,
-) -> Result<(), PublishFault>
+) -> Result<u64, PublishFault>
     requires engine { IsFeedingPass history.now pass.old }
     requires queries { (queries.now ≡ history.now.terms.queries) × (length queries.now ≡ 1) }
-    ensures { IsFeedingPass history.now pass.new }
+    ensures feeds { IsFeedingPass history.now pass.new }
+    ensures published { IfOk result (λ position. published pass.new.mine ≡ position) }
+    ensures refused { OnErr result (published pass.new.mine ≡ published pass.old.mine) }
 {
     let front = history.after(rt, alloc, pass, 0)?;
     let view = plain_view(alloc, queries, &front.entries)?;
-    history.publish(rt, pass, view)
+    let position = view.position();
+    match history.publish(rt, pass, view) {
+        Ok(()) => Ok(position),
+        Err(fault) => Err(fault),
+    }
 }
 
 /// The first three passes, of the engine, a stream and a reader.
@@ -154,7 +223,7 @@ fn tells_and_refuses<R: Wait>(
     let first = write(rt, history, stream, 5) == Ok(1);
     let full = write(rt, history, stream, 6) == Err(AppendFault::Full(1));
     let got = get(rt, alloc, history, engine) == Some((1, 1, false));
-    let published = publish(rt, alloc, queries, history, engine) == Ok(());
+    let published = publish(rt, alloc, queries, history, engine) == Ok(1);
     let behind = publish(rt, alloc, queries, history, engine) == Err(PublishFault::Behind(1));
     history.shut(rt, engine, Why::Write);
     let closed = write(rt, history, stream, 7) == Err(AppendFault::Closed(Why::Write));
@@ -163,9 +232,9 @@ fn tells_and_refuses<R: Wait>(
 }
 
 /// Whether a look found no entries, and nothing ended or shut.
-fn is_empty(found: Option<Found>) -> bool {
+fn is_empty(found: Option<LookResult>) -> bool {
     found
-        == Some(Found {
+        == Some(LookResult {
             position: 0,
             length: 0,
             all_ended: false,
@@ -174,9 +243,9 @@ fn is_empty(found: Option<Found>) -> bool {
 }
 
 /// Whether a look found one entry, published, and all ended and shut.
-fn is_of_one_entry(found: Option<Found>) -> bool {
+fn is_of_one_entry(found: Option<LookResult>) -> bool {
     found
-        == Some(Found {
+        == Some(LookResult {
             position: 1,
             length: 1,
             all_ended: true,
@@ -211,18 +280,6 @@ fn a_history_of_one_entry(rt: HostRuntime) {
     assert!(rt; one_entry(&rt, rt.alloc()));
 }
 
-/// Whether so many entries are published.
-fn are_published<R: Wait>(rt: &R, history: &History, pass: &mut Pass, count: u64) -> bool
-    requires { IsOpenPass history.now pass.old }
-    ensures open { IsOpenPass history.now pass.new }
-    ensures number { pass.new.number ≡ pass.old.number }
-{
-    match look(rt, history, pass) {
-        Some(found) => count <= found.position,
-        None => false,
-    }
-}
-
 /// Sleeps until so many entries are published, and answers whether that came.
 fn sleep_until_published<R: Wait>(rt: &R, history: &History, pass: &mut Pass, count: u64) -> bool
     requires { IsOpenPass history.now pass.old }
@@ -230,11 +287,11 @@ fn sleep_until_published<R: Wait>(rt: &R, history: &History, pass: &mut Pass, co
     ensures number { pass.new.number ≡ pass.old.number }
 {
     for _ in 0..LOOKS {
-        let heard = history.views_heard();
-        if are_published(rt, history, pass, count) {
-            return true;
+        if let Some(found) = look_and_sleep(rt, history, pass, count) {
+            if count <= found.position {
+                return true;
+            }
         }
-        history.sleep_until_views(rt, heard, count);
     }
     false
 }
@@ -270,30 +327,17 @@ fn look_to_the_end<R: Wait>(rt: &R, history: &History, pass: &mut Pass) -> bool
     ensures number { pass.new.number ≡ pass.old.number }
 {
     let mut rises = true;
-    let mut last = (0, 0);
+    let mut last: (u64, u64) = (0, 0);
     for _ in 0..LOOKS {
-        let heard = history.views_heard();
-        if let Some(found) = look(rt, history, pass) {
+        if let Some(found) = look_and_sleep(rt, history, pass, last.0.saturating_add(1)) {
             rises &= last.0 <= found.position && last.1 <= found.length;
             last = (found.position, found.length);
             if found.all_ended {
                 return rises;
             }
         }
-        history.sleep_until_views(rt, heard, last.0.saturating_add(1));
     }
     false
-}
-
-/// Whether all streams have ended.
-fn have_ended<R: Wait>(rt: &R, history: &History, pass: &mut Pass) -> bool
-    requires { IsFeedingPass history.now pass.old }
-    ensures { IsFeedingPass history.now pass.new }
-{
-    match look(rt, history, pass) {
-        Some(found) => found.all_ended,
-        None => false,
-    }
 }
 
 /// Publishes until all streams have ended, asleep while there are no more entries.
@@ -305,23 +349,43 @@ fn publish_to_the_end<R: Wait>(
     pass: &mut Pass,
 )
     requires engine { IsFeedingPass history.now pass.old }
+    requires none { published pass.old.mine ≡ 0 }
     requires queries { (queries.now ≡ history.now.terms.queries) × (length queries.now ≡ 1) }
     ensures { IsFeedingPass history.now pass.new }
 {
+    let mut count = 0;
     for _ in 0..LOOKS {
-        let heard = history.entries_heard();
-        let last = have_ended(rt, history, pass);
-        let _ = publish(rt, alloc, queries, history, pass);
-        if last {
-            break;
+        if sleep_at(rt, alloc, history, pass, count) {
+            return;
         }
-        history.sleep_until_entries(rt, heard);
+        if let Ok(position) = publish(rt, alloc, queries, history, pass) {
+            count = position;
+        }
     }
+}
+
+/// Sleeps until there are more entries than these, if there aren't and may be more, and answers
+/// whether there are no more and all streams have ended.
+fn sleep_at<R: Wait>(rt: &R, alloc: Global, history: &History, pass: &mut Pass, count: u64) -> bool
+    requires engine { IsFeedingPass history.now pass.old }
+    requires published { published pass.old.mine ≡ count }
+    ensures feeds { IsFeedingPass history.now pass.new }
+    ensures mine { pass.new.mine ≡ pass.old.mine }
+{
+    let Ok(front) = history.after(rt, alloc, pass, 0) else {
+        return false;
+    };
+    let is_all = front.length == count;
+    let all_ended = front.all_ended;
+    if is_all && !all_ended {
+        history.sleep_until_entries(rt, pass, front.heard, count);
+    }
+    is_all && all_ended
 }
 
 /// What the threads of a test do: this many streams append this many tuples each.
 #[derive(Clone, Copy)]
-struct Task {
+struct ThreadPlan {
     streams: u32,
     each: u32,
     /// Whether the engine publishes until the streams have ended, as they then do.
@@ -332,7 +396,7 @@ struct Task {
 }
 
 /// Does the part of the stream with this pass.
-fn append_as_told<R: Wait + Abort>(rt: &R, history: &History, pass: &mut Pass, task: Task)
+fn append_as_told<R: Wait + Abort>(rt: &R, history: &History, pass: &mut Pass, task: ThreadPlan)
     requires { IsOpenPass history.now pass.old }
     ensures is { IsPassOf history.now pass.new }
     ensures number { pass.new.number ≡ pass.old.number }
@@ -351,13 +415,14 @@ fn take_part<R: Wait + Abort>(
     history: &History,
     number: usize,
     pass: &mut Pass,
-    task: Task,
+    task: ThreadPlan,
 )
     requires streams { task.streams ≡ history.now.terms.streams }
     requires queries { (queries.now ≡ history.now.terms.queries) × (length queries.now ≡ 1) }
     requires is { IsPassOf history.now pass.old × (pass.old.number ≡ number) }
     requires goes_on { HasEnded pass.old.mine number → ⊥ }
     requires feeds { IsShut pass.old.mine → ⊥ }
+    requires none { published pass.old.mine ≡ 0 }
     ensures { IsPassOf history.now pass.new × (pass.new.number ≡ number) }
 {
     if number == 0 {
@@ -378,7 +443,7 @@ fn share<R: Threads + Wait + Abort + Sync>(
     queries: &[QueryDef],
     history: &History,
     passes: &mut Vec<Pass>,
-    task: Task,
+    task: ThreadPlan,
 )
     requires streams { task.streams ≡ history.now.terms.streams }
     requires queries { (queries.now ≡ history.now.terms.queries) × (length queries.now ≡ 1) }
@@ -387,7 +452,8 @@ fn share<R: Threads + Wait + Abort + Sync>(
         IsPassOf history.now (slice_index_or passes.old.items i d)
         × ((slice_index_or passes.old.items i d).number ≡ i)
         × (HasEnded (slice_index_or passes.old.items i d).mine i → ⊥)
-        × (IsShut (slice_index_or passes.old.items i d).mine → ⊥) }
+        × (IsShut (slice_index_or passes.old.items i d).mine → ⊥)
+        × (published (slice_index_or passes.old.items i d).mine ≡ 0) }
     ensures length { length passes.new.items ≡ length passes.old.items }
     ensures passes { (i : ℕ) (d : _) → i < length passes.old.items →
         IsPassOf history.now (slice_index_or passes.new.items i d)
@@ -405,6 +471,7 @@ fn share<R: Threads + Wait + Abort + Sync>(
             requires is { IsPassOf history.now pass.now × (pass.now.number ≡ number) }
             requires goes_on { HasEnded pass.now.mine number → ⊥ }
             requires feeds { IsShut pass.now.mine → ⊥ }
+            requires none { published pass.now.mine ≡ 0 }
             ensures { IsPassOf history.entry.now pass.exit.now
                 × (pass.exit.now.number ≡ number) }
         { take_part(rt, alloc, queries, history, number, pass, task) },
@@ -416,7 +483,7 @@ fn share<R: Threads + Wait + Abort + Sync>(
 fn journal_of<R: Threads + Wait + Abort + Sync>(
     rt: &R,
     alloc: Global,
-    task: Task,
+    task: ThreadPlan,
     readers: u32,
     cap: u64,
 ) -> Journal
@@ -451,20 +518,21 @@ fn are_in_order(journal: &Journal, streams: u32, each: u64) -> bool {
 
 #[test]
 fn two_streams_append_while_others_look(rt: HostRuntime) {
-    let task = Task {
+    let task = ThreadPlan {
         streams: 2,
         each: 100,
         is_published: true,
         is_in_turn: false,
     };
-    let journal = journal_of(&rt, rt.alloc(), task, 1, 200);
+    // One ring has to wake all three readers at the end.
+    let journal = journal_of(&rt, rt.alloc(), task, 3, 200);
     assert!(rt; journal.length() == 200 && journal.published() == 200);
     assert!(rt; are_in_order(&journal, 2, 100));
 }
 
 #[test]
 fn a_stream_and_the_engine_wake_each_other(rt: HostRuntime) {
-    let task = Task {
+    let task = ThreadPlan {
         streams: 1,
         each: 100,
         is_published: true,
@@ -477,7 +545,7 @@ fn a_stream_and_the_engine_wake_each_other(rt: HostRuntime) {
 
 #[test]
 fn many_streams_append(rt: HostRuntime) {
-    let task = Task {
+    let task = ThreadPlan {
         streams: 64,
         each: 50,
         is_published: false,
@@ -485,4 +553,112 @@ fn many_streams_append(rt: HostRuntime) {
     };
     let journal = journal_of(&rt, rt.alloc(), task, 0, 3200);
     assert!(rt; journal.length() == 3200 && are_in_order(&journal, 64, 50));
+}
+
+/// The first four passes, of the engine, two streams and a reader.
+fn four(rt: &impl Abort, history: &History, passes: Vec<Pass>) -> (Pass, Pass, Pass, Pass)
+    requires passes { passes.items ≡ newcomers history.now.turns.id history.now.terms 4 }
+    requires streams { 2 ≤ history.now.terms.streams }
+    ensures engine { IsFeedingPass history.now result.0 × (published result.0.mine ≡ 0) }
+    ensures one { IsOpenPass history.now result.1 }
+    ensures two { IsOpenPass history.now result.2 }
+    ensures reader { IsPassOf history.now result.3 }
+{
+    let _ = history;
+    let mut passes = passes.into_iter();
+    let engine = passes.next().expect(rt, "a pass");
+    let one = passes.next().expect(rt, "a pass");
+    let two = passes.next().expect(rt, "a pass");
+    let reader = passes.next().expect(rt, "a pass");
+    (engine, one, two, reader)
+}
+
+/// Whether the engine's sleep ends for an entry that came after its look.
+fn hears_an_entry<R: Wait>(
+    rt: &R,
+    alloc: Global,
+    history: &History,
+    engine: &mut Pass,
+    stream: &mut Pass,
+) -> bool
+    requires engine { IsFeedingPass history.now engine.old × (published engine.old.mine ≡ 0) }
+    requires stream { IsOpenPass history.now stream.old }
+    ensures engine { IsFeedingPass history.now engine.new }
+    ensures stream { IsOpenPass history.now stream.new }
+{
+    let Ok(front) = history.after(rt, alloc, engine, 0) else {
+        return false;
+    };
+    let appended = write(rt, history, stream, 1) == Ok(1);
+    if front.length != 0 || front.all_ended {
+        return false;
+    }
+    history.sleep_until_entries(rt, engine, front.heard, 0);
+    appended
+}
+
+/// Whether a reader's sleep ends for a view that was published after its look.
+fn hears_a_view<R: Wait>(
+    rt: &R,
+    alloc: Global,
+    queries: &[QueryDef],
+    history: &History,
+    engine: &mut Pass,
+    reader: &mut Pass,
+    wanted: u64,
+) -> bool
+    requires engine { IsFeedingPass history.now engine.old }
+    requires queries { (queries.now ≡ history.now.terms.queries) × (length queries.now ≡ 1) }
+    requires reader { IsPassOf history.now reader.old }
+    ensures engine { IsFeedingPass history.now engine.new }
+    ensures reader { IsPassOf history.now reader.new }
+{
+    let Ok(looked) = look_at(rt, history, reader) else {
+        return false;
+    };
+    let published = publish(rt, alloc, queries, history, engine).is_ok();
+    published & sleep_from(rt, history, looked, wanted)
+}
+
+/// Whether two sleeps, one for this position and one for a far one, end for the end of a stream
+/// that came after the looks.
+fn hears_an_end<R: Wait>(
+    rt: &R,
+    history: &History,
+    stream: &mut Pass,
+    reader: &mut Pass,
+    wanted: u64,
+) -> bool
+    requires stream { IsOpenPass history.now stream.old }
+    requires reader { IsPassOf history.now reader.old }
+    ensures reader { IsPassOf history.now reader.new }
+{
+    let Ok(near) = look_at(rt, history, reader) else {
+        return false;
+    };
+    let Ok(far) = look_at(rt, history, reader) else {
+        return false;
+    };
+    end(rt, history, stream);
+    sleep_from(rt, history, near, wanted) & sleep_from(rt, history, far, 1000)
+}
+
+/// Whether each sleep ends for what came between the look and the sleep. No other thread is there:
+/// a sleep that doesn't see it never ends.
+fn no_ring_is_lost<R: Wait + Abort>(rt: &R, alloc: Global) -> bool {
+    let (history, passes, queries) = shared_history(rt, alloc, 2, 1, 4);
+    let (mut engine, mut one, mut two, mut reader) = four(rt, &history, passes);
+    let entry = hears_an_entry(rt, alloc, &history, &mut engine, &mut one);
+    let view = hears_a_view(rt, alloc, &queries, &history, &mut engine, &mut reader, 1);
+    // Of the two who sleep here the one for the near position is still woken by the next view.
+    let end = hears_an_end(rt, &history, &mut two, &mut reader, 2);
+    let more = write(rt, &history, &mut one, 2) == Ok(2);
+    let next = hears_a_view(rt, alloc, &queries, &history, &mut engine, &mut reader, 3);
+    let last = hears_an_end(rt, &history, &mut one, &mut reader, 9);
+    entry & view & end & more & next & last
+}
+
+#[test]
+fn a_ring_after_the_look_ends_the_sleep(rt: HostRuntime) {
+    assert!(rt; no_ring_is_lost(&rt, rt.alloc()));
 }

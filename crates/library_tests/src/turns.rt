@@ -10,18 +10,18 @@ use std::thread::{Threads, for_each_mut};
 use turn_lock::{Kept, Pass, Turns};
 
 #[derive(Clone, Copy)]
-struct Entry {
+struct BookEntry {
     by: u32,
     mark: u32,
 }
 
 #[derive(Drop)]
 struct Book {
-    entries: Vec<Entry>,
+    entries: Vec<BookEntry>,
 }
 
 impl Kept for Book {
-    type Line = Entry;
+    type Line = BookEntry;
 
     type Fixed = ();
 
@@ -33,14 +33,14 @@ impl Kept for Book {
 }
 
 /// The book with one entry more, or as it was where memory ran out.
-fn with_entry(mut book: Book, entry: Entry) -> Book
+fn with_entry(mut book: Book, entry: BookEntry) -> Book
     ensures { Adds (λ e. e.by) entry.by book.entries.items result.entries.items }
 {
     let _ = book.entries.push(entry);
     book
 }
 
-fn write(rt: &impl Wait, turns: &Turns<Book>, pass: &mut Pass<Book>, entry: Entry)
+fn write(rt: &impl Wait, turns: &Turns<Book>, pass: &mut Pass<Book>, entry: BookEntry)
     requires rest { IsAtRest turns.now pass.old }
     requires own { pass.old.number ≡ entry.by }
     ensures rest { IsAtRest turns.now pass.new }
@@ -57,7 +57,7 @@ fn write_all(rt: &impl Wait, turns: &Turns<Book>, pass: &mut Pass<Book>, by: u32
     ensures own { pass.new.number ≡ by }
 {
     for mark in 0..count {
-        write(rt, turns, pass, Entry { by, mark });
+        write(rt, turns, pass, BookEntry { by, mark });
     }
 }
 

@@ -1,8 +1,8 @@
 -- An entry, answered for each query.
 use Rattle.std.proofs.Common.{◌≡◌, ℕ, zero, suc, ◌+◌, ◌<◌, ◌≤◌, ◌^◌, List, [], ◌∷◌, ◌++◌, length, map, get_or, take, drop}
-use Rattle.std.proofs.Common.{set, refl, sym, ap, subst, ◌∙◌, append_assoc, arith}
+use Rattle.std.proofs.Common.{sym, ap, subst, ◌∙◌, arith}
 use Rattle.std.specs.List.{All, AllZip}
-use Rattle.std.proofs.lemmas.List.{take_all, take_more, take_more_set, drop_more, drop_all, append-nil, map-append}
+use Rattle.std.proofs.lemmas.List.{take_all, take_more, drop_all, append-nil, map-append}
 use Rattle.std.proofs.lemmas.List.Elements.{All-nil, All-append}
 use Rattle.std.proofs.lemmas.Slice.Zip.{all_zipped_more}
 use Rattle.rpq_base.specs.declared.data.Entry.{Entry}
@@ -12,25 +12,26 @@ use Rattle.end_events.specs.Named.{named, HasNames}
 use Rattle.rpq_model.specs.QueryEvents.{AreEventsUnder}
 use Rattle.name_table.specs.Names.{KeepsNumbers}
 use Rattle.delta_forest.specs.Forest.{ForestValue}
-use Rattle.index_laws.specs.LawsOfIndexes.{StoresFollow}
 use Rattle.query_file.specs.Compiled.{CompiledValue}
-use Rattle.path_engine.specs.declared.index.Index.{Index}
-use Rattle.path_engine.specs.Engine.{IsIndexFor}
-use Rattle.path_engine.specs.Answering.{HasAnswered, HasHistory, HaveAnswered}
-use Rattle.path_engine.specs.Keeping.{KeepsForest}
-use Rattle.path_engine.proofs.Untouched.{rows_by_more}
+use Rattle.query_index.specs.IndexValue.{IndexValue}
+use Rattle.query_index.specs.IndexLaws.{MoreNamesKeepIndexes}
+use Rattle.query_index.specs.Index.{IsIndexFor}
+use Rattle.query_index.specs.Answering.{HasHistory}
+use Rattle.path_engine.specs.Front.{HaveAnswered}
+use Rattle.path_engine.specs.Keeping.{AreForestsFor}
+use Rattle.query_index.specs.Keeping.{KeepsForest}
 
 -- each query has its index over the history
-abbrev pub AreIndexes : List Entry → List (List ℕ) → List CompiledValue → List Index → Type 0
+abbrev pub AreIndexes : List Entry → List (List ℕ) → List CompiledValue → List IndexValue → Type 0
 AreIndexes history names queries indexes =
     AllZip (λ query index. IsIndexFor query history names index) queries indexes
 
-abbrev pub HaveHistories : List (List ℕ) → List CompiledValue → List Index → Type 0
+abbrev pub HaveHistories : List (List ℕ) → List CompiledValue → List IndexValue → Type 0
 HaveHistories names queries indexes =
     AllZip (λ query index. HasHistory query names index) queries indexes
 
 pub have_histories : (history : List Entry) (names : List (List ℕ))
-    (queries : List CompiledValue) (indexes : List Index) → length history ≤ 2 ^ 30 →
+    (queries : List CompiledValue) (indexes : List IndexValue) → length history ≤ 2 ^ 30 →
     AreIndexes history names queries indexes → HaveHistories names queries indexes
 have_histories history names [] [] short are = tt
 have_histories history names [] (index ∷ indexes) short are = absurd are
@@ -41,32 +42,21 @@ have_histories history names (query ∷ queries) (index ∷ indexes) short are =
 )
 
 -- more names get numbers
-pub more_named : StoresFollow → (history : List Entry) (names more : List (List ℕ))
-    (queries : List CompiledValue) (indexes : List Index) → KeepsNumbers names more →
+pub more_named : MoreNamesKeepIndexes → (history : List Entry) (names more : List (List ℕ))
+    (queries : List CompiledValue) (indexes : List IndexValue) → KeepsNumbers names more →
     AreIndexes history names queries indexes → AreIndexes history more queries indexes
-more_named follow history names more [] [] keeps are = tt
-more_named follow history names more [] (index ∷ indexes) keeps are = absurd are
-more_named follow history names more (query ∷ queries) [] keeps are = absurd are
-more_named follow history names more (query ∷ queries) (index ∷ indexes) keeps are = (
-  record {
-    size = are.0.size;
-    slide = are.0.slide;
-    time = are.0.time;
-    automaton = are.0.automaton;
-    holds = follow.more_names query.def.window history names more index.forest.dfa
-        index.forest.store keeps are.0.holds;
-    indexed = are.0.indexed;
-    unbroken = are.0.unbroken;
-    few = are.0.few;
-    rows = rows_by_more query.def.mode names more index keeps are.0.rows;
-  },
-  more_named follow history names more queries indexes keeps are.1,
+more_named law history names more [] [] keeps are = tt
+more_named law history names more [] (index ∷ indexes) keeps are = absurd are
+more_named law history names more (query ∷ queries) [] keeps are = absurd are
+more_named law history names more (query ∷ queries) (index ∷ indexes) keeps are = (
+  law query history names more index keeps are.0,
+  more_named law history names more queries indexes keeps are.1,
 )
 
 -- ---- what was answered
 
 pub each_stands : (names : List (List ℕ)) (entry : Entry) (history : List Entry) (number : ℕ)
-    (queries : List CompiledValue) (olds news : List Index) (events : List NumberedEvent) →
+    (queries : List CompiledValue) (olds news : List IndexValue) (events : List NumberedEvent) →
     AreIndexes history names queries olds →
     HaveAnswered names entry number queries olds news events →
     AreIndexes (history ++ entry ∷ []) names queries news
@@ -90,7 +80,7 @@ named_both names events own others are =
     ap (map (named names)) are ∙ map-append (named names) own others
 
 pub each_events : (names : List (List ℕ)) (entry : Entry) (history : List Entry) (number : ℕ)
-    (queries : List CompiledValue) (olds news : List Index) (events : List NumberedEvent) →
+    (queries : List CompiledValue) (olds news : List IndexValue) (events : List NumberedEvent) →
     AreIndexes history names queries olds →
     HaveAnswered names entry number queries olds news events →
     AreEventsUnder number (map (λ (each : CompiledValue). each.def) queries) history
@@ -111,11 +101,11 @@ each_events names entry history number (query ∷ queries) (old ∷ olds) (new �
       named_both names events answered.0 answered.1 answered.4,
     )
 
-abbrev pub forest_of : Index → ForestValue
+abbrev pub forest_of : IndexValue → ForestValue
 forest_of index = index.forest
 
 pub each_keeps : (names : List (List ℕ)) (entry : Entry) (number : ℕ)
-    (queries : List CompiledValue) (olds news : List Index) (events : List NumberedEvent) →
+    (queries : List CompiledValue) (olds news : List IndexValue) (events : List NumberedEvent) →
     HaveAnswered names entry number queries olds news events →
     AllZip (KeepsForest entry.tuple.act names) (map forest_of olds) (map forest_of news)
 each_keeps names entry number [] [] [] events answered = tt
@@ -128,8 +118,25 @@ each_keeps names entry number (query ∷ queries) (old ∷ olds) (new ∷ news) 
   each_keeps names entry (number + 1) queries olds news answered.1 answered.3,
 )
 
+pub each_forests : (names : List (List ℕ)) (entry : Entry) (history : List Entry) (number : ℕ)
+    (queries : List CompiledValue) (olds news : List IndexValue) (events : List NumberedEvent) →
+    AreIndexes history names queries olds →
+    HaveAnswered names entry number queries olds news events →
+    AreForestsFor queries (history ++ entry ∷ []) names (map forest_of news)
+each_forests names entry history number [] [] [] events are answered = tt
+each_forests names entry history number [] [] (new ∷ news) events are answered = absurd answered
+each_forests names entry history number [] (old ∷ olds) news events are answered = absurd are
+each_forests names entry history number (query ∷ queries) [] news events are answered = absurd are
+each_forests names entry history number (query ∷ queries) (old ∷ olds) [] events are answered =
+    absurd answered
+each_forests names entry history number (query ∷ queries) (old ∷ olds) (new ∷ news) events are
+    answered = (
+      (answered.2.forest history are.0, (answered.2.stands history are.0).indexed),
+      each_forests names entry history (number + 1) queries olds news answered.1 are.1 answered.3,
+    )
+
 pub each_numbers : (names : List (List ℕ)) (entry : Entry) (number : ℕ)
-    (queries : List CompiledValue) (olds news : List Index) (events : List NumberedEvent) →
+    (queries : List CompiledValue) (olds news : List IndexValue) (events : List NumberedEvent) →
     HaveAnswered names entry number queries olds news events →
     All (λ (e : Event). e.query < number + length queries) (map (named names) events)
 each_numbers names entry number [] [] [] events answered =
@@ -151,7 +158,7 @@ each_numbers names entry number (query ∷ queries) (old ∷ olds) (new ∷ news
     (λ k d within. omega (arith, later k d within)))
 
 pub each_named : (names : List (List ℕ)) (entry : Entry) (number : ℕ)
-    (queries : List CompiledValue) (olds news : List Index) (events : List NumberedEvent) →
+    (queries : List CompiledValue) (olds news : List IndexValue) (events : List NumberedEvent) →
     HaveAnswered names entry number queries olds news events → All (HasNames names) events
 each_named names entry number [] [] [] events answered =
     subst (All (HasNames names)) (sym {A = List NumberedEvent} answered) (All-nil (HasNames names))
@@ -163,64 +170,6 @@ each_named names entry number (query ∷ queries) (old ∷ olds) (new ∷ news) 
     subst (All (HasNames names)) (sym {A = List NumberedEvent} answered.4)
     (All-append (HasNames names) answered.0 answered.1 answered.2.have_names
     (each_named names entry (number + 1) queries olds news answered.1 answered.3))
-
--- ---- one query after another
-
--- what the queries from this place on will have answered completes what those before it have
-abbrev pub IsDone : List (List ℕ) → Entry → List CompiledValue → List Index → ℕ → List Index →
-    List NumberedEvent → Type 0
-IsDone names entry queries olds place current events = (rest : List Index) (later : List NumberedEvent) →
-    HaveAnswered names entry place (drop place queries) (drop place olds) rest later →
-    HaveAnswered names entry 0 queries olds (take place current ++ rest) (events ++ later)
-
-pub done_more : (names : List (List ℕ)) (entry : Entry) (queries : List CompiledValue)
-    (olds current : List Index) (place : ℕ) (query : CompiledValue) (old new : Index)
-    (events own : List NumberedEvent) → place < length queries → place < length olds →
-    length current ≡ length olds → query ≡ get_or queries place query →
-    old ≡ get_or olds place old → IsDone names entry queries olds place current events →
-    HasAnswered names entry place query old new own →
-    IsDone names entry queries olds (place + 1) (set current place new) (events ++ own)
-done_more names entry queries olds current place query old new events own inside within as_many
-    query_is old_is done has = λ rest later answered.
-    let Left : List CompiledValue → List Index → Type 0 = λ qs os.
-    HaveAnswered names entry place qs os (new ∷ rest) (own ++ later) in
-    let left_queries : query ∷ drop (place + 1) queries ≡ drop place queries =
-    ap (λ (q : CompiledValue). q ∷ drop (place + 1) queries) query_is
-    ∙ sym (drop_more queries place query inside) in
-    let left_olds : old ∷ drop (place + 1) olds ≡ drop place olds =
-    ap (λ (o : Index). o ∷ drop (place + 1) olds) old_is ∙ sym (drop_more olds place old within) in
-    let step : Left (query ∷ drop (place + 1) queries) (old ∷ drop (place + 1) olds) =
-    (own, later, has, answered, refl) in
-    let given : Left (drop place queries) (drop place olds) =
-    subst (λ (qs : List CompiledValue). Left qs (drop place olds)) left_queries
-    (subst (Left (query ∷ drop (place + 1) queries)) left_olds step) in
-    let all = done (new ∷ rest) (own ++ later) given in
-    let news : take place current ++ new ∷ rest ≡ take (place + 1) (set current place new) ++ rest =
-    sym (append_assoc (take place current) (new ∷ []) rest)
-    ∙ ap (λ (xs : List Index). xs ++ rest)
-    (sym (take_more_set current place new (omega (arith, within, as_many)))) in
-    subst (λ (ns : List Index).
-    HaveAnswered names entry 0 queries olds ns ((events ++ own) ++ later)) news
-    (subst (HaveAnswered names entry 0 queries olds (take place current ++ new ∷ rest))
-    (sym (append_assoc events own later)) all)
-
-pub done_all : (names : List (List ℕ)) (entry : Entry) (queries : List CompiledValue)
-    (olds current : List Index) (place : ℕ) (events : List NumberedEvent) → length queries ≤ place →
-    length olds ≤ place → length current ≡ length olds →
-    IsDone names entry queries olds place current events →
-    HaveAnswered names entry 0 queries olds current events
-done_all names entry queries olds current place events end past as_many done =
-    let Left : List CompiledValue → List Index → Type 0 = λ qs os.
-    HaveAnswered names entry place qs os [] [] in
-    let nothing : Left [] [] = refl in
-    let given : Left (drop place queries) (drop place olds) =
-    subst (λ (qs : List CompiledValue). Left qs (drop place olds)) (sym (drop_all place queries end))
-    (subst (Left []) (sym (drop_all place olds past)) nothing) in
-    let all = done [] [] given in
-    subst (λ (ns : List Index). HaveAnswered names entry 0 queries olds ns events)
-    (append-nil (take place current) ∙ take_all place current (omega (arith, past, as_many)))
-    (subst (HaveAnswered names entry 0 queries olds (take place current ++ [])) (append-nil events)
-    all)
 
 -- ---- lists in step
 
@@ -252,19 +201,6 @@ zip_map v R [] [] all = tt
 zip_map v R [] (y ∷ ys) all = absurd all
 zip_map v R (x ∷ xs) [] all = absurd all
 zip_map v R (x ∷ xs) (y ∷ ys) all = (all.0, zip_map v R xs ys all.1)
-
--- as many indexes as before
-pub answered_long : (names : List (List ℕ)) (entry : Entry) (number : ℕ)
-    (queries : List CompiledValue) (olds news : List Index) (events : List NumberedEvent) →
-    HaveAnswered names entry number queries olds news events → length news ≡ length olds
-answered_long names entry number [] [] [] events answered = refl
-answered_long names entry number [] [] (new ∷ news) events answered = absurd answered
-answered_long names entry number [] (old ∷ olds) news events answered = absurd answered
-answered_long names entry number (query ∷ queries) [] news events answered = absurd answered
-answered_long names entry number (query ∷ queries) (old ∷ olds) [] events answered =
-    absurd answered
-answered_long names entry number (query ∷ queries) (old ∷ olds) (new ∷ news) events answered =
-    ap suc (answered_long names entry (number + 1) queries olds news answered.1 answered.3)
 
 -- what a vector is whose elements were all written
 pub written_back : {A : Type 0} (xs items : List A) (len : ℕ) → length xs ≡ length items →

@@ -19,22 +19,22 @@ use Rattle.end_events.specs.Named.{named, named_lists, HasNames, HaveAllNames}
 use Rattle.rpq_model.specs.QueryEvents.{AreAllEventsFrom}
 use Rattle.dfa_table.specs.DfaValue.{DfaValue}
 use Rattle.name_table.specs.Names.{KeepsNumbers}
-use Rattle.delta_forest.specs.Forest.{ForestValue}
-use Rattle.index_laws.specs.LawsOfIndexes.{StoresFollow}
 use Rattle.query_file.specs.Compiled.{CompiledValue}
-use Rattle.path_engine.specs.declared.index.Index.{Index}
-use Rattle.path_engine.specs.declared.ends.Ends.{Ends}
+use Rattle.query_index.specs.IndexValue.{IndexValue}
+use Rattle.query_index.specs.IndexLaws.{MoreNamesKeepIndexes}
+use Rattle.path_engine.specs.declared.ends.EdgeNumbers.{EdgeNumbers}
 use Rattle.path_engine.specs.declared.front.Share.{Share}
-use Rattle.path_engine.specs.Engine.{EngineValue, IsIndexFor, StandsFor, definitions}
-use Rattle.path_engine.specs.Answering.{AreEndsFor, HasAnswered, HasHistory}
-use Rattle.path_engine.specs.Front.{AreAllEndsFor, AreAllFirstEnds, AreFirstEnds}
+use Rattle.path_engine.specs.Engine.{EngineValue, StandsFor, definitions, forests}
+use Rattle.query_index.specs.Index.{IsIndexFor}
+use Rattle.path_engine.specs.Ends.{AreEndsFor}
+use Rattle.query_index.specs.Answering.{HasAnswered, HasHistory}
+use Rattle.path_engine.specs.Ends.{AreAllEndsFor, AreAllFirstEnds, AreFirstEnds}
 use Rattle.path_engine.specs.Front.{AreGathered, AreInPlace, AreReady, HasAnsweredAll, HasFed}
 use Rattle.path_engine.specs.Front.{HasHistoryFor, HaveAnsweredAll, HaveFed, IsFed, joined, put_at}
 use Rattle.path_engine.specs.Feeding.{FeedsFront}
-use Rattle.path_engine.specs.Keeping.{BringsNoName, KeepsForest, KeepsForestAll}
-use Rattle.path_engine.specs.Keeping.{KeepsPlacesAll}
-use Rattle.path_engine.proofs.Each.{AreIndexes, each_events, each_keeps}
-use Rattle.path_engine.proofs.Each.{each_named, each_numbers, each_stands, more_named}
+use Rattle.path_engine.specs.Keeping.{BringsNoName, KeepForestsThrough}
+use Rattle.path_engine.proofs.Each.{AreIndexes, each_events, each_forests, each_keeps}
+use Rattle.path_engine.proofs.Each.{each_named, each_numbers, each_stands, forest_of, more_named}
 
 pub on_ok : {T E : Type 0} (P Q : Type 0) → (P → Q) → (result : Result T E) → OnOk result P →
     OnOk result Q
@@ -130,9 +130,10 @@ zip_both R (first ∷ xs) (second ∷ ys) (suc place) x y all inside =
 
 -- the numbers of the entries' edges, for one of the queries
 pub ends_at : (names : List (List ℕ)) (queries : List CompiledValue) (entries : List Entry)
-    (ends : List (Option Ends)) (number : ℕ) (query : CompiledValue) → number < length queries →
+    (ends : List (Option EdgeNumbers)) (number : ℕ) (query : CompiledValue) →
+    number < length queries →
     query ≡ get_or queries number query → AreAllEndsFor names queries entries ends →
-    AllZip (λ (entry : Entry) (own : Option Ends).
+    AllZip (λ (entry : Entry) (own : Option EdgeNumbers).
     AreEndsFor names number query.dfa entry.tuple.act own) entries ends
 ends_at names queries [] [] number query inside is all = tt
 ends_at names queries [] (own ∷ ends) number query inside is all = absurd all
@@ -145,7 +146,7 @@ ends_at names queries (entry ∷ entries) (own ∷ ends) number query inside is 
 -- ---- one query, entry after entry
 
 pub answered_all_long : (names : List (List ℕ)) (entries : List Entry) (number : ℕ)
-    (query : CompiledValue) (old new : Index) (owns : List (List NumberedEvent)) →
+    (query : CompiledValue) (old new : IndexValue) (owns : List (List NumberedEvent)) →
     HasAnsweredAll names entries number query old new owns → length owns ≡ length entries
 answered_all_long names [] number query old new [] answered = refl
 answered_all_long names [] number query old new (own ∷ owns) answered = absurd answered
@@ -155,13 +156,13 @@ answered_all_long names (entry ∷ entries) number query old new (own ∷ owns) 
 
 -- one entry more
 pub one_more : (names : List (List ℕ)) (entries : List Entry) (entry : Entry) (number : ℕ)
-    (query : CompiledValue) (old middle new : Index) (owns : List (List NumberedEvent)) (own : List NumberedEvent) →
+    (query : CompiledValue) (old middle new : IndexValue) (owns : List (List NumberedEvent)) (own : List NumberedEvent) →
     HasAnsweredAll names entries number query old middle owns →
     HasAnswered names entry number query middle new own →
     HasAnsweredAll names (entries ++ entry ∷ []) number query old new (owns ++ own ∷ [])
 one_more names [] entry number query old middle new [] own answered has = (
   new,
-  subst (λ (index : Index). HasAnswered names entry number query index new own)
+  subst (λ (index : IndexValue). HasAnswered names entry number query index new own)
       {x = middle} {y = old} answered has,
   refl,
 )
@@ -177,12 +178,12 @@ one_more names (first ∷ entries) entry number query old middle new (one ∷ ow
 
 -- the index is that of the history with the entries behind
 pub all_stands : (names : List (List ℕ)) (entries : List Entry) (number : ℕ)
-    (query : CompiledValue) (old new : Index) (owns : List (List NumberedEvent)) (history : List Entry) →
+    (query : CompiledValue) (old new : IndexValue) (owns : List (List NumberedEvent)) (history : List Entry) →
     HasAnsweredAll names entries number query old new owns →
     IsIndexFor query history names old → IsIndexFor query (history ++ entries) names new
 all_stands names [] number query old new [] history answered is =
     subst (λ (h : List Entry). IsIndexFor query h names new) (sym (append-nil history))
-    (subst (IsIndexFor query history names) (sym {A = Index} answered) is)
+    (subst (IsIndexFor query history names) (sym {A = IndexValue} answered) is)
 all_stands names [] number query old new (own ∷ owns) history answered is = absurd answered
 all_stands names (entry ∷ entries) number query old new [] history answered is = absurd answered
 all_stands names (entry ∷ entries) number query old new (own ∷ owns) history answered is =
@@ -193,7 +194,7 @@ all_stands names (entry ∷ entries) number query old new (own ∷ owns) history
 
 -- before the entry at this place the index is that of a history
 pub history_at : (names : List (List ℕ)) (entries : List Entry) (place number : ℕ)
-    (query : CompiledValue) (old new : Index) (owns : List (List NumberedEvent)) →
+    (query : CompiledValue) (old new : IndexValue) (owns : List (List NumberedEvent)) →
     HasHistoryFor (length entries) query names old → place < length entries →
     HasAnsweredAll names (take place entries) number query old new owns →
     HasHistory query names new
@@ -212,14 +213,14 @@ history_at names entries place number query old new owns has inside answered = r
 -- ---- a query beside others
 
 pub beside : (names : List (List ℕ)) (entries : List Entry) (number : ℕ) (query : CompiledValue)
-    (old new : Index) (queries : List CompiledValue) (olds news : List Index)
+    (old new : IndexValue) (queries : List CompiledValue) (olds news : List IndexValue)
     (owns others : List (List NumberedEvent)) →
     HasAnsweredAll names entries number query old new owns →
     HaveAnsweredAll names entries (number + 1) queries olds news others →
     HaveAnsweredAll names entries number (query ∷ queries) (old ∷ olds) (new ∷ news)
     (joined owns others)
 beside names [] number query old new queries olds news [] [] has have =
-    ap₂ (λ (index : Index) (indexes : List Index). index ∷ indexes) has have
+    ap₂ (λ (index : IndexValue) (indexes : List IndexValue). index ∷ indexes) has have
 beside names [] number query old new queries olds news (own ∷ owns) others has have = absurd has
 beside names [] number query old new queries olds news [] (other ∷ others) has have = absurd have
 beside names (entry ∷ entries) number query old new queries olds news [] others has have =
@@ -252,12 +253,12 @@ joined_with_nothing (entry ∷ entries) (own ∷ owns) less =
 
 -- ---- shares
 
-abbrev pub index_of : Share → Index
+abbrev pub index_of : Share → IndexValue
 index_of share = share.index
 
 ready_at : (more : ℕ) (names : List (List ℕ)) (queries : List CompiledValue)
     (shares : List Share) (place : ℕ) (query : CompiledValue) (d : Share) →
-    AllZip (λ (each : CompiledValue) (index : Index). HasHistoryFor more each names index)
+    AllZip (λ (each : CompiledValue) (index : IndexValue). HasHistoryFor more each names index)
     queries (map index_of shares) → place < length shares → query ≡ get_or queries place query →
     HasHistoryFor more query names (get_or shares place d).index
 ready_at more names [] [] place query d have below is = absurd (omega (arith, below))
@@ -271,12 +272,12 @@ ready_at more names (first ∷ queries) (share ∷ shares) (suc place) query d h
 -- each share is ready for the query in its place
 pub are_ready : (more : ℕ) (names : List (List ℕ)) (queries : List CompiledValue)
     (shares : List Share) →
-    AllZip (λ (query : CompiledValue) (index : Index). HasHistoryFor more query names index)
+    AllZip (λ (query : CompiledValue) (index : IndexValue). HasHistoryFor more query names index)
     queries (map index_of shares) → AreInPlace shares → AreReady more queries names shares
 are_ready more names queries shares have own k d below =
     let long : length (map index_of shares) ≡ length queries =
     AllZip-long
-    (λ (query : CompiledValue) (index : Index). HasHistoryFor more query names index) queries
+    (λ (query : CompiledValue) (index : IndexValue). HasHistoryFor more query names index) queries
     (map index_of shares) have in
     record {
       inside = omega (arith, own k d below, below, long, length-map shares index_of);
@@ -308,14 +309,14 @@ in_place_more shares all share is next own k d below =
 
 -- there are as many shares as queries
 pub as_many_shares : (more : ℕ) (names : List (List ℕ)) (queries : List CompiledValue)
-    (indexes : List Index) (shares : List Share) →
-    AllZip (λ (query : CompiledValue) (index : Index). HasHistoryFor more query names index)
+    (indexes : List IndexValue) (shares : List Share) →
+    AllZip (λ (query : CompiledValue) (index : IndexValue). HasHistoryFor more query names index)
     queries indexes → map index_of shares ≡ indexes → length shares ≡ length queries
 as_many_shares more names queries indexes shares have is =
     sym (length-map shares index_of)
-    ∙ (ap (λ (all : List Index). length all) is
+    ∙ (ap (λ (all : List IndexValue). length all) is
     ∙ AllZip-long
-    (λ (query : CompiledValue) (index : Index). HasHistoryFor more query names index) queries
+    (λ (query : CompiledValue) (index : IndexValue). HasHistoryFor more query names index) queries
     indexes have)
 
 -- one more element of a list was written
@@ -444,13 +445,13 @@ gathered names entries (query ∷ queries) (old ∷ olds) (new ∷ news) events 
 -- ---- what was answered
 
 pub front_stands : (names : List (List ℕ)) (entries : List Entry) (history : List Entry)
-    (queries : List CompiledValue) (olds news : List Index) (events : List (List NumberedEvent)) →
+    (queries : List CompiledValue) (olds news : List IndexValue) (events : List (List NumberedEvent)) →
     AreIndexes history names queries olds →
     HaveAnsweredAll names entries 0 queries olds news events →
     AreIndexes (history ++ entries) names queries news
 front_stands names [] history queries olds news [] are answered =
     subst (λ (h : List Entry). AreIndexes h names queries news) (sym (append-nil history))
-    (subst (AreIndexes history names queries) (sym {A = List Index} answered) are)
+    (subst (AreIndexes history names queries) (sym {A = List IndexValue} answered) are)
 front_stands names [] history queries olds news (own ∷ events) are answered = absurd answered
 front_stands names (entry ∷ entries) history queries olds news [] are answered = absurd answered
 front_stands names (entry ∷ entries) history queries olds news (own ∷ events) are answered =
@@ -460,7 +461,7 @@ front_stands names (entry ∷ entries) history queries olds news (own ∷ events
     (each_stands names entry history 0 queries olds answered.0 own are answered.1) answered.2)
 
 pub front_events : (names : List (List ℕ)) (entries : List Entry) (history : List Entry)
-    (queries : List CompiledValue) (olds news : List Index) (events : List (List NumberedEvent)) →
+    (queries : List CompiledValue) (olds news : List IndexValue) (events : List (List NumberedEvent)) →
     AreIndexes history names queries olds →
     HaveAnsweredAll names entries 0 queries olds news events →
     AreAllEventsFrom (map (λ (each : CompiledValue). each.def) queries) history entries
@@ -474,50 +475,30 @@ front_events names (entry ∷ entries) history queries olds news (own ∷ events
       (each_stands names entry history 0 queries olds answered.0 own are answered.1) answered.2,
 )
 
-abbrev forest_of : Index → ForestValue
-forest_of index = index.forest
-
-abbrev pub act_of : Entry → Act
-act_of entry = entry.tuple.act
-
-keeps_none : (names : List (List ℕ)) (forests : List ForestValue) →
-    AllZip (KeepsForestAll [] names) forests forests
-keeps_none names [] = tt
-keeps_none names (forest ∷ forests) = (refl, keeps_none names forests)
-
-keeps_more : (names : List (List ℕ)) (act : Act) (acts : List Act)
-    (olds middles news : List ForestValue) → AllZip (KeepsForest act names) olds middles →
-    AllZip (KeepsForestAll acts names) middles news →
-    AllZip (KeepsForestAll (act ∷ acts) names) olds news
-keeps_more names act acts [] [] [] one more = tt
-keeps_more names act acts [] [] (new ∷ news) one more = absurd more
-keeps_more names act acts [] (middle ∷ middles) news one more = absurd one
-keeps_more names act acts (old ∷ olds) [] news one more = absurd one
-keeps_more names act acts (old ∷ olds) (middle ∷ middles) [] one more = absurd more
-keeps_more names act acts (old ∷ olds) (middle ∷ middles) (new ∷ news) one more =
-    ((middle, one.0, more.0), keeps_more names act acts olds middles news one.1 more.1)
-
-pub front_keeps : (names : List (List ℕ)) (entries : List Entry)
-    (queries : List CompiledValue) (olds news : List Index) (events : List (List NumberedEvent)) →
+-- with each entry the forests keep what they have, and then they are those of the history with it
+pub front_keeps : (names : List (List ℕ)) (entries : List Entry) (history : List Entry)
+    (queries : List CompiledValue) (olds news : List IndexValue) (events : List (List NumberedEvent)) →
+    AreIndexes history names queries olds →
     HaveAnsweredAll names entries 0 queries olds news events →
-    AllZip (KeepsForestAll (map act_of entries) names) (map forest_of olds) (map forest_of news)
-front_keeps names [] queries olds news [] answered =
-    subst (λ (all : List Index). AllZip (KeepsForestAll [] names) (map forest_of olds) (map forest_of all))
-    (sym {A = List Index} answered) (keeps_none names (map forest_of olds))
-front_keeps names [] queries olds news (own ∷ events) answered = absurd answered
-front_keeps names (entry ∷ entries) queries olds news [] answered = absurd answered
-front_keeps names (entry ∷ entries) queries olds news (own ∷ events) answered =
-    keeps_more names entry.tuple.act (map act_of entries) (map forest_of olds)
-    (map forest_of answered.0) (map forest_of news)
-    (each_keeps names entry 0 queries olds answered.0 own answered.1)
-    (front_keeps names entries queries answered.0 news events answered.2)
+    KeepForestsThrough entries queries names history (map forest_of olds) (map forest_of news)
+front_keeps names [] history queries olds news [] are answered =
+    ap (map forest_of) {x = news} {y = olds} answered
+front_keeps names [] history queries olds news (own ∷ events) are answered = absurd answered
+front_keeps names (entry ∷ entries) history queries olds news [] are answered = absurd answered
+front_keeps names (entry ∷ entries) history queries olds news (own ∷ events) are answered = (
+  map forest_of answered.0,
+  each_keeps names entry 0 queries olds answered.0 own answered.1,
+  each_forests names entry history 0 queries olds answered.0 own are answered.1,
+  front_keeps names entries (history ++ entry ∷ []) queries answered.0 news events
+      (each_stands names entry history 0 queries olds answered.0 own are answered.1) answered.2,
+)
 
 all_more : {A : Type 0} (P : A → Type 0) (x : A) (xs : List A) → P x → All P xs → All P (x ∷ xs)
 all_more P x xs one more zero d within = one
 all_more P x xs one more (suc k) d within = more k d (omega (arith, within))
 
 pub front_numbers : (names : List (List ℕ)) (entries : List Entry)
-    (queries : List CompiledValue) (olds news : List Index) (events : List (List NumberedEvent)) →
+    (queries : List CompiledValue) (olds news : List IndexValue) (events : List (List NumberedEvent)) →
     HaveAnsweredAll names entries 0 queries olds news events →
     All (λ (own : List Event). All (λ (e : Event). e.query < length queries) own)
     (map (map (named names)) events)
@@ -532,7 +513,7 @@ front_numbers names (entry ∷ entries) queries olds news (own ∷ events) answe
     (λ k d within. omega (arith, one k d within)) more
 
 pub front_named : (names : List (List ℕ)) (entries : List Entry)
-    (queries : List CompiledValue) (olds news : List Index) (events : List (List NumberedEvent)) →
+    (queries : List CompiledValue) (olds news : List IndexValue) (events : List (List NumberedEvent)) →
     HaveAnsweredAll names entries 0 queries olds news events → All (All (HasNames names)) events
 front_named names [] queries olds news [] answered = λ k d within. absurd (omega (arith, within))
 front_named names [] queries olds news (own ∷ events) answered = absurd answered
@@ -562,7 +543,7 @@ lists_have_names names lists all = λ k d within.
 -- ---- names that grew
 
 pub ends_of_more : (names more : List (List ℕ)) (number : ℕ) (dfa : DfaValue) (act : Act)
-    (ends : Option Ends) → KeepsNumbers names more → AreFirstEnds names number dfa act ends →
+    (ends : Option EdgeNumbers) → KeepsNumbers names more → AreFirstEnds names number dfa act ends →
     AreFirstEnds more number dfa act ends
 ends_of_more names more number dfa (Insert edge until) (Some ends) keeps are = record {
   from = keeps edge.from ends.from are.from;
@@ -574,7 +555,7 @@ ends_of_more names more number dfa (Delete edge) ends keeps are = tt
 ends_of_more names more number dfa Tick ends keeps are = tt
 
 pub all_ends_more : (names more : List (List ℕ)) (queries : List CompiledValue)
-    (entries : List Entry) (ends : List (Option Ends)) → KeepsNumbers names more →
+    (entries : List Entry) (ends : List (Option EdgeNumbers)) → KeepsNumbers names more →
     AreAllFirstEnds names queries entries ends → AreAllFirstEnds more queries entries ends
 all_ends_more names more queries [] [] keeps are = tt
 all_ends_more names more queries [] (own ∷ ends) keeps are = absurd are
@@ -589,21 +570,21 @@ all_ends_more names more queries (entry ∷ entries) (own ∷ ends) keeps are = 
 -- ---- the engine
 
 -- the indexes over some short history, by the numbers of more names
-pub histories_for : StoresFollow → (engine : EngineValue) (history : List Entry)
+pub histories_for : MoreNamesKeepIndexes → (engine : EngineValue) (history : List Entry)
     (names : List (List ℕ)) (more : ℕ) → StandsFor engine history →
     engine.position + more ≤ 2 ^ 30 → KeepsNumbers engine.names names →
-    AllZip (λ (query : CompiledValue) (index : Index). HasHistoryFor more query names index)
+    AllZip (λ (query : CompiledValue) (index : IndexValue). HasHistoryFor more query names index)
     engine.queries engine.indexes
-histories_for follow engine history names more stands short kept =
+histories_for law engine history names more stands short kept =
     are_for history names more engine.queries engine.indexes
     (omega (arith, stands.counted, short))
-    (more_named follow history engine.names names engine.queries engine.indexes kept
+    (more_named law history engine.names names engine.queries engine.indexes kept
     stands.indexes)
   where
     are_for : (history : List Entry) (names : List (List ℕ)) (more : ℕ)
-        (queries : List CompiledValue) (indexes : List Index) → length history + more ≤ 2 ^ 30 →
+        (queries : List CompiledValue) (indexes : List IndexValue) → length history + more ≤ 2 ^ 30 →
         AreIndexes history names queries indexes →
-        AllZip (λ (query : CompiledValue) (index : Index). HasHistoryFor more query names index)
+        AllZip (λ (query : CompiledValue) (index : IndexValue). HasHistoryFor more query names index)
         queries indexes
     are_for history names more [] [] short are = tt
     are_for history names more [] (index ∷ indexes) short are = absurd are
@@ -613,7 +594,7 @@ histories_for follow engine history names more stands short kept =
       are_for history names more queries indexes short are.1,
     )
 
-module _ (follow : StoresFollow) (old new : EngineValue) (entries : List Entry)
+module _ (law : MoreNamesKeepIndexes) (old new : EngineValue) (entries : List Entry)
     (events : List (List NumberedEvent))
     (queries : new.queries ≡ old.queries) (position : new.position ≡ old.position + length entries)
     (unspent : new.spent ≡ false) (kept : KeepsNumbers old.names new.names)
@@ -623,7 +604,7 @@ module _ (follow : StoresFollow) (old new : EngineValue) (entries : List Entry)
     over : (history : List Entry) → StandsFor old history →
         AreIndexes history new.names old.queries old.indexes
     over history stands =
-        more_named follow history old.names new.names old.queries old.indexes kept stands.indexes
+        more_named law history old.names new.names old.queries old.indexes kept stands.indexes
 
     pub front_fed_stands : (history : List Entry) → StandsFor old history →
         StandsFor new (history ++ entries)
@@ -643,11 +624,11 @@ module _ (follow : StoresFollow) (old new : EngineValue) (entries : List Entry)
         front_events new.names entries history old.queries old.indexes new.indexes events
         (over history stands) answered
 
-    front_fed_keeps : KeepsPlacesAll (map act_of entries) old new
-    front_fed_keeps = record {
-      names = kept;
-      forests = front_keeps new.names entries old.queries old.indexes new.indexes events answered;
-    }
+    front_fed_keeps : (history : List Entry) → StandsFor old history →
+        KeepForestsThrough entries old.queries new.names history (forests old) (forests new)
+    front_fed_keeps history stands =
+        front_keeps new.names entries history old.queries old.indexes new.indexes events
+        (over history stands) answered
 
     front_fed_numbers :
         All (λ (own : List Event). All (λ (e : Event). e.query < length old.queries) own)
@@ -663,6 +644,7 @@ module _ (follow : StoresFollow) (old new : EngineValue) (entries : List Entry)
       stands = front_fed_stands;
       events = front_fed_events;
       keeps = front_fed_keeps;
+      known = kept;
       names = same;
       numbers = front_fed_numbers;
       position = position;

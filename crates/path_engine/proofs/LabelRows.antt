@@ -24,8 +24,8 @@ use Rattle.rpq_base.proofs.Places.{label_at_place, no_place}
 use Rattle.dfa_table.specs.DfaValue.{DfaValue, place_of}
 use Rattle.index_laws.specs.Numbered.{AreNumbersOf}
 use Rattle.query_file.specs.Compiled.{CompiledValue}
-use Rattle.path_engine.specs.declared.ends.Ends.{Ends}
-use Rattle.path_engine.specs.Answering.{AreEndsForEach, AreEndsIn, AreEndsOf}
+use Rattle.path_engine.specs.declared.ends.EdgeNumbers.{EdgeNumbers}
+use Rattle.path_engine.specs.Ends.{AreEndsForEach, AreEndsIn, AreEndsOf}
 use Rattle.path_engine.specs.Labels.{AddsRows, AreRows, IsStrange, IsTableOf, Table, row_at, row_for}
 
 abbrev items_of : Option (Vec (Option ℕ) Global) → Option (List (Option ℕ))
@@ -211,7 +211,7 @@ module _ (queries : List CompiledValue) (table : Table) (is : IsTableOf queries 
       sym has.label ∙ strange_to none number query inside query_is in absurd cc
 
   -- the label has this row
-  ends_in : (row : List (Option ℕ)) (ends : Ends) → row_at table edge.label ≡ Some row →
+  ends_in : (row : List (Option ℕ)) (ends : EdgeNumbers) → row_at table edge.label ≡ Some row →
       AreEndsOf names edge row ends → (number : ℕ) (query : CompiledValue) →
       number < length queries → query ≡ get_or queries number query →
       AreEndsIn names number query.dfa edge ends
@@ -226,13 +226,13 @@ module _ (queries : List CompiledValue) (table : Table) (is : IsTableOf queries 
         (sym {A = CompiledValue} query_is));
   }
 
-  pub known_insert : (until : Option ℕ) (row : List (Option ℕ)) (ends : Ends) →
+  pub known_insert : (until : Option ℕ) (row : List (Option ℕ)) (ends : EdgeNumbers) →
       row_at table edge.label ≡ Some row → AreEndsOf names edge row ends →
       AreEndsForEach names queries (Insert edge until) (Some ends)
   known_insert until row ends row_is are = λ number query inside query_is.
       ends_in row ends row_is are number query inside query_is
 
-  pub known_delete : (row : List (Option ℕ)) (ends : Ends) →
+  pub known_delete : (row : List (Option ℕ)) (ends : EdgeNumbers) →
       row_at table edge.label ≡ Some row → AreEndsOf names edge row ends →
       AreEndsForEach names queries (Delete edge) (Some ends)
   known_delete row ends row_is are = λ number query inside query_is.

@@ -1,18 +1,9 @@
-pub mod Telling
-pub mod Untouched
-pub mod Small
-pub mod Stepping
-pub mod Kept
-pub mod Answered
-pub mod Each
-pub mod Choosing
-pub mod LabelRows
-pub mod Rows
-pub mod Shown
-pub mod Starting
-pub mod Still
-pub mod Feeding
-pub mod Fronts
-pub mod Dealing
-pub mod Anew
-pub mod BestPaths
+mod Each
+mod Choosing
+mod LabelRows
+mod Still
+mod Feeding
+mod Fronts
+mod Dealing
+mod Anew
+mod Staying

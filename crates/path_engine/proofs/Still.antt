@@ -3,45 +3,16 @@ use Rattle.std.proofs.Common.{◌≡◌, ℕ, zero, suc, ◌<◌, List, [], ◌�
 use Rattle.std.specs.List.{AllZip}
 use Rattle.std.proofs.lemmas.List.{length-map}
 use Rattle.rpq_base.specs.declared.data.Entry.{Entry}
-use Rattle.window_clock.specs.Clock.{ClockValue}
-use Rattle.delta_forest.specs.Forest.{ForestValue, IsIndexed}
-use Rattle.index_laws.specs.Index.{HoldsStoreOf}
+use Rattle.delta_forest.specs.Forest.{ForestValue}
 use Rattle.query_file.specs.Compiled.{CompiledValue}
-use Rattle.path_engine.specs.declared.index.Index.{Index}
-use Rattle.path_engine.specs.Answering.{HasHistory}
-use Rattle.path_engine.specs.Engine.{EngineValue, IsIndexFor, StandsFor}
-use Rattle.path_engine.specs.Shown.{HasRows}
-use Rattle.path_engine.specs.Showing.{StandStill, StandsStill}
+use Rattle.query_index.specs.Answering.{HasHistory}
+use Rattle.query_index.specs.Index.{IsIndexFor}
+use Rattle.query_index.specs.IndexValue.{IndexValue}
+use Rattle.query_index.specs.Showing.{StandsStill}
+use Rattle.query_index.proofs.Still.{history_still}
+use Rattle.path_engine.specs.Engine.{EngineValue, StandsFor}
+use Rattle.path_engine.specs.Showing.{StandStill}
 use Rattle.path_engine.proofs.Each.{HaveHistories, forest_of}
-
--- ---- one index
-
-pub stands_still : (query : CompiledValue) (names : List (List ℕ)) (old new : Index) →
-    new.clock ≡ old.clock → new.forest ≡ old.forest → HasRows query.def.mode names new →
-    StandsStill query names old new
-stands_still query names old new clock forest rows = record {
-  forest = forest;
-  stands = λ history is. record {
-    size = ap (λ (each : ClockValue). each.size) clock ∙ is.size;
-    slide = ap (λ (each : ClockValue). each.slide) clock ∙ is.slide;
-    time = ap (λ (each : ClockValue). each.clock) clock ∙ is.time;
-    automaton = ap (λ (each : ForestValue). each.dfa) forest ∙ is.automaton;
-    holds = subst (λ (each : ForestValue).
-        HoldsStoreOf query.def.window history names each.dfa each.store) (sym forest) is.holds;
-    indexed = subst IsIndexed (sym forest) is.indexed;
-    unbroken = ap (λ (each : ForestValue). each.broken) forest ∙ is.unbroken;
-    few = omega (arith, ap (λ (each : ForestValue). each.calls) forest, is.few);
-    rows = rows;
-  };
-}
-
-pub history_still : (query : CompiledValue) (names : List (List ℕ)) (old new : Index) →
-    StandsStill query names old new → HasHistory query names old → HasHistory query names new
-history_still query names old new still has = record {
-  history = has.history;
-  short = has.short;
-  is = still.stands has.history has.is;
-}
 
 -- ---- an index among others
 
@@ -63,24 +34,24 @@ zip_set R (first ∷ xs) (second ∷ ys) (suc place) x old new all x_is old_is i
 )
 
 -- the forests, where one index keeps its own
-forests_set : (indexes : List Index) (place : ℕ) (old new : Index) →
+forests_set : (indexes : List IndexValue) (place : ℕ) (old new : IndexValue) →
     old ≡ get_or indexes place old → place < length indexes → new.forest ≡ old.forest →
     map forest_of (set indexes place new) ≡ map forest_of indexes
 forests_set [] place old new old_is inside same = absurd (omega (arith, inside))
 forests_set (first ∷ rest) zero old new old_is inside same =
     ap (λ (forest : ForestValue). forest ∷ map forest_of rest)
-    (same ∙ ap (λ (index : Index). index.forest) old_is)
+    (same ∙ ap (λ (index : IndexValue). index.forest) old_is)
 forests_set (first ∷ rest) (suc place) old new old_is inside same =
     ap (λ (forests : List ForestValue). first.forest ∷ forests)
     (forests_set rest place old new old_is (omega (arith, inside)) same)
 
 -- nothing was done yet
-pub all_still : (queries : List CompiledValue) (names : List (List ℕ)) (indexes : List Index) →
+pub all_still : (queries : List CompiledValue) (names : List (List ℕ)) (indexes : List IndexValue) →
     StandStill queries names indexes indexes
 all_still queries names indexes = record { forests = refl; stand = λ history are. are }
 
-module _ (queries : List CompiledValue) (names : List (List ℕ)) (olds current : List Index)
-    (place : ℕ) (query : CompiledValue) (old new : Index) (inside : place < length queries)
+module _ (queries : List CompiledValue) (names : List (List ℕ)) (olds current : List IndexValue)
+    (place : ℕ) (query : CompiledValue) (old new : IndexValue) (inside : place < length queries)
     (within : place < length current) (query_is : query ≡ get_or queries place query)
     (old_is : old ≡ get_or current place old) (still : StandsStill query names old new) where
   -- one index more
@@ -89,7 +60,7 @@ module _ (queries : List CompiledValue) (names : List (List ℕ)) (olds current 
   still_more so_far = record {
     forests = forests_set current place old new old_is within still.forest ∙ so_far.forests;
     stand = λ history are.
-        zip_set (λ (each : CompiledValue) (index : Index). IsIndexFor each history names index)
+        zip_set (λ (each : CompiledValue) (index : IndexValue). IsIndexFor each history names index)
         queries current place query old new (so_far.stand history are) query_is old_is inside
         (still.stands history);
   }
@@ -97,14 +68,14 @@ module _ (queries : List CompiledValue) (names : List (List ℕ)) (olds current 
   pub histories_more : HaveHistories names queries current →
       HaveHistories names queries (set current place new)
   histories_more have =
-      zip_set (λ (each : CompiledValue) (index : Index). HasHistory each names index) queries
+      zip_set (λ (each : CompiledValue) (index : IndexValue). HasHistory each names index) queries
       current place query old new have query_is old_is inside
       (history_still query names old new still)
 
 -- ---- the engine
 
 -- where its indexes stand for what they stood for, so does it
-pub engine_still : (engine : EngineValue) (news : List Index) →
+pub engine_still : (engine : EngineValue) (news : List IndexValue) →
     StandStill engine.queries engine.names engine.indexes news → (history : List Entry) →
     StandsFor engine history → StandsFor (record engine { indexes = news }) history
 engine_still engine news still history stands = record {
@@ -115,7 +86,7 @@ engine_still engine news still history stands = record {
 }
 
 -- there are as many
-pub still_long : (queries : List CompiledValue) (names : List (List ℕ)) (olds news : List Index) →
+pub still_long : (queries : List CompiledValue) (names : List (List ℕ)) (olds news : List IndexValue) →
     StandStill queries names olds news → length news ≡ length olds
 still_long queries names olds news still =
     sym (length-map news forest_of)

@@ -1,76 +1,57 @@
 -- How the entries of a front are answered. No public contract cites this file.
 use Rattle.std.specs.Prelude.{◌≡◌, ℕ, zero, suc, ◌+◌, ◌^◌, ◌<◌, ◌≤◌}
 use Rattle.std.specs.Prelude.{List, [], ◌∷◌, ◌++◌, length, map, slice_index_or}
-use Rattle.std.specs.Prelude.{Option, Ok, IfOk}
+use Rattle.std.specs.Prelude.{Ok, IfOk}
 use Rattle.std.specs.Global.{Global}
 use Rattle.std.specs.declared.vec.Vec.{Vec}
 use Rattle.std.specs.List.{All, AllZip}
-use Rattle.rpq_base.specs.declared.data.Act.{Act}
-use Rattle.rpq_base.specs.declared.data.Act.TheVariants.{Insert, Delete, Tick}
 use Rattle.rpq_base.specs.declared.data.Entry.{Entry}
 use Rattle.end_events.specs.declared.numbered_event.NumberedEvent.{NumberedEvent}
-use Rattle.dfa_table.specs.DfaValue.{DfaValue}
 use Rattle.query_file.specs.Compiled.{CompiledValue}
-use Rattle.path_engine.specs.declared.index.Index.{Index}
-use Rattle.path_engine.specs.declared.ends.Ends.{Ends}
+use Rattle.query_index.specs.Answering.{HasAnswered}
+use Rattle.query_index.specs.Index.{IsIndexFor}
+use Rattle.query_index.specs.IndexValue.{IndexValue}
 use Rattle.path_engine.specs.declared.front.Share.{Share}
-use Rattle.path_engine.specs.Engine.{IsIndexFor}
-use Rattle.path_engine.specs.Answering.{AreEndsFor, AreEndsForEach, HasAnswered, HaveAnswered}
-
--- the numbers of an insert's edge, and anything for another act: more names leave this so
-abbrev pub AreFirstEnds : List (List ℕ) → ℕ → DfaValue → Act → Option Ends → Type 0
-AreFirstEnds names number dfa (Insert edge until) ends =
-    AreEndsFor names number dfa (Insert edge until) ends
-AreFirstEnds names number dfa (Delete edge) ends = Unit {0}
-AreFirstEnds names number dfa Tick ends = Unit {0}
-
--- they are so for each of these queries
-abbrev pub AreFirstEndsForEach : List (List ℕ) → List CompiledValue → Act → Option Ends → Type 0
-AreFirstEndsForEach names queries act ends = (number : ℕ) (query : CompiledValue) →
-    number < length queries → query ≡ slice_index_or queries number query →
-    AreFirstEnds names number query.dfa act ends
-
--- and for each entry
-abbrev pub AreAllFirstEnds : List (List ℕ) → List CompiledValue → List Entry →
-    List (Option Ends) → Type 0
-AreAllFirstEnds names queries entries ends =
-    AllZip (λ (entry : Entry) (own : Option Ends).
-    AreFirstEndsForEach names queries entry.tuple.act own) entries ends
-
--- the numbers of each entry's edge, for each query
-abbrev pub AreAllEndsFor : List (List ℕ) → List CompiledValue → List Entry →
-    List (Option Ends) → Type 0
-AreAllEndsFor names queries entries ends =
-    AllZip (λ (entry : Entry) (own : Option Ends).
-    AreEndsForEach names queries entry.tuple.act own) entries ends
 
 -- the index is that of the query over some history that is short with so many entries more
 pub record HasHistoryFor (more : ℕ) (query : CompiledValue) (names : List (List ℕ))
-    (index : Index) : Type 0 where
+    (index : IndexValue) : Type 0 where
   pub history : List Entry
   pub short : length history + more ≤ 2 ^ 30
   pub is : IsIndexFor query history names index
 
+-- the entry was answered for each of these queries, the first of which has this number
+abbrev pub HaveAnswered : List (List ℕ) → Entry → ℕ → List CompiledValue → List IndexValue →
+    List IndexValue → List NumberedEvent → Type 0
+HaveAnswered names entry number [] [] [] events = events ≡ []
+HaveAnswered names entry number [] [] (new ∷ news) events = ⊥
+HaveAnswered names entry number [] (old ∷ olds) news events = ⊥
+HaveAnswered names entry number (query ∷ queries) [] news events = ⊥
+HaveAnswered names entry number (query ∷ queries) (old ∷ olds) [] events = ⊥
+HaveAnswered names entry number (query ∷ queries) (old ∷ olds) (new ∷ news) events =
+    (own others : List NumberedEvent) × HasAnswered names entry number query old new own
+    × HaveAnswered names entry (number + 1) queries olds news others × (events ≡ own ++ others)
+
 -- the entries were answered one after another for the query with this number, and these are the
 -- events of each
-abbrev pub HasAnsweredAll : List (List ℕ) → List Entry → ℕ → CompiledValue → Index → Index →
+abbrev pub HasAnsweredAll : List (List ℕ) → List Entry → ℕ → CompiledValue → IndexValue → IndexValue →
     List (List NumberedEvent) → Type 0
 HasAnsweredAll names [] number query old new [] = new ≡ old
 HasAnsweredAll names [] number query old new (own ∷ owns) = ⊥
 HasAnsweredAll names (entry ∷ entries) number query old new [] = ⊥
 HasAnsweredAll names (entry ∷ entries) number query old new (own ∷ owns) =
-    (middle : Index) × HasAnswered names entry number query old middle own
+    (middle : IndexValue) × HasAnswered names entry number query old middle own
     × HasAnsweredAll names entries number query middle new owns
 
 -- they were answered one after another for each of these queries, the first of which has this
 -- number, and these are the events of each entry
-abbrev pub HaveAnsweredAll : List (List ℕ) → List Entry → ℕ → List CompiledValue → List Index →
-    List Index → List (List NumberedEvent) → Type 0
+abbrev pub HaveAnsweredAll : List (List ℕ) → List Entry → ℕ → List CompiledValue → List IndexValue →
+    List IndexValue → List (List NumberedEvent) → Type 0
 HaveAnsweredAll names [] number queries olds news [] = news ≡ olds
 HaveAnsweredAll names [] number queries olds news (events ∷ rest) = ⊥
 HaveAnsweredAll names (entry ∷ entries) number queries olds news [] = ⊥
 HaveAnsweredAll names (entry ∷ entries) number queries olds news (events ∷ rest) =
-    (middles : List Index) × HaveAnswered names entry number queries olds middles events
+    (middles : List IndexValue) × HaveAnswered names entry number queries olds middles events
     × HaveAnsweredAll names entries number queries middles news rest
 
 -- the events of each entry, those of the one list before those of the other; where the one list

@@ -1,12 +1,10 @@
-pub mod Shown
 pub mod Engine
 pub mod Keeping
+pub mod Staying
 pub mod Feeding
-pub mod Laws
 pub mod Labels
-pub mod Answering
+pub mod Ends
 pub mod Front
 pub mod Parts
 pub mod Sound
 pub mod Showing
-pub mod Paths

@@ -1,58 +1,33 @@
 //! The numbers of an edge: those of its vertices, and for each query that of its label.
 
-ghost use Rattle.std.specs.Prelude.{◌≡◌, ◌+◌, ◌-◌, ◌*◌, ◌^◌, ◌<◌, ◌≤◌, ℕ, List, length, All, Some};
-ghost use Rattle.std.specs.Prelude.{IfNone, IfOk, IfSome, OnOk};
+ghost use Rattle.std.specs.Prelude.{◌≡◌, ◌+◌, ◌-◌, ◌*◌, ◌^◌, ◌<◌, ◌≤◌, ℕ, List, length, All};
+ghost use Rattle.std.specs.Prelude.{None, Some, IfOk, OnOk, slice_index_or};
+ghost use Rattle.rpq_base.specs.declared.data.Act.{Act as ActTaken};
 ghost use Rattle.rpq_base.specs.declared.data.Act.TheVariants.{Delete};
 ghost use Rattle.rpq_base.specs.declared.data.Entry.{Entry as EntryTaken};
+ghost use Rattle.dfa_table.specs.DfaValue.{DfaValue};
 ghost use Rattle.name_table.specs.Names.{KeepsNumbers, number_of};
-ghost use Rattle.index_laws.specs.Numbered.{AreNumbersOf};
 ghost use Rattle.query_file.specs.Compiled.{CompiledValue};
-ghost use Rattle.path_engine.specs.Answering.{AreEndsForEach, AreEndsOf};
-ghost use Rattle.path_engine.specs.Front.{AreAllEndsFor, AreAllFirstEnds, AreFirstEndsForEach};
+ghost use Rattle.query_index.specs.Answering.{IsEdgeFor};
+ghost use Rattle.path_engine.specs.Ends.{AreAllEndsFor, AreAllFirstEnds, AreEndsFor};
+ghost use Rattle.path_engine.specs.Ends.{AreEndsForEach, AreEndsOf, AreFirstEndsForEach};
 ghost use Rattle.path_engine.specs.Keeping.{BringsNoName};
 ghost use Rattle.path_engine.specs.Labels.{IsTableOf};
 
 use crate::labels::{LabelTable, numbers_of};
+use edge_store::EdgeId;
 use name_table::Names;
+use query_index::Vertices;
 use rpq_base::{Act, Edge, Entry, Memory, Name};
 use std::alloc::Global;
-
-/// The numbers of two vertices.
-#[derive(Clone, Copy, Debug, PartialEq, Eq)]
-pub struct Vertices {
-    pub from: u32,
-    pub to: u32,
-}
 
 /// The numbers of an edge: those of its two vertices, and for each query the number that its label
 /// has in the query's automaton, or none.
 #[derive(Clone, Copy)]
-pub struct Ends<'a> {
+pub struct EdgeNumbers<'a> {
     pub from: u32,
     pub to: u32,
     pub labels: &'a [Option<u32>],
-}
-
-/// The numbers of the act's edge, if there is one: an insert whose label some query knows numbers
-/// its vertices, a delete looks them up. Keeps count of the names.
-pub(crate) fn ends_for<'a>(
-    names: &mut Names,
-    named: &mut u32,
-    labels: &'a LabelTable,
-    act: &Act,
-) -> Result<Option<Ends<'a>>, Memory>
-    requires few { length names.old < 2 ^ 32 - 3 }
-    requires named { named.old ≡ length names.old }
-    ensures ends { IfOk result (λ ends. (queries : List CompiledValue) →
-        IsTableOf queries labels.now → AreEndsForEach names.new queries act.now ends) }
-    ensures kept { OnOk result (KeepsNumbers names.old names.new) }
-    ensures same { OnOk result ((queries : List CompiledValue) → IsTableOf queries labels.now →
-        BringsNoName act.now queries → names.new ≡ names.old) }
-    ensures grown { OnOk result (length names.new ≤ length names.old + 2) }
-    ensures named { named.new ≡ length names.new }
-{
-    let first = first_of(names, named, labels, act)?;
-    Ok(last_of(names, labels, act, first))
 }
 
 /// The numbers of each entry's edge, by the names that have numbers once all inserts among the
@@ -63,7 +38,7 @@ pub(crate) fn ends_for_all<'a>(
     named: &mut u32,
     labels: &'a LabelTable,
     entries: &[Entry],
-) -> Result<Vec<Option<Ends<'a>>>, Memory>
+) -> Result<Vec<Option<EdgeNumbers<'a>>>, Memory>
     requires few { length names.old + 2 * length entries.now < 2 ^ 32 - 3 }
     requires named { named.old ≡ length names.old }
     ensures ends { IfOk result (λ ends. (queries : List CompiledValue) →
@@ -87,7 +62,7 @@ fn first_ends<'a>(
     named: &mut u32,
     labels: &'a LabelTable,
     entries: &[Entry],
-) -> Result<Vec<Option<Ends<'a>>>, Memory>
+) -> Result<Vec<Option<EdgeNumbers<'a>>>, Memory>
     requires few { length names.old + 2 * length entries.now < 2 ^ 32 - 3 }
     requires named { named.old ≡ length names.old }
     ensures as_many { IfOk result (λ ends. length ends.items ≡ length entries.now) }
@@ -115,7 +90,7 @@ fn first_of<'a>(
     named: &mut u32,
     labels: &'a LabelTable,
     act: &Act,
-) -> Result<Option<Ends<'a>>, Memory>
+) -> Result<Option<EdgeNumbers<'a>>, Memory>
     requires few { length names.old < 2 ^ 32 - 3 }
     requires named { named.old ≡ length names.old }
     ensures ends { IfOk result (λ ends. (queries : List CompiledValue) →
@@ -142,8 +117,8 @@ fn last_ends<'a>(
     names: &Names,
     labels: &'a LabelTable,
     entries: &[Entry],
-    first: &[Option<Ends<'a>>],
-) -> Result<Vec<Option<Ends<'a>>>, Memory>
+    first: &[Option<EdgeNumbers<'a>>],
+) -> Result<Vec<Option<EdgeNumbers<'a>>>, Memory>
     requires { length first.now ≡ length entries.now }
     ensures { IfOk result (λ ends. (queries : List CompiledValue) → IsTableOf queries labels.now →
         AreAllFirstEnds names.now queries entries.now first.now →
@@ -162,8 +137,8 @@ fn last_of<'a>(
     names: &Names,
     labels: &'a LabelTable,
     act: &Act,
-    first: Option<Ends<'a>>,
-) -> Option<Ends<'a>>
+    first: Option<EdgeNumbers<'a>>,
+) -> Option<EdgeNumbers<'a>>
     ensures { (queries : List CompiledValue) → IsTableOf queries labels.now →
         AreFirstEndsForEach names.now queries act.now first.entry →
         AreEndsForEach names.now queries act.now result }
@@ -181,7 +156,7 @@ fn number_ends<'a>(
     named: &mut u32,
     edge: &Edge,
     numbers: &'a [Option<u32>],
-) -> Result<Ends<'a>, Memory>
+) -> Result<EdgeNumbers<'a>, Memory>
     requires few { length names.old < 2 ^ 32 - 3 }
     requires named { named.old ≡ length names.old }
     ensures ends { IfOk result (AreEndsOf names.new edge.now numbers.now) }
@@ -191,7 +166,7 @@ fn number_ends<'a>(
 {
     let from = number_name(names, named, &edge.from)?;
     let to = number_name(names, named, &edge.to)?;
-    Ok(Ends {
+    Ok(EdgeNumbers {
         from,
         to,
         labels: numbers,
@@ -215,15 +190,15 @@ fn number_name(names: &mut Names, named: &mut u32, name: &Name) -> Result<u32, M
 }
 
 /// The numbers of a deleted edge, where its vertices have some and some query knows its label.
-fn find_ends<'a>(names: &Names, labels: &'a LabelTable, edge: &Edge) -> Option<Ends<'a>>
+fn find_ends<'a>(names: &Names, labels: &'a LabelTable, edge: &Edge) -> Option<EdgeNumbers<'a>>
     ensures { (queries : List CompiledValue) → IsTableOf queries labels.now →
         AreEndsForEach names.now queries (Delete edge.now) result }
 {
     match numbers_of(labels, &edge.label) {
         None => None,
-        Some(numbers) => match ends_between(names, &edge.from, &edge.to) {
+        Some(numbers) => match Vertices::find(names, &edge.from, &edge.to) {
             None => None,
-            Some(vertices) => Some(Ends {
+            Some(vertices) => Some(EdgeNumbers {
                 from: vertices.from,
                 to: vertices.to,
                 labels: numbers,
@@ -232,15 +207,31 @@ fn find_ends<'a>(names: &Names, labels: &'a LabelTable, edge: &Edge) -> Option<E
     }
 }
 
-/// The numbers of the two vertices, where both have one.
-pub(crate) fn ends_between(names: &Names, from: &Name, to: &Name) -> Option<Vertices>
-    ensures some { IfSome result (λ ends.
-        AreNumbersOf names.now from.now to.now ends.from ends.to) }
-    ensures none { IfNone result ((root vertex : ℕ) →
-        AreNumbersOf names.now from.now to.now root vertex → ⊥) }
+/// The edge by the numbers that it has for the query with this number, where its vertices and its
+/// label have some.
+pub(crate) fn edge_for(number: u32, ends: Option<EdgeNumbers<'_>>) -> Option<EdgeId>
+    ensures { (names : List (List ℕ)) (dfa : DfaValue) (act : ActTaken) →
+        AreEndsFor names number dfa act ends.entry → IsEdgeFor names dfa act result }
 {
-    match (names.find(from), names.find(to)) {
-        (Some(from), Some(to)) => Some(Vertices { from, to }),
-        _ => None,
+    match ends {
+        None => None,
+        Some(ends) => match label_for(ends.labels, number) {
+            None => None,
+            Some(label) => Some(EdgeId {
+                from: ends.from,
+                label,
+                to: ends.to,
+            }),
+        },
     }
+}
+
+/// The number that a label with these numbers has for the query with this number, if it has one.
+fn label_for(labels: &[Option<u32>], number: u32) -> Option<u32>
+    ensures { result ≡ slice_index_or labels.now number None }
+{
+    if number as usize >= labels.len() {
+        return None;
+    }
+    labels[number as usize]
 }

@@ -1,40 +1,40 @@
 //! The engine.
 
-ghost use Rattle.std.specs.Prelude.{◌≡◌, ◌≢◌, ◌≤◌, ◌<◌, ◌+◌, ◌^◌, ◌↔◌, [], List, true, false};
-ghost use Rattle.std.specs.Prelude.{length, map, All, Err, IfOk, IfErr, OnErr, OnOk, Some};
+ghost use Rattle.std.specs.Prelude.{◌≡◌, ◌≢◌, ◌≤◌, ◌<◌, ◌+◌, ◌^◌, ◌↔◌, ◌∷◌, [], List, true, false};
+ghost use Rattle.std.specs.Prelude.{length, map, Err, IfOk, IfErr, OnErr, OnOk, Some};
 ghost use Rattle.std.specs.Prelude.{slice_get};
 ghost use Rattle.std.specs.List.{AllZip};
 ghost use Rattle.rpq_base.specs.declared.data.Entry.{Entry as EntryTaken};
 ghost use Rattle.rpq_model.specs.Query.{path_query};
 ghost use Rattle.answer_view.specs.View.{AreRowsOf, IsViewOf};
-ghost use Rattle.end_events.specs.Named.{named, named_lists, HasNames, HaveAllNames};
+ghost use Rattle.end_events.specs.Named.{named_lists, HaveAllNames};
 ghost use Rattle.query_file.specs.Compiled.{CompiledValue};
-ghost use Rattle.path_engine.specs.Engine.{StandsFor, IsForestFor, definitions, forests};
-ghost use Rattle.path_engine.specs.Paths.{ShowsPair};
+ghost use Rattle.query_index.specs.Index.{IsForestFor};
+ghost use Rattle.query_index.specs.Paths.{ShowsPair};
+ghost use Rattle.path_engine.specs.Engine.{StandsFor, definitions, forests};
 ghost use Rattle.path_engine.specs.Feeding.{Feeds, FeedsFront, Spends};
 ghost use Rattle.path_engine.specs.declared.fault.FeedFault.{FeedFault as WhyNot};
 
-use crate::answering::{Crew, answer_each, mode_of};
-use crate::ends::{ends_for, ends_for_all};
+use crate::ends::ends_for_all;
 use crate::fault::FeedFault;
-use crate::front::{answer_front, told_in};
-use crate::index::{Index, indexes_of};
+use crate::front::{answer_by_query, told_in};
+use crate::indexes::indexes_of;
 use crate::labels::{LabelTable, table_of};
-use crate::paths::path_for;
 use crate::rebuilding::feed_all;
 use crate::showing::rows_of_each;
 use answer_rows::Rows;
 use answer_view::View;
-use delta_forest::{Forest, kept_is_best};
-use end_events::{NumberedEvent, name_events, name_lists};
-use index_laws::{index_keeps_bests, stores_follow};
+use delta_forest::Forest;
+use end_events::{NumberedEvent, name_lists};
 use name_table::Names;
 use query_file::Compiled;
+use query_index::{Crew, QueryIndex, more_names_keep_indexes};
 use rpq_base::{Edge, Entry, Event, Memory, Name, Workers};
-use rpq_io::{Context, Gate};
+use run_context::{Context, Gate};
 use std::alloc::Global;
 use std::marker::Model;
 use std::random::RandomSource;
+use std::slice::from_ref;
 use std::sync::Arc;
 use std::thread::Threads;
 
@@ -57,7 +57,7 @@ pub struct Engine {
     /// How many names have numbers.
     named: u32,
     /// For each query its index.
-    indexes: Vec<Index>,
+    indexes: Vec<QueryIndex>,
     /// What each query took of the last front: by it the queries of the next one are dealt to the
     /// workers. No clause speaks of it, since it decides time alone.
     costs: Vec<u64>,
@@ -140,8 +140,8 @@ impl Engine {
     ///
     /// The errors are [`FeedFault::Memory`], after which the engine is spent, and
     /// [`FeedFault::Spent`] at each call after it, which changes nothing, until the engine is
-    /// rebuilt. It costs what the entry changes in the forest of each query; the workers share
-    /// large changes alone.
+    /// rebuilt. It is [`Engine::feed_front`] with a front of one entry, and costs what the entry
+    /// changes in the forest of each query; the workers share large changes alone.
     pub fn feed<R: Threads + Sync, G: Gate>(
         &mut self,
         context: &Context<'_, R, G>,
@@ -157,54 +157,9 @@ impl Engine {
         ensures spent { (result ≡ Err WhyNot.Spent) ↔ (self.old.spent ≡ true) }
         ensures unchanged { result ≡ Err WhyNot.Spent → self.new ≡ self.old }
     {
-        let position = self.position;
-        let numbered = self.answer_entry(context, entry, workers)?;
-        self.note_told(numbered.len());
-        match name_events(self.alloc, &self.names, &numbered) {
-            Ok(events) => Ok(events),
-            Err(memory) => {
-                self.spend_at(position);
-                Err(FeedFault::Memory(memory))
-            }
-        }
-    }
-
-    /// [`Engine::feed`], but for the names of the events and the count of those that were told.
-    fn answer_entry<R: Threads + Sync, G: Gate>(
-        &mut self,
-        context: &Context<'_, R, G>,
-        entry: &Entry,
-        workers: Workers,
-    ) -> Result<Vec<NumberedEvent>, FeedFault>
-        requires short { self.old.position < 2 ^ 30 }
-        ensures feeds { IfOk result (λ events. Feeds self.old entry.now self.new
-            (map (named self.new.names) events.items)) }
-        ensures have_names { IfOk result (λ events. All (HasNames self.new.names) events.items) }
-        ensures queries { self.new.queries ≡ self.old.queries }
-        ensures memory { IfErr result (λ fault. fault ≢ WhyNot.Spent
-            → Spends self.old self.new) }
-        ensures spent { (result ≡ Err WhyNot.Spent) ↔ (self.old.spent ≡ true) }
-        ensures unchanged { result ≡ Err WhyNot.Spent → self.new ≡ self.old }
-    {
-        if self.spent {
-            return Err(FeedFault::Spent);
-        }
-        stores_follow(); // called for its clauses
-        self.spent = true; // until the entry is answered to its end
-        let act = &entry.tuple.act;
-        let ends = ends_for(&mut self.names, &mut self.named, &self.labels, act)?;
-        let crew = Crew { context, workers };
-        let events = answer_each(
-            &crew,
-            &self.queries,
-            &mut self.indexes,
-            &self.names,
-            ends,
-            entry,
-        )?;
-        self.position += 1;
-        self.spent = false;
-        Ok(events)
+        let _spent = self.spent; // read for what the engine keeps
+        let lists = self.feed_front(context, from_ref(entry), workers)?;
+        Ok(only_of(lists))
     }
 
     /// Answers some more entries, a front, as [`Engine::feed`] would one after another: the events
@@ -289,7 +244,7 @@ impl Engine {
         if self.spent {
             return Err(FeedFault::Spent);
         }
-        stores_follow(); // called for its clauses
+        more_names_keep_indexes(); // called for its clause
         self.spent = true; // until all entries are answered to their end
         let ends = ends_for_all(
             context.alloc,
@@ -299,7 +254,7 @@ impl Engine {
             entries,
         )?;
         let crew = Crew { context, workers };
-        let events = answer_front(
+        let events = answer_by_query(
             &crew,
             &self.queries,
             &mut self.indexes,
@@ -469,11 +424,9 @@ impl Engine {
             (query : CompiledValue) → slice_get self.now.queries q ≡ Some query →
             IsForestFor query history self.now.names result.now }
     {
-        // these are called for their clauses
-        let _mode = mode_of(&self.queries[q as usize]);
-        kept_is_best();
-        index_keeps_bests();
-        &self.indexes[q as usize].forest
+        let query = &self.queries[q as usize];
+        let index = &self.indexes[q as usize];
+        index.forest(query)
     }
 
     /// A path that shows the pair of these two vertices as an answer of the query with this number,
@@ -490,7 +443,7 @@ impl Engine {
     {
         let query = &self.queries[q as usize];
         let index = &self.indexes[q as usize];
-        path_for(self.alloc, query, index, &self.names, x, y)
+        index.best_path(self.alloc, query, &self.names, x, y)
     }
 
     /// The names of the vertices, with their numbers.
@@ -498,5 +451,16 @@ impl Engine {
         ensures { result.now ≡ self.now.names }
     {
         &self.names
+    }
+}
+
+/// The only one of these lists.
+fn only_of(mut lists: Vec<Vec<Event>>) -> Vec<Event>
+    requires one { length lists.items ≡ 1 }
+    ensures { map (λ own. own.items) lists.items ≡ result.items ∷ [] }
+{
+    match lists.pop() {
+        Some(own) => own,
+        None => unreachable!(),
     }
 }

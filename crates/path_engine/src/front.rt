@@ -1,25 +1,24 @@
 //! The entries of a front: each query takes all of them, one after another, before the next query
 //! does, or beside it by another worker.
 
-ghost use Rattle.std.specs.Prelude.{◌≡◌, ◌≤◌, [], length, map, IfOk, OnOk};
+ghost use Rattle.std.specs.Prelude.{◌≡◌, ◌≤◌, ◌++◌, [], length, map, IfOk, OnOk};
 ghost use Rattle.std.specs.List.{AllZip};
 ghost use Rattle.rpq_base.specs.declared.data.Entry.{Entry as EntryTaken};
-ghost use Rattle.path_engine.specs.Answering.{AreEndsFor};
-ghost use Rattle.path_engine.specs.Front.{AreAllEndsFor, AreGathered, AreInPlace, AreReady};
-ghost use Rattle.path_engine.specs.Front.{HasAnsweredAll, HasHistoryFor, HaveAnsweredAll, HaveFed};
-ghost use Rattle.path_engine.specs.Front.{IsFed, IsReady, joined, put_at};
+ghost use Rattle.path_engine.specs.Ends.{AreAllEndsFor, AreEndsFor};
+ghost use Rattle.path_engine.specs.Front.{AreGathered, AreInPlace, AreReady, HasAnsweredAll};
+ghost use Rattle.path_engine.specs.Front.{HasHistoryFor, HaveAnsweredAll, HaveFed, IsFed, IsReady};
+ghost use Rattle.path_engine.specs.Front.{joined, put_at};
 ghost use Rattle.path_engine.specs.Parts.{AreReadyParts, HaveFedParts};
 
-use crate::answering::{Crew, answer, push_all};
-use crate::ends::Ends;
-use crate::index::Index;
+use crate::ends::{EdgeNumbers, edge_for};
 use crate::parts::{Part, deal, in_order};
 use delta_forest::Forest;
 use end_events::NumberedEvent;
 use name_table::Names;
 use query_file::Compiled;
+use query_index::{Crew, QueryIndex};
 use rpq_base::{Entry, Memory, Workers};
-use rpq_io::{Context, Gate, Who};
+use run_context::{Context, Gate, Who};
 use std::alloc::Global;
 use std::mem::replace;
 use std::thread;
@@ -34,7 +33,7 @@ pub struct Share {
     /// What the query took of the front before, and of this one once it was fed. No clause speaks
     /// of it, since it decides time alone.
     pub cost: u64,
-    pub index: Index,
+    pub index: QueryIndex,
     pub owns: Result<Vec<Vec<NumberedEvent>>, Memory>,
 }
 
@@ -43,13 +42,13 @@ pub struct Share {
 ///
 /// The costs are what the queries took of the front before, as far as they are known, and of this
 /// one afterwards.
-pub(crate) fn answer_front<R: Threads + Sync, G: Gate>(
+pub(crate) fn answer_by_query<R: Threads + Sync, G: Gate>(
     crew: &Crew<'_, R, G>,
     queries: &[Compiled],
-    indexes: &mut Vec<Index>,
+    indexes: &mut Vec<QueryIndex>,
     costs: &mut Vec<u64>,
     names: &Names,
-    ends: &[Option<Ends<'_>>],
+    ends: &[Option<EdgeNumbers<'_>>],
     entries: &[Entry],
 ) -> Result<Vec<Vec<NumberedEvent>>, Memory>
     requires some_queries { 1 ≤ length queries.now }
@@ -70,7 +69,7 @@ pub(crate) fn answer_front<R: Threads + Sync, G: Gate>(
 }
 
 /// The shares of the queries before they take the entries, with what they took of the front before.
-fn shares_of(alloc: Global, indexes: Vec<Index>, costs: &[u64]) -> Result<Vec<Share>, Memory>
+fn shares_of(alloc: Global, indexes: Vec<QueryIndex>, costs: &[u64]) -> Result<Vec<Share>, Memory>
     requires few { length indexes.items ≤ 64 }
     ensures indexes { IfOk result (λ shares.
         map (λ share. share.index) shares.items ≡ indexes.items) }
@@ -87,7 +86,7 @@ fn shares_of(alloc: Global, indexes: Vec<Index>, costs: &[u64]) -> Result<Vec<Sh
 }
 
 /// The share of the query with this number before it takes the entries.
-fn share_of(alloc: Global, place: u32, index: Index, costs: &[u64]) -> Share
+fn share_of(alloc: Global, place: u32, index: QueryIndex, costs: &[u64]) -> Share
     ensures place { result.place ≡ place }
     ensures index { result.index ≡ index }
 {
@@ -116,7 +115,7 @@ fn feed_shares<R: Threads + Sync, G: Gate>(
     queries: &[Compiled],
     mut shares: Vec<Share>,
     names: &Names,
-    ends: &[Option<Ends<'_>>],
+    ends: &[Option<EdgeNumbers<'_>>],
     entries: &[Entry],
 ) -> Result<Vec<Share>, Memory>
     requires places { AreInPlace shares.items }
@@ -140,7 +139,7 @@ fn share_out<R: Threads + Sync, G: Gate>(
     queries: &[Compiled],
     shares: Vec<Share>,
     names: &Names,
-    ends: &[Option<Ends<'_>>],
+    ends: &[Option<EdgeNumbers<'_>>],
     entries: &[Entry],
 ) -> Result<Vec<Share>, Memory>
     requires places { AreInPlace shares.items }
@@ -162,7 +161,7 @@ fn feed_parts<R: Threads + Sync, G: Gate>(
     queries: &[Compiled],
     parts: &mut [Part],
     names: &Names,
-    ends: &[Option<Ends<'_>>],
+    ends: &[Option<EdgeNumbers<'_>>],
     entries: &[Entry],
 )
     requires ready { AreReadyParts (length entries.now) queries.now names.now parts.old }
@@ -196,7 +195,7 @@ fn feed_part<R: Threads + Sync, G: Gate>(
     queries: &[Compiled],
     shares: &mut Vec<Share>,
     names: &Names,
-    ends: &[Option<Ends<'_>>],
+    ends: &[Option<EdgeNumbers<'_>>],
     entries: &[Entry],
 )
     requires ready { AreReady (length entries.now) queries.now names.now shares.old.items }
@@ -214,7 +213,7 @@ fn feed_one<R: Threads + Sync, G: Gate>(
     queries: &[Compiled],
     share: &mut Share,
     names: &Names,
-    ends: &[Option<Ends<'_>>],
+    ends: &[Option<EdgeNumbers<'_>>],
     entries: &[Entry],
 )
     requires ready { IsReady (length entries.now) queries.now names.now share.old }
@@ -233,7 +232,7 @@ fn answer_all<R: Threads + Sync, G: Gate>(
     query: &Compiled,
     share: &mut Share,
     names: &Names,
-    ends: &[Option<Ends<'_>>],
+    ends: &[Option<EdgeNumbers<'_>>],
     entries: &[Entry],
 ) -> Result<Vec<Vec<NumberedEvent>>, Memory>
     requires index { HasHistoryFor (length entries.now) query.now names.now share.old.index }
@@ -248,18 +247,10 @@ fn answer_all<R: Threads + Sync, G: Gate>(
     share.cost = 0;
     let mut owns = Vec::with_capacity(crew.context.alloc, entries.len())?;
     for (place, entry) in entries.iter().enumerate() {
-        let own = answer(
-            crew,
-            query,
-            number,
-            &mut share.index,
-            names,
-            ends[place],
-            entry,
-        )?;
-        share.cost = share
-            .cost
-            .saturating_add(cost_of(&share.index.forest, &own));
+        let id = edge_for(number, ends[place]);
+        let own = share.index.answer(crew, query, number, names, id, entry)?;
+        let cost = cost_of(share.index.forest(query), &own);
+        share.cost = share.cost.saturating_add(cost);
         owns.push(own)?;
     }
     Ok(owns)
@@ -287,7 +278,7 @@ fn note_costs(costs: &mut Vec<u64>, shares: &[Share]) -> Result<(), Memory> {
 fn gather(
     alloc: Global,
     shares: Vec<Share>,
-    indexes: &mut Vec<Index>,
+    indexes: &mut Vec<QueryIndex>,
 ) -> Result<Vec<Vec<NumberedEvent>>, Memory>
     requires none { indexes.old.items ≡ [] }
     ensures indexes { OnOk result
@@ -340,6 +331,17 @@ fn put_own(
     } else {
         Ok(events.push(own)?)
     }
+}
+
+/// Puts more events at the end of the events. Where there were none, the list is taken as it is.
+fn push_all(events: &mut Vec<NumberedEvent>, mut more: Vec<NumberedEvent>) -> Result<(), Memory>
+    ensures { OnOk result (events.new.items ≡ events.old.items ++ more.items) }
+{
+    if events.is_empty() {
+        *events = more;
+        return Ok(());
+    }
+    Ok(events.append(&mut more)?)
 }
 
 /// The number of the events of all entries.

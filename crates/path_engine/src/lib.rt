@@ -10,16 +10,8 @@
 //! [`Engine::rebuild`] evaluates the entries of a history from nothing, whatever the engine stood
 //! for before.
 //!
-//! Each query has an index: the clock of its window, and a forest of best paths over the edges that
-//! its window holds, by the numbers of the names. An entry first takes away what the clock reaches,
-//! and then raises or removes its edge; the ends that both change are the events. A query that
-//! takes simple paths is taken only where its language has the property of containment, and then
-//! its answers are those of all paths, without the pairs of one vertex.
-//!
-//! For its readers, an index also keeps the rows that it showed last, and the roots whose trees
-//! were touched since then. The next view makes the rows of these roots anew, and shares all others
-//! with the view before. The invariant says that a row whose root isn't stale is what the forest
-//! shows. Until the first view of an engine with names, all roots are stale and nothing is kept.
+//! Each query has an index of its own (`query_index`): an engine holds one for each query, gives
+//! each the entries one after another, and puts together what they answer.
 //!
 //! The label of an entry's edge is looked up once, in a table of the labels of all queries: its row
 //! has for each query the number of the label in the query's automaton.
@@ -33,20 +25,17 @@
 //! for by names.
 #![tactic(auto)]
 
-mod answering;
-mod automaton;
 mod ends;
 mod engine;
 mod fault;
 mod front;
-mod index;
+mod indexes;
 mod labels;
+mod laws;
 mod parts;
-mod paths;
 mod rebuilding;
 mod showing;
-mod stale;
-mod targets;
 
 pub use engine::Engine;
 pub use fault::FeedFault;
+pub use laws::nodes_stay;

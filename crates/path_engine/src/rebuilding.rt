@@ -8,7 +8,7 @@ ghost use Rattle.path_engine.specs.Feeding.{FeedsFront};
 use crate::engine::Engine;
 use crate::fault::FeedFault;
 use rpq_base::{Entry, Memory, Workers};
-use rpq_io::{Context, Gate};
+use run_context::{Context, Gate};
 use std::thread::Threads;
 
 /// How many entries are fed at once. The events of so many are held at a time.

@@ -9,7 +9,7 @@ use engine_feed::feed_entries;
 use path_engine::Engine;
 use query_file::read_two_way_queries;
 use rpq_base::{Entry, Workers};
-use rpq_io::{Context, OpenGate};
+use run_context::{Context, OpenGate};
 use std::alloc::Global;
 use std::random::RandomSource;
 use std::thread::Threads;

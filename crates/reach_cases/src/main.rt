@@ -34,7 +34,7 @@ mod queries;
 mod request;
 
 use case_lines::{Fields, Output, answer_lines};
-use request::Request;
+use request::ReachRequest;
 use std::alloc::Global;
 use std::random::RandomSource;
 use std::thread::Threads;
@@ -44,18 +44,18 @@ fn answer<R: RandomSource + Threads + Sync>(
     rt: &R,
     alloc: Global,
     out: &mut Output,
-    request: Request,
+    request: ReachRequest,
     fields: Fields,
 ) -> anyhow::Result<()> {
     match request {
-        Request::Read => expressions::answer_read(alloc, out, fields),
-        Request::File => queries::answer_file(alloc, out, fields),
-        Request::Joins => joins::answer_joins(alloc, out, fields),
-        Request::Marks => paths::answer_marks(rt, alloc, out, fields),
-        Request::Shown => paths::answer_shown(alloc, out, fields),
-        Request::Both => feeds::answer_both(rt, alloc, out, fields),
-        Request::Bindings => bindings::answer_bindings(rt, alloc, out, fields),
-        Request::Cut => paths::answer_cut(alloc, out, fields),
+        ReachRequest::Read => expressions::answer_read(alloc, out, fields),
+        ReachRequest::File => queries::answer_file(alloc, out, fields),
+        ReachRequest::Joins => joins::answer_joins(alloc, out, fields),
+        ReachRequest::Marks => paths::answer_marks(rt, alloc, out, fields),
+        ReachRequest::Shown => paths::answer_shown(alloc, out, fields),
+        ReachRequest::Both => feeds::answer_both(rt, alloc, out, fields),
+        ReachRequest::Bindings => bindings::answer_bindings(rt, alloc, out, fields),
+        ReachRequest::Cut => paths::answer_cut(alloc, out, fields),
     }
 }
 
@@ -67,7 +67,7 @@ fn answer_keyword<R: RandomSource + Threads + Sync>(
     keyword: &[u8],
     fields: Fields,
 ) -> anyhow::Result<bool> {
-    match Request::named(keyword) {
+    match ReachRequest::named(keyword) {
         Some(request) => {
             answer(rt, alloc, out, request, fields)?;
             Ok(true)

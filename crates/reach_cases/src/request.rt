@@ -2,7 +2,7 @@
 
 /// What is asked.
 #[derive(Clone, Copy)]
-pub enum Request {
+pub enum ReachRequest {
     Read,
     File,
     Joins,
@@ -13,18 +13,18 @@ pub enum Request {
     Cut,
 }
 
-impl Request {
+impl ReachRequest {
     /// What the keyword asks.
-    pub fn named(keyword: &[u8]) -> Option<Request> {
+    pub fn named(keyword: &[u8]) -> Option<ReachRequest> {
         match keyword {
-            b"read" => Some(Request::Read),
-            b"file" => Some(Request::File),
-            b"joins" => Some(Request::Joins),
-            b"marks" => Some(Request::Marks),
-            b"shown" => Some(Request::Shown),
-            b"both" => Some(Request::Both),
-            b"bindings" => Some(Request::Bindings),
-            b"cut" => Some(Request::Cut),
+            b"read" => Some(ReachRequest::Read),
+            b"file" => Some(ReachRequest::File),
+            b"joins" => Some(ReachRequest::Joins),
+            b"marks" => Some(ReachRequest::Marks),
+            b"shown" => Some(ReachRequest::Shown),
+            b"both" => Some(ReachRequest::Both),
+            b"bindings" => Some(ReachRequest::Bindings),
+            b"cut" => Some(ReachRequest::Cut),
             _ => None,
         }
     }

@@ -1,7 +1,7 @@
 //! Words of command lines.
 
 use case_lines::{Fields, Output, words_of};
-use rpq_words::{FileWord, Input, Mode, Settings, StreamSettings, WordsFault, read_words};
+use rpq_words::{FileWord, Input, RunMode, Settings, StreamSettings, WordsFault, read_words};
 use std::alloc::Global;
 
 /// The settings of a command line, or why its words aren't taken.
@@ -41,12 +41,12 @@ fn put_choices(out: &mut Output, chosen: &Settings) -> anyhow::Result<()> {
 }
 
 /// Puts whether the queries are checked, and how many tuples are generated, or `-`.
-fn put_mode(out: &mut Output, mode: &Mode) -> anyhow::Result<()> {
-    out.put_sign(matches!(mode, Mode::Check(_)))?;
+fn put_mode(out: &mut Output, mode: &RunMode) -> anyhow::Result<()> {
+    out.put_sign(matches!(mode, RunMode::Check(_)))?;
     out.put(" ")?;
     match mode {
-        Mode::Generate(_directions, count) => out.put_shown(count),
-        Mode::Check(_) | Mode::Streams(_) => out.put("-"),
+        RunMode::Generate(_directions, count) => out.put_shown(count),
+        RunMode::Check(_) | RunMode::Streams(_) => out.put("-"),
     }
 }
 
@@ -69,11 +69,11 @@ fn put_file(out: &mut Output, word: Option<&FileWord>) -> anyhow::Result<()> {
 }
 
 /// Puts the words of the streams, or `-` where none is read.
-fn put_streams(out: &mut Output, mode: &Mode) -> anyhow::Result<()> {
+fn put_streams(out: &mut Output, mode: &RunMode) -> anyhow::Result<()> {
     match mode {
-        Mode::Check(_) | Mode::Generate(_, _) => out.put("-"),
-        Mode::Streams(StreamSettings::BothWays(names)) => put_words(out, names.as_slice()),
-        Mode::Streams(StreamSettings::Forwards(run)) => match &run.input {
+        RunMode::Check(_) | RunMode::Generate(_, _) => out.put("-"),
+        RunMode::Streams(StreamSettings::BothWays(names)) => put_words(out, names.as_slice()),
+        RunMode::Streams(StreamSettings::Forwards(run)) => match &run.input {
             Input::Fresh(names) => put_words(out, names.as_slice()),
             Input::Resumed {
                 from: _from,

@@ -37,23 +37,23 @@ pub fn query_of(alloc: Global, fields: &mut Fields) -> anyhow::Result<QueryDef> 
 
 /// A query, and the entries that it is asked about.
 #[derive(Drop)]
-struct Asked {
+struct QueryOverEntries {
     query: QueryDef,
     entries: Vec<Entry>,
 }
 
 /// The query of the next four fields, and the entries of the rest.
-fn asked_by(alloc: Global, mut fields: Fields) -> anyhow::Result<Asked> {
+fn asked_by(alloc: Global, mut fields: Fields) -> anyhow::Result<QueryOverEntries> {
     let query = query_of(alloc, &mut fields)?;
     let entries = entries_of(alloc, fields.rest())?;
-    Ok(Asked { query, entries })
+    Ok(QueryOverEntries { query, entries })
 }
 
 /// A copy of both.
-fn copied(alloc: Global, asked: &Asked) -> Result<Asked, Memory> {
+fn copied(alloc: Global, asked: &QueryOverEntries) -> Result<QueryOverEntries, Memory> {
     let query = asked.query.copy(alloc)?;
     let entries = copy_all(alloc, &asked.entries)?;
-    Ok(Asked { query, entries })
+    Ok(QueryOverEntries { query, entries })
 }
 
 /// The answers of a query after each tuple, by copies of both.

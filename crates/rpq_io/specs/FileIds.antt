@@ -1,8 +1,13 @@
 -- Which files were opened.
-use Rattle.std.specs.Prelude.{◌≡◌, ℕ, ◌==◌, nat_lt, Bool, false, ◌&&◌, List, [], ◌∷◌, ◌++◌}
-use Rattle.std.specs.Prelude.{Option, Some, None, IfSome}
+use Rattle.std.specs.Prelude.{◌≡◌, ◌↔◌, ℕ, ◌==◌, nat_lt, Bool, false, ◌&&◌, List, [], ◌∷◌, ◌++◌}
+use Rattle.std.specs.Prelude.{Option, Some, None, IfSome, IsSome}
+use Rattle.std.specs.Fs.{IsFile}
 use Rattle.std.specs.List.{list_any}
+use Rattle.std.specs.declared.fs.attrs.FileType.{FileType}
 use Rattle.rpq_io.specs.declared.file_id.FileId.{FileId}
+use Rattle.rpq_io.specs.declared.host_file.HostFile.{HostFile}
+use Rattle.rpq_io.specs.declared.place.Place.{Place}
+use Rattle.rpq_io.specs.declared.place.Place.TheVariants.{File, Output, Errors}
 
 -- regular files in the order in which they were opened, and how many more can be noted without new
 -- memory
@@ -24,12 +29,20 @@ abbrev pub noted_file : Option FileId → List FileId → List FileId
 noted_file (Some file) files = files ++ file ∷ []
 noted_file None files = files
 
--- a file was opened: if it is a regular one, it is noted
-abbrev pub NotesFile : List FileId → List FileId → Type 0
-NotesFile old new = (opened : Option FileId) × (new ≡ noted_file opened old)
+-- what the system told of a file that was opened: which regular file it is, exactly if it is one
+abbrev pub IsTold : FileType → Option FileId → Type 0
+IsTold kind id = IsSome id ↔ IsFile kind
 
--- a file was opened that is none of those before: if it is a regular one, it wasn't among them, and
--- is noted
-abbrev pub NotesOther : List FileId → List FileId → Type 0
-NotesOther old new = (opened : Option FileId) × (new ≡ noted_file opened old)
-    × IfSome opened (λ file. is_among file old ≡ false)
+-- this file was opened: the system told which it is, and it is noted if it is a regular one
+pub record NotesFile {F : Type 0} (opened : HostFile F) (old new : List FileId) : Type 0 where
+  pub told : IsTold opened.kind opened.id
+  pub noted : new ≡ noted_file opened.id old
+
+-- a file was opened to be written there, and noted so; if it is a regular one, it is none of those
+-- before
+abbrev pub NotesOther : {F O E : Type 0} → Place (HostFile F) O E → List FileId → List FileId
+    → Type 0
+NotesOther (File opened) old new =
+    NotesFile opened old new × IfSome opened.id (λ file. is_among file old ≡ false)
+NotesOther (Output writer) old new = ⊥
+NotesOther (Errors writer) old new = ⊥

@@ -11,8 +11,9 @@ use crate::fault::{Failed, OpenFault};
 use crate::file_list::FileList;
 use crate::files::Files;
 use crate::host::{HostSink, HostSource};
+use crate::host_file::HostFile;
 use crate::name_list::NameList;
-use crate::opening::{Opened, create, open};
+use crate::opening::{create, open};
 use crate::place::Place;
 use std::alloc::Global;
 use std::io;
@@ -26,7 +27,8 @@ use std::rt::Files as FileSystem;
 /// standard error is. Names are compared as text, and regular files by what the system says of the
 /// opened file, so that a path, a link and a hard link to one file are the same. Devices, pipes and
 /// terminals have nothing to lose, and are compared by name alone. All memory is taken before a
-/// file is touched.
+/// file is touched. No contract of std says which file a name opens, which numbers a file has, or
+/// what a change of its length does: that is tested.
 #[derive(Drop)]
 pub struct HostFiles<H> {
     alloc: Global,
@@ -126,9 +128,9 @@ where
     ghost use Rattle.std.specs.Prelude.{None};
     ghost use Rattle.rpq_io.specs.Names.{times};
 
-    type Source = HostSource<H::File>;
+    type Source = HostSource<HostFile<H::File>>;
 
-    type Sink = HostSink<Place<H::File>>;
+    type Sink = HostSink<Place<HostFile<H::File>>>;
 
     ghost holds = { λ _ _. None };
 
@@ -141,14 +143,15 @@ where
     ghost unmade = { λ files name. times name files.names.unmade_names };
 
     /// Notes the name where it is opened, and the file if it is a regular one.
-    fn source(&mut self, name: &str) -> Result<HostSource<H::File>, OpenFault>
+    fn source(&mut self, name: &str) -> Result<HostSource<HostFile<H::File>>, OpenFault>
         ensures untold { IfOk result (λ source. source.has_told_end ≡ false) }
         ensures fresh { IfOk result (λ source. source.fault_count ≡ 0) }
         ensures after { self.new.names ≡ after_reading self.old.names name.now result }
         ensures faults { CountsOpening (result ≡ Err OpenFault.Failed) name.now
             (λ any. times any self.old.names.unread_names)
             (λ any. times any self.new.names.unread_names) }
-        ensures files { IfOk result (λ _. NotesFile self.old.files self.new.files) }
+        ensures files { IfOk result (λ source.
+            NotesFile source.reader self.old.files self.new.files) }
         ensures files_stay { OnErr result (self.new.files ≡ self.old.files) }
     {
         self.read.make_room()?;
@@ -157,20 +160,20 @@ where
         let noted = String::from_str(self.alloc, name)?;
         let outcome = open(&self.host, name);
         let opened = note_outcome(outcome, noted, &mut self.read, &mut self.unread)?;
-        let Opened { file, id } = opened;
-        self.files.note(id);
-        Ok(HostSource::new(file))
+        self.files.note(opened.id);
+        Ok(HostSource::new(opened))
     }
 
     /// Refuses a name that was opened before, and a regular file that was.
-    fn sink(&mut self, name: &str) -> Result<HostSink<Place<H::File>>, OpenFault>
+    fn sink(&mut self, name: &str) -> Result<HostSink<Place<HostFile<H::File>>>, OpenFault>
         ensures fresh { IfOk result (λ sink. sink.fault_count ≡ 0) }
         ensures refused { IsTrue (was_opened name.now self.old.names) → IsErr result }
         ensures after { self.new.names ≡ after_making self.old.names name.now result }
         ensures faults { CountsOpening (result ≡ Err OpenFault.Failed) name.now
             (λ any. times any self.old.names.unmade_names)
             (λ any. times any self.new.names.unmade_names) }
-        ensures files { IfOk result (λ _. NotesOther self.old.files self.new.files) }
+        ensures files { IfOk result (λ sink.
+            NotesOther sink.writer self.old.files self.new.files) }
         ensures files_stay { OnErr result (self.new.files ≡ self.old.files) }
     {
         self.made.make_room()?;
@@ -183,8 +186,7 @@ where
         }
         let outcome = create(&self.host, name, &self.files);
         let opened = note_outcome(outcome, noted, &mut self.made, &mut self.unmade)?;
-        let Opened { file, id } = opened;
-        self.files.note(id);
-        Ok(HostSink::new(Place::File(file)))
+        self.files.note(opened.id);
+        Ok(HostSink::new(Place::File(opened)))
     }
 }

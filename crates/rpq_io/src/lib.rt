@@ -38,13 +38,12 @@
 //! lines, and not at all by [`put_all`].
 #![tactic(auto)]
 
-mod context;
 mod fault;
 mod file_id;
 mod file_list;
 mod files;
-mod gate;
 mod host;
+mod host_file;
 mod host_files;
 mod laws;
 mod line_buffer;
@@ -60,11 +59,11 @@ mod sink;
 mod source;
 mod whole;
 
-pub use context::Context;
 pub use fault::{AllFault, Failed, LineFault, OpenFault};
+pub use file_id::FileId;
 pub use files::Files;
-pub use gate::{Gate, OpenGate, Who};
 pub use host::{HostSink, HostSource};
+pub use host_file::HostFile;
 pub use host_files::HostFiles;
 pub use laws::only_lines_are_cut;
 pub use line_reader::LineReader;
@@ -72,6 +71,7 @@ pub use memory_files::MemoryFiles;
 pub use memory_sink::MemorySink;
 pub use memory_source::MemorySource;
 pub use place::Place;
+pub use run_context::{Context, Gate, OpenGate, Who};
 pub use sink::Sink;
 pub use source::Source;
 pub use whole::{put_all, read_all};

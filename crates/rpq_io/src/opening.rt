@@ -1,10 +1,11 @@
 //! Opening a file of the host, and asking which it is.
 
 ghost use Rattle.std.specs.Prelude.{◌≡◌, false, IfOk, IfSome};
-ghost use Rattle.rpq_io.specs.FileIds.{is_among};
+ghost use Rattle.rpq_io.specs.FileIds.{IsTold, is_among};
 
 use crate::file_id::FileId;
 use crate::file_list::FileList;
+use crate::host_file::HostFile;
 use std::fs::{File, OpenFile};
 use std::io::ErrorKind;
 use std::rt::Files as FileSystem;
@@ -14,19 +15,16 @@ use std::{fs, io};
 /// closed, or nothing is mounted at `/proc`, there is no such name.
 const OUTPUTS: [&str; 2] = ["/proc/self/fd/1", "/proc/self/fd/2"];
 
-/// A file that was opened, and which regular file it is, if it is one.
-#[derive(Drop)]
-pub struct Opened<F: Drop> {
-    pub file: F,
-    pub id: Option<FileId>,
-}
-
 /// The file, and which it is, as the system tells of the opened file itself.
-fn told<F: OpenFile + Drop>(file: F) -> io::Result<Opened<F>> {
+fn told<F: OpenFile + Drop>(file: F) -> io::Result<HostFile<F>>
+    ensures file { IfOk result (λ opened. opened.file ≡ file) }
+    ensures told { IfOk result (λ opened. IsTold opened.kind opened.id) }
+{
     let metadata = file.metadata()?;
-    Ok(Opened {
-        id: FileId::of(&metadata),
+    Ok(HostFile {
         file,
+        kind: metadata.file_type(),
+        id: FileId::of(&metadata),
     })
 }
 
@@ -39,7 +37,9 @@ fn is_output<H: FileSystem>(host: &H, file: FileId) -> bool {
 }
 
 /// Opens the file of this name to read.
-pub fn open<H: FileSystem>(host: &H, name: &str) -> io::Result<Opened<H::File>> {
+pub fn open<H: FileSystem>(host: &H, name: &str) -> io::Result<HostFile<H::File>>
+    ensures { IfOk result (λ opened. IsTold opened.kind opened.id) }
+{
     told(fs::open(host, name)?)
 }
 
@@ -47,8 +47,13 @@ pub fn open<H: FileSystem>(host: &H, name: &str) -> io::Result<Opened<H::File>> 
 /// is emptied; where it is one of those known, or standard output or standard error, it stays as it
 /// is, and the opening fails. It is asked of the opened file which it is, so nobody can put another
 /// one in its place in between.
-pub fn create<H: FileSystem>(host: &H, name: &str, known: &FileList) -> io::Result<Opened<H::File>>
-    ensures { IfOk result (λ opened.
+pub fn create<H: FileSystem>(
+    host: &H,
+    name: &str,
+    known: &FileList,
+) -> io::Result<HostFile<H::File>>
+    ensures told { IfOk result (λ opened. IsTold opened.kind opened.id) }
+    ensures other { IfOk result (λ opened.
         IfSome opened.id (λ file. is_among file known.now.files ≡ false)) }
 {
     let opened = told(File::options().write(true).create(true).open(host, name)?)?;

@@ -1,6 +1,6 @@
 -- When a run is done.
 use Rattle.std.proofs.Common.{◌≡◌, ◌≢◌, ℕ, zero, suc, ◌+◌, ◌<◌, ◌≤◌, List, [], ◌∷◌, ◌++◌, length, get_or}
-use Rattle.std.proofs.Common.{Option, Some, None, Bool, true, false, refl, ap, ap₂, sym, subst, ◌∙◌, arith, inl}
+use Rattle.std.proofs.Common.{Option, Some, None, Bool, refl, ap, sym, subst, ◌∙◌, arith, inl}
 use Rattle.std.proofs.Common.{inr, ◌⊎◌, length-append}
 use Rattle.std.specs.Prelude.{IfSome, Contains, map, slice_get, sum}
 use Rattle.std.specs.List.{All}
@@ -11,8 +11,8 @@ use Rattle.std.proofs.lemmas.Option.{slice_get-get_or, slice_get_within}
 use Rattle.rpq_base.specs.declared.data.Tuple.{Tuple}
 use Rattle.rpq_base.specs.declared.data.Entry.{Entry}
 use Rattle.rpq_io.specs.Counts.{Rose, CountsFault}
-use Rattle.rpq_words.specs.declared.settings.Mode.{Mode}
-use Rattle.rpq_words.specs.declared.settings.Mode.TheVariants.{Check, Generate, Streams}
+use Rattle.rpq_words.specs.declared.settings.RunMode.{RunMode}
+use Rattle.rpq_words.specs.declared.settings.RunMode.TheVariants.{Check, Generate, Streams}
 use Rattle.rpq_words.specs.Modes.{AreSettings, count_of}
 use Rattle.rpq_words.specs.declared.settings.Settings.{Settings}
 use Rattle.rpq_words.specs.Views.{is_both_ways, streams_of}
@@ -38,6 +38,7 @@ use Rattle.rpq_run.specs.Run.{Runs, RunsIn}
 use Rattle.rpq_run.specs.RunsCheck.{RunsCheck}
 use Rattle.rpq_run.specs.RunsGenerated.{RunsGenerated}
 use Rattle.rpq_run.specs.RunsStreams.{RunsStreams}
+use Rattle.rpq_run.specs.Shortage.{Shortage, no_shortage}
 use Rattle.rpq_run.specs.Sources.{stream_sources, two_sources}
 use Rattle.rpq_run.proofs.Sinks.{no_sinks}
 use Rattle.rpq_run.proofs.Statuses.{IsFine, counted_quietly, fine_or_memory, read_quietly}
@@ -300,12 +301,12 @@ module _ {S : Type 0} (faults : S → ℕ) where
       first (Some s) is = omega (arith, is)
 
 -- where no count rose no write failed
-pub none_failed : {S K : Type 0} (means : Meanings S K) (failed : List SinkName) (sinks : Sinks K)
-    (outcome : Outcome S K) → HasCauses means failed sinks outcome
+pub none_failed : {S K : Type 0} (means : Meanings S K) (failed : List SinkName) (short : Shortage)
+    (sinks : Sinks K) (outcome : Outcome S K) → HasCauses means failed short sinks outcome
     → ¬ Rose (means.failures sinks.events_old) (means.failures sinks.events_new)
     → IfSome outcome.replies (λ sink. ¬ Rose 0 (means.failures sink))
     → IfSome outcome.save (λ sink. ¬ Rose 0 (means.failures sink)) → failed ≡ []
-none_failed {S} {K} means failed sinks outcome causes writes replies save =
+none_failed {S} {K} means failed short sinks outcome causes writes replies save =
     no_sinks failed (λ has. writes (causes.events_failed.rose has))
     (none_of Replies outcome.replies causes.replies_failed causes.no_replies replies)
     (none_of Save outcome.save causes.save_failed causes.no_save save)
@@ -343,7 +344,7 @@ pub streams_done : {S K : Type 0} (means : Meanings S K) (given : Settings)
     (outcome : Outcome S K) → RunsStreams means given holds sinks objects outcome → CanBeDone given holds
     → NothingRose means given openings sinks outcome → (outcome.status ≡ 0) ⊎ (outcome.status ≡ 8)
 streams_done means given holds openings sinks objects outcome runs can none =
-    let failed = none_failed means runs.failed sinks outcome runs.causes none.writes none.replies none.save in
+    let failed = none_failed means runs.failed runs.short sinks outcome runs.causes none.writes none.replies none.save in
     done_or_short outcome.ends runs.failed outcome.status failed runs.causes.status_is
     (all_end_well (left_of_both means.left) (faults_of_both means.faults) given.history (stream_contents given holds)
     (stream_sources outcome.from outcome.sources) outcome.history outcome.ends runs.history.each_stream
@@ -359,7 +360,7 @@ pub generated_done : {S K : Type 0} (means : Meanings S K) (given : Settings) (t
     → count ≤ given.history
     → NothingRose means given openings sinks outcome → (outcome.status ≡ 0) ⊎ (outcome.status ≡ 8)
 generated_done means given two_way count file openings sinks objects outcome runs fits none =
-    let failed = none_failed means runs.failed sinks outcome runs.causes none.writes none.replies none.save in
+    let failed = none_failed means runs.failed no_shortage sinks outcome runs.causes none.writes none.replies none.save in
     let fine : IsFine runs.history.end = elim runs.history.one_of [
       | inl whole ↦ inl (ap status_of_end whole)
       | inr other ↦ elim other [
@@ -379,7 +380,7 @@ pub check_done : {S K : Type 0} (means : Meanings S K) (given : Settings) (two_w
     (outcome : Outcome S K) → RunsCheck means two_way file sinks objects outcome
     → NothingRose means given openings sinks outcome → (outcome.status ≡ 0) ⊎ (outcome.status ≡ 8)
 check_done means given two_way file openings sinks objects outcome runs none =
-    let failed = none_failed means runs.failed sinks outcome runs.causes none.writes none.replies none.save in
+    let failed = none_failed means runs.failed no_shortage sinks outcome runs.causes none.writes none.replies none.save in
     done_or_short outcome.ends runs.failed outcome.status failed runs.causes.status_is
     (subst (λ (ends : List StreamEnd). All IsFine ends) (sym runs.nothing.no_stream) (All-nil IsFine))
 
@@ -401,11 +402,11 @@ module _ {S K : Type 0} (means : Meanings S K) (words : Option Settings) (given 
     (whole : AreReadWhole means.left means.faults given holds) (settings : AreSettings given)
     (done : outcome.status ≡ 0) where
   -- where all is done and no read of a source failed, nothing did
-  all_quiet : (failed : List SinkName) → HasCauses means failed sinks outcome
+  all_quiet : (failed : List SinkName) (short : Shortage) → HasCauses means failed short sinks outcome
       → All (λ source. means.faults source ≡ 0) outcome.sources
       → IfSome outcome.from (λ source. means.faults source ≡ 0)
       → NothingFails means words holds openings sinks outcome
-  all_quiet failed causes reads from = record {
+  all_quiet failed short causes reads from = record {
     unread = unread;
     unmade = unmade;
     whole = subst (λ (w : Option Settings). IfSome w (λ g. AreReadWhole means.left means.faults g holds)) (sym are) whole;
@@ -437,18 +438,19 @@ module _ {S K : Type 0} (means : Meanings S K) (words : Option Settings) (given 
       (reads_quietly (left_of_both means.left) (faults_of_both means.faults) given.history (stream_contents given holds)
       (stream_sources outcome.from outcome.sources) outcome.history outcome.ends runs.history.each_stream runs.failed
       outcome.status runs.causes.status_is done) in
-      all_quiet runs.failed runs.causes none.0 none.1
+      all_quiet runs.failed runs.short runs.causes none.0 none.1
 
   -- nothing failed in a run that is done
   pub runs_quiet : (objects : Objects) → Runs means given holds sinks objects outcome
       → NothingFails means words holds openings sinks outcome
   runs_quiet objects = by given.mode refl
     where
-      by : (mode : Mode) → given.mode ≡ mode → RunsIn mode means given holds sinks objects outcome
+      by : (mode : RunMode) → given.mode ≡ mode → RunsIn mode means given holds sinks objects
+          outcome
           → NothingFails means words holds openings sinks outcome
-      by (Check directions) is runs = all_quiet runs.failed runs.causes
+      by (Check directions) is runs = all_quiet runs.failed no_shortage runs.causes
           (none_faulty runs.no_source) (none_first runs.nothing.no_window.0)
-      by (Generate directions count) is runs = all_quiet runs.failed runs.causes
+      by (Generate directions count) is runs = all_quiet runs.failed no_shortage runs.causes
           (none_faulty runs.no_source) (none_first runs.no_window.0)
       by (Streams run) is runs = streams_quiet objects (some_streams given run is settings).0 runs
 
@@ -460,7 +462,7 @@ pub runs_done : {S K : Type 0} (means : Meanings S K) (given : Settings)
 runs_done means given holds openings sinks objects outcome runs can none =
     by given.mode runs can.made
   where
-    by : (mode : Mode) → RunsIn mode means given holds sinks objects outcome
+    by : (mode : RunMode) → RunsIn mode means given holds sinks objects outcome
         → IfSome (count_of mode) (λ count. count ≤ given.history)
         → (outcome.status ≡ 0) ⊎ (outcome.status ≡ 8)
     by (Check directions) checks fits = check_done means given (is_both_ways directions)

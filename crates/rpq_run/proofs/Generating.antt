@@ -9,17 +9,14 @@ use Rattle.std.proofs.lemmas.Bool.Decides.{leb_tells}
 use Rattle.rpq_io.proofs.Bytes.{append_known-nil}
 use Rattle.rpq_io.proofs.Counting.{counts_as}
 use Rattle.rpq_io.specs.Writes.{WritesProperPrefix}
-use Rattle.rpq_words.specs.declared.settings.Settings.{Settings}
-use Rattle.rpq_words.specs.Views.{two_way_of}
 use Rattle.ask_text.specs.Answered.{AnsweredValue}
 use Rattle.history_model.specs.declared.line.Why.TheVariants.{Write}
-use Rattle.two_way.specs.TwoWay.{AreAllWalkedEvents}
 use Rattle.stream_tuples.specs.declared.ends.StreamEnd.{StreamEnd}
 use Rattle.stream_tuples.specs.declared.ends.StreamEnd.TheVariants.{Whole, Full, Closed, Memory}
 use Rattle.standing.specs.Circles.{Parts, as_seen}
 use Rattle.standing.specs.Objects.{ObjectValue}
 use Rattle.standing.proofs.HavingStood.{stood_weaker}
-use Rattle.generated_run.specs.declared.generation.Generated.{Generated}
+use Rattle.generated_run.specs.declared.generation.GenerationResult.{GenerationResult}
 use Rattle.generated_run.specs.declared.generation.Generation.{Generation}
 use Rattle.generated_run.specs.Generates.{AreTold, Generates, said_by}
 use Rattle.generated_run.specs.Summary.{IsSummary, all_of}
@@ -32,6 +29,7 @@ use Rattle.rpq_run.specs.Ended.{bytes_of, end_of}
 use Rattle.rpq_run.specs.Failed.{failed_sinks}
 use Rattle.rpq_run.specs.Outcome.{Meanings, Sinks, Objects, Outcome, objects}
 use Rattle.rpq_run.specs.RunsGenerated.{HoldsGenerated, WritesSummary, RunsGenerated}
+use Rattle.rpq_run.specs.Shortage.{is_short, no_shortage}
 use Rattle.rpq_run.specs.Written.{Tells, TellsLines}
 use Rattle.rpq_run.proofs.Running.{for_queries, is_queries_file, objects_are}
 use Rattle.rpq_run.proofs.Sinks.{events_in, in_events, in_replies, in_save, none_contained, one_contained}
@@ -78,7 +76,7 @@ not_within count limit above = elim (leb_tells count limit) [
 -- ---- the run
 
 -- what the run answers, by what it gave and how its stream ended
-abbrev pub generated_outcome : {S K O : Type 0} → ℕ → Generated O → List StreamEnd → List S
+abbrev pub generated_outcome : {S K O : Type 0} → ℕ → GenerationResult O → List StreamEnd → List S
     → List (List AnsweredValue) → Outcome S K
 generated_outcome status run ends sources sessions = record {
   status = status;
@@ -92,7 +90,8 @@ generated_outcome status run ends sources sessions = record {
 }
 
 -- it has no source and no session
-nothing_asked : {S K O : Type 0} (status : ℕ) (run : Generated O) (ends ends' : List StreamEnd)
+nothing_asked : {S K O : Type 0} (status : ℕ) (run : GenerationResult O)
+    (ends ends' : List StreamEnd)
     (sources : List S) (sessions : List (List AnsweredValue)) → ends ≡ ends' → sources ≡ [] → sessions ≡ []
     → generated_outcome {S = S} {K = K} status run ends [] []
     ≡ generated_outcome status run ends' sources sessions
@@ -101,7 +100,7 @@ nothing_asked status run ends ends' sources sessions same no_source no_session =
 
 module _ {S K T E O : Type 0} (means : Meanings S K)
     (file : Option (List ℕ)) (task : Generation) (sinks : Sinks K) (seen : O → ObjectValue)
-    (circle : Parts O) (run : Generated O) (wrote : Result T E) (status : ℕ)
+    (circle : Parts O) (run : GenerationResult O) (wrote : Result T E) (status : ℕ)
     (has : IfSome file
     (λ bytes. HasQueries task.two_way bytes (definitions_of task.queries.items)))
     (made : Generates seen task circle run)
@@ -231,6 +230,19 @@ module _ {S K T E O : Type 0} (means : Meanings S K)
       there None is other = absurd (other (short (ap is_some is)))
       there (Some text) is other = refl
 
+  -- memory ran out exactly where the stream ended for want of it
+  end_is_memory : run.summary ≡ None → end_in ≡ Memory
+  end_is_memory is = ap (λ (s : Option (Vec ℕ)). end_of (is_some s) fits) is
+
+  by_end : (summary : Option (Vec ℕ)) → run.summary ≡ summary
+      → is_short (end_of (is_some summary) fits ∷ []) no_shortage ≡ true → status ≡ 8
+  by_end None is ended = short (ap is_some is)
+  by_end (Some text) is ended = absurd (fine fits ended)
+    where
+      fine : (f : Bool) → is_short (end_of true f ∷ []) no_shortage ≡ true → ⊥
+      fine false ended = absurd (cc ended)
+      fine true ended = absurd (cc ended)
+
   -- all of it
   generated_runs : IsStatusOf (end_in ∷ []) (failed_sinks (is_err wrote) false false) status
       → TellsLines means.written means.failures (run_lines (end_in ∷ []) (failed_sinks (is_err wrote) false false) status)
@@ -265,6 +277,11 @@ module _ {S K T E O : Type 0} (means : Meanings S K)
           absurd (cc no);
       closed = λ closed. absurd (not_closed (is_some run.summary) fits (one_contained end_in (Closed Write) closed));
       status_is = status_is;
+      memory = (
+        λ eight. ap (λ (end : StreamEnd). is_short (end ∷ []) no_shortage)
+            (end_is_memory (short_of_memory run.summary refl eight)),
+        by_end run.summary refl,
+      );
       told = lines;
     };
   }

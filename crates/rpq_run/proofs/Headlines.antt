@@ -3,12 +3,14 @@ use Rattle.std.proofs.Common.{◌≡◌, ◌≢◌, ℕ, ◌+◌, Bool, List, []
 use Rattle.std.proofs.Common.{Some, None, Result, Ok, true, false, refl, ap, ap₂, sym, subst, ◌∙◌}
 use Rattle.std.proofs.Common.{arith, inl, inr, ◌⊎◌, append-nil}
 use Rattle.std.specs.Prelude.{⊤, IfSome, MatchOption, Contains, map, option_map, unwrap_or}
-use Rattle.std.specs.Prelude.{slice_get}
+use Rattle.std.specs.Prelude.{is_some, slice_get}
 use Rattle.std.specs.Io.KnownBytes.{append_known}
 use Rattle.std.specs.List.{All, flat_map}
 use Rattle.std.proofs.lemmas.List.{length-map, take_all}
+use Rattle.std.proofs.lemmas.List.Elements.{All-head, All-tail}
 use Rattle.std.proofs.lemmas.Option.{slice_get-map, slice_get_within}
 use Rattle.rpq_base.specs.declared.data.Entry.{Entry}
+use Rattle.rpq_io.proofs.Bytes.{append_known-nil}
 use Rattle.rpq_model.specs.Query.{Query}
 use Rattle.join_file.specs.declared.fault.JoinFileFault.{JoinFileFault}
 use Rattle.join_file.specs.Joins.{JoinValue}
@@ -26,7 +28,9 @@ use Rattle.stream_tuples.specs.declared.ends.StreamEnd.TheVariants.{Whole}
 use Rattle.stream_tuples.specs.History.{IsNumberOf, AreTuplesOfEnd, own_tuples}
 use Rattle.stream_tuples.specs.Limits.{byte_limit}
 use Rattle.stream_tuples.specs.StreamText.{StreamTuples, stream_tuples}
+use Rattle.rpq_text.specs.declared.ends.SinkName.{SinkName}
 use Rattle.rpq_text.specs.declared.ends.SinkName.TheVariants.{Events, Replies, Save}
+use Rattle.rpq_text.specs.ErrorLines.{end_line, end_lines, memory_line, run_lines}
 use Rattle.entry_steps.specs.Laws.{StepsHaveJoinEvents, StepsHaveTheEvents}
 use Rattle.entry_steps.specs.Steps.{OptionsValue, StepValue, AreSteps, events_of}
 use Rattle.rpq_text.specs.Text.{blocks_from}
@@ -46,21 +50,26 @@ use Rattle.rpq_run.specs.Headline.{behind_text, stream_texts}
 use Rattle.rpq_run.specs.Options.{options_of}
 use Rattle.rpq_run.specs.Outcome.{Meanings, Sinks, Objects, Outcome}
 use Rattle.rpq_run.specs.Replies.{texts_of}
-use Rattle.rpq_run.specs.RunsStreams.{GotText, RunsStreams, FrontsBind, FrontsHold, nothing_told}
+use Rattle.rpq_run.specs.RunsStreams.{GotText, RunsStreams, FrontsBind, FrontsHold, IsUnsaved}
+use Rattle.rpq_run.specs.RunsStreams.{nothing_told}
+use Rattle.rpq_run.specs.Shortage.{is_short_before}
 use Rattle.rpq_run.specs.Sources.{stream_sources}
-use Rattle.rpq_run.specs.Written.{WritesWhere}
-use Rattle.rpq_run.proofs.Done.{stream_at}
+use Rattle.rpq_run.specs.Written.{TellsLines, WritesWhere}
+use Rattle.rpq_run.proofs.Done.{all_by, stream_at}
+use Rattle.rpq_run.proofs.ErrorTexts.{nil_front}
+use Rattle.rpq_run.proofs.Shortages.{never_both, none_short}
+use Rattle.rpq_run.proofs.Sinks.{no_sinks}
 use Rattle.rpq_run.proofs.Statuses.{first_of_done, sink_quietly, whole_end}
 
--- ---- the one list of queries, of conjunctions, and of sessions
+-- ---- the one list of queries, of joins, and of sessions
 
 -- bytes give one thing, whether the queries may take edges backwards or not
-either_way : OneOutcome → OneTwoWayOutcome → (two_way : Bool) → OneOutcomeOf two_way
+pub either_way : OneOutcome → OneTwoWayOutcome → (two_way : Bool) → OneOutcomeOf two_way
 either_way one other false = one
 either_way one other true = other
 
 -- the queries of bytes that give some
-one_query_list : (two_way : Bool) → OneOutcomeOf two_way → (bytes : List ℕ)
+pub one_query_list : (two_way : Bool) → OneOutcomeOf two_way → (bytes : List ℕ)
     (first second : List Query)
     → HasQueries two_way bytes first → HasQueries two_way bytes second → first ≡ second
 one_query_list two_way one bytes first second has other =
@@ -68,7 +77,7 @@ one_query_list two_way one bytes first second has other =
     one bytes (Ok first) (Ok second) has.1 other.1 in
     cc same
 
-from_queries : (two_way : Bool) → OneOutcomeOf two_way → (file : Option (List ℕ)) (bytes : List ℕ)
+pub from_queries : (two_way : Bool) → OneOutcomeOf two_way → (file : Option (List ℕ)) (bytes : List ℕ)
     (queries : List Query) (P : List Query → Type 0) → file ≡ Some bytes
     → HasQueries two_way bytes queries
     → ForQueries two_way file P → P queries
@@ -76,7 +85,7 @@ from_queries two_way one file bytes queries P is has holds =
     let held = subst (λ (f : Option (List ℕ)). ForQueries two_way f P) is holds in
     subst P (one_query_list two_way one bytes held.0 queries held.1 has) held.2
 
-from_joins : (given : Settings) (holds : List ℕ → Option (List ℕ)) (queries : List Query)
+pub from_joins : (given : Settings) (holds : List ℕ → Option (List ℕ)) (queries : List Query)
     (told : Option (List ℕ)) (joins : List JoinValue) (P : List JoinValue → Type 0)
     → option_map holds (joins_of given) ≡ option_map (λ bytes. Some bytes) told
     → AreJoined queries told joins
@@ -100,7 +109,7 @@ from_joins given holds queries told joins P is joined = by (joins_of given) told
         let same_joins : held.0 ≡ joins = cc same in
         subst P same_joins held.2
 
-from_joined : {S K : Type 0} (means : Meanings S K) (given : Settings)
+pub from_joined : {S K : Type 0} (means : Meanings S K) (given : Settings)
     (holds : List ℕ → Option (List ℕ)) (sinks : Sinks K) (told : Told) (queries : List Query)
     (joins : List JoinValue) (P : List Query → List JoinValue → Type 0)
     → OneOutcomeOf (two_way_of given)
@@ -111,7 +120,7 @@ from_joined means given holds sinks told queries joins P one is has joined p =
     (from_queries (two_way_of given) one (holds given.queries) told.queries queries
     (λ all. ForJoins given holds all (P all)) is.queries has p)
 
-from_sessions : (given : Settings) (holds : List ℕ → Option (List ℕ)) (queries : List Query)
+pub from_sessions : (given : Settings) (holds : List ℕ → Option (List ℕ)) (queries : List Query)
     (told : Option (List ℕ)) (sessions : List (List Ask)) (P : List (List Ask) → Type 0)
     → option_map holds (asks_of given) ≡ option_map (λ bytes. Some bytes) told
     → AreAsked queries told sessions
@@ -135,7 +144,7 @@ from_sessions given holds queries told sessions P is asked = by (asks_of given) 
         let same_sessions : held.0 ≡ sessions = cc same in
         subst P same_sessions held.2
 
-from_asked : {S K : Type 0} (means : Meanings S K) (given : Settings)
+pub from_asked : {S K : Type 0} (means : Meanings S K) (given : Settings)
     (holds : List ℕ → Option (List ℕ)) (sinks : Sinks K) (told : Told) (queries : List Query)
     (sessions : List (List Ask)) (P : List Query → List (List Ask) → Type 0)
     → OneOutcomeOf (two_way_of given)
@@ -146,8 +155,8 @@ from_asked means given holds sinks told queries sessions P one is has asked p =
     (from_queries (two_way_of given) one (holds given.queries) told.queries queries
     (λ all. ForSessions given holds all (P all)) is.queries has p)
 
--- there are conjunctions
-joins_there : {S K : Type 0} (means : Meanings S K) (given : Settings)
+-- there are joins
+pub joins_there : {S K : Type 0} (means : Meanings S K) (given : Settings)
     (holds : List ℕ → Option (List ℕ)) (sinks : Sinks K) (told : Told) (queries : List Query)
     → OneOutcomeOf (two_way_of given) → IsTold means given holds sinks told
     → HasQueries (two_way_of given) told.queries queries
@@ -174,13 +183,13 @@ joins_there means given holds sinks told queries one is has there =
         (file.0, file.1)
 
 -- there are queries and sessions
-record AreThere (two_way : Bool) (told : Told) : Type 0 where
-  queries : List Query
-  has : HasQueries two_way told.queries queries
-  sessions : List (List Ask)
-  asked : AreAsked queries told.asks sessions
+pub record AreThere (two_way : Bool) (told : Told) : Type 0 where
+  pub queries : List Query
+  pub has : HasQueries two_way told.queries queries
+  pub sessions : List (List Ask)
+  pub asked : AreAsked queries told.asks sessions
 
-are_there : {S K : Type 0} (means : Meanings S K) (given : Settings)
+pub are_there : {S K : Type 0} (means : Meanings S K) (given : Settings)
     (holds : List ℕ → Option (List ℕ)) (sinks : Sinks K) (told : Told)
     → IsTold means given holds sinks told
     → ForAsked given holds (λ queries sessions. Unit {0}) → AreThere (two_way_of given) told
@@ -213,14 +222,13 @@ from_nothing : (now : Option (List ℕ)) (text : List ℕ) → now ≡ append_kn
 from_nothing None text is = tt
 from_nothing (Some bytes) text is = cc is
 
-replies_are : {K : Type 0} (written : K → Option (List ℕ)) (text : List ℕ) (failed : Type 0)
-    (status : ℕ)
-    → (failed → ⊥) → status ≢ 8 → (replies : Option K)
-    → IfSome replies (λ sink. WritesWhere failed status (λ t. t ≡ text)
+replies_are : {K : Type 0} (written : K → Option (List ℕ)) (text : List ℕ) (failed short : Type 0)
+    → (failed → ⊥) → (short → ⊥) → (replies : Option K)
+    → IfSome replies (λ sink. WritesWhere failed short (λ t. t ≡ text)
     (nothing_told (written sink)) (written sink))
     → IfSome replies (λ sink. IfSome (written sink) (λ bytes. bytes ≡ text))
-replies_are written text failed status none other None writes = tt
-replies_are written text failed status none other (Some sink) writes =
+replies_are written text failed short none other None writes = tt
+replies_are written text failed short none other (Some sink) writes =
     let whole = writes.whole none other in
     from_nothing (written sink) text (subst (λ (t : List ℕ).
     written sink ≡ append_known (nothing_told (written sink)) t) whole.of_kind whole.written)
@@ -243,7 +251,7 @@ texts_behind : (first : List ℕ) (texts : List (List ℕ))
 texts_behind first [] = refl
 texts_behind first (text ∷ texts) = refl
 
-contents_are : (given : Settings) (holds : List ℕ → Option (List ℕ)) (told : Told)
+pub contents_are : (given : Settings) (holds : List ℕ → Option (List ℕ)) (told : Told)
     → option_map holds (from_of given) ≡ option_map (λ bytes. Some bytes) told.from
     → map holds (streams_of given) ≡ map (λ bytes. Some bytes) told.streams
     → stream_contents given holds ≡ map (λ (bytes : List ℕ). Some bytes) (stream_texts told)
@@ -258,6 +266,44 @@ contents_are given holds told from streams =
     by None (Some bytes) is = absurd (cc is)
     by (Some name) None is = absurd (cc is)
     by (Some name) (Some bytes) is = cc is
+
+-- one of two is there exactly where the other is
+there_as_told : (holds : List ℕ → Option (List ℕ)) (name known : Option (List ℕ))
+    → option_map holds name ≡ option_map (λ bytes. Some bytes) known → is_some name ≡ is_some known
+there_as_told holds None None is = refl
+there_as_told holds None (Some bytes) is = absurd (cc is)
+there_as_told holds (Some name) None is = absurd (cc is)
+there_as_told holds (Some name) (Some bytes) is = refl
+
+-- ---- the errors
+
+-- streams that were read to their ends have no line
+whole_lines : (ends : List StreamEnd) (number : ℕ) → All (λ (end : StreamEnd). end ≡ Whole) ends
+    → end_lines number ends ≡ []
+unfolding end_line
+whole_lines [] number whole = refl
+whole_lines (end ∷ ends) number whole =
+    ap (λ (e : StreamEnd). end_line number e ++ end_lines (number + 1) ends)
+    (All-head (λ (e : StreamEnd). e ≡ Whole) end ends whole)
+    ∙ whole_lines ends (number + 1) (All-tail (λ (e : StreamEnd). e ≡ Whole) end ends whole)
+
+-- a run that is done has none
+no_lines : (ends : List StreamEnd) (failed : List SinkName) (status : ℕ)
+    → All (λ (end : StreamEnd). end ≡ Whole) ends → failed ≡ [] → status ≡ 0
+    → run_lines ends failed status ≡ []
+unfolding run_lines memory_line
+no_lines ends failed status whole none done =
+    ap₂ (λ (names : List SinkName) (n : ℕ). run_lines ends names n) none done
+    ∙ ap (λ (lines : List ℕ). lines ++ []) (whole_lines ends 1 whole)
+
+-- so nothing was written on the errors
+nothing_written : {K : Type 0} (written : K → Option (List ℕ)) (failures : K → ℕ) (lines : List ℕ)
+    (old new : K) → lines ≡ [] → TellsLines written failures lines old new
+    → written new ≡ written old
+nothing_written written failures lines old new none told =
+    let part = told.prefix in
+    part.written ∙ (ap (λ (bytes : List ℕ). append_known (written old) bytes)
+    (nil_front part.front part.rest (part.of_kind ∙ none)) ∙ append_known-nil (written old))
 
 -- ---- the objects
 
@@ -325,7 +371,7 @@ bound_by options queries history steps law forwards are bindings =
 -- ---- all of it
 
 -- what is told, where edges are taken and paths are told as the settings say
-abbrev telling : Bool → Bool → Told → Told
+abbrev pub telling : Bool → Bool → Told → Told
 telling two_way paths told = record told { two_way = two_way; paths = paths }
 
 -- it holds as the settings say
@@ -343,13 +389,15 @@ headline_of means given holds sinks objects outcome told one law lines runs done
     let quiet : (Contains runs.failed Events → ⊥) =
     sink_quietly outcome.ends runs.failed outcome.status Events runs.causes.status_is done in
     let not_short : outcome.status ≢ 8 = λ eight. absurd (omega (arith, eight, done)) in
+    let short = none_short outcome.ends runs.short (λ is. not_short (runs.causes.memory.1 is)) in
     let tells = from_joined means given holds sinks told there.queries found.0
     (λ queries joins. TellsObjects (options_of given joins) queries outcome.history
     (means.written sinks.events_old) (means.written sinks.events_new) objects.before
     runs.told.why objects.after) one is there.has found.1 runs.told.told in
     let all = all_told options there.queries outcome.history
     (means.written sinks.events_old) (means.written sinks.events_new) objects.before
-    runs.told.why objects.after (unended runs.told.why refl quiet not_short) tells in
+    runs.told.why objects.after (unended runs.told.why refl quiet
+    (never_both runs.short.engine short.engine)) tells in
     let events = law.are options there.queries outcome.history all.steps all.are_steps in
     let sets = from_queries (two_way_of given) one (holds given.queries) told.queries there.queries
     (λ queries. FrontsHold (two_way_of given) queries outcome.history) is.queries there.has
@@ -361,7 +409,7 @@ headline_of means given holds sinks objects outcome told one law lines runs done
       | inl all ↦ all
       | inr other ↦ elim other [
         | inl failed ↦ absurd (quiet failed)
-        | inr eight ↦ absurd (not_short eight)
+        | inr engine ↦ absurd (never_both runs.short.engine short.engine engine)
       ]
     ] in
     record {
@@ -374,6 +422,8 @@ headline_of means given holds sinks objects outcome told one law lines runs done
       in_order = in_order;
       no_other = subst (λ n. All (λ (e : Entry). IsNumberOf n e.stream) outcome.history) as_many
           runs.history.no_other;
+      few = omega (arith, runs.history.few, is.limit);
+      from_there = runs.history.from ∙ there_as_told holds (from_of given) told.from is.from;
       steps = all.steps;
       are_steps = all.are_steps;
       written = all.written ∙ ap (λ (w : Option (List ℕ)). append_known w
@@ -391,37 +441,58 @@ headline_of means given holds sinks objects outcome told one law lines runs done
           there.has there.asked runs.replies.sessions);
       all_answered = from_asked means given holds sinks told there.queries there.sessions
           (λ queries asked. asks_answered outcome.sessions ≡ asked) one is there.has there.asked
-          (runs.replies.all not_short);
+          (runs.replies.all short.session);
+      replies_there = runs.replies.sink ∙ is.replies;
       replied = replies_are means.written (replies (texts_of outcome.sessions))
-          (Contains runs.failed Replies) outcome.status
+          (Contains runs.failed Replies) (runs.short.replies ≡ true)
           (sink_quietly outcome.ends runs.failed outcome.status Replies runs.causes.status_is done)
-          not_short outcome.replies runs.replies.text;
+          (never_both runs.short.replies short.replies) outcome.replies runs.replies.text;
+      window_there = runs.saves.sink ∙ is.save;
       saved_is = window_is outcome.save runs.saves.text
           (sink_quietly outcome.ends runs.failed outcome.status Save runs.causes.status_is done)
-          quiet not_short there.queries there.has;
+          (λ reason. elim reason [
+            | inl failed ↦ quiet failed
+            | inr before ↦
+                never_both (is_short_before outcome.ends runs.short) short.before before
+          ]) (never_both runs.short.save short.save) there.queries there.has;
+      quiet = nothing_written means.written means.failures
+          (run_lines outcome.ends runs.failed outcome.status) sinks.errors_old sinks.errors_new
+          (no_lines outcome.ends runs.failed outcome.status whole_ends none_failed_in done)
+          runs.causes.told;
     }
   where
     unended : (why : Option Why) → runs.told.why ≡ why → (Contains runs.failed Events → ⊥)
-        → outcome.status ≢ 8
-        → runs.told.why ≡ None
+        → (runs.short.engine ≡ true → ⊥) → runs.told.why ≡ None
     unended None why_is quiet not_short = why_is
     unended (Some Write) why_is quiet not_short = absurd (quiet (runs.told.write why_is))
     unended (Some Memory) why_is quiet not_short = absurd (not_short (runs.told.memory why_is))
 
+    whole_ends : All (λ (end : StreamEnd). end ≡ Whole) outcome.ends
+    whole_ends = all_by (λ (end : StreamEnd). end ≡ Whole) outcome.ends (λ place end at.
+        whole_end outcome.ends runs.failed place end
+        (first_of_done outcome.ends runs.failed outcome.status runs.causes.status_is done) at)
+
+    none_failed_in : runs.failed ≡ []
+    none_failed_in = no_sinks runs.failed
+        (sink_quietly outcome.ends runs.failed outcome.status Events runs.causes.status_is done)
+        (sink_quietly outcome.ends runs.failed outcome.status Replies runs.causes.status_is done)
+        (sink_quietly outcome.ends runs.failed outcome.status Save runs.causes.status_is done)
+
     window_is : (save : Option _)
         → IfSome save (λ sink. ForQueries (two_way_of given) (holds given.queries) (λ queries.
-        GotText (Contains runs.failed Events) (Contains runs.failed Save) outcome.status
-        (saved_text (saved queries outcome.history)) (means.written sink)))
-        → (Contains runs.failed Save → ⊥) → (Contains runs.failed Events → ⊥) → outcome.status ≢ 8
+        GotText (IsUnsaved runs.failed outcome.ends runs.short) (Contains runs.failed Save)
+        (runs.short.save ≡ true) (saved_text (saved queries outcome.history)) (means.written sink)))
+        → (Contains runs.failed Save → ⊥)
+        → (IsUnsaved runs.failed outcome.ends runs.short → ⊥) → (runs.short.save ≡ true → ⊥)
         → (queries : List Query) → HasQueries (two_way_of given) told.queries queries
         → IfSome save (λ sink. IfSome (means.written sink)
         (λ bytes. bytes ≡ saved_text (saved queries outcome.history)))
-    window_is None got none quiet not_short queries has = tt
-    window_is (Some sink) got none quiet not_short queries has =
+    window_is None got none wanted not_short queries has = tt
+    window_is (Some sink) got none wanted not_short queries has =
         (from_queries (two_way_of given) one (holds given.queries) told.queries queries (λ all.
-        GotText (Contains runs.failed Events) (Contains runs.failed Save) outcome.status
-        (saved_text (saved all outcome.history)) (means.written sink)) is.queries has got).whole
-        quiet none not_short
+        GotText (IsUnsaved runs.failed outcome.ends runs.short) (Contains runs.failed Save)
+        (runs.short.save ≡ true) (saved_text (saved all outcome.history)) (means.written sink))
+        is.queries has got).whole wanted none not_short
 
     as_many : length (streams_of given) ≡ length told.streams
     as_many = sym (length-map (streams_of given) holds)

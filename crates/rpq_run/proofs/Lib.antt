@@ -1,4 +1,5 @@
 mod ErrorTexts
+mod Shortages
 mod Sinks
 mod Windows
 mod Replying
@@ -6,7 +7,17 @@ mod Totals
 mod Statuses
 mod Done
 mod Running
+mod Checking
 mod Generating
 mod Refusals
 mod Tops
 mod Headlines
+mod ContinuedReading
+mod ContinuedHistories
+mod ContinuedQueries
+mod ContinuedSettings
+mod ContinuedSteps
+mod ContinuedFirst
+mod TwoRuns
+mod AnyStatuses
+mod Faultless

@@ -1,15 +1,15 @@
--- What a run does that begins: the run over streams, and the check.
-use Rattle.std.proofs.Common.{◌≡◌, ◌≢◌, ℕ, Bool, true, false, List, [], length, Option, Some, None}
-use Rattle.std.proofs.Common.{Result, Ok, Err, refl, ap, sym, subst, ◌∙◌, arith, inl, inr, ◌⊎◌}
-use Rattle.std.specs.Prelude.{◌<◌, IfSome, MatchOption, Contains, is_err, is_some, map, slice_get}
+-- What the run over streams does.
+use Rattle.std.proofs.Common.{◌≡◌, ℕ, Bool, true, false, List, [], length, Option, Some, None}
+use Rattle.std.proofs.Common.{Result, Ok, refl, ap, sym, subst, ◌∙◌, arith, inl, inr, ◌⊎◌}
+use Rattle.std.specs.Prelude.{◌<◌, ◌↔◌, ◌||◌, IfSome, MatchOption, Contains, is_some, map, slice_get}
 use Rattle.std.specs.Global.{Vec}
-use Rattle.std.specs.List.{All, flat_map}
+use Rattle.std.specs.List.{All}
 use Rattle.std.proofs.lemmas.List.{length-map}
 use Rattle.rpq_base.specs.declared.data.Entry.{Entry}
 use Rattle.rpq_io.specs.Counts.{CountsFault}
 use Rattle.rpq_io.specs.Files.{IsNewSink}
 use Rattle.rpq_io.specs.Reader.{ReaderState}
-use Rattle.rpq_io.proofs.Counting.{counts_as, counts_none}
+use Rattle.rpq_io.proofs.Counting.{counts_none}
 use Rattle.rpq_model.specs.Query.{Query}
 use Rattle.join_file.specs.FileLaws.{JoinsAreSound}
 use Rattle.join_file.specs.Joins.{JoinValue}
@@ -18,14 +18,11 @@ use Rattle.rpq_words.specs.declared.settings.Settings.{Settings}
 use Rattle.rpq_words.specs.Views.{asks_of, from_of, joins_of, streams_of, two_way_of}
 use Rattle.history_model.specs.declared.line.Why.{Why}
 use Rattle.history_model.specs.declared.line.Why.TheVariants.{Write, Memory}
-use Rattle.stream_tuples.specs.declared.ends.StreamEnd.{StreamEnd}
-use Rattle.stream_tuples.specs.declared.ends.StreamEnd.TheVariants.{Closed}
 use Rattle.stream_tuples.specs.History.{IsNumberOf, AreStreamsOf}
-use Rattle.query_file.specs.Compiled.{CompiledValue, IsCompiled}
 use Rattle.ask_text.specs.declared.ask.Ask.{Ask}
 use Rattle.ask_text.specs.Answered.{AnsweredValue}
 use Rattle.ask_text.specs.Replies.{replies}
-use Rattle.rpq_text.specs.Definitions.{compiled_line, definitions_of}
+use Rattle.rpq_text.specs.Definitions.{definitions_of}
 use Rattle.rpq_text.specs.declared.ends.SinkName.{SinkName}
 use Rattle.rpq_text.specs.declared.ends.SinkName.TheVariants.{Events, Replies, Save}
 use Rattle.rpq_text.specs.ErrorLines.{run_lines}
@@ -33,8 +30,6 @@ use Rattle.entry_steps.specs.Laws.{FrontsHoldAnswers, FrontsHoldBindings}
 use Rattle.rpq_text.specs.Statuses.{IsStatusOf}
 use Rattle.entry_steps.specs.Steps.{OptionsValue}
 use Rattle.rpq_text.specs.Text.{IsText}
-use Rattle.rpq_text.specs.Verdicts.{AreVerdicts}
-use Rattle.rpq_text.proofs.VerdictLines.{are_verdicts}
 use Rattle.saved_window.specs.Saved.{saved}
 use Rattle.saved_window.specs.SavedText.{saved_text}
 use Rattle.saved_window.specs.Then.{TwoSources, count_of, left_of_both, faults_of_both}
@@ -44,35 +39,35 @@ use Rattle.run_start.specs.Files.{stream_contents}
 use Rattle.run_start.specs.declared.sinks.OwnSinks.{OwnSinks}
 use Rattle.standing.specs.Circles.{Parts, as_seen}
 use Rattle.standing.specs.Objects.{ObjectValue}
-use Rattle.rpq_threads.specs.declared.task.Outcome.{Outcome as ThreadsOutcome}
+use Rattle.rpq_threads.specs.declared.task.RunOutcome.{RunOutcome as ThreadsOutcome}
 use Rattle.rpq_threads.specs.declared.task.Task.{Task}
 use Rattle.rpq_threads.specs.Runs.{AreSessionsOf, Holds, asks_answered}
 use Rattle.rpq_threads.specs.Told.{TellsObjects}
-use Rattle.rpq_threads.specs.Written.{Grew, GrewByProperPrefix}
 use Rattle.rpq_run.specs.declared.fault.TextFault.{TextFault}
-use Rattle.rpq_run.specs.declared.fault.TextFault.TheVariants.{Memory as MemoryForText}
 use Rattle.rpq_run.specs.Asked.{IsAsked}
-use Rattle.rpq_run.specs.Ending.{IsShort, IsUnsaved, KeepsParts, SavesIfThere, failed_of}
+use Rattle.rpq_run.specs.Ending.{KeepsParts, SavesIfThere, failed_of, is_left_out, shortage_of}
 use Rattle.rpq_run.specs.declared.report.Report.{Report}
-use Rattle.rpq_run.specs.Failed.{failed_sinks, is_failed, is_write}
+use Rattle.rpq_run.specs.Failed.{is_failed, is_memory, is_write, lacks_memory}
 use Rattle.rpq_run.specs.Options.{options_of}
+use Rattle.rpq_run.specs.Shortage.{Shortage, has_memory_end, is_short, is_short_before}
 use Rattle.rpq_run.specs.Sources.{stream_sources}
 use Rattle.rpq_run.specs.declared.streams.WrittenTexts.{WrittenTexts}
 use Rattle.rpq_run.specs.Outcome.{Meanings, Sinks, Objects, Outcome, objects, outcome}
 use Rattle.rpq_run.specs.Parts.{WritesIfThere}
 use Rattle.rpq_run.specs.Replies.{texts_of}
-use Rattle.rpq_run.specs.RunsCheck.{LeavesObjects, RunsCheck}
+use Rattle.rpq_run.specs.RunsCheck.{LeavesObjects}
 use Rattle.rpq_run.specs.RunsStreams.{HoldsStreams, WritesEvents, AnswersSessions, TellsHistory}
 use Rattle.rpq_run.specs.RunsStreams.{GotText, RunsStreams, SavesWindow, FrontsBind, FrontsHold}
-use Rattle.rpq_run.specs.RunsStreams.{nothing_told}
-use Rattle.rpq_run.specs.Written.{Tells, TellsLines, WritesWhere}
+use Rattle.rpq_run.specs.RunsStreams.{IsUnsaved, nothing_told}
+use Rattle.rpq_run.specs.Written.{TellsLines, WritesWhere}
 use Rattle.rpq_run.proofs.Done.{all_at}
 use Rattle.rpq_run.proofs.Sinks.{some_sinks, in_replies, in_save, events_in, is_write_some}
-use Rattle.rpq_run.proofs.Sinks.{events_written, events_counted, in_events, none_contained}
-use Rattle.rpq_run.proofs.Sinks.{proper_is_prefix, replies_in, save_in, some_is_write, text_counted}
-use Rattle.rpq_run.proofs.Sinks.{text_written, whole_is_prefix}
-use Rattle.rpq_run.proofs.Statuses.{memory_first}
-use Rattle.rpq_run.proofs.Windows.{as_many_contents, none_written, same_sink, there_by_count}
+use Rattle.rpq_run.proofs.Sinks.{events_written, events_counted, in_events}
+use Rattle.rpq_run.proofs.Sinks.{replies_in, save_in, text_counted}
+use Rattle.rpq_run.proofs.Sinks.{text_written}
+use Rattle.rpq_run.proofs.Shortages.{either, left_out_by, neither, never_both, one_fault}
+use Rattle.rpq_run.proofs.Windows.{as_many_contents, none_lacking, none_written, same_sink}
+use Rattle.rpq_run.proofs.Windows.{there_by_count}
 use Rattle.rpq_run.proofs.Windows.{window_unwritten, window_written}
 
 -- ---- what is asked
@@ -89,11 +84,11 @@ pub is_queries_file : (two_way : Bool) (file : Option (List ℕ)) (queries : Lis
 is_queries_file two_way None queries is = tt
 is_queries_file two_way (Some bytes) queries is = (queries, is)
 
--- the conjunctions are none, or those of a joins file over these queries
+-- the joins are none, or those of a joins file over these queries
 abbrev pub AreFrom : List Query → List JoinValue → Type 0
 AreFrom queries joins = (joins ≡ []) ⊎ ((bytes : List ℕ) × HasJoins queries bytes joins)
 
--- what holds of the conjunctions that a file gives, by what is known of them
+-- what holds of the joins that a file gives, by what is known of them
 pub for_joins : (given : Settings) (holds : List ℕ → Option (List ℕ)) (queries : List Query)
     (P Q : List JoinValue → Type 0)
     → ((found : List JoinValue) → AreFrom queries found → P found → Q found)
@@ -114,7 +109,7 @@ for_joins given holds queries P Q step told = by (joins_of given) told
     by None p = step [] (inl refl) p
     by (Some name) told = by_file (holds name) told
 
--- what holds of the queries and the conjunctions
+-- what holds of the queries and the joins
 pub for_joined : (given : Settings) (holds : List ℕ → Option (List ℕ)) (queries : List Query)
     (P : List JoinValue → Type 0) (Q : List Query → List JoinValue → Type 0)
     → IfSome (holds given.queries) (λ bytes. HasQueries (two_way_of given) bytes queries)
@@ -240,15 +235,20 @@ module _ {S K O : Type 0} (means : Meanings S K) (given : Settings)
     (replied : WritesIfThere means.written means.failures (replies_of threads) old.replies
     new.replies written.replied)
     (saved_is : SavesIfThere means.written means.failures
-    (saved_text (saved (definitions_of task.queries.items) threads.history.items)) threads.why
-    (IsUnsaved threads.why threads.short_of_memory threads.ends.items written.replied) old.save
+    (saved_text (saved (definitions_of task.queries.items) threads.history.items))
+    (is_left_out threads.why threads.short_of_memory threads.ends.items written.replied) old.save
     new.save written.saved)
     (parts : stream_sources from sources ≡ threads.sources.items) (from_is : count_of from ≡ firsts)
-    (short : IsShort threads.why threads.short_of_memory written → status ≡ 8)
+    (memory : (status ≡ 8) ↔ (is_short threads.ends.items
+    (shortage_of threads.why threads.short_of_memory written) ≡ true))
     (status_is : IsStatusOf threads.ends.items (failed_of threads.why written) status) where
   -- the sinks of which a write failed
   abbrev pub failed_in : List SinkName
   failed_in = failed_of threads.why written
+
+  -- what memory ran out for
+  abbrev pub short_in : Shortage
+  short_in = shortage_of threads.why threads.short_of_memory written
 
   -- what the run answers
   abbrev pub answer : Outcome S K
@@ -262,7 +262,7 @@ module _ {S K O : Type 0} (means : Meanings S K) (given : Settings)
       → ForAsked given holds P
   for_both P p = for_asked given holds queries_in task.sessions.items P asked.has asked.asked p
 
-  -- what holds of the task's options holds of those with the conjunctions of the file
+  -- what holds of the task's options holds of those with the joins of the file
   for_options : (P : List Query → OptionsValue → Type 0) → P queries_in task.options
       → ForJoined given holds (λ queries joins. P queries (options_of given joins))
   for_options P p = for_joined given holds queries_in
@@ -270,23 +270,10 @@ module _ {S K O : Type 0} (means : Meanings S K) (given : Settings)
       (λ queries joins. P queries (options_of given joins)) asked.has
       (λ joins from_file is. subst (P queries_in) is p) asked.options
 
-  for_engine : threads.why ≡ Some Memory → status ≡ 8
-  for_engine is = short (inr (inl is))
-
-  for_replies : written.replied ≡ Err MemoryForText → status ≡ 8
-  for_replies is = short (inr (inr (inl is)))
-
-  for_save : written.saved ≡ Err MemoryForText → status ≡ 8
-  for_save is = short (inr (inr (inr is)))
-
-  -- a failed write of the events is told, and told of no other
+  -- a failed write is told of its sink, and of no other
   write_told : threads.why ≡ Some Write → Contains failed_in Events
   write_told is = events_in (is_write threads.why) (is_failed written.replied)
       (is_failed written.saved) (is_write_some threads.why is)
-
-  told_write : Contains failed_in Events → threads.why ≡ Some Write
-  told_write has = some_is_write threads.why
-      (in_events (is_write threads.why) (is_failed written.replied) (is_failed written.saved) has)
 
   replies_told : is_failed written.replied ≡ true → Contains failed_in Replies
   replies_told = replies_in (is_write threads.why) (is_failed written.replied)
@@ -333,14 +320,14 @@ module _ {S K O : Type 0} (means : Meanings S K) (given : Settings)
 
   -- the events
   writes_events : FrontsHoldAnswers → JoinsAreSound → FrontsHoldBindings
-      → WritesEvents means given holds failed_in sinks answer
+      → WritesEvents means given holds failed_in short_in sinks answer
   writes_events fronts sound binds = record {
-    text = for_options (λ all options. WritesWhere (Contains failed_in Events) status
-        (IsText options all threads.history.items)
+    text = for_options (λ all options. WritesWhere (Contains failed_in Events)
+        (short_in.engine ≡ true) (IsText options all threads.history.items)
         (means.written sinks.events_old) (means.written sinks.events_new))
         (events_written means.written means.failures task.options queries_in
         threads.history.items sinks.events_old sinks.events_new threads.why
-        (is_failed written.replied) (is_failed written.saved) status for_engine held.text);
+        (is_failed written.replied) (is_failed written.saved) held.text);
     sets = for_queries (two_way_of given) (holds given.queries) queries_in (λ all.
         FrontsHold (two_way_of given) all threads.history.items) asked.has
         (λ place query events here all count pair.
@@ -352,22 +339,23 @@ module _ {S K O : Type 0} (means : Meanings S K) (given : Settings)
         fronts_bind sound binds queries_in joins threads.history.items from_file) asked.options;
   }
 
-  replies_text : IfSome new.replies (λ sink. WritesWhere (Contains failed_in Replies) status
-      (λ text. text ≡ replies_of threads) (nothing_told (means.written sink)) (means.written sink))
+  replies_text : IfSome new.replies (λ sink. WritesWhere (Contains failed_in Replies)
+      (short_in.replies ≡ true) (λ text. text ≡ replies_of threads)
+      (nothing_told (means.written sink)) (means.written sink))
   replies_text = by old.replies new.replies asked.sinks.new_replies replied
     where
       by : (before after : Option K) → IfSome before (IsNewSink means.written means.failures)
           → WritesIfThere means.written means.failures (replies_of threads) before after
           written.replied
-          → IfSome after (λ sink. WritesWhere (Contains failed_in Replies) status
-          (λ text. text ≡ replies_of threads) (nothing_told (means.written sink))
-          (means.written sink))
+          → IfSome after (λ sink. WritesWhere (Contains failed_in Replies)
+          (short_in.replies ≡ true) (λ text. text ≡ replies_of threads)
+          (nothing_told (means.written sink)) (means.written sink))
       by before None fresh wrote = tt
       by None (Some after) fresh wrote = absurd wrote
       by (Some before) (Some after) fresh wrote =
           text_written means.written means.failures (replies_of threads)
-          before after (Contains failed_in Replies) written.replied status replies_told told_replies
-          for_replies fresh wrote
+          before after (Contains failed_in Replies) written.replied replies_told told_replies
+          fresh wrote
 
   -- a failed write of a text is counted
   text_failed : (text : List ℕ) (failed : Type 0) (result : Result (Unit {0}) TextFault)
@@ -385,19 +373,12 @@ module _ {S K O : Type 0} (means : Meanings S K) (given : Settings)
   -- the last entry that was published is the last of the history, unless the engine shut
   at_end : (why : Option Why) → threads.why ≡ why
       → (held.answers.last ≡ length threads.history.items)
-      ⊎ (Contains failed_in Events ⊎ (status ≡ 8))
+      ⊎ (Contains failed_in Events ⊎ (short_in.engine ≡ true))
   at_end None is = inl (held.answers.at_end is)
   at_end (Some Write) is = inr (inl (write_told is))
-  at_end (Some Memory) is = inr (inr (for_engine is))
+  at_end (Some Memory) is = inr (inr (ap is_memory is))
 
-  -- where memory didn't run out all was answered
-  all_answered : (some : Bool) → threads.short_of_memory ≡ some → status ≢ 8
-      → asks_answered (map (λ (each : Vec AnsweredValue). each.items) threads.sessions.items)
-      ≡ task.sessions.items
-  all_answered true is other = absurd (other (short (inl is)))
-  all_answered false is other = held.answers.all is
-
-  answers_sessions : AnswersSessions means given holds failed_in answer
+  answers_sessions : AnswersSessions means given holds failed_in short_in answer
   answers_sessions = record {
     last = held.answers.last;
     within = held.answers.within;
@@ -406,13 +387,15 @@ module _ {S K O : Type 0} (means : Meanings S K) (given : Settings)
         AreSessionsOf queries threads.history.items held.answers.last asks
         (map (λ (each : Vec AnsweredValue). each.items) threads.sessions.items))
         held.answers.sessions;
-    all = λ other. for_both (λ queries asks.
+    all = λ none. for_both (λ queries asks.
         asks_answered (map (λ (each : Vec AnsweredValue). each.items) threads.sessions.items)
-        ≡ asks) (all_answered threads.short_of_memory refl other);
+        ≡ asks) (held.answers.all none);
     sink = same_sink means.written means.failures (replies_of threads) old.replies new.replies
         written.replied replied
         ∙ asked.sinks.replies;
     text = replies_text;
+    no_sink = λ none. none_lacking means.written means.failures (replies_of threads) old.replies
+        new.replies written.replied none replied;
   }
 
   -- ---- the saved window
@@ -420,21 +403,55 @@ module _ {S K O : Type 0} (means : Meanings S K) (given : Settings)
   abbrev window_in : List ℕ
   window_in = saved_text (saved queries_in threads.history.items)
 
-  -- no window is saved only where a write of the events failed, or memory ran out
-  unsaved : IsUnsaved threads.why threads.short_of_memory threads.ends.items written.replied
-      → Contains failed_in Events ⊎ (status ≡ 8)
-  unsaved (inl is) = inl (write_told is)
-  unsaved (inr (inl is)) = inr (for_engine is)
-  unsaved (inr (inr (inl is))) = inr (short (inl is))
-  unsaved (inr (inr (inr (inl is)))) =
-      inr (status_is.memory (memory_first threads.ends.items failed_in is))
-  unsaved (inr (inr (inr (inr is)))) = inr (for_replies is)
+  -- whether it's left out, by whether a write of the events failed, or memory ran out before
+  out_by : is_left_out threads.why threads.short_of_memory threads.ends.items written.replied
+      ≡ (is_write threads.why || is_short_before threads.ends.items short_in)
+  out_by = left_out_by threads.why threads.short_of_memory (has_memory_end threads.ends.items)
+      (lacks_memory written.replied)
 
-  -- and then no write of it failed
+  abbrev unsaved_in : Type 0
+  unsaved_in = IsUnsaved failed_in threads.ends.items short_in
+
+  unsaved : is_left_out threads.why threads.short_of_memory threads.ends.items written.replied
+      ≡ true → unsaved_in
+  unsaved is = elim (either (is_write threads.why) (is_short_before threads.ends.items short_in)
+      (sym out_by ∙ is)) [
+        | inl failed ↦ inl (events_in (is_write threads.why) (is_failed written.replied)
+            (is_failed written.saved) failed)
+        | inr before ↦ inr before
+      ]
+
+  not_unsaved : is_left_out threads.why threads.short_of_memory threads.ends.items written.replied
+      ≡ false → unsaved_in → ⊥
+  not_unsaved is reason =
+      let none = neither (is_write threads.why) (is_short_before threads.ends.items short_in)
+      (sym out_by ∙ is) in
+      elim reason [
+        | inl has ↦ never_both (is_write threads.why) none.0
+            (in_events (is_write threads.why) (is_failed written.replied)
+            (is_failed written.saved) has)
+        | inr before ↦ never_both (is_short_before threads.ends.items short_in) none.1 before
+      ]
+
+  -- and then no write of it failed, and memory didn't run out for it
   none_of_save : written.saved ≡ Ok tt → Contains failed_in Save → ⊥
   none_of_save is has =
       let no : false ≡ true = sym (ap is_failed is) ∙ told_save has in
       cc no
+
+  not_short_of_save : written.saved ≡ Ok tt → short_in.save ≡ true → ⊥
+  not_short_of_save is short =
+      let no : false ≡ true = sym (ap lacks_memory is) ∙ short in
+      cc no
+
+  tried_in : Contains failed_in Save ⊎ (short_in.save ≡ true) → unsaved_in → ⊥
+  tried_in tried reason = elim saved_is [
+    | inl wrote ↦ not_unsaved wrote.0 reason
+    | inr none ↦ elim tried [
+      | inl has ↦ none_of_save none.1 has
+      | inr short ↦ not_short_of_save none.1 short
+    ]
+  ]
 
   window_sink : is_some new.save ≡ is_some old.save
   window_sink = elim saved_is [
@@ -443,50 +460,57 @@ module _ {S K O : Type 0} (means : Meanings S K) (given : Settings)
     | inr none ↦ ap (λ (sink : Option K). is_some sink) none.2
   ]
 
-  window_text : IfSome new.save (λ sink. GotText (Contains failed_in Events)
-      (Contains failed_in Save) status window_in (means.written sink))
+  no_window_sink : new.save ≡ None → short_in.save ≡ false
+  no_window_sink is = elim saved_is [
+    | inl wrote ↦ none_lacking means.written means.failures window_in old.save new.save
+        written.saved is wrote.1
+    | inr none ↦ ap lacks_memory none.1
+  ]
+
+  abbrev GotWindow : K → Type 0
+  GotWindow sink = GotText unsaved_in (Contains failed_in Save) (short_in.save ≡ true) window_in
+      (means.written sink)
+
+  window_text : IfSome new.save GotWindow
   window_text = elim saved_is [
-    | inl wrote ↦ by (λ has.
-        let no : ◌≡◌ {A = Option Why} None (Some Write) = sym wrote.0 ∙ told_write has in
-        cc no) old.save new.save asked.sinks.new_save wrote.1
-    | inr none ↦ subst (λ (sink : Option K). IfSome sink (λ s. GotText (Contains failed_in Events)
-        (Contains failed_in Save) status window_in (means.written s))) (sym none.2)
+    | inl wrote ↦ by (not_unsaved wrote.0) old.save new.save asked.sinks.new_save wrote.1
+    | inr none ↦ subst (λ (sink : Option K). IfSome sink GotWindow) (sym none.2)
         (as_before old.save (unsaved none.0) (none_of_save none.1) asked.sinks.new_save)
   ]
     where
-      by : (Contains failed_in Events → ⊥) → (before after : Option K)
+      by : (unsaved_in → ⊥) → (before after : Option K)
           → IfSome before (IsNewSink means.written means.failures)
           → WritesIfThere means.written means.failures window_in before after written.saved
-          → IfSome after (λ sink. GotText (Contains failed_in Events) (Contains failed_in Save)
-          status window_in (means.written sink))
-      by unfailed before None fresh wrote = tt
-      by unfailed None (Some after) fresh wrote = absurd wrote
-      by unfailed (Some before) (Some after) fresh wrote =
-          window_written means.written means.failures window_in before after
-          (Contains failed_in Events) (Contains failed_in Save) written.saved status unfailed
-          save_told told_save for_save fresh wrote
+          → IfSome after GotWindow
+      by wanted before None fresh wrote = tt
+      by wanted None (Some after) fresh wrote = absurd wrote
+      by wanted (Some before) (Some after) fresh wrote =
+          window_written means.written means.failures window_in before after unsaved_in
+          (Contains failed_in Save) written.saved wanted save_told told_save fresh wrote
 
-      as_before : (sink : Option K) → Contains failed_in Events ⊎ (status ≡ 8)
-          → (Contains failed_in Save → ⊥)
-          → IfSome sink (IsNewSink means.written means.failures)
-          → IfSome sink (λ s. GotText (Contains failed_in Events) (Contains failed_in Save) status
-          window_in (means.written s))
+      as_before : (sink : Option K) → unsaved_in → (Contains failed_in Save → ⊥)
+          → IfSome sink (IsNewSink means.written means.failures) → IfSome sink GotWindow
       as_before None reason none fresh = tt
       as_before (Some sink) reason none fresh =
-          window_unwritten means.written means.failures window_in sink
-          (Contains failed_in Events) (Contains failed_in Save) status reason none fresh
+          window_unwritten means.written means.failures window_in sink unsaved_in
+          (Contains failed_in Save) (short_in.save ≡ true) reason none fresh
 
-  saves_window : SavesWindow means given holds failed_in answer
-  saves_window = record { sink = window_sink ∙ asked.sinks.save; text = by new.save window_text }
+  saves_window : SavesWindow means given holds failed_in short_in answer
+  saves_window = record {
+    sink = window_sink ∙ asked.sinks.save;
+    text = by new.save window_text;
+    tried = tried_in;
+    apart = λ has short. one_fault written.saved (told_save has) short;
+    no_sink = no_window_sink;
+  }
     where
-      by : (sink : Option K) → IfSome sink (λ s. GotText (Contains failed_in Events)
-          (Contains failed_in Save) status window_in (means.written s))
+      by : (sink : Option K) → IfSome sink GotWindow
           → IfSome sink (λ s. ForQueries (two_way_of given) (holds given.queries)
-          (λ queries. GotText (Contains failed_in Events) (Contains failed_in Save) status
+          (λ queries. GotText unsaved_in (Contains failed_in Save) (short_in.save ≡ true)
           (saved_text (saved queries threads.history.items)) (means.written s)))
       by None got = tt
       by (Some sink) got = for_queries (two_way_of given) (holds given.queries) queries_in
-          (λ all. GotText (Contains failed_in Events) (Contains failed_in Save) status
+          (λ all. GotText unsaved_in (Contains failed_in Save) (short_in.save ≡ true)
           (saved_text (saved all threads.history.items)) (means.written sink))
           asked.has got
 
@@ -515,12 +539,12 @@ module _ {S K O : Type 0} (means : Meanings S K) (given : Settings)
   ]
 
   -- the objects
-  tells_history : TellsHistory means given holds failed_in sinks
+  tells_history : TellsHistory means given holds failed_in short_in sinks
       (objects_of seen circle threads) answer
   tells_history = record {
     why = threads.why;
     write = write_told;
-    memory = for_engine;
+    memory = λ is. ap is_memory is;
     told = for_options (λ all options. TellsObjects options all threads.history.items
         (means.written sinks.events_old) (means.written sinks.events_new)
         (map seen circle.members) threads.why (as_seen seen threads.circle)) held.objects;
@@ -537,6 +561,7 @@ module _ {S K O : Type 0} (means : Meanings S K) (given : Settings)
       asks = for_both (λ queries asks. Unit {0}) tt;
     };
     failed = failed_in;
+    short = short_in;
     history = holds_streams;
     events = writes_events fronts sound binds;
     replies = answers_sessions;
@@ -556,6 +581,7 @@ module _ {S K O : Type 0} (means : Meanings S K) (given : Settings)
       no_save = no_save;
       closed = λ closed. write_told (held.closed Write closed);
       status_is = status_is;
+      memory = memory;
       told = told;
     };
   }
@@ -584,12 +610,13 @@ pub run_reported : {S K O F V : Type 0} {W : V → Type 0} (means : Meanings S K
     → WritesIfThere means.written means.failures (replies_of threads) old.replies new.replies
     written.replied
     → SavesIfThere means.written means.failures
-    (saved_text (saved (definitions_of task.queries.items) threads.history.items)) threads.why
-    (IsUnsaved threads.why threads.short_of_memory threads.ends.items written.replied) old.save
+    (saved_text (saved (definitions_of task.queries.items) threads.history.items))
+    (is_left_out threads.why threads.short_of_memory threads.ends.items written.replied) old.save
     new.save written.saved
     → stream_sources report.from report.sources.items ≡ threads.sources.items
     → count_of report.from ≡ firsts
-    → (IsShort threads.why threads.short_of_memory written → report.status ≡ 8)
+    → ((report.status ≡ 8) ↔ (is_short threads.ends.items
+    (shortage_of threads.why threads.short_of_memory written) ≡ true))
     → IsStatusOf threads.ends.items (failed_of threads.why written) report.status
     → KeepsParts threads new report
     → (before stayed left : List O) → circle.members ≡ before → threads.circle.members ≡ stayed
@@ -600,173 +627,10 @@ pub run_reported : {S K O F V : Type 0} {W : V → Type 0} (means : Meanings S K
     → RunsStreams means given holds sinks (objects seen before stayed left) (outcome report)
 run_reported means given holds firsts task old new sinks seen circle threads report written asked
     held replied saved_is
-    parts from_is short status_is keeps before stayed left befores stays leaves fronts sound binds
+    parts from_is memory status_is keeps before stayed left befores stays leaves fronts sound binds
     told =
     subst (λ (answer : Outcome _ _). RunsStreams means given holds sinks
     (objects seen before stayed left) answer) (answers_are threads new report keeps)
     (runs_streams means given holds firsts task old new sinks seen circle threads report.from
-    report.sources.items written report.status asked held replied saved_is parts from_is short
+    report.sources.items written report.status asked held replied saved_is parts from_is memory
     status_is before stayed left befores stays leaves fronts sound binds told)
-
--- ---- the check
-
--- what a check answers
-abbrev pub check_outcome : {S K : Type 0} → ℕ → Outcome S K
-check_outcome status =
-    record {
-      status = status;
-      history = [];
-      ends = [];
-      sources = [];
-      from = None;
-      sessions = [];
-      replies = None;
-      save = None;
-    }
-
--- it has no member in any list
-nothing_taken : {S K : Type 0} (status : ℕ) (history : List Entry) (ends : List StreamEnd)
-    (sources : List S) (sessions : List (List AnsweredValue)) → history ≡ [] → ends ≡ []
-    → sources ≡ []
-    → sessions ≡ [] → check_outcome {S = S} {K = K} status ≡ record {
-      status = status;
-      history = history;
-      ends = ends;
-      sources = sources;
-      from = None;
-      sessions = sessions;
-      replies = None;
-      save = None;
-    }
-nothing_taken status history ends sources sessions no_history no_end no_source no_session =
-    λ i. record {
-      status = status;
-      history = sym {A = List Entry} no_history i;
-      ends = sym {A = List StreamEnd} no_end i;
-      sources = sym no_source i;
-      from = None;
-      sessions = sym {A = List (List AnsweredValue)} no_session i;
-      replies = None;
-      save = None;
-    }
-
--- the verdicts, by whether a write failed
-verdicts_written : {K T E : Type 0} (written : K → Option (List ℕ)) (failures : K → ℕ)
-    (queries : List CompiledValue) (old new : K) (result : Result T E) (status : ℕ)
-    → All IsCompiled queries → Tells written failures (flat_map compiled_line queries)
-    old new result
-    → WritesWhere (Contains (failed_sinks (is_err result) false false) Events) status
-    (AreVerdicts (definitions_of queries)) (written old) (written new)
-verdicts_written written failures queries old new (Ok x) status all told =
-    let whole : Grew (AreVerdicts (definitions_of queries)) (written old) (written new) = record {
-      text = flat_map compiled_line queries;
-      of_kind = are_verdicts queries all;
-      written = told.whole refl;
-    } in
-    record {
-      whole = λ none other. whole;
-      part = λ has. absurd (none_contained Events has);
-      memory = λ is. whole_is_prefix (AreVerdicts (definitions_of queries)) (written old)
-          (written new) whole;
-    }
-verdicts_written written failures queries old new (Err e) status all told =
-    let part = told.part refl in
-    let proper : GrewByProperPrefix (AreVerdicts (definitions_of queries)) (written old)
-    (written new) = record {
-      front = part.front;
-      rest = part.rest;
-      of_kind = subst (AreVerdicts (definitions_of queries)) part.cut (are_verdicts queries all);
-      proper = part.proper;
-      written = part.written;
-    } in
-    record {
-      whole = λ none other. absurd (none (events_in true false false refl));
-      part = λ has. proper;
-      memory = λ is. proper_is_prefix (AreVerdicts (definitions_of queries)) (written old)
-          (written new) proper;
-    }
-
--- the check of queries
-check_runs : {S K T E : Type 0} (means : Meanings S K) (two_way : Bool)
-    (file : Option (List ℕ)) (queries : List CompiledValue) (sinks : Sinks K)
-    (result : Result T E) (status : ℕ) (all : Objects) → LeavesObjects all
-    → IfSome file (λ bytes. HasQueries two_way bytes
-    (definitions_of queries))
-    → All IsCompiled queries
-    → Tells means.written means.failures (flat_map compiled_line queries) sinks.events_old
-    sinks.events_new result
-    → IsStatusOf [] (failed_sinks (is_err result) false false) status
-    → TellsLines means.written means.failures
-    (run_lines [] (failed_sinks (is_err result) false false) status)
-    sinks.errors_old sinks.errors_new
-    → RunsCheck {S = S} {K = K} means two_way file sinks all (check_outcome status)
-check_runs means two_way file queries sinks result status all kept has are told is lines = record {
-  understood = is_queries_file two_way file (definitions_of queries) has;
-  nothing = record {
-    no_history = refl;
-    no_stream = refl;
-    no_session = refl;
-    no_replies = refl;
-    no_window = (refl, refl);
-  };
-  no_source = refl;
-  failed = failed_sinks (is_err result) false false;
-  text = for_queries two_way file (definitions_of queries) (λ each.
-      WritesWhere (Contains (failed_sinks (is_err result) false false) Events) status
-      (AreVerdicts each) (means.written sinks.events_old) (means.written sinks.events_new)) has
-      (verdicts_written means.written means.failures queries sinks.events_old sinks.events_new
-      result status are told);
-  causes = record {
-    once = some_sinks (is_err result) false false;
-    events_failed = counts_as (is_err result ≡ true)
-        (Contains (failed_sinks (is_err result) false false) Events)
-        (means.failures sinks.events_old) (means.failures sinks.events_new)
-        (events_in (is_err result) false false) (in_events (is_err result) false false)
-        told.counted;
-    replies_failed = tt;
-    no_replies = λ none has.
-        let no : false ≡ true = in_replies (is_err result) false false has in
-        absurd (cc no);
-    save_failed = tt;
-    no_save = λ none has.
-        let no : false ≡ true = in_save (is_err result) false false has in
-        absurd (cc no);
-    closed = λ closed. absurd (none_contained (Closed Write) closed);
-    status_is = is;
-    told = lines;
-  };
-  objects_kept = kept;
-}
-
--- the same with what it answers in its lists
-pub runs_check : {S K T E : Type 0} (means : Meanings S K) (two_way : Bool)
-    (file : Option (List ℕ)) (queries : List CompiledValue) (sinks : Sinks K)
-    (result : Result T E) (status : ℕ) (all : Objects) (history : List Entry)
-    (ends : List StreamEnd) (sources : List S) (sessions : List (List AnsweredValue)) → history ≡ []
-    → ends ≡ [] → sources ≡ []
-    → sessions ≡ [] → LeavesObjects all
-    → IfSome file (λ bytes. HasQueries two_way bytes
-    (definitions_of queries))
-    → All IsCompiled queries
-    → Tells means.written means.failures (flat_map compiled_line queries) sinks.events_old
-    sinks.events_new result
-    → IsStatusOf [] (failed_sinks (is_err result) false false) status
-    → TellsLines means.written means.failures
-    (run_lines [] (failed_sinks (is_err result) false false) status)
-    sinks.errors_old sinks.errors_new
-    → RunsCheck means two_way file sinks all (record {
-      status = status;
-      history = history;
-      ends = ends;
-      sources = sources;
-      from = None;
-      sessions = sessions;
-      replies = None;
-      save = None;
-    })
-runs_check {S} {K} means two_way file queries sinks result status all history ends sources sessions
-    no_history no_end no_source no_session kept has compiled told status_is lines =
-    subst (λ (outcome : Outcome S K). RunsCheck means two_way file sinks all outcome)
-    (nothing_taken status history ends sources sessions no_history no_end no_source no_session)
-    (check_runs means two_way file queries sinks result status all kept has compiled told
-    status_is lines)

@@ -22,7 +22,7 @@ use Rattle.rpq_threads.specs.Written.{Grew, GrewByPrefix, GrewByProperPrefix}
 use Rattle.rpq_run.specs.declared.fault.TextFault.{TextFault}
 use Rattle.rpq_run.specs.declared.fault.TextFault.TheVariants.{Write as WriteOfText}
 use Rattle.rpq_run.specs.declared.fault.TextFault.TheVariants.{Memory as MemoryForText}
-use Rattle.rpq_run.specs.Failed.{failed_sinks, is_write, is_failed}
+use Rattle.rpq_run.specs.Failed.{failed_sinks, is_memory, is_write, is_failed, lacks_memory}
 use Rattle.rpq_run.specs.Parts.{WritesPart}
 use Rattle.rpq_run.specs.RunsStreams.{nothing_told}
 use Rattle.rpq_run.specs.Written.{WritesWhere}
@@ -173,33 +173,38 @@ some_is_write (Some Memory) is = absurd (cc is)
 -- what the threads wrote, by the failed sinks and the status
 pub events_written : {K : Type 0} (written : K → Option (List ℕ)) (failures : K → ℕ)
     (options : OptionsValue) (queries : List Query) (history : List Entry) (before after : K)
-    (why : Option Why) (replies save : Bool) (status : ℕ) → (why ≡ Some Memory → status ≡ 8)
+    (why : Option Why) (replies save : Bool)
     → WritesText written failures options queries history before after why
-    → WritesWhere (Contains (failed_sinks (is_write why) replies save) Events) status
-    (IsText options queries history) (written before) (written after)
-events_written written failures options queries history before after None replies save status
-    memory writes = record {
+    → WritesWhere (Contains (failed_sinks (is_write why) replies save) Events)
+    (is_memory why ≡ true) (IsText options queries history) (written before) (written after)
+events_written written failures options queries history before after None replies save writes =
+    record {
       whole = λ none other. writes.whole refl;
       part = λ has.
           let no : false ≡ true = in_events false replies save has in
           absurd (cc no);
-      memory = λ is. whole_is_prefix (IsText options queries history) (written before)
+      prefix = whole_is_prefix (IsText options queries history) (written before)
           (written after) (writes.whole refl);
+      apart = λ has short. absurd (cc short);
     }
 events_written written failures options queries history before after (Some Write) replies save
-    status memory writes = record {
+    writes = record {
       whole = λ none other. absurd (none (events_in true replies save refl));
       part = λ has. writes.write refl;
-      memory = λ is. proper_is_prefix (IsText options queries history) (written before)
+      prefix = proper_is_prefix (IsText options queries history) (written before)
           (written after) (writes.write refl);
+      apart = λ has short. absurd (cc short);
     }
 events_written written failures options queries history before after (Some Memory) replies save
-    status memory writes = record {
-      whole = λ none other. absurd (other (memory refl));
+    writes = record {
+      whole = λ none other. absurd (other refl);
       part = λ has.
           let no : false ≡ true = in_events false replies save has in
           absurd (cc no);
-      memory = λ is. writes.memory refl;
+      prefix = writes.memory refl;
+      apart = λ has short.
+          let no : false ≡ true = in_events false replies save has in
+          absurd (cc no);
     }
 
 -- and counted
@@ -239,12 +244,12 @@ from_nothing old new front empty is =
 
 -- what was written on a new sink, where `failed` says that a write of it failed
 pub text_written : {K : Type 0} (written : K → Option (List ℕ)) (failures : K → ℕ) (text : List ℕ)
-    (old new : K) (failed : Type 0) (result : Result (Unit {0}) TextFault) (status : ℕ)
+    (old new : K) (failed : Type 0) (result : Result (Unit {0}) TextFault)
     → (is_failed result ≡ true → failed) → (failed → is_failed result ≡ true)
-    → (result ≡ Err MemoryForText → status ≡ 8) → IsNewSink written failures old
-    → WritesPart written failures text old new result
-    → WritesWhere failed status (λ t. t ≡ text) (nothing_told (written new)) (written new)
-text_written written failures text old new failed (Ok done) status there back memory fresh part =
+    → IsNewSink written failures old → WritesPart written failures text old new result
+    → WritesWhere failed (lacks_memory result ≡ true) (λ t. t ≡ text)
+    (nothing_told (written new)) (written new)
+text_written written failures text old new failed (Ok done) there back fresh part =
     let all : Grew (λ t. t ≡ text) (nothing_told (written new)) (written new) = record {
       text = text;
       of_kind = refl;
@@ -255,10 +260,10 @@ text_written written failures text old new failed (Ok done) status there back me
       part = λ has.
           let no : false ≡ true = back has in
           absurd (cc no);
-      memory = λ is. whole_is_prefix (λ t. t ≡ text) (nothing_told (written new)) (written new) all;
+      prefix = whole_is_prefix (λ t. t ≡ text) (nothing_told (written new)) (written new) all;
+      apart = λ has short. absurd (cc short);
     }
-text_written written failures text old new failed (Err WriteOfText) status there back
-    memory fresh part =
+text_written written failures text old new failed (Err WriteOfText) there back fresh part =
     let proper = part.write refl in
     let front : GrewByProperPrefix (λ t. t ≡ text) (nothing_told (written new)) (written new) =
     record {
@@ -271,23 +276,26 @@ text_written written failures text old new failed (Err WriteOfText) status there
     record {
       whole = λ none other. absurd (none (there refl));
       part = λ has. front;
-      memory = λ is. proper_is_prefix (λ t. t ≡ text) (nothing_told (written new))
+      prefix = proper_is_prefix (λ t. t ≡ text) (nothing_told (written new))
           (written new) front;
+      apart = λ has short. absurd (cc short);
     }
-text_written written failures text old new failed (Err MemoryForText) status there back
-    memory fresh part =
+text_written written failures text old new failed (Err MemoryForText) there back fresh part =
     let front = part.memory refl in
     record {
-      whole = λ none other. absurd (other (memory refl));
+      whole = λ none other. absurd (other refl);
       part = λ has.
           let no : false ≡ true = back has in
           absurd (cc no);
-      memory = λ is. record {
+      prefix = record {
         front = front.front;
         rest = front.rest;
         of_kind = front.of_kind;
         written = from_nothing (written old) (written new) front.front fresh.empty front.written;
       };
+      apart = λ has short.
+          let no : false ≡ true = back has in
+          absurd (cc no);
     }
 
 -- and counted

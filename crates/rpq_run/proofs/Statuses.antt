@@ -1,9 +1,9 @@
 -- The status of a run, by its streams' ends and its failed writes.
 use Rattle.std.proofs.Common.{◌≡◌, ◌≢◌, ℕ, zero, suc, Bool, true, false, ◌==◌, ◌||◌, cond, List, [], ◌∷◌}
-use Rattle.std.proofs.Common.{Some, None, refl, ap, sym, ◌∙◌, arith, inl, inr, ◌⊎◌}
-use Rattle.std.specs.Prelude.{Contains, unwrap_or, slice_get}
+use Rattle.std.proofs.Common.{Some, None, refl, ap, sym, subst, ◌∙◌, arith, inl, inr, ◌⊎◌}
+use Rattle.std.specs.Prelude.{◌↔◌, Contains, unwrap_or, slice_get}
 use Rattle.std.specs.List.{All, list_any}
-use Rattle.std.proofs.lemmas.Bool.{ne_eqb}
+use Rattle.std.proofs.lemmas.Bool.{cases_eq, ne_eqb}
 use Rattle.std.proofs.lemmas.List.Elements.{All-head, All-tail}
 use Rattle.rpq_io.specs.Counts.{CountsFault}
 use Rattle.history_model.specs.declared.line.Why.TheVariants.{Write, Memory as MemoryOfAll}
@@ -14,13 +14,15 @@ use Rattle.rpq_text.specs.declared.ends.SinkName.{SinkName}
 use Rattle.rpq_text.specs.declared.ends.SinkName.TheVariants.{Events, Replies, Save}
 use Rattle.rpq_text.specs.Statuses.{status_of_end, status_of_sink, arose, first_status}
 use Rattle.rpq_text.specs.Statuses.{IsStatusOf}
-use Rattle.rpq_run.specs.Ending.{HasMemoryEnd}
+use Rattle.rpq_run.specs.Ending.{is_any}
+use Rattle.rpq_run.specs.Shortage.{Shortage, has_memory_end, is_short}
+use Rattle.rpq_run.proofs.Shortages.{either, grouped, never_both}
 use Rattle.rpq_run.proofs.Sinks.{none_contained}
 
 -- ---- where all is done
 
 -- the first of the statuses, by which of them arose
-abbrev first_of : Bool → Bool → Bool → Bool → Bool → ℕ
+abbrev pub first_of : Bool → Bool → Bool → Bool → Bool → ℕ
 first_of memory write limit read line = unwrap_or (cond memory (Some 8) (cond write (Some 6)
     (cond limit (Some 7) (cond read (Some 5) (cond line (Some 4) None))))) 0
 
@@ -49,13 +51,69 @@ none_arose ends failed is =
     by false false false false false eight six seven five four is =
         record { memory = eight; write = six; limit = seven; read = five; line = four }
 
+or_true : (b : Bool) → (b || true) ≡ true
+or_true true = refl
+or_true false = refl
+
 -- where a stream ended for want of memory, so did the run
-pub memory_first : (ends : List StreamEnd) (failed : List SinkName) → HasMemoryEnd ends
+memory_first : (ends : List StreamEnd) (failed : List SinkName) → has_memory_end ends ≡ true
     → first_status ends failed ≡ 8
 memory_first ends failed is =
     let p = arose ends failed in
     ap (λ (memory : Bool). first_of memory (p 6) (p 7) (p 5) (p 4))
     (ap (λ (b : Bool). b || list_any (λ sink. status_of_sink sink == 8) failed) is)
+
+-- a failed write of a sink is no want of memory
+no_sink_short : (failed : List SinkName) → list_any (λ sink. status_of_sink sink == 8) failed ≡ false
+no_sink_short [] = refl
+no_sink_short (Events ∷ rest) = no_sink_short rest
+no_sink_short (Replies ∷ rest) = no_sink_short rest
+no_sink_short (Save ∷ rest) = no_sink_short rest
+
+-- so where a run ended for want of memory by these alone, a stream did
+memory_last : (ends : List StreamEnd) (failed : List SinkName) → first_status ends failed ≡ 8
+    → has_memory_end ends ≡ true
+memory_last ends failed is =
+    let p = arose ends failed in
+    let some = by (p 8) (p 6) (p 7) (p 5) (p 4) is in
+    elim (either (has_memory_end ends) (list_any (λ sink. status_of_sink sink == 8) failed) some) [
+      | inl ended ↦ ended
+      | inr sink ↦ absurd (never_both (list_any (λ sink. status_of_sink sink == 8) failed)
+          (no_sink_short failed) sink)
+    ]
+  where
+    by : (a b c d e : Bool) → first_of a b c d e ≡ 8 → a ≡ true
+    by true b c d e is = refl
+    by false true c d e is = absurd (omega (arith, is))
+    by false false true d e is = absurd (omega (arith, is))
+    by false false false true e is = absurd (omega (arith, is))
+    by false false false false true is = absurd (omega (arith, is))
+    by false false false false false is = absurd (omega (arith, is))
+
+-- the status of a run is that of out of memory exactly where memory ran out
+pub status_short : (ends : List StreamEnd) (failed : List SinkName) (status : ℕ) (short : Shortage)
+    → (is_any short ≡ true → status ≡ 8)
+    → (is_any short ≡ false → status ≡ first_status ends failed)
+    → (first_status ends failed ≡ 8 → status ≡ 8)
+    → (status ≡ 8) ↔ (is_short ends short ≡ true)
+status_short ends failed status short wanting fine first = (there, back)
+  where
+    same : is_short ends short ≡ (has_memory_end ends || is_any short)
+    same = grouped (has_memory_end ends) (short.engine || (short.session || short.replies)) short.save
+
+    by : (any : Bool) → is_any short ≡ any → status ≡ 8 → (has_memory_end ends || is_any short) ≡ true
+    by true is eight = ap (λ (b : Bool). has_memory_end ends || b) is ∙ or_true (has_memory_end ends)
+    by false is eight =
+        ap (λ (b : Bool). b || is_any short) (memory_last ends failed (sym (fine is) ∙ eight))
+
+    there : status ≡ 8 → is_short ends short ≡ true
+    there eight = same ∙ by (is_any short) refl eight
+
+    back : is_short ends short ≡ true → status ≡ 8
+    back is = elim (either (has_memory_end ends) (is_any short) (sym same ∙ is)) [
+      | inl ended ↦ first (memory_first ends failed ended)
+      | inr any ↦ wanting any
+    ]
 
 -- the status of a run that is done is the first that arose
 pub first_of_done : (ends : List StreamEnd) (failed : List SinkName) (status : ℕ)
@@ -63,17 +121,36 @@ pub first_of_done : (ends : List StreamEnd) (failed : List SinkName) (status : �
 first_of_done ends failed status is done =
     sym (is.others (λ eight. absurd (omega (arith, eight, done)))) ∙ done
 
-or_true : (b : Bool) → (b || true) ≡ true
-or_true true = refl
-or_true false = refl
-
 -- a failed write of any sink arose
-sink_arose : (ends : List StreamEnd) (failed : List SinkName) (sink : SinkName) → Contains failed sink
+pub sink_arose : (ends : List StreamEnd) (failed : List SinkName) (sink : SinkName) → Contains failed sink
     → arose ends failed 6 ≡ true
 sink_arose ends [] sink has = absurd (none_contained sink has)
 sink_arose ends (Events ∷ rest) sink has = or_true (list_any (λ end. status_of_end end == 6) ends)
 sink_arose ends (Replies ∷ rest) sink has = or_true (list_any (λ end. status_of_end end == 6) ends)
 sink_arose ends (Save ∷ rest) sink has = or_true (list_any (λ end. status_of_end end == 6) ends)
+
+-- the status is then that of a failed write, or of out of memory
+pub sink_status : (ends : List StreamEnd) (failed : List SinkName) (status : ℕ) (sink : SinkName)
+    → IsStatusOf ends failed status → Contains failed sink → (status ≡ 8) ⊎ (status ≡ 6)
+sink_status ends failed status sink is has = elim (cases_eq status 8) [
+  | inl eight ↦ inl eight
+  | inr other ↦ elim first [
+    | inl eight ↦ inl (is.memory eight)
+    | inr six ↦ inr (is.others other ∙ six)
+  ]
+]
+  where
+    by : (memory limit read line : Bool) → (first_of memory true limit read line ≡ 8)
+        ⊎ (first_of memory true limit read line ≡ 6)
+    by true limit read line = inl refl
+    by false limit read line = inr refl
+
+    first : (first_status ends failed ≡ 8) ⊎ (first_status ends failed ≡ 6)
+    first =
+        let p = arose ends failed in
+        subst (λ (write : Bool). (first_of (p 8) write (p 7) (p 5) (p 4) ≡ 8)
+        ⊎ (first_of (p 8) write (p 7) (p 5) (p 4) ≡ 6))
+        (sym {A = Bool} (sink_arose ends failed sink has)) (by (p 8) (p 7) (p 5) (p 4))
 
 -- where all is done no write of a sink failed
 pub sink_quietly : (ends : List StreamEnd) (failed : List SinkName) (status : ℕ) (sink : SinkName)

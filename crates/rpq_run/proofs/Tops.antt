@@ -1,7 +1,7 @@
 -- What the top call hands on, and what it says of it.
 use Rattle.std.proofs.Common.{◌≡◌, ℕ, Bool, true, false, List, [], length, Option, Some, None, sym}
-use Rattle.std.proofs.Common.{ap, subst, ◌∙◌, arith, refl}
-use Rattle.std.specs.Prelude.{IfSome, MatchOption, is_some}
+use Rattle.std.proofs.Common.{ap, subst, subst₂, ◌∙◌, arith, refl}
+use Rattle.std.specs.Prelude.{◌≤◌, IfSome, MatchOption, is_some}
 use Rattle.std.specs.List.{All}
 use Rattle.std.proofs.lemmas.List.{length-map}
 use Rattle.rpq_io.specs.Reader.{ReaderState}
@@ -11,10 +11,12 @@ use Rattle.join_file.specs.Sound.{IsSound}
 use Rattle.query_file.specs.Compiled.{CompiledValue}
 use Rattle.ask_text.specs.declared.ask.Ask.{Ask}
 use Rattle.ask_text.specs.Ranges.{IsSession}
-use Rattle.rpq_words.specs.declared.settings.Mode.{Mode}
-use Rattle.rpq_words.specs.declared.settings.Mode.TheVariants.{Generate, Streams}
+use Rattle.generated_run.specs.declared.generation.Generation.{Generation}
+use Rattle.generated_run.specs.Generates.{IsGeneration}
+use Rattle.rpq_words.specs.declared.settings.RunMode.{RunMode}
+use Rattle.rpq_words.specs.declared.settings.RunMode.TheVariants.{Generate, Streams}
 use Rattle.rpq_words.specs.declared.settings.Directions.{Directions}
-use Rattle.rpq_words.specs.Modes.{AreSettings, IsWithin}
+use Rattle.rpq_words.specs.Modes.{AreSettings, IsMode, IsWithin}
 use Rattle.rpq_words.specs.declared.settings.Settings.{Settings}
 use Rattle.rpq_words.specs.Views.{is_both_ways}
 use Rattle.rpq_words.specs.Views.{asks_of, from_of, paths_of, streams_of, two_way_in, two_way_of}
@@ -23,15 +25,15 @@ use Rattle.rpq_text.specs.Definitions.{definitions_of}
 use Rattle.entry_steps.specs.Steps.{OptionsValue}
 use Rattle.run_start.specs.Files.{ForJoins, ForSessions, HasQueries, HasSessions, stream_contents}
 use Rattle.run_start.specs.Readers.{AreNew, AreNewReaders, contents_of, is_behind, lefts_of}
-use Rattle.run_start.specs.Ready.{IsReady}
-use Rattle.run_start.specs.declared.ready.Reads.{Reads}
+use Rattle.run_start.specs.Ready.{AreUnderstood, IsReady}
+use Rattle.run_start.specs.declared.ready.StreamsPlan.{StreamsPlan}
 use Rattle.run_start.specs.declared.ready.Work.{Work}
 use Rattle.run_start.specs.declared.ready.Work.TheVariants.{Read as Reading}
 use Rattle.run_start.specs.declared.streams.Readers.{Readers}
 use Rattle.run_start.proofs.Modes.{forwards_alone, one_stream, some_streams, unasked}
 use Rattle.rpq_threads.specs.Runs.{IsTask}
 use Rattle.rpq_threads.specs.declared.task.Task.{Task}
-use Rattle.rpq_run.specs.Asked.{IsAsked, IsTaskOf}
+use Rattle.rpq_run.specs.Asked.{IsAsked, IsGenerationOf, IsTaskOf}
 use Rattle.rpq_run.specs.Options.{options_of}
 use Rattle.rpq_run.specs.Outcome.{Meanings, Sinks, Objects, Outcome}
 use Rattle.rpq_run.specs.Run.{Runs, RunsIn}
@@ -49,30 +51,71 @@ for_given words given P are holds = subst (λ (w : Option Settings). IfSome w P)
 -- the run that the mode of its settings asks for
 pub runs_in : {S K : Type 0} (means : Meanings S K) (given : Settings)
     (holds : List ℕ → Option (List ℕ)) (sinks : Sinks K) (objects : Objects)
-    (outcome : Outcome S K) (mode : Mode) → given.mode ≡ mode
+    (outcome : Outcome S K) (mode : RunMode) → given.mode ≡ mode
     → RunsIn mode means given holds sinks objects outcome
     → Runs means given holds sinks objects outcome
 runs_in means given holds sinks objects outcome mode is runs =
-    subst (λ (m : Mode). RunsIn m means given holds sinks objects outcome) (sym {A = Mode} is) runs
-
--- that over generated tuples, where its queries take edges as the mode says
-pub generated_in : {S K : Type 0} (means : Meanings S K) (given : Settings)
-    (holds : List ℕ → Option (List ℕ)) (sinks : Sinks K) (objects : Objects)
-    (outcome : Outcome S K) (directions : Directions) (count : ℕ) (two_way : Bool)
-    → given.mode ≡ Generate directions count → two_way ≡ is_both_ways directions
-    → RunsGenerated means two_way given.history count (holds given.queries) sinks objects outcome
-    → Runs means given holds sinks objects outcome
-generated_in means given holds sinks objects outcome directions count two_way is same runs =
-    runs_in means given holds sinks objects outcome (Generate directions count) is
-    (subst (λ (b : Bool). RunsGenerated means b given.history count (holds given.queries) sinks
-    objects outcome) same runs)
+    subst (λ (m : RunMode). RunsIn m means given holds sinks objects outcome)
+    (sym {A = RunMode} is) runs
 
 -- the queries of a file, as the mode says that they take edges
-pub queries_in : (given : Settings) (file : Option (List ℕ)) (queries : List Query) (mode : Mode)
+pub queries_in : (given : Settings) (file : Option (List ℕ)) (queries : List Query) (mode : RunMode)
     → given.mode ≡ mode → IfSome file (λ bytes. HasQueries (two_way_of given) bytes queries)
     → IfSome file (λ bytes. HasQueries (two_way_in mode) bytes queries)
 queries_in given file queries mode is has =
-    subst (λ (m : Mode). IfSome file (λ bytes. HasQueries (two_way_in m) bytes queries)) is has
+    subst (λ (m : RunMode). IfSome file (λ bytes. HasQueries (two_way_in m) bytes queries)) is has
+
+-- the run over generated tuples, by what it is given
+pub generated_in : {S K : Type 0} (means : Meanings S K) (given : Settings)
+    (holds : List ℕ → Option (List ℕ)) (sinks : Sinks K) (objects : Objects)
+    (outcome : Outcome S K) (directions : Directions) (count : ℕ) (queries : List CompiledValue)
+    (generation : Generation)
+    → IsGenerationOf given queries (is_both_ways directions) count generation
+    → given.mode ≡ Generate directions count
+    → IfSome (holds given.queries) (λ bytes.
+    HasQueries (two_way_of given) bytes (definitions_of queries))
+    → ((file : Option (List ℕ)) → IfSome file (λ bytes.
+    HasQueries generation.two_way bytes (definitions_of generation.queries.items))
+    → RunsGenerated means generation.two_way generation.limit generation.count file sinks objects
+    outcome)
+    → Runs means given holds sinks objects outcome
+generated_in means given holds sinks objects outcome directions count queries generation of is
+    has runs =
+    let file = holds given.queries in
+    let own = subst₂ (λ (two_way : Bool) (qs : List CompiledValue). IfSome file (λ bytes.
+    HasQueries two_way bytes (definitions_of qs))) (sym {A = Bool} of.two_way_is)
+    (sym {A = List CompiledValue} of.queries_are)
+    (queries_in given file (definitions_of queries) (Generate directions count) is has) in
+    let counted = subst (λ n. RunsGenerated means generation.two_way generation.limit n file sinks
+    objects outcome) of.count_is (runs file own) in
+    let limited = subst (λ n. RunsGenerated means generation.two_way n count file sinks objects
+    outcome) of.limit_is counted in
+    runs_in means given holds sinks objects outcome (Generate directions count) is
+    (subst (λ (b : Bool). RunsGenerated means b given.history count file sinks objects outcome)
+    of.two_way_is limited)
+
+-- what a mode says of how many tuples are generated
+few_generated : (given : Settings) (directions : Directions) (count : ℕ) → AreSettings given
+    → given.mode ≡ Generate directions count → count ≤ 1000000
+few_generated given directions count settings is =
+    let within : IsMode (Generate directions count) = subst IsMode is settings.mode in
+    within.1
+
+-- and what is given is a generation
+pub is_generation : (given : Settings) (directions : Directions) (count : ℕ)
+    (queries : List CompiledValue) (generation : Generation)
+    → IsGenerationOf given queries (is_both_ways directions) count generation
+    → AreUnderstood queries → AreSettings given → given.mode ≡ Generate directions count
+    → IsGeneration generation
+is_generation given directions count queries generation of all settings is =
+    let few = few_generated given directions count settings is in
+    let own = subst AreUnderstood (sym {A = List CompiledValue} of.queries_are) all in
+    record {
+      some = own.some;
+      few = own.few;
+      accepted = own.accepted;
+      count = omega (arith, of.count_is, few);
+    }
 
 -- ---- the streams
 
@@ -112,7 +155,7 @@ none_asked given holds queries sessions = by (asks_of given)
 module _ {S K : Type 0} (left : S → Option (List ℕ)) (faults : S → ℕ)
     (written : K → Option (List ℕ)) (failures : K → ℕ) (given : Settings)
     (holds : List ℕ → Option (List ℕ)) (queries : List CompiledValue)
-    (work : Work S K) (reads : Reads S K) (there : work ≡ Reading reads)
+    (work : Work S K) (reads : StreamsPlan S K) (there : work ≡ Reading reads)
     (opened : Readers S) (are : reads.readers ≡ opened)
     (readers : List (ReaderState (TwoSources S))) (task : Task (TwoSources S))
     (of : IsTaskOf given queries reads.joins.value.items readers reads.sessions.items task)
@@ -152,8 +195,7 @@ module _ {S K : Type 0} (left : S → Option (List ℕ)) (faults : S → ℕ)
       ForSessions given holds (definitions_of task.queries.items) (λ asked. ss ≡ asked))
       (sym {A = List (List Ask)} of.sessions_are) ready_queries.asked_for.asked
 
-  -- edges are taken, and paths are told, as the settings say; and the conjunctions are those of
-  -- their file
+  -- edges are taken, and paths are told, as the settings say; and the joins are those of their file
   two_way_is : task.options.two_way ≡ (two_way_of given)
   two_way_is = ap (λ (options : OptionsValue). options.two_way) of.options_are
 

@@ -96,7 +96,7 @@ later_few number file files history few place other is =
     let at = few (suc place) other is in
     omega (arith, at, ap (λ n. length (own_tuples n history)) same)
 
-sum_front : (n : ℕ) (ns : List ℕ) → sum (n ∷ ns) ≡ n + sum ns
+pub sum_front : (n : ℕ) (ns : List ℕ) → sum (n ∷ ns) ≡ n + sum ns
 sum_front n ns = sum_by-cons (λ m. m) n ns
 
 zero_more : (n : ℕ) → n + 0 ≡ n

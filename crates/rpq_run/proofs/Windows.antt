@@ -17,7 +17,7 @@ use Rattle.saved_window.specs.Then.{TwoSources, count_of}
 use Rattle.run_start.specs.Files.{with_first}
 use Rattle.rpq_run.specs.declared.fault.TextFault.{TextFault}
 use Rattle.rpq_run.specs.declared.fault.TextFault.TheVariants.{Write, Memory}
-use Rattle.rpq_run.specs.Failed.{is_failed}
+use Rattle.rpq_run.specs.Failed.{is_failed, lacks_memory}
 use Rattle.rpq_run.specs.Parts.{WritesIfThere, WritesPart}
 use Rattle.rpq_run.specs.RunsStreams.{GotText}
 use Rattle.rpq_run.specs.Sources.{stream_sources, two_sources}
@@ -54,52 +54,51 @@ is_proper text front rest bytes cut more is =
 
 -- what the sink of a window got that was to be written
 pub window_written : {K : Type 0} (written : K → Option (List ℕ)) (failures : K → ℕ) (text : List ℕ)
-    (old new : K) (events_failed failed : Type 0) (result : Result (Unit {0}) TextFault) (status : ℕ)
-    → (events_failed → ⊥) → (is_failed result ≡ true → failed) → (failed → is_failed result ≡ true)
-    → (result ≡ Err Memory → status ≡ 8) → IsNewSink written failures old
-    → WritesPart written failures text old new result
-    → GotText events_failed failed status text (written new)
-window_written written failures text old new events_failed failed (Ok done) status none there back memory fresh part =
+    (old new : K) (unsaved failed : Type 0) (result : Result (Unit {0}) TextFault)
+    → (unsaved → ⊥) → (is_failed result ≡ true → failed) → (failed → is_failed result ≡ true)
+    → IsNewSink written failures old → WritesPart written failures text old new result
+    → GotText unsaved failed (lacks_memory result ≡ true) text (written new)
+window_written written failures text old new unsaved failed (Ok done) none there back fresh part =
     let all = only_these (written old) (written new) text fresh.empty (part.whole refl) in
     record {
+      none = λ has. absurd (none has);
       whole = λ _ _ _. all;
       part = λ has.
           let no : false ≡ true = back has in
           absurd (cc no);
-      none = λ has. absurd (none has);
       prefix = weaker (written new) (λ bytes is. is_front text text [] bytes (sym (append-nil text)) is) all;
     }
-window_written written failures text old new events_failed failed (Err Write) status none there back memory fresh part =
+window_written written failures text old new unsaved failed (Err Write) none there back fresh part =
     let proper = part.write refl in
     let front = only_these (written old) (written new) proper.front fresh.empty proper.written in
     record {
+      none = λ has. absurd (none has);
       whole = λ _ fine _. absurd (fine (there refl));
       part = λ has. weaker (written new) (λ bytes is.
           is_proper text proper.front proper.rest bytes proper.cut proper.proper is) front;
-      none = λ has. absurd (none has);
       prefix = weaker (written new) (λ bytes is. is_front text proper.front proper.rest bytes proper.cut is) front;
     }
-window_written written failures text old new events_failed failed (Err Memory) status none there back memory fresh part =
+window_written written failures text old new unsaved failed (Err Memory) none there back fresh part =
     let prefix = part.memory refl in
     let front = only_these (written old) (written new) prefix.front fresh.empty prefix.written in
     record {
-      whole = λ _ _ other. absurd (other (memory refl));
+      none = λ has. absurd (none has);
+      whole = λ _ _ other. absurd (other refl);
       part = λ has.
           let no : false ≡ true = back has in
           absurd (cc no);
-      none = λ has. absurd (none has);
       prefix = weaker (written new) (λ bytes is.
           is_front text prefix.front prefix.rest bytes (sym prefix.of_kind) is) front;
     }
 
 -- what it got where no window was saved
 pub window_unwritten : {K : Type 0} (written : K → Option (List ℕ)) (failures : K → ℕ) (text : List ℕ)
-    (sink : K) (events_failed failed : Type 0) (status : ℕ) → events_failed ⊎ (status ≡ 8) → (failed → ⊥)
-    → IsNewSink written failures sink → GotText events_failed failed status text (written sink)
-window_unwritten written failures text sink events_failed failed status reason none fresh = record {
-  whole = λ unfailed _ other. absurd (elim reason [ inl is ↦ unfailed is | inr eight ↦ other eight ]);
-  part = λ has. absurd (none has);
+    (sink : K) (unsaved failed short : Type 0) → unsaved → (failed → ⊥)
+    → IsNewSink written failures sink → GotText unsaved failed short text (written sink)
+window_unwritten written failures text sink unsaved failed short reason none fresh = record {
   none = λ _. fresh.empty;
+  whole = λ wanted _ _. absurd (wanted reason);
+  part = λ has. absurd (none has);
   prefix = weaker (written sink) (λ bytes is. is_front text [] text bytes refl is) fresh.empty;
 }
 
@@ -123,6 +122,18 @@ none_written written failures text None None result none wrote failed = not_ok r
     not_ok (Err fault) ok failed = absurd (cc ok)
 none_written written failures text before (Some after) result none wrote failed = absurd (cc none)
 none_written written failures text (Some before) None result none wrote failed = wrote
+
+-- nor did memory run out for it
+pub none_lacking : {K : Type 0} (written : K → Option (List ℕ)) (failures : K → ℕ) (text : List ℕ)
+    (before after : Option K) (result : Result (Unit {0}) TextFault) → after ≡ None
+    → WritesIfThere written failures text before after result → lacks_memory result ≡ false
+none_lacking written failures text None None result none wrote = done result wrote
+  where
+    done : (r : Result (Unit {0}) TextFault) → IsOk r → lacks_memory r ≡ false
+    done (Ok x) ok = refl
+    done (Err fault) ok = absurd (cc ok)
+none_lacking written failures text before (Some after) result none wrote = absurd (cc none)
+none_lacking written failures text (Some before) None result none wrote = absurd wrote
 
 -- ---- line by line
 

@@ -1,9 +1,10 @@
--- What a run over streams is to do. Only private contracts cite this file.
-use Rattle.std.specs.Prelude.{◌≡◌, ℕ, List, Option, IfSome}
+-- What a run that begins is to do. Only private contracts cite this file.
+use Rattle.std.specs.Prelude.{◌≡◌, ℕ, Bool, List, Option, IfSome}
 use Rattle.rpq_io.specs.Reader.{ReaderState}
 use Rattle.query_file.specs.Compiled.{CompiledValue}
 use Rattle.join_file.specs.Joins.{JoinValue}
 use Rattle.ask_text.specs.declared.ask.Ask.{Ask}
+use Rattle.generated_run.specs.declared.generation.Generation.{Generation}
 use Rattle.rpq_words.specs.declared.settings.Settings.{Settings}
 use Rattle.rpq_words.specs.Views.{from_of, two_way_of}
 use Rattle.rpq_text.specs.Definitions.{definitions_of}
@@ -15,7 +16,7 @@ use Rattle.run_start.specs.declared.sinks.OwnSinks.{OwnSinks}
 use Rattle.rpq_threads.specs.declared.task.Task.{Task}
 use Rattle.rpq_run.specs.Options.{options_of}
 
--- the task of these settings, with these queries, conjunctions, readers and sessions
+-- the task of these settings, with these queries, joins, readers and sessions
 pub record IsTaskOf {S : Type 0} (given : Settings) (queries : List CompiledValue)
     (joins : List JoinValue) (readers : List (ReaderState S)) (sessions : List (List Ask))
     (task : Task S) : Type 0 where
@@ -26,10 +27,20 @@ pub record IsTaskOf {S : Type 0} (given : Settings) (queries : List CompiledValu
   pub workers_are : task.workers ≡ given.workers
   pub limit_is : task.limit ≡ given.history
 
--- the task is that of the settings, where the files hold this: the queries, the conjunctions and
--- the sessions of their files, readers of the streams, with a saved window in front where one is
--- named, and as many entries as the history may have; and the sinks are new, and those that the
--- settings name
+-- the generation of these settings, of so many tuples, with these queries, which may take edges
+-- backwards or not
+pub record IsGenerationOf (given : Settings) (queries : List CompiledValue) (two_way : Bool)
+    (count : ℕ) (generation : Generation) : Type 0 where
+  pub queries_are : generation.queries.items ≡ queries
+  pub two_way_is : generation.two_way ≡ two_way
+  pub workers_are : generation.workers ≡ given.workers
+  pub limit_is : generation.limit ≡ given.history
+  pub count_is : generation.count ≡ count
+
+-- the task is that of the settings, where the files hold this: the queries, the joins and the
+-- sessions of their files, readers of the streams, with a saved window in front where one is named,
+-- and as many entries as the history may have; and the sinks are new, and those that the settings
+-- name
 pub record IsAsked {S K : Type 0} (left : S → Option (List ℕ)) (written : K → Option (List ℕ))
     (failures : K → ℕ) (given : Settings) (holds : List ℕ → Option (List ℕ)) (firsts : ℕ)
     (task : Task (TwoSources S)) (own : OwnSinks K) : Type 0 where

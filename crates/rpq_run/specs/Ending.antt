@@ -1,43 +1,45 @@
 -- How a run over streams ends behind its threads. Only private contracts cite this file.
-use Rattle.std.specs.Prelude.{◌≡◌, ◌⊎◌, ◌==◌, ℕ, Bool, true, List, Option, Some, None, Result}
-use Rattle.std.specs.Prelude.{Ok, Err}
-use Rattle.std.specs.List.{list_any}
+use Rattle.std.specs.Prelude.{◌≡◌, ◌⊎◌, ◌||◌, ℕ, Bool, true, false, List, Option, is_some, Result}
+use Rattle.std.specs.Prelude.{Ok}
 use Rattle.history_model.specs.declared.line.Why.{Why}
-use Rattle.history_model.specs.declared.line.Why.TheVariants.{Write, Memory}
 use Rattle.stream_tuples.specs.declared.ends.StreamEnd.{StreamEnd}
 use Rattle.rpq_text.specs.declared.ends.SinkName.{SinkName}
-use Rattle.rpq_text.specs.Statuses.{memory_status, status_of_end}
 use Rattle.run_start.specs.declared.sinks.OwnSinks.{OwnSinks}
-use Rattle.rpq_threads.specs.declared.task.Outcome.{Outcome as ThreadsOutcome}
+use Rattle.rpq_threads.specs.declared.task.RunOutcome.{RunOutcome as ThreadsOutcome}
 use Rattle.rpq_run.specs.declared.fault.TextFault.{TextFault}
-use Rattle.rpq_run.specs.declared.fault.TextFault.TheVariants.{Memory as MemoryForText}
 use Rattle.rpq_run.specs.declared.report.Report.{Report}
 use Rattle.rpq_run.specs.declared.streams.WrittenTexts.{WrittenTexts}
-use Rattle.rpq_run.specs.Failed.{failed_sinks, is_failed, is_write}
+use Rattle.rpq_run.specs.Failed.{failed_sinks, is_failed, is_memory, is_write, lacks_memory}
 use Rattle.rpq_run.specs.Parts.{WritesIfThere}
+use Rattle.rpq_run.specs.Shortage.{Shortage, has_memory_end}
 
--- some stream ended for want of memory
-abbrev pub HasMemoryEnd : List StreamEnd → Type 0
-HasMemoryEnd ends = list_any (λ end. status_of_end end == memory_status) ends ≡ true
+-- whether no window is saved: the engine was shut, or memory ran out for a session, for a stream,
+-- or for the replies
+abbrev pub is_left_out : Option Why → Bool → List StreamEnd → Result (Unit {0}) TextFault → Bool
+is_left_out why short_of_memory ends replied =
+    is_some why || (short_of_memory || (has_memory_end ends || lacks_memory replied))
 
--- why no window is saved: a write of the events failed, or memory ran out, for the engine, for a
--- session, for a stream, or for the replies
-abbrev pub IsUnsaved : Option Why → Bool → List StreamEnd → Result (Unit {0}) TextFault → Type 0
-IsUnsaved why short_of_memory ends replied = (why ≡ Some Write) ⊎ ((why ≡ Some Memory)
-    ⊎ ((short_of_memory ≡ true) ⊎ (HasMemoryEnd ends ⊎ (replied ≡ Err MemoryForText))))
-
--- a text was to be written on a sink, if there is one, where the engine went on to the end; it
--- wasn't only for this reason
+-- a text was to be written on a sink, if there is one, unless this says that it's left out: then
+-- nothing was done
 abbrev pub SavesIfThere : {Sink : Type 0} → (Sink → Option (List ℕ)) → (Sink → ℕ) → List ℕ
-    → Option Why → Type 0 → Option Sink → Option Sink → Result (Unit {0}) TextFault → Type 0
-SavesIfThere written faults text why reason old new result =
-    ((why ≡ None) × WritesIfThere written faults text old new result)
-    ⊎ (reason × (result ≡ Ok tt) × (new ≡ old))
+    → Bool → Option Sink → Option Sink → Result (Unit {0}) TextFault → Type 0
+SavesIfThere written faults text left_out old new result =
+    ((left_out ≡ false) × WritesIfThere written faults text old new result)
+    ⊎ ((left_out ≡ true) × (result ≡ Ok tt) × (new ≡ old))
 
--- memory ran out: for a session, for the engine, or for a text behind the events
-abbrev pub IsShort : Option Why → Bool → WrittenTexts → Type 0
-IsShort why short_of_memory written = (short_of_memory ≡ true) ⊎ ((why ≡ Some Memory)
-    ⊎ ((written.replied ≡ Err MemoryForText) ⊎ (written.saved ≡ Err MemoryForText)))
+-- what memory ran out for, by why the engine was shut, by whether it ran out for a session, and by
+-- the texts behind the events
+abbrev pub shortage_of : Option Why → Bool → WrittenTexts → Shortage
+shortage_of why short_of_memory written = record {
+  engine = is_memory why;
+  session = short_of_memory;
+  replies = lacks_memory written.replied;
+  save = lacks_memory written.saved;
+}
+
+-- whether it ran out for one of these
+abbrev pub is_any : Shortage → Bool
+is_any short = (short.engine || (short.session || short.replies)) || short.save
 
 -- the sinks of which a write failed
 abbrev pub failed_of : Option Why → WrittenTexts → List SinkName

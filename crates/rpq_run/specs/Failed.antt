@@ -1,4 +1,4 @@
--- Which writes failed. Only private contracts cite this file.
+-- Which writes failed, and what memory ran out for. Only private contracts cite this file.
 use Rattle.std.specs.Prelude.{Bool, true, false, if◌then◌else◌, List, [], ◌∷◌, ◌++◌, Option, Some}
 use Rattle.std.specs.Prelude.{None, Result, Ok, Err}
 use Rattle.history_model.specs.declared.line.Why.{Why}
@@ -21,8 +21,20 @@ is_write None = false
 is_write (Some Write) = true
 is_write (Some Memory) = false
 
+-- whether memory ran out for the engine
+abbrev pub is_memory : Option Why → Bool
+is_memory None = false
+is_memory (Some Write) = false
+is_memory (Some Memory) = true
+
 -- whether a write of a text failed
 abbrev pub is_failed : Result (Unit {0}) TextFault → Bool
 is_failed (Ok done) = false
 is_failed (Err WriteOfText) = true
 is_failed (Err MemoryForText) = false
+
+-- whether memory ran out for a text
+abbrev pub lacks_memory : Result (Unit {0}) TextFault → Bool
+lacks_memory (Ok done) = false
+lacks_memory (Err WriteOfText) = false
+lacks_memory (Err MemoryForText) = true

@@ -1,7 +1,7 @@
 -- What a run over streams that is done comes to, in one piece.
-use Rattle.std.specs.Prelude.{◌≡◌, ℕ, ◌+◌, ◌↔◌, ⊤, Bool, false, List, [], ◌∷◌, ◌++◌, length}
+use Rattle.std.specs.Prelude.{◌≡◌, ℕ, ◌+◌, ◌≤◌, ◌↔◌, ⊤, Bool, false, List, [], ◌∷◌, ◌++◌, length}
 use Rattle.std.specs.Prelude.{map, take, All, Option, Some, option_map, unwrap_or, slice_get}
-use Rattle.std.specs.Prelude.{IfSome, MatchOption}
+use Rattle.std.specs.Prelude.{is_some, IfSome, MatchOption}
 use Rattle.std.specs.List.{flat_map}
 use Rattle.join_bindings.specs.declared.event.JoinEvent.{JoinEvent}
 use Rattle.join_bindings.specs.Histories.{AreJoinEventsOn, IsBindingOver, IsJoinHeld}
@@ -14,7 +14,8 @@ use Rattle.rpq_model.specs.Events.{IsHeld}
 use Rattle.rpq_model.specs.Query.{Query, path_query}
 use Rattle.two_way.specs.TwoWay.{walked}
 use Rattle.rpq_words.specs.declared.settings.Settings.{Settings}
-use Rattle.rpq_words.specs.Views.{asks_of, from_of, joins_of, paths_of, streams_of, two_way_of}
+use Rattle.rpq_words.specs.Views.{asks_of, from_of, joins_of, paths_of, replies_of, save_of}
+use Rattle.rpq_words.specs.Views.{streams_of, two_way_of}
 use Rattle.ask_text.specs.declared.ask.Ask.{Ask}
 use Rattle.ask_text.specs.Replies.{replies}
 use Rattle.saved_window.specs.Saved.{saved}
@@ -28,12 +29,16 @@ use Rattle.run_start.specs.Files.{HasJoins, HasQueries, HasSessions}
 use Rattle.rpq_threads.specs.Runs.{AreSessionsOf, asks_answered}
 use Rattle.rpq_run.specs.Outcome.{Meanings, Sinks, Objects, Outcome}
 
--- whether edges are taken backwards, and whether paths are told; the bytes of the queries file; of
--- the joins file, of the asks file and of the saved window with which the run begins, if there are
--- such; of the streams' files; and those that stood on the events before
+-- whether edges are taken backwards, and whether paths are told; whether replies are to be written,
+-- and whether a window is to be saved; how many entries the history may have; the bytes of the
+-- queries file; of the joins file, of the asks file and of the saved window with which the run
+-- begins, if there are such; of the streams' files; and those that stood on the events before
 pub record Told : Type 0 where
   pub two_way : Bool
   pub paths : Bool
+  pub replies : Bool
+  pub save : Bool
+  pub limit : ℕ
   pub queries : List ℕ
   pub joins : Option (List ℕ)
   pub asks : Option (List ℕ)
@@ -55,6 +60,9 @@ pub record IsTold {S K : Type 0} (means : Meanings S K) (given : Settings)
     (holds : List ℕ → Option (List ℕ)) (sinks : Sinks K) (told : Told) : Type 0 where
   pub two_way : (two_way_of given) ≡ told.two_way
   pub paths : (paths_of given) ≡ told.paths
+  pub replies : is_some (replies_of given) ≡ told.replies
+  pub save : is_some (save_of given) ≡ told.save
+  pub limit : given.history ≡ told.limit
   pub queries : holds given.queries ≡ Some told.queries
   pub joins : option_map holds (joins_of given) ≡ option_map (λ bytes. Some bytes) told.joins
   pub asks : option_map holds (asks_of given) ≡ option_map (λ bytes. Some bytes) told.asks
@@ -62,19 +70,19 @@ pub record IsTold {S K : Type 0} (means : Meanings S K) (given : Settings)
   pub streams : map holds (streams_of given) ≡ map (λ bytes. Some bytes) told.streams
   pub events : means.written sinks.events_old ≡ Some told.events
 
--- the conjunctions over these queries: those of the joins file, or none
+-- the joins over these queries: those of the joins file, or none
 abbrev pub AreJoined : List Query → Option (List ℕ) → List JoinValue → Type 0
 AreJoined queries file joins =
     MatchOption file (joins ≡ []) (λ bytes. HasJoins queries bytes joins)
 
--- the queries are evaluated, and told of, as is told, with these conjunctions
+-- the queries are evaluated, and told of, as is told, with these joins
 abbrev pub options_told : Told → List JoinValue → OptionsValue
 options_told told joins =
     record { two_way = told.two_way; paths = told.paths; joins = joins }
 
 -- the changes of bindings that each entry of a history brings, whose lines the steps have. After
--- each entry the bindings of a conjunction emitted and not retracted are exactly its bindings over
--- the answers over the entries so far
+-- each entry the bindings of a join emitted and not retracted are exactly its bindings over the
+-- answers over the entries so far
 pub record AreBound (queries : List Query) (joins : List JoinValue) (history : List Entry)
     (steps : List StepValue) : Type 0 where
   pub changes : List (List JoinEvent)
@@ -90,16 +98,18 @@ abbrev pub AreAsked : List Query → Option (List ℕ) → List (List Ask) → T
 AreAsked queries file sessions =
     MatchOption file (sessions ≡ []) (λ bytes. HasSessions queries bytes sessions)
 
--- There are queries, conjunctions and sessions, those of their files. There is one history, in
--- which each stream's tuples stand once, in order, and nothing else. The events that it brings were
--- written behind what stood on the sink, with each entry its own; and where paths are told, behind
--- each event that gains a pair a path that shows it. After each entry the pairs of a query emitted
--- and not retracted are exactly its answers over the entries so far, and over their inverses where
--- edges may be taken backwards. Where edges are taken forwards alone, the bindings of a conjunction
+-- There are queries, joins and sessions, those of their files. There is one history, in which each
+-- stream's tuples stand once, in order, and nothing else, and which isn't longer than it may be;
+-- where the run begins with a saved window, that was read. The events that it brings were written
+-- behind what stood on the sink, with each entry its own; and where paths are told, behind each
+-- event that gains a pair a path that shows it. After each entry the pairs of a query emitted and
+-- not retracted are exactly its answers over the entries so far, and over their inverses where
+-- edges may be taken backwards. Where edges are taken forwards alone, the bindings of a join
 -- emitted and not retracted are exactly those over the answers. Each session has exactly its asks
 -- answered, each by the answers at a position of the history that never falls within the session;
--- and these replies were written. Each object that stayed heard all events that it wants, and one
--- that left a front of them. Where a window is saved, it is that of the history
+-- and these replies were written, where they are to be. Each object that stayed heard all events
+-- that it wants, and one that left a front of them. Where a window is to be saved, it was, and it
+-- is that of the history. On the errors nothing was written
 pub record Headline {S K : Type 0} (means : Meanings S K) (told : Told) (sinks : Sinks K)
     (objects : Objects) (outcome : Outcome S K) : Type 0 where
   pub queries : List Query
@@ -111,6 +121,8 @@ pub record Headline {S K : Type 0} (means : Meanings S K) (told : Told) (sinks :
   pub in_order : (place : ℕ) (text : List ℕ) → slice_get (stream_texts told) place ≡ Some text
       → own_tuples (place + 1) outcome.history ≡ (stream_tuples text).tuples
   pub no_other : All (λ entry. IsNumberOf (length told.streams) entry.stream) outcome.history
+  pub few : length outcome.history ≤ told.limit
+  pub from_there : is_some outcome.from ≡ is_some told.from
   pub steps : List StepValue
   pub are_steps : AreSteps (options_told told joins) queries outcome.history steps
   pub written : means.written sinks.events_new
@@ -125,7 +137,10 @@ pub record Headline {S K : Type 0} (means : Meanings S K) (told : Told) (sinks :
   pub readers : AreSessionsOf queries outcome.history (length outcome.history)
       sessions outcome.sessions
   pub all_answered : asks_answered outcome.sessions ≡ sessions
+  pub replies_there : is_some outcome.replies ≡ told.replies
   pub replied : IfSome outcome.replies (λ sink. IfSome (means.written sink) (λ bytes.
       bytes ≡ replies (map (λ own. map (λ one. one.text) own) outcome.sessions)))
+  pub window_there : is_some outcome.save ≡ told.save
   pub saved_is : IfSome outcome.save (λ sink. IfSome (means.written sink) (λ bytes.
       bytes ≡ saved_text (saved queries outcome.history)))
+  pub quiet : means.written sinks.errors_new ≡ means.written sinks.errors_old

@@ -2,6 +2,7 @@ pub mod Options
 pub mod Outcome
 pub mod Sources
 pub mod Written
+pub mod Shortage
 pub mod Causes
 pub mod RunsStreams
 pub mod RunsCheck
@@ -16,3 +17,6 @@ pub mod Ending
 pub mod Asked
 pub mod Room
 pub mod Headline
+pub mod AnyStatus
+pub mod Continued
+pub mod Faultless

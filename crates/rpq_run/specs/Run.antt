@@ -1,7 +1,7 @@
 -- What a run does that begins, and one that doesn't.
 use Rattle.std.specs.Prelude.{◌≡◌, ℕ, List, Option}
-use Rattle.rpq_words.specs.declared.settings.Mode.{Mode}
-use Rattle.rpq_words.specs.declared.settings.Mode.TheVariants.{Check, Generate, Streams}
+use Rattle.rpq_words.specs.declared.settings.RunMode.{RunMode}
+use Rattle.rpq_words.specs.declared.settings.RunMode.TheVariants.{Check, Generate, Streams}
 use Rattle.rpq_words.specs.declared.settings.Settings.{Settings}
 use Rattle.rpq_words.specs.Views.{is_both_ways}
 use Rattle.rpq_text.specs.declared.ends.StartFault.{StartFault}
@@ -16,7 +16,7 @@ use Rattle.rpq_run.specs.Written.{TellsLines}
 
 -- what is asked for in each mode: the check, the run over so many generated tuples, or the run over
 -- streams
-abbrev pub RunsIn : {S K : Type 0} → Mode → Meanings S K → Settings → (List ℕ → Option (List ℕ))
+abbrev pub RunsIn : {S K : Type 0} → RunMode → Meanings S K → Settings → (List ℕ → Option (List ℕ))
     → Sinks K → Objects → Outcome S K → Type 0
 RunsIn (Check directions) means given holds sinks objects outcome =
     RunsCheck means (is_both_ways directions) (holds given.queries) sinks objects outcome

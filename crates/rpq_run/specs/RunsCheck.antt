@@ -6,6 +6,7 @@ use Rattle.rpq_text.specs.Verdicts.{AreVerdicts}
 use Rattle.run_start.specs.Files.{IsQueriesFile, ForQueries}
 use Rattle.rpq_run.specs.Causes.{HasCauses}
 use Rattle.rpq_run.specs.Outcome.{Meanings, Sinks, Objects, Outcome}
+use Rattle.rpq_run.specs.Shortage.{no_shortage}
 use Rattle.rpq_run.specs.Written.{WritesWhere}
 
 -- nothing was taken of a stream, and nothing answered
@@ -31,7 +32,7 @@ pub record RunsCheck {S K : Type 0} (means : Meanings S K) (two_way : Bool)
   pub no_source : outcome.sources ≡ []
   pub failed : List SinkName
   pub text : ForQueries two_way file (λ queries.
-      WritesWhere (Contains failed Events) outcome.status (AreVerdicts queries)
+      WritesWhere (Contains failed Events) ⊥ (AreVerdicts queries)
       (means.written sinks.events_old) (means.written sinks.events_new))
-  pub causes : HasCauses means failed sinks outcome
+  pub causes : HasCauses means failed no_shortage sinks outcome
   pub objects_kept : LeavesObjects objects

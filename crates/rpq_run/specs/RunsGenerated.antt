@@ -14,6 +14,7 @@ use Rattle.rpq_threads.specs.Written.{Grew, GrewByProperPrefix}
 use Rattle.run_start.specs.Files.{IsQueriesFile, ForQueries}
 use Rattle.rpq_run.specs.Causes.{HasCauses}
 use Rattle.rpq_run.specs.Outcome.{Meanings, Sinks, Objects, Outcome}
+use Rattle.rpq_run.specs.Shortage.{no_shortage}
 
 -- the history has the first generated tuples, in order, as stream 1: all that are wanted, or as
 -- many as it may have, unless memory ran out. The stream's end says which
@@ -62,4 +63,4 @@ pub record RunsGenerated {S K : Type 0} (means : Meanings S K) (two_way : Bool) 
   pub told : ForQueries two_way file (λ queries.
       AreTold two_way queries outcome.history
       objects.before (outcome.status ≢ memory_status) objects.after)
-  pub causes : HasCauses means failed sinks outcome
+  pub causes : HasCauses means failed no_shortage sinks outcome

@@ -1,18 +1,19 @@
 -- What a sink grew by, and what a call that was to write a text answered.
-use Rattle.std.specs.Prelude.{◌≡◌, ◌≢◌, ℕ, List, Option, Result, IsOk, IsErr}
+use Rattle.std.specs.Prelude.{◌≡◌, ℕ, List, Option, Result, IsOk, IsErr}
 use Rattle.std.specs.Io.KnownBytes.{append_known}
 use Rattle.rpq_io.specs.Counts.{Rose, CountsFault}
 use Rattle.rpq_io.specs.Writes.{WritesProperPrefix}
-use Rattle.rpq_text.specs.Statuses.{memory_status}
 use Rattle.rpq_threads.specs.Written.{Grew, GrewByPrefix, GrewByProperPrefix}
 
 -- a sink grew by a text of this kind: by all of it, where no write on it failed and memory didn't
--- run out; by a proper prefix where a write failed; else by a prefix
-pub record WritesWhere (failed : Type 0) (status : ℕ) (IsText : List ℕ → Type 0)
+-- run out for it; by a proper prefix where a write failed; and always by a prefix. A write that
+-- failed isn't told as want of memory
+pub record WritesWhere (failed short : Type 0) (IsText : List ℕ → Type 0)
     (before after : Option (List ℕ)) : Type 0 where
-  pub whole : (failed → ⊥) → status ≢ memory_status → Grew IsText before after
+  pub whole : (failed → ⊥) → (short → ⊥) → Grew IsText before after
   pub part : failed → GrewByProperPrefix IsText before after
-  pub memory : status ≡ memory_status → GrewByPrefix IsText before after
+  pub prefix : GrewByPrefix IsText before after
+  pub apart : failed → short → ⊥
 
 -- a call that was to write this text on a sink answered this: the text was written, or a proper
 -- prefix of it with an error, which the sink's count shows

@@ -13,7 +13,7 @@ use crate::errors::tell_end;
 use crate::objects::{circle_of, put_back};
 use crate::report::Report;
 use crate::streams::failed_sinks;
-use generated_run::{Generated, Generation, generate};
+use generated_run::{Generation, GenerationResult, generate};
 use rpq_base::Memory;
 use rpq_io::{Context, Failed, Files, Gate, Sink, put_all};
 use rpq_text::run_status;
@@ -31,7 +31,7 @@ pub fn run_generated<R: Threads + RandomSource + Sync, G: Gate, F: Files>(
     events: &mut F::Sink,
     errors: &mut F::Sink,
 ) -> Result<Report<F>, Memory>
-    requires { IsGeneration generation }
+    requires generation { IsGeneration generation }
     ensures start { IfOk result (λ report. report.start ≡ None) }
     ensures runs { IfOk result (λ report. (file : Option (List ℕ)) → IfSome file (λ bytes.
         HasQueries generation.two_way bytes (definitions_of generation.queries.items))
@@ -48,7 +48,7 @@ pub fn run_generated<R: Threads + RandomSource + Sync, G: Gate, F: Files>(
     let mut ends = Vec::with_capacity(alloc, 1)?;
     let circle = circle_of(alloc, standing)?;
     let fits = generation.count <= generation.limit;
-    let Generated {
+    let GenerationResult {
         history,
         summary,
         circle,

@@ -9,12 +9,13 @@
 //! objects of the caller are told of the history's events, those of a block once it is written
 //! whole, and come back. Where the words say so, queries may take edges backwards: then an entry's
 //! events are the difference that it and its inverse bring together. Or a path is written behind
-//! each gained pair that shows it. Or there are conjunctions over the queries, and the changes of
-//! their bindings are written at the end of each block. [`headline`] says the same of a run over
-//! streams that is done, in one piece.
+//! each gained pair that shows it. Or there are joins over the queries, and the changes of their
+//! bindings are written at the end of each block. [`headline`] says the same of a run over streams
+//! that is done, in one piece, and [`any_status`] of one that ends with any status.
 #![tactic(auto)]
 
 mod check;
+mod continuing;
 mod errors;
 mod fault;
 mod generated;
@@ -30,12 +31,13 @@ mod top;
 mod word_texts;
 
 pub use ask_text::{Answered, Ask};
+pub use continuing::continued;
 pub use entry_steps::{
     fronts_hold_answers, fronts_hold_bindings, steps_have_join_events, steps_have_the_events,
 };
 pub use history_model::Why;
 pub use join_file::{JoinFileFault, JoinFileFaultKind};
-pub use laws::headline;
+pub use laws::{any_status, faultless_is_done, headline, small_run_can_be_done};
 pub use report::Report;
 pub use rpq_text::{
     SinkName, StartFault, Which, every_history_has_a_text, line_examples, one_verdict_text, status,

@@ -7,18 +7,18 @@ use std::alloc::{AllocError, Global};
 /// Room for one source. It is taken before the first file is opened, so that a failed read can be
 /// told with its source, whatever comes.
 #[derive(Drop)]
-pub struct Room<S> {
+pub struct SourceRoom<S> {
     sources: Vec<S>,
 }
 
-impl<S> Room<S> {
+impl<S> SourceRoom<S> {
     ghost use Rattle.rpq_run.specs.Room.{IsRoom};
 
     /// New room. The only error is out of memory.
-    pub fn new(alloc: Global) -> Result<Room<S>, AllocError>
+    pub fn new(alloc: Global) -> Result<SourceRoom<S>, AllocError>
         ensures { IfOk result IsRoom }
     {
-        Ok(Room {
+        Ok(SourceRoom {
             sources: Vec::with_capacity(alloc, 1)?,
         })
     }

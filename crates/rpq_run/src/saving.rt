@@ -1,15 +1,17 @@
 //! The saved window, which is written line by line.
 
-ghost use Rattle.std.specs.Prelude.{◌≡◌, ◌∷◌, [], ◌++◌, All, None, Ok, true, false, IfOk};
+ghost use Rattle.std.specs.Prelude.{◌≡◌, ◌∷◌, [], ◌++◌, All, Ok, true, false, not, IfOk};
 ghost use Rattle.rpq_base.specs.Plain.{IsPlain, IsPlainTuple};
 ghost use Rattle.text_parts.specs.Lines.{line_feed};
 ghost use Rattle.tuple_text.specs.Written.{written};
 ghost use Rattle.saved_window.specs.Saved.{saved};
 ghost use Rattle.saved_window.specs.SavedText.{saved_text};
-ghost use Rattle.rpq_run.specs.Ending.{IsUnsaved};
+ghost use Rattle.rpq_run.specs.Ending.{is_left_out};
 ghost use Rattle.rpq_run.specs.Parts.{WritesIfThere, WritesPart};
+ghost use Rattle.rpq_run.specs.Shortage.{has_memory_end};
 
 use crate::fault::TextFault;
+use crate::streams::lacks_memory;
 use history_model::Why;
 use rpq_base::{Entry, Memory, Tuple};
 use rpq_io::{Sink, put_all};
@@ -20,21 +22,24 @@ use std::alloc::Global;
 use stream_tuples::StreamEnd;
 use tuple_text::write_tuple;
 
-/// Whether the window of a run is saved: no write of the events failed, and memory didn't run out,
-/// for a session, a stream, or another part of the run.
+/// Whether the window of a run is saved: unless the engine was shut, or memory ran out for a
+/// session, for a stream, or for the replies.
 pub fn can_save(
     why: Option<Why>,
     short_of_memory: bool,
     ends: &[StreamEnd],
     replied: Result<(), TextFault>,
 ) -> bool
-    ensures yes { result ≡ true → why ≡ None }
-    ensures no { result ≡ false → IsUnsaved why short_of_memory ends.now replied }
+    ensures { result ≡ not (is_left_out why short_of_memory ends.now replied) }
 {
-    why.is_none()
-        && !short_of_memory
-        && !ends.iter().any(|end| status_of_end(end) == status::MEMORY)
-        && !matches!(replied, Err(TextFault::Memory))
+    !(why.is_some() || short_of_memory || has_memory_end(ends) || lacks_memory(replied))
+}
+
+/// Whether some stream ended for want of memory.
+fn has_memory_end(ends: &[StreamEnd]) -> bool
+    ensures { result ≡ has_memory_end ends.now }
+{
+    ends.iter().any(|end| status_of_end(end) == status::MEMORY)
 }
 
 /// Writes what a later run needs of the history, where there is a sink for it and it's wanted.

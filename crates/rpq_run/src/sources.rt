@@ -6,11 +6,11 @@ ghost use Rattle.saved_window.specs.Then.{count_of};
 ghost use Rattle.rpq_run.specs.Sources.{stream_sources};
 
 use rpq_io::Source;
-use saved_window::{Front, Then};
+use saved_window::{Prefix, Then};
 
 /// The source of the saved window, if one was read before the first stream, and the sources of the
 /// streams' own files, which are put into an empty list that has room for them.
-pub fn parted<S: Source + Drop, P: Front>(
+pub fn parted<S: Source + Drop, P: Prefix>(
     sources: Vec<Then<S, P>>,
     mut own: Vec<S>,
 ) -> (Option<S>, Vec<S>)

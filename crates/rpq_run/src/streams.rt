@@ -1,6 +1,6 @@
 //! The run over streams.
 
-ghost use Rattle.std.specs.Prelude.{◌≡◌, ◌≤◌, ◌⊎◌, List, [], ℕ, Option, None, Some, Err, true};
+ghost use Rattle.std.specs.Prelude.{◌≡◌, ◌≤◌, ◌⊎◌, ◌↔◌, List, [], ℕ, Option, None, Some, Err, true};
 ghost use Rattle.std.specs.Prelude.{length, map, All, IfOk, OnErr};
 ghost use Rattle.std.specs.Vec.{vec_capacity};
 ghost use Rattle.rpq_base.specs.Plain.{IsPlain};
@@ -14,12 +14,14 @@ ghost use Rattle.saved_window.specs.SavedText.{saved_text};
 ghost use Rattle.saved_window.specs.Then.{count_of, left_of_both, faults_of_both};
 ghost use Rattle.rpq_threads.specs.Runs.{IsTask};
 ghost use Rattle.rpq_run.specs.Asked.{IsAsked};
-ghost use Rattle.rpq_run.specs.Ending.{IsShort, IsUnsaved, KeepsParts, SavesIfThere, failed_of};
-ghost use Rattle.rpq_run.specs.Failed.{failed_sinks, is_failed, is_write};
+ghost use Rattle.rpq_run.specs.Ending.{KeepsParts, SavesIfThere, failed_of, is_any, is_left_out};
+ghost use Rattle.rpq_run.specs.Ending.{shortage_of};
+ghost use Rattle.rpq_run.specs.Failed.{failed_sinks, is_failed, is_memory, is_write, lacks_memory};
 ghost use Rattle.rpq_run.specs.Outcome.{meanings, objects, outcome, sinks};
 ghost use Rattle.rpq_run.specs.Parts.{WritesIfThere};
 ghost use Rattle.rpq_run.specs.Replies.{session_limit, texts_of};
 ghost use Rattle.rpq_run.specs.RunsStreams.{RunsStreams};
+ghost use Rattle.rpq_run.specs.Shortage.{is_short};
 ghost use Rattle.rpq_run.specs.Sources.{stream_sources};
 ghost use Rattle.rpq_run.specs.Written.{TellsLines};
 
@@ -38,9 +40,9 @@ use rpq_base::Memory;
 use rpq_io::{Context, Files, Gate, Sink, Source};
 use rpq_model::QueryDef;
 use rpq_text::{SinkName, run_status};
-use rpq_threads::{Outcome, Task, run_threads};
+use rpq_threads::{RunOutcome, Task, run_threads};
 use run_start::OwnSinks;
-use saved_window::{Front, Then};
+use saved_window::{Prefix, Then};
 use standing::Standing;
 use std::alloc::Global;
 use std::random::RandomSource;
@@ -52,9 +54,9 @@ use std::thread::Threads;
 /// error is [`Memory`], before anything is written or told.
 ///
 /// Where edges may be taken backwards, an entry's events are the difference that it and its inverse
-/// bring together, and nothing is asked. Where there are conjunctions, the changes of their
-/// bindings stand at the end of each block.
-pub fn run_streams<R: Threads + Wait + RandomSource + Sync, G: Gate, F: Files, P: Front + Send>(
+/// bring together, and nothing is asked. Where there are joins, the changes of their bindings stand
+/// at the end of each block.
+pub fn run_streams<R: Threads + Wait + RandomSource + Sync, G: Gate, F: Files, P: Prefix + Send>(
     context: &Context<'_, R, G>,
     task: Task<Then<F::Source, P>>,
     mut own: OwnSinks<F::Sink>,
@@ -103,7 +105,7 @@ struct WrittenTexts {
 fn write_own<K: Sink, S: Source, O: Standing>(
     alloc: Global,
     own: &mut OwnSinks<K>,
-    outcome: &Outcome<S, O>,
+    outcome: &RunOutcome<S, O>,
     definitions: &[QueryDef],
 ) -> WrittenTexts
     requires few { length outcome.now.sessions.items ≤ session_limit }
@@ -112,8 +114,8 @@ fn write_own<K: Sink, S: Source, O: Standing>(
         (replies (texts_of (map (λ own. own.items) outcome.now.sessions.items)))
         own.old.replies own.new.replies result.replied }
     ensures saved { SavesIfThere K.written K.faults
-        (saved_text (saved definitions.now outcome.now.history.items)) outcome.now.why
-        (IsUnsaved outcome.now.why outcome.now.short_of_memory outcome.now.ends.items
+        (saved_text (saved definitions.now outcome.now.history.items))
+        (is_left_out outcome.now.why outcome.now.short_of_memory outcome.now.ends.items
         result.replied)
         own.old.save own.new.save result.saved }
 {
@@ -125,8 +127,8 @@ fn write_own<K: Sink, S: Source, O: Standing>(
 
 /// The report of a run that ended so. Puts the objects back, and tells on the errors what went
 /// wrong.
-fn end_run<F: Files, P: Front>(
-    outcome: Outcome<Then<F::Source, P>, Box<dyn Standing>>,
+fn end_run<F: Files, P: Prefix>(
+    outcome: RunOutcome<Then<F::Source, P>, Box<dyn Standing>>,
     written: WrittenTexts,
     own: OwnSinks<F::Sink>,
     room: Vec<F::Source>,
@@ -139,8 +141,8 @@ fn end_run<F: Files, P: Front>(
     requires few { length outcome.ends.items ≤ stream_limit }
     ensures start { result.start ≡ None }
     ensures status { IsStatusOf outcome.ends.items (failed_of outcome.why written) result.status }
-    ensures memory { IsShort outcome.why outcome.short_of_memory written
-        → result.status ≡ memory_status }
+    ensures memory { (result.status ≡ memory_status) ↔ (is_short outcome.ends.items
+        (shortage_of outcome.why outcome.short_of_memory written) ≡ true) }
     ensures told { TellsLines F.Sink.written F.Sink.faults
         (run_lines outcome.ends.items (failed_of outcome.why written) result.status)
         errors.old errors.new }
@@ -150,7 +152,7 @@ fn end_run<F: Files, P: Front>(
     ensures from { count_of result.from ≡ P.COUNT }
     ensures parts { KeepsParts outcome own result }
 {
-    let Outcome {
+    let RunOutcome {
         history,
         ends,
         sources,
@@ -163,7 +165,7 @@ fn end_run<F: Files, P: Front>(
     let left = put_back(standing, circle);
     let (from, sources) = parted(sources, room);
     let failed = failed_of(why, written);
-    let is_short = is_short_of_memory(short_of_memory, why, written);
+    let is_short = is_short_of_memory(why, short_of_memory, written);
     let status = run_status(&ends, failed, is_short);
     // A fault of the errors changes no status.
     let _ = tell_end(errors, &ends, failed, status);
@@ -199,6 +201,13 @@ fn is_write(why: Option<Why>) -> bool
     matches!(why, Some(Why::Write))
 }
 
+/// Whether memory ran out for the engine.
+fn is_memory(why: Option<Why>) -> bool
+    ensures { result ≡ is_memory why }
+{
+    matches!(why, Some(Why::Memory))
+}
+
 /// Whether a write of a text failed.
 fn is_failed(written: Result<(), TextFault>) -> bool
     ensures { result ≡ is_failed written }
@@ -206,14 +215,21 @@ fn is_failed(written: Result<(), TextFault>) -> bool
     matches!(written, Err(TextFault::Write))
 }
 
-/// Whether memory ran out: for a session, for the engine, or for a text behind the events.
-fn is_short_of_memory(short_of_memory: bool, why: Option<Why>, written: WrittenTexts) -> bool
-    ensures { IsShort why short_of_memory written → result ≡ true }
+/// Whether memory ran out for a text.
+pub fn lacks_memory(written: Result<(), TextFault>) -> bool
+    ensures { result ≡ lacks_memory written }
 {
-    short_of_memory
-        || matches!(why, Some(Why::Memory))
-        || matches!(written.replied, Err(TextFault::Memory))
-        || matches!(written.saved, Err(TextFault::Memory))
+    matches!(written, Err(TextFault::Memory))
+}
+
+/// Whether memory ran out: for the engine, for a session, or for a text behind the events.
+fn is_short_of_memory(why: Option<Why>, short_of_memory: bool, written: WrittenTexts) -> bool
+    ensures { result ≡ is_any (shortage_of why short_of_memory written) }
+{
+    is_memory(why)
+        || short_of_memory
+        || lacks_memory(written.replied)
+        || lacks_memory(written.saved)
 }
 
 /// The sinks of which a write failed.

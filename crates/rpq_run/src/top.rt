@@ -4,11 +4,12 @@ ghost use Rattle.std.specs.Prelude.{◌≡◌, ◌⊎◌, ℕ, List, [], Option,
 ghost use Rattle.std.specs.Prelude.{IsNone, IfSome, IsSomeAnd, IfOk, OnErr};
 ghost use Rattle.rpq_words.specs.Modes.{AreSettings};
 ghost use Rattle.rpq_words.specs.Settings.{settings, texts};
+ghost use Rattle.rpq_words.specs.Views.{is_both_ways};
 ghost use Rattle.rpq_text.specs.ErrorLines.{start_line};
 ghost use Rattle.rpq_text.specs.Statuses.{done_status, memory_status, status_of_start};
 ghost use Rattle.run_start.specs.Ready.{IsReady};
 ghost use Rattle.run_start.specs.Start.{IsDecided, UsesFiles};
-ghost use Rattle.rpq_run.specs.Asked.{IsTaskOf};
+ghost use Rattle.rpq_run.specs.Asked.{IsGenerationOf, IsTaskOf};
 ghost use Rattle.rpq_run.specs.Done.{CanBeDone, NothingRose, NothingFails};
 ghost use Rattle.rpq_run.specs.Outcome.{meanings, objects, openings, outcome, sinks};
 ghost use Rattle.rpq_run.specs.Run.{Refuses, Runs};
@@ -18,7 +19,7 @@ use crate::check::run_check;
 use crate::errors::tell_start;
 use crate::generated::run_generated;
 use crate::report::Report;
-use crate::room::Room;
+use crate::room::SourceRoom;
 use crate::streams::run_streams;
 use ask_text::Session;
 use entry_steps::Options;
@@ -29,8 +30,8 @@ use rpq_base::Memory;
 use rpq_io::{Context, Files, Gate, LineReader, Source};
 use rpq_text::StartFault;
 use rpq_threads::Task;
-use rpq_words::Settings;
-use run_start::{Readers, Reads, Ready, Refusal, Work, begin, settings_of};
+use rpq_words::{Directions, Settings};
+use run_start::{Readers, Refusal, RunPlan, StreamsPlan, Work, begin, settings_of};
 use standing::Standing;
 use std::alloc::Global;
 use std::random::RandomSource;
@@ -46,10 +47,10 @@ use std::thread::Threads;
 /// the difference that the entry and its inverse bring together. Or a path is written behind each
 /// gained pair that shows it: the positions of its entries, and until when the pair lasts.
 ///
-/// With `--joins FILE` there are conjunctions over the queries. A binding of a conjunction gives
-/// each of its variables a vertex, such that each of its atoms is an answer. The bindings that an
-/// entry takes away and those that it adds are written at the end of the entry's block. The
-/// standing objects hear nothing of them.
+/// With `--joins FILE` there are joins over the queries. A binding of a join gives each of its
+/// variables a vertex, such that each of its atoms is an answer. The bindings that an entry takes
+/// away and those that it adds are written at the end of the entry's block. The standing objects
+/// hear nothing of them.
 ///
 /// The words are those of the command line, the program's name first. The queries file is read
 /// whole and understood, then the joins file, and then the asks file. Then the saved window of an
@@ -115,7 +116,7 @@ pub fn run<R: Threads + Wait + RandomSource + Sync, F: Files, G: Gate>(
         Ok(chosen) => chosen,
         Err(fault) => return report_of_refusal(alloc, fault, Vec::new(alloc), errors),
     };
-    let Ok(room) = Room::new(alloc) else {
+    let Ok(room) = SourceRoom::new(alloc) else {
         return report_of_refusal(alloc, StartFault::Memory, Vec::new(alloc), errors);
     };
     let ready = match begin(alloc, files, &chosen) {
@@ -136,7 +137,7 @@ pub fn run<R: Threads + Wait + RandomSource + Sync, F: Files, G: Gate>(
 fn run_begun<R: Threads + Wait + RandomSource + Sync, G: Gate, F: Files>(
     context: &Context<'_, R, G>,
     chosen: &Settings,
-    ready: Ready<F::Source, F::Sink>,
+    ready: RunPlan<F::Source, F::Sink>,
     standing: &mut Vec<Box<dyn Standing>>,
     events: &mut F::Sink,
     errors: &mut F::Sink,
@@ -156,21 +157,15 @@ fn run_begun<R: Threads + Wait + RandomSource + Sync, G: Gate, F: Files>(
     ensures errors_kept { OnErr result (errors.new ≡ errors.old) }
     ensures objects_kept { OnErr result (standing.new.items ≡ standing.old.items) }
 {
-    let Ready { queries, work } = ready;
+    let RunPlan { queries, work } = ready;
     match work {
         Work::Check => Ok(run_check(context.alloc, &queries, events, errors)),
         Work::Generate(directions, count) => {
-            let generation = Generation {
-                queries,
-                two_way: directions.is_both_ways(),
-                workers: chosen.workers,
-                limit: chosen.history,
-                count,
-            };
+            let generation = generation_of(chosen, queries, directions, count);
             run_generated(context, generation, standing, events, errors)
         }
         Work::Read(reads) => {
-            let Reads {
+            let StreamsPlan {
                 readers,
                 joins,
                 sessions,
@@ -190,8 +185,27 @@ fn run_begun<R: Threads + Wait + RandomSource + Sync, G: Gate, F: Files>(
     }
 }
 
-/// What the threads of a run with these settings are given: its queries, the conjunctions over
-/// them, the readers of its streams, and what is asked.
+/// What a run with these settings over so many generated tuples is given, with its queries, which
+/// may take edges in these directions.
+fn generation_of(
+    chosen: &Settings,
+    queries: Vec<Compiled>,
+    directions: Directions,
+    count: u64,
+) -> Generation
+    ensures { IsGenerationOf chosen.now queries.items (is_both_ways directions) count result }
+{
+    Generation {
+        queries,
+        two_way: directions.is_both_ways(),
+        workers: chosen.workers,
+        limit: chosen.history,
+        count,
+    }
+}
+
+/// What the threads of a run with these settings are given: its queries, the joins over them, the
+/// readers of its streams, and what is asked.
 fn task_of<S: Source>(
     chosen: &Settings,
     queries: Vec<Compiled>,

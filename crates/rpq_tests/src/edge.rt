@@ -142,11 +142,11 @@ fn files_of_the_host_are_written_and_read(rt: HostRuntime) {
 /// Gives an `a`, then fails, then is at its end. The first write fails, and each later one takes
 /// all bytes.
 #[derive(Drop)]
-struct Flaky {
+struct FlakyHost {
     calls: u8,
 }
 
-impl Read for Flaky {
+impl Read for FlakyHost {
     fn read(&mut self, buf: &mut [u8]) -> io::Result<usize> {
         self.calls = self.calls.saturating_add(1);
         match buf.first_mut() {
@@ -160,7 +160,7 @@ impl Read for Flaky {
     }
 }
 
-impl io::Write for Flaky {
+impl io::Write for FlakyHost {
     fn write(&mut self, buf: &[u8]) -> io::Result<usize> {
         self.calls = self.calls.saturating_add(1);
         match self.calls {
@@ -176,9 +176,9 @@ impl io::Write for Flaky {
 
 /// Takes no bytes.
 #[derive(Drop)]
-struct Full;
+struct FullHost;
 
-impl io::Write for Full {
+impl io::Write for FullHost {
     fn write(&mut self, _buf: &[u8]) -> io::Result<usize> {
         Ok(0)
     }
@@ -190,22 +190,22 @@ impl io::Write for Full {
 
 #[test]
 fn faults_of_the_host_are_answered(rt: HostRuntime) {
-    let mut source = HostSource::new(Flaky { calls: 0 });
+    let mut source = HostSource::new(FlakyHost { calls: 0 });
     assert!(rt; fails_and_then_gives(rt.alloc(), &mut source, b""));
     assert!(rt;
-        !takes(&mut HostSink::new(Flaky { calls: 0 }), b"abc"),
+        !takes(&mut HostSink::new(FlakyHost { calls: 0 }), b"abc"),
         "a failed write isn't made again"
     );
-    assert!(rt; !takes(&mut HostSink::new(Full), b"abc"));
+    assert!(rt; !takes(&mut HostSink::new(FullHost), b"abc"));
 }
 
 /// Takes one byte in a write.
 #[derive(Drop)]
-struct Sparing {
+struct SparingHost {
     bytes: Vec<u8>,
 }
 
-impl io::Write for Sparing {
+impl io::Write for SparingHost {
     fn write(&mut self, buf: &[u8]) -> io::Result<usize> {
         match buf.first() {
             Some(byte) => {
@@ -223,7 +223,7 @@ impl io::Write for Sparing {
 
 #[test]
 fn a_writer_that_takes_less_gets_all_bytes(rt: HostRuntime) {
-    let mut sink = HostSink::new(Sparing {
+    let mut sink = HostSink::new(SparingHost {
         bytes: Vec::new(rt.alloc()),
     });
     assert!(rt; takes(&mut sink, b"abc"));
@@ -233,9 +233,9 @@ fn a_writer_that_takes_less_gets_all_bytes(rt: HostRuntime) {
 
 #[test]
 fn standard_output_and_error_are_sinks(rt: HostRuntime) {
-    let output: Place<Flaky> = Place::Output(rt.stdout());
+    let output: Place<FlakyHost> = Place::Output(rt.stdout());
     assert!(rt; takes(&mut HostSink::new(output), b"to standard output\n"));
-    let errors: Place<Flaky> = Place::Errors(rt.stderr());
+    let errors: Place<FlakyHost> = Place::Errors(rt.stderr());
     assert!(rt; takes(&mut HostSink::new(errors), b"to standard error\n"));
 }
 

@@ -20,7 +20,7 @@ pub const CYCLE: &str = "1 r a x\n1 x a y\n1 y a x\n1 r a x -\n";
 /// What a run is given: its words, the files, the sinks of the events and the errors, and the
 /// objects that are told of the events.
 #[derive(Drop)]
-pub struct Given {
+pub struct TestRun {
     pub words: Vec<String>,
     pub files: MemoryFiles,
     pub events: MemorySink,
@@ -31,7 +31,7 @@ pub struct Given {
 /// What the tests look at of a run's report: its status, how many entries its history has, and the
 /// objects that left.
 #[derive(Drop)]
-pub struct Outcome {
+pub struct RunSummary {
     pub status: u8,
     pub entries: usize,
     pub left: Vec<Box<dyn Standing>>,
@@ -46,8 +46,8 @@ pub fn given_of(
     texts: [&str; 3],
     failing_writes: &[u64],
     standing: Vec<Box<dyn Standing>>,
-) -> Given {
-    Given {
+) -> TestRun {
+    TestRun {
         words: words_of(rt, alloc, words),
         files: files_of(rt, alloc, texts),
         events: sink_of(rt, alloc, 4096, 4096, failing_writes),
@@ -57,7 +57,7 @@ pub fn given_of(
 }
 
 /// The same without objects, where no write fails.
-pub fn plainly_given(rt: &impl Abort, alloc: Global, words: &[&str], texts: [&str; 3]) -> Given {
+pub fn plainly_given(rt: &impl Abort, alloc: Global, words: &[&str], texts: [&str; 3]) -> TestRun {
     given_of(rt, alloc, words, texts, &[], Vec::new(alloc))
 }
 
@@ -66,9 +66,9 @@ pub fn plainly_given(rt: &impl Abort, alloc: Global, words: &[&str], texts: [&st
 pub fn outcome_of<R: Threads + Wait + RandomSource + Sync, G: Gate>(
     rt: &R,
     alloc: Global,
-    given: &mut Given,
+    given: &mut TestRun,
     gate: &G,
-) -> Outcome {
+) -> RunSummary {
     let report = run(
         rt,
         alloc,
@@ -83,11 +83,11 @@ pub fn outcome_of<R: Threads + Wait + RandomSource + Sync, G: Gate>(
 }
 
 /// What the tests look at of this report.
-fn looked_at<F: Files>(alloc: Global, report: Report<F>) -> Outcome {
+fn looked_at<F: Files>(alloc: Global, report: Report<F>) -> RunSummary {
     let mut report = report;
     let mut left = Vec::new(alloc);
     mem::swap(&mut left, &mut report.left);
-    Outcome {
+    RunSummary {
         status: report.status,
         entries: report.history.len(),
         left,

@@ -1,6 +1,6 @@
 //! Runs with objects of the test's own, which leave or run out of memory while they are told.
 
-use crate::memory::{CYCLE, Given, Outcome, PATHS, given_of, has_written, outcome_of};
+use crate::memory::{CYCLE, PATHS, RunSummary, TestRun, given_of, has_written, outcome_of};
 use rpq_base::{Event, Memory};
 use rpq_io::OpenGate;
 use standing::{Roll, Standing, Stay};
@@ -12,13 +12,13 @@ const TWO_BLOCKS: &str = "@1 1 1 r a x +\n+ q r x\n@2 1 1 x a y +\n+ q r y\n+ q 
 
 /// Keeps what it hears, and leaves at its second event.
 #[derive(Drop)]
-struct Leaving {
+struct LeavingObject {
     roll: Roll,
     calls: u8,
     is_gone: bool,
 }
 
-impl Standing for Leaving {
+impl Standing for LeavingObject {
     ghost seen = { λ object. record {
       wanted = object.roll.wanted;
       numbers = object.roll.numbers;
@@ -49,12 +49,12 @@ impl Standing for Leaving {
 
 /// Keeps what it hears, and has no memory for its third event.
 #[derive(Drop)]
-struct Short {
+struct ShortObject {
     roll: Roll,
     calls: u8,
 }
 
-impl Standing for Short {
+impl Standing for ShortObject {
     ghost seen = { λ object. object.roll };
 
     fn wants(&self, query: u32) -> bool {
@@ -77,7 +77,7 @@ impl Standing for Short {
 /// What a run is to answer: its status, how many objects stayed and left, what the one object says,
 /// and what is written on the events.
 #[derive(Clone, Copy)]
-struct Wanted<'a> {
+struct WantedRun<'a> {
     status: u8,
     stayed: usize,
     left: usize,
@@ -110,14 +110,14 @@ fn given_with(
     alloc: Global,
     object: Box<dyn Standing>,
     failing_write: u64,
-) -> Given {
+) -> TestRun {
     let texts = [PATHS, CYCLE, ""];
     let standing = list_of(rt, alloc, object);
     given_of(rt, alloc, &["q", "s"], texts, &[failing_write], standing)
 }
 
 /// Whether a run with one object, which was given this and has this outcome, answers what it is to.
-fn ends_so(given: &Given, outcome: &Outcome, wanted: &Wanted) -> bool {
+fn ends_so(given: &TestRun, outcome: &RunSummary, wanted: &WantedRun) -> bool {
     outcome.status == wanted.status
         && given.standing.len() == wanted.stayed
         && outcome.left.len() == wanted.left
@@ -143,12 +143,12 @@ fn roll(rt: &impl Abort, alloc: Global) -> Roll {
 #[test]
 fn an_object_that_left_before_a_failed_write(rt: HostRuntime) {
     let alloc = rt.alloc();
-    let object = Leaving {
+    let object = LeavingObject {
         roll: roll(&rt, alloc),
         calls: 0,
         is_gone: false,
     };
-    let wanted = Wanted {
+    let wanted = WantedRun {
         status: 6,
         stayed: 0,
         left: 1,
@@ -164,11 +164,11 @@ fn an_object_that_left_before_a_failed_write(rt: HostRuntime) {
 #[test]
 fn an_object_without_memory_for_an_event(rt: HostRuntime) {
     let alloc = rt.alloc();
-    let object = Short {
+    let object = ShortObject {
         roll: roll(&rt, alloc),
         calls: 0,
     };
-    let wanted = Wanted {
+    let wanted = WantedRun {
         status: 8,
         stayed: 1,
         left: 0,

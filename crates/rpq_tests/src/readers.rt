@@ -23,9 +23,9 @@ const QUERIES: &str = "query q window 100 slide 10 arbitrary: a/b\n";
 
 /// Takes whatever is written on it.
 #[derive(Drop)]
-struct Taking;
+struct OpenSink;
 
-impl Write for Taking {
+impl Write for OpenSink {
     fn write(&mut self, buf: &[u8]) -> io::Result<usize> {
         Ok(buf.len())
     }
@@ -48,14 +48,14 @@ fn comes_to(count: &AtomicU64, wanted: u64) -> bool {
 
 /// Gives one text and then another, and the second only once a reader was answered.
 #[derive(Drop)]
-struct Watching<'a> {
+struct WatchedSource<'a> {
     first: &'a str,
     second: &'a str,
     replies: &'a AtomicU64,
     calls: u8,
 }
 
-impl<'a> Read for Watching<'a> {
+impl<'a> Read for WatchedSource<'a> {
     fn read(&mut self, buf: &mut [u8]) -> io::Result<usize> {
         self.calls = self.calls.saturating_add(1);
         let text = match self.calls {
@@ -85,9 +85,9 @@ struct WatchedFiles<'a> {
 impl<'a> Files for WatchedFiles<'a> {
     ghost use Rattle.std.specs.Prelude.{None, map, string_bytes};
 
-    type Source = HostSource<Watching<'a>>;
+    type Source = HostSource<WatchedSource<'a>>;
 
-    type Sink = HostSink<Taking>;
+    type Sink = HostSink<OpenSink>;
 
     ghost holds = { λ _ _. None };
 
@@ -99,7 +99,7 @@ impl<'a> Files for WatchedFiles<'a> {
 
     ghost unmade = { λ _ _. 0 };
 
-    fn source(&mut self, name: &str) -> Result<HostSource<Watching<'a>>, OpenFault> {
+    fn source(&mut self, name: &str) -> Result<HostSource<WatchedSource<'a>>, OpenFault> {
         self.opened.reserve(1)?;
         let noted = String::from_str(self.alloc, name)?;
         self.opened.push_reserved(noted);
@@ -108,7 +108,7 @@ impl<'a> Files for WatchedFiles<'a> {
             "a" => (self.asks, ""),
             _ => ("1 x a y\n", "2 y b z\n"),
         };
-        Ok(HostSource::new(Watching {
+        Ok(HostSource::new(WatchedSource {
             first,
             second,
             replies: self.replies,
@@ -116,25 +116,29 @@ impl<'a> Files for WatchedFiles<'a> {
         }))
     }
 
-    fn sink(&mut self, name: &str) -> Result<HostSink<Taking>, OpenFault> {
+    fn sink(&mut self, name: &str) -> Result<HostSink<OpenSink>, OpenFault> {
         self.made.reserve(1)?;
         let noted = String::from_str(self.alloc, name)?;
         self.made.push_reserved(noted);
-        Ok(HostSink::new(Taking))
+        Ok(HostSink::new(OpenSink))
     }
 }
 
-/// Counts the answers.
+/// Counts the answers of the first session, whose number is 1, and adds up their positions.
 #[derive(Drop)]
 struct CountingGate {
     replies: AtomicU64,
+    positions: AtomicU64,
 }
 
 impl Gate for CountingGate {
     fn pass(&self, _who: Who) {}
 
-    fn replied(&self, _session: u32, _position: u64) {
-        self.replies.fetch_add(1, SeqCst);
+    fn replied(&self, session: u32, position: u64) {
+        if session == 1 {
+            self.positions.fetch_add(position, SeqCst);
+            self.replies.fetch_add(1, SeqCst);
+        }
     }
 }
 
@@ -196,8 +200,8 @@ fn is_answered<R: Threads + Wait + RandomSource + Sync + Abort, G: Gate>(
         alloc,
         &words,
         &mut files,
-        &mut HostSink::new(Taking),
-        &mut HostSink::new(Taking),
+        &mut HostSink::new(OpenSink),
+        &mut HostSink::new(OpenSink),
         &mut Vec::new(alloc),
         gate,
     );
@@ -234,10 +238,13 @@ fn has_text(answered: &Answered, wanted: &[u8]) -> bool {
 fn a_reply_before_the_next_line(rt: HostRuntime) {
     let gate = CountingGate {
         replies: AtomicU64::new(0),
+        positions: AtomicU64::new(0),
     };
     let wanted = [b"@1 wait 1\n".as_slice(), b"@2 wait 2\n".as_slice()];
     let asks = "session\nwait 1\nwait 2\n";
     assert!(rt; is_answered(&rt, rt.alloc(), asks, &gate.replies, &gate, wanted));
+    assert!(rt; gate.replies.load(SeqCst) == 2);
+    assert!(rt; gate.positions.load(SeqCst) == 3);
 }
 
 #[test]

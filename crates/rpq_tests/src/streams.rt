@@ -1,6 +1,6 @@
 //! Runs over several streams at the same time.
 
-use crate::memory::{Given, Outcome, has_written, outcome_of, plainly_given};
+use crate::memory::{RunSummary, TestRun, has_written, outcome_of, plainly_given};
 use rpq_io::{Gate, Who};
 use std::hint::spin_loop;
 use std::sync::atomic::AtomicU64;
@@ -11,14 +11,14 @@ const TURNS: u32 = 10_000_000;
 
 /// A gate that holds each of the streams 1 and 2 until the other has come.
 #[derive(Drop)]
-struct MeetingGate {
+struct StreamsGate {
     /// How many of the two have come.
     come: AtomicU64,
     /// How many went on without having met the other.
     alone: AtomicU64,
 }
 
-impl Gate for MeetingGate {
+impl Gate for StreamsGate {
     fn pass(&self, who: Who) {
         if let Who::Stream(_) = who {
             self.come.fetch_add(1, SeqCst);
@@ -36,14 +36,14 @@ impl Gate for MeetingGate {
 }
 
 /// Whether a run that was given this took five entries, and nothing went wrong.
-fn has_all(given: &Given, outcome: &Outcome) -> bool {
+fn has_all(given: &TestRun, outcome: &RunSummary) -> bool {
     outcome.status == 0 && outcome.entries == 5 && has_written(&given.errors, "")
 }
 
 #[test]
 fn two_streams_at_the_same_time(rt: HostRuntime) {
     let alloc = rt.alloc();
-    let gate = MeetingGate {
+    let gate = StreamsGate {
         come: AtomicU64::new(0),
         alone: AtomicU64::new(0),
     };

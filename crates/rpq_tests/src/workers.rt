@@ -1,6 +1,6 @@
 //! Workers on trees: two at the same time, with the bytes of one.
 
-use crate::memory::{CYCLE, Given, Outcome, PATHS, has_written, outcome_of, plainly_given};
+use crate::memory::{CYCLE, PATHS, RunSummary, TestRun, has_written, outcome_of, plainly_given};
 use rpq_io::{Gate, OpenGate, Who};
 use std::alloc::Global;
 use std::hint::spin_loop;
@@ -17,7 +17,7 @@ const TURNS: u32 = 10_000_000;
 /// A gate that holds a worker on trees until another comes. It counts the workers that were found
 /// waiting, and none is found by a worker that runs before it or after it.
 #[derive(Drop)]
-struct MeetingGate {
+struct WorkersGate {
     /// From how many trees on a change is shared.
     least: usize,
     /// The number of the worker that waits, or 0 where none does.
@@ -25,10 +25,10 @@ struct MeetingGate {
     met: AtomicU64,
 }
 
-impl MeetingGate {
+impl WorkersGate {
     /// No worker has come yet.
-    fn new(least: usize) -> MeetingGate {
-        MeetingGate {
+    fn new(least: usize) -> WorkersGate {
+        WorkersGate {
             least,
             waiting: AtomicU64::new(0),
             met: AtomicU64::new(0),
@@ -62,7 +62,7 @@ impl MeetingGate {
     }
 }
 
-impl Gate for MeetingGate {
+impl Gate for WorkersGate {
     fn pass(&self, who: Who) {
         if let Who::Trees(number) = who {
             self.meet(number as u64);
@@ -92,7 +92,7 @@ fn writes_and_meets<R: Threads + Wait + RandomSource + Sync + Abort>(
     least: usize,
     wanted: bool,
 ) -> bool {
-    let gate = MeetingGate::new(least);
+    let gate = WorkersGate::new(least);
     writes_all(rt, alloc, workers, &gate) && gate.has_met() == wanted
 }
 
@@ -101,7 +101,7 @@ fn writes_all<R: Threads + Wait + RandomSource + Sync + Abort>(
     rt: &R,
     alloc: Global,
     workers: &str,
-    gate: &MeetingGate,
+    gate: &WorkersGate,
 ) -> bool {
     let words = ["--workers", workers, "q", "s"];
     let texts = [PATHS, CYCLE, ""];
@@ -111,7 +111,7 @@ fn writes_all<R: Threads + Wait + RandomSource + Sync + Abort>(
 }
 
 /// Whether a run that was given this wrote [`EVENTS`], and nothing went wrong.
-fn has_all(given: &Given, outcome: &Outcome) -> bool {
+fn has_all(given: &TestRun, outcome: &RunSummary) -> bool {
     outcome.status == 0 && has_written(&given.events, EVENTS) && has_written(&given.errors, "")
 }
 

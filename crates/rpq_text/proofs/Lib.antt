@@ -1,5 +1,9 @@
 mod Pieces
 mod EventLines
+mod FaultExamples
+mod StatusExamples
+mod Orders
+mod VerdictExample
 pub mod Texts
 pub mod WordPieces
 pub mod VerdictLines

@@ -7,3 +7,7 @@ pub mod Statuses
 pub mod ErrorLines
 pub mod Laws
 pub mod Examples
+pub mod FaultExamples
+pub mod StatusExamples
+pub mod Orders
+pub mod VerdictExample

@@ -1,7 +1,7 @@
 //! The text of an entry and what it brings, and that of several.
 
-ghost use Rattle.std.specs.Prelude.{◌≡◌, ◌<◌, ◌+◌, ◌^◌, ◌++◌, [], length, take, drop, flat_map};
-ghost use Rattle.std.specs.Prelude.{codes, decimal, OnOk, IfOk, All};
+ghost use Rattle.std.specs.Prelude.{◌≡◌, ◌<◌, ◌≤◌, ◌+◌, ◌*◌, ◌^◌, ◌++◌, [], length, take, drop};
+ghost use Rattle.std.specs.Prelude.{flat_map, codes, decimal, OnOk, IfOk, All};
 ghost use Rattle.rpq_base.specs.Plain.{IsPlain};
 ghost use Rattle.ask_text.specs.Reply.{name_at};
 ghost use Rattle.rpq_text.specs.Definitions.{definitions_of};
@@ -23,7 +23,7 @@ const KEPT_ROOM: usize = 1 << 20;
 
 /// The block of the entry at position `n`, counted from 1: the line of the entry, then one line for
 /// each of its events, and behind that of an addition one for the path that shows it, if there is
-/// one, each with a line feed at its end; and last the lines of the conjunctions. Each event has the
+/// one, each with a line feed at its end; and last the lines of the joins. Each event has the
 /// number of one of the queries, counted from 0, and the entry's label points forwards. The only
 /// error is [`Memory`].
 pub fn block_text(
@@ -118,8 +118,11 @@ fn empty(text: &mut Vec<u8>)
     }
 }
 
-/// Room for a block with so many more lines whose names are short. A longer block takes more later.
-fn room_for(lines: usize) -> usize {
+/// Room for a block with so many more lines whose names are short, and never more: what is asked for
+/// grows with the lines and not faster. A longer block takes more later.
+fn room_for(lines: usize) -> usize
+    ensures { result ≤ 32 * lines + 128 }
+{
     lines.saturating_mul(32).saturating_add(128)
 }
 

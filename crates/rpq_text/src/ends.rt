@@ -13,7 +13,7 @@ use query_file::QueryFault;
 #[derive(Clone, Copy, Debug, PartialEq, Eq)]
 pub enum Which {
     Queries,
-    /// The conjunctions over the queries.
+    /// The joins over the queries.
     Joins,
     Asks,
     /// The saved window of an earlier run.

@@ -20,5 +20,9 @@ pub use error_lines::{
     Line, ask_fault_line, end_line, expr_line, file_line, joins_fault_line, line_of, memory_line,
     not_contained_front, opening_line, query_line, read_line, write_line,
 };
-pub use laws::{every_history_has_a_text, line_examples, one_verdict_text, without_paths_one_text};
+pub use laws::{
+    changes_are_in_order, error_line_examples, every_history_has_a_text, fault_line_examples,
+    latest_is_found, least_are_shortest, limits_are_these, line_examples, one_verdict_text,
+    status_examples, verdict_example, without_paths_one_text,
+};
 pub use verdict_lines::verdict_front;

@@ -37,20 +37,20 @@ use Rattle.ask_text.specs.Ranges.{ended_at}
 use Rattle.ask_text.specs.Reply.{IsReply}
 use Rattle.entry_steps.specs.Steps.{OptionsValue}
 use Rattle.rpq_text.specs.Text.{IsText}
-use Rattle.rpq_workers.specs.declared.session_worker.Replied.{Replied}
-use Rattle.rpq_workers.specs.declared.stream_worker.Streamed.{Streamed}
-use Rattle.rpq_workers.specs.Streams.{tuples_of, HasStreamed}
-use Rattle.rpq_workers.specs.Sessions.{HadEnded, AreReplies, RisesTo}
-use Rattle.rpq_workers.specs.Started.{HaveStreamed, new_pass}
-use Rattle.rpq_workers.specs.Readers.{HaveReplied}
-use Rattle.rpq_workers.proofs.Seen.{entries_grow, is_front, still_there}
-use Rattle.rpq_workers.proofs.Numbering.{Each, numbered_length, AreInOrder, order_append}
-use Rattle.rpq_workers.proofs.Numbering.{all_in_order}
-use Rattle.rpq_workers.proofs.Replying.{replies_grow}
+use Rattle.stream_threads.specs.declared.session_work.SessionWork.{SessionWork}
+use Rattle.stream_threads.specs.declared.stream_worker.StreamResult.{StreamResult}
+use Rattle.stream_threads.specs.Streams.{tuples_of, HasStreamed}
+use Rattle.stream_threads.specs.Sessions.{HadEnded, AreReplies, RisesTo}
+use Rattle.stream_threads.specs.Started.{HaveStreamed, new_pass}
+use Rattle.stream_threads.specs.Readers.{HaveReplied}
+use Rattle.stream_threads.proofs.Seen.{entries_grow, is_front, still_there}
+use Rattle.stream_threads.proofs.Numbering.{Each, numbered_length, AreInOrder, order_append}
+use Rattle.stream_threads.proofs.Numbering.{all_in_order}
+use Rattle.stream_threads.proofs.Replying.{replies_grow}
 use Rattle.rpq_text.specs.Definitions.{definitions_of}
 use Rattle.standing.specs.Objects.{ObjectValue}
 use Rattle.standing.specs.Circles.{CircleValue, Parts, as_seen}
-use Rattle.rpq_threads.specs.declared.task.Outcome.{Outcome}
+use Rattle.rpq_threads.specs.declared.task.RunOutcome.{RunOutcome}
 use Rattle.rpq_threads.specs.declared.task.Task.{Task}
 use Rattle.rpq_threads.specs.Written.{Grew, GrewByPrefix, GrewByProperPrefix}
 use Rattle.rpq_threads.specs.Runs.{WritesText, IsAnsweredOf, Rises, AreSessionsOf}
@@ -63,7 +63,7 @@ use Rattle.rpq_threads.proofs.Starting.{terms_of}
 -- ---- all passes are back, in their order
 
 module _ {S : Type 0} (left : S → Option (List ℕ)) (faults : S → ℕ) (history : HistoryValue) where
-  streamed_order : (from : ℕ) (readers : List (ReaderState S)) (streamed : List (Streamed S)) →
+  streamed_order : (from : ℕ) (readers : List (ReaderState S)) (streamed : List (StreamResult S)) →
       HaveStreamed left faults history from readers streamed →
       AreInOrder from (map (λ d. d.pass) streamed)
   streamed_order from [] [] did = tt
@@ -72,7 +72,7 @@ module _ {S : Type 0} (left : S → Option (List ℕ)) (faults : S → ℕ) (his
   streamed_order from (x ∷ xs) (d ∷ ds) did =
       (did.0.number, streamed_order (from + 1) xs ds did.1)
 
-  streamed_are : (from : ℕ) (readers : List (ReaderState S)) (streamed : List (Streamed S)) →
+  streamed_are : (from : ℕ) (readers : List (ReaderState S)) (streamed : List (StreamResult S)) →
       HaveStreamed left faults history from readers streamed →
       All (IsPassOf history) (map (λ d. d.pass) streamed)
   streamed_are from [] [] did = All-nil (IsPassOf history)
@@ -82,32 +82,32 @@ module _ {S : Type 0} (left : S → Option (List ℕ)) (faults : S → ℕ) (his
       All-cons (IsPassOf history) d.pass (map (λ e. e.pass) ds) did.0.is
       (streamed_are (from + 1) xs ds did.1)
 
-  pub streamed_many : (streamed : List (Streamed S)) →
+  pub streamed_many : (streamed : List (StreamResult S)) →
       length (map (λ d. d.pass) streamed) ≡ length streamed
   streamed_many [] = refl
   streamed_many (d ∷ ds) = ap suc (streamed_many ds)
 
 module _ (history : HistoryValue) where
-  replied_order : (from : ℕ) (sessions : List (List Ask)) (replied : List Replied) →
+  replied_order : (from : ℕ) (sessions : List (List Ask)) (replied : List SessionWork) →
       HaveReplied history from sessions replied →
-      AreInOrder from (map (λ (r : Replied). r.pass) replied)
+      AreInOrder from (map (λ (r : SessionWork). r.pass) replied)
   replied_order from [] [] did = tt
   replied_order from [] (r ∷ rs) did = absurd did
   replied_order from (x ∷ xs) [] did = absurd did
   replied_order from (x ∷ xs) (r ∷ rs) did = (did.0.number, replied_order (from + 1) xs rs did.1)
 
-  replied_are : (from : ℕ) (sessions : List (List Ask)) (replied : List Replied) →
+  replied_are : (from : ℕ) (sessions : List (List Ask)) (replied : List SessionWork) →
       HaveReplied history from sessions replied →
-      All (IsPassOf history) (map (λ (r : Replied). r.pass) replied)
+      All (IsPassOf history) (map (λ (r : SessionWork). r.pass) replied)
   replied_are from [] [] did = All-nil (IsPassOf history)
   replied_are from [] (r ∷ rs) did = absurd did
   replied_are from (x ∷ xs) [] did = absurd did
   replied_are from (x ∷ xs) (r ∷ rs) did =
-      All-cons (IsPassOf history) r.pass (map (λ (e : Replied). e.pass) rs) did.0.is
+      All-cons (IsPassOf history) r.pass (map (λ (e : SessionWork). e.pass) rs) did.0.is
       (replied_are (from + 1) xs rs did.1)
 
-  pub replied_many : (replied : List Replied) →
-      length (map (λ (r : Replied). r.pass) replied) ≡ length replied
+  pub replied_many : (replied : List SessionWork) →
+      length (map (λ (r : SessionWork). r.pass) replied) ≡ length replied
   replied_many [] = refl
   replied_many (r ∷ rs) = ap suc (replied_many rs)
 
@@ -117,12 +117,12 @@ module _ {S K : Type 0} (left : S → Option (List ℕ)) (faults : S → ℕ)
     (did : IsServed left faults written failures history given gave passes)
     (streams : length given.readers ≡ history.terms.streams)
     (sessions : length given.sessions ≡ history.readers) where
-  many_streamed : length (map (λ (d : Streamed S). d.pass) did.streamed) ≡ history.terms.streams
+  many_streamed : length (map (λ (d : StreamResult S). d.pass) did.streamed) ≡ history.terms.streams
   many_streamed =
       streamed_many left faults history did.streamed
       ∙ (sym (numbered_length _ 1 given.readers did.streamed did.did) ∙ streams)
 
-  many_replied : length (map (λ (r : Replied). r.pass) did.replied) ≡ history.readers
+  many_replied : length (map (λ (r : SessionWork). r.pass) did.replied) ≡ history.readers
   many_replied =
       replied_many history did.replied
       ∙ (sym (numbered_length _ (1 + history.terms.streams) given.sessions did.replied
@@ -131,8 +131,8 @@ module _ {S K : Type 0} (left : S → Option (List ℕ)) (faults : S → ℕ)
   pub all_are_back : history.turns.passes ≡ 1 + history.terms.streams + history.readers →
       AreAll history.turns.passes passes
   all_are_back count =
-      let streamed = map (λ (d : Streamed S). d.pass) did.streamed in
-      let replied = map (λ (r : Replied). r.pass) did.replied in
+      let streamed = map (λ (d : StreamResult S). d.pass) did.streamed in
+      let replied = map (λ (r : SessionWork). r.pass) did.replied in
       all_in_order history.turns.passes passes
       (omega (
         arith,
@@ -153,8 +153,8 @@ module _ {S K : Type 0} (left : S → Option (List ℕ)) (faults : S → ℕ)
 
   pub all_are_passes : All (IsPassOf history) passes
   all_are_passes =
-      let streamed = map (λ (d : Streamed S). d.pass) did.streamed in
-      let replied = map (λ (r : Replied). r.pass) did.replied in
+      let streamed = map (λ (d : StreamResult S). d.pass) did.streamed in
+      let replied = map (λ (r : SessionWork). r.pass) did.replied in
       All-same (IsPassOf history) passes (did.engine ∷ (streamed ++ replied)) did.passes_are
       (All-cons (IsPassOf history) did.engine (streamed ++ replied) did.fed.is
       (All-append (IsPassOf history) streamed replied
@@ -257,7 +257,7 @@ module _ (law : LegalIsSound) (fronts : FrontsAreLegal) (terms : Terms) (lines :
     -- ---- the streams
 
     stream_of : {S : Type 0} (left : S → Option (List ℕ)) (faults : S → ℕ) (number : ℕ)
-        (source : S) (done : Streamed S) →
+        (source : S) (done : StreamResult S) →
         HasStreamed left faults history source (new_pass history number) done.source done.pass
         done.end →
         Knows author terms lines done.pass →
@@ -278,14 +278,14 @@ module _ (law : LegalIsSound) (fronts : FrontsAreLegal) (terms : Terms) (lines :
     }
 
     streams_at : {S : Type 0} (left : S → Option (List ℕ)) (faults : S → ℕ) (from : ℕ)
-        (readers : List (ReaderState S)) (streamed : List (Streamed S)) (others : List Each) →
+        (readers : List (ReaderState S)) (streamed : List (StreamResult S)) (others : List Each) →
         HaveStreamed left faults history from readers streamed →
-        All (Knows author terms lines) (map (λ (d : Streamed S). d.pass) streamed ++ others) →
+        All (Knows author terms lines) (map (λ (d : StreamResult S). d.pass) streamed ++ others) →
         (place : ℕ) (file : Option (List ℕ)) (source : S) (end : StreamEnd) →
         slice_get (map (λ (reader : ReaderState S). left reader.source) readers) place
         ≡ Some file →
-        slice_get (map (λ (d : Streamed S). d.source) streamed) place ≡ Some source →
-        slice_get (map (λ (d : Streamed S). d.end) streamed) place ≡ Some end →
+        slice_get (map (λ (d : StreamResult S). d.source) streamed) place ≡ Some source →
+        slice_get (map (λ (d : StreamResult S). d.end) streamed) place ≡ Some end →
         IsStreamOf left faults (place + from) terms.cap file source (entries lines) end
     streams_at left faults from [] streamed others did knew place file source end f s e =
         absurd cc
@@ -294,7 +294,7 @@ module _ (law : LegalIsSound) (fronts : FrontsAreLegal) (terms : Terms) (lines :
     streams_at {S} left faults from (x ∷ xs) (d ∷ ds) others did knew zero file source end f s e =
         let is = stream_of left faults from x.source d did.0
         (All-head (Knows author terms lines) d.pass
-        (map (λ (each : Streamed S). each.pass) ds ++ others) knew) in
+        (map (λ (each : StreamResult S). each.pass) ds ++ others) knew) in
         let file_is : left x.source ≡ file = cc in
         let source_is : d.source ≡ source = cc in
         let end_is : d.end ≡ end = cc in
@@ -311,27 +311,28 @@ module _ (law : LegalIsSound) (fronts : FrontsAreLegal) (terms : Terms) (lines :
         s e =
         let later = streams_at left faults (from + 1) xs ds others did.1
         (All-tail (Knows author terms lines) d.pass
-        (map (λ (each : Streamed S). each.pass) ds ++ others) knew) place file source end f s e in
+        (map (λ (each : StreamResult S). each.pass) ds ++ others) knew) place file source end f s
+        e in
         subst (λ (number : ℕ). IsStreamOf left faults number terms.cap file source
         (entries lines) end) (omega arith) later
 
     -- a stream that was closed is so for the reason of the shut
     closed_all : {S : Type 0} (left : S → Option (List ℕ)) (faults : S → ℕ) (from : ℕ)
-        (readers : List (ReaderState S)) (streamed : List (Streamed S)) (others : List Each) →
+        (readers : List (ReaderState S)) (streamed : List (StreamResult S)) (others : List Each) →
         HaveStreamed left faults history from readers streamed →
-        All (Knows author terms lines) (map (λ (d : Streamed S). d.pass) streamed ++ others) →
+        All (Knows author terms lines) (map (λ (d : StreamResult S). d.pass) streamed ++ others) →
         All (λ (end : StreamEnd). (reason : Why) → end ≡ Closed reason → why ≡ Some reason)
-        (map (λ (d : Streamed S). d.end) streamed)
+        (map (λ (d : StreamResult S). d.end) streamed)
     closed_all left faults from [] [] others did knew =
         All-nil (λ (end : StreamEnd). (reason : Why) → end ≡ Closed reason → why ≡ Some reason)
     closed_all left faults from [] (d ∷ ds) others did knew = absurd did
     closed_all left faults from (x ∷ xs) [] others did knew = absurd did
     closed_all {S} left faults from (x ∷ xs) (d ∷ ds) others did knew =
         let Known = Knows author terms lines in
-        let rest = map (λ (each : Streamed S). each.pass) ds ++ others in
+        let rest = map (λ (each : StreamResult S). each.pass) ds ++ others in
         let own_is = All-head Known d.pass rest knew in
         All-cons (λ (end : StreamEnd). (reason : Why) → end ≡ Closed reason → why ≡ Some reason)
-        d.end (map (λ (each : Streamed S). each.end) ds)
+        d.end (map (λ (each : StreamResult S). each.end) ds)
         (λ reason is. closes reason (still_there lines d.pass.seen
         (record { by = 0; act = Shut reason }) own_is.seen_begins (did.0.closed reason is)))
         (closed_all left faults (from + 1) xs ds others did.1 (All-tail Known d.pass rest knew))
@@ -381,17 +382,17 @@ module _ (law : LegalIsSound) (fronts : FrontsAreLegal) (terms : Terms) (lines :
     do_rise [] from to was = tt
     do_rise (one ∷ more) from to was = (was.0, do_rise more one.position to was.1)
 
-    sessions_are : (from : ℕ) (sessions : List (List Ask)) (replied : List Replied) →
+    sessions_are : (from : ℕ) (sessions : List (List Ask)) (replied : List SessionWork) →
         HaveReplied history from sessions replied →
-        All (Knows author terms lines) (map (λ (r : Replied). r.pass) replied) →
+        All (Knows author terms lines) (map (λ (r : SessionWork). r.pass) replied) →
         AreSessionsOf terms.queries (entries lines) (published lines) sessions
-        (map (λ (r : Replied). r.answers.items) replied)
+        (map (λ (r : SessionWork). r.answers.items) replied)
     sessions_are from [] [] did knew = tt
     sessions_are from [] (r ∷ rs) did knew = absurd did
     sessions_are from (x ∷ xs) [] did knew = absurd did
     sessions_are from (x ∷ xs) (r ∷ rs) did knew =
         let Known = Knows author terms lines in
-        let rest = map (λ (each : Replied). each.pass) rs in
+        let rest = map (λ (each : SessionWork). each.pass) rs in
         let own_is = All-head Known r.pass rest knew in
         let front = front_is r.pass.seen own_is.seen_begins in (
           record {
@@ -412,15 +413,15 @@ module _ (law : LegalIsSound) (fronts : FrontsAreLegal) (terms : Terms) (lines :
 
   -- memory ran out for no session, so each has all its asks answered
   all_asks : (history : HistoryValue) (from : ℕ) (sessions : List (List Ask))
-      (replied : List Replied) → HaveReplied history from sessions replied →
-      list_any (λ (r : Replied). r.memory) replied ≡ false →
-      asks_answered (map (λ (r : Replied). r.answers.items) replied) ≡ sessions
+      (replied : List SessionWork) → HaveReplied history from sessions replied →
+      list_any (λ (r : SessionWork). r.memory) replied ≡ false →
+      asks_answered (map (λ (r : SessionWork). r.answers.items) replied) ≡ sessions
   all_asks history from [] [] did none = refl
   all_asks history from [] (r ∷ rs) did none = absurd did
   all_asks history from (x ∷ xs) [] did none = absurd did
   all_asks history from (x ∷ xs) (r ∷ rs) did none =
-      let both = or_false r.memory (list_any (λ (each : Replied). each.memory) rs) none in
-      ap (λ (own : List Ask). own ∷ asks_answered (map (λ (each : Replied). each.answers.items) rs))
+      let both = or_false r.memory (list_any (λ (each : SessionWork). each.memory) rs) none in
+      ap (λ (own : List Ask). own ∷ asks_answered (map (λ (each : SessionWork). each.answers.items) rs))
       (did.0.all both.0)
       ∙ ap (λ (rest : List (List Ask)). x ∷ rest) (all_asks history (from + 1) xs rs did.1 both.1)
 
@@ -430,29 +431,29 @@ module _ (law : LegalIsSound) (fronts : FrontsAreLegal) (terms : Terms) (lines :
       (did : IsServed left faults written failures history given gave passes)
       (knows : All (Knows author terms lines) passes) where
     knew : All (Knows author terms lines)
-        (did.engine ∷ (map (λ (d : Streamed S). d.pass) did.streamed
-        ++ map (λ (r : Replied). r.pass) did.replied))
+        (did.engine ∷ (map (λ (d : StreamResult S). d.pass) did.streamed
+        ++ map (λ (r : SessionWork). r.pass) did.replied))
     knew = subst (All (Knows author terms lines)) did.passes_are knows
 
     engine_knew : Knows author terms lines did.engine
     engine_knew = All-head (Knows author terms lines) did.engine
-        (map (λ (d : Streamed S). d.pass) did.streamed
-        ++ map (λ (r : Replied). r.pass) did.replied) knew
+        (map (λ (d : StreamResult S). d.pass) did.streamed
+        ++ map (λ (r : SessionWork). r.pass) did.replied) knew
 
     others_knew : All (Knows author terms lines)
-        (map (λ (d : Streamed S). d.pass) did.streamed
-        ++ map (λ (r : Replied). r.pass) did.replied)
+        (map (λ (d : StreamResult S). d.pass) did.streamed
+        ++ map (λ (r : SessionWork). r.pass) did.replied)
     others_knew = All-tail (Knows author terms lines) did.engine
-        (map (λ (d : Streamed S). d.pass) did.streamed
-        ++ map (λ (r : Replied). r.pass) did.replied) knew
+        (map (λ (d : StreamResult S). d.pass) did.streamed
+        ++ map (λ (r : SessionWork). r.pass) did.replied) knew
 
-    length-sources : (streamed : List (Streamed S)) →
-        length (map (λ (d : Streamed S). d.source) streamed) ≡ length streamed
+    length-sources : (streamed : List (StreamResult S)) →
+        length (map (λ (d : StreamResult S). d.source) streamed) ≡ length streamed
     length-sources [] = refl
     length-sources (d ∷ ds) = ap suc (length-sources ds)
 
-    length-ends : (streamed : List (Streamed S)) →
-        length (map (λ (d : Streamed S). d.end) streamed) ≡ length streamed
+    length-ends : (streamed : List (StreamResult S)) →
+        length (map (λ (d : StreamResult S). d.end) streamed) ≡ length streamed
     length-ends [] = refl
     length-ends (d ∷ ds) = ap suc (length-ends ds)
 
@@ -475,7 +476,7 @@ module _ (law : LegalIsSound) (fronts : FrontsAreLegal) (terms : Terms) (lines :
       each = λ place file source end f s e.
           streams_at written failures given.options history same given.events gave.events
           given.circle gave.circle did.engine gave.why did.fed engine_knew left faults 1
-          given.readers did.streamed (map (λ (r : Replied). r.pass) did.replied) did.did
+          given.readers did.streamed (map (λ (r : SessionWork). r.pass) did.replied) did.did
           others_knew place file source end f
           (ap (λ (l : List S). slice_get l place) (sym did.sources_are) ∙ s)
           (ap (λ (l : List StreamEnd). slice_get l place) (sym did.ends_are) ∙ e);
@@ -483,10 +484,10 @@ module _ (law : LegalIsSound) (fronts : FrontsAreLegal) (terms : Terms) (lines :
 
     pub all_closed : (reason : Why) → Contains gave.ends (Closed reason) → gave.why ≡ Some reason
     all_closed reason there =
-        let ends = map (λ (d : Streamed S). d.end) did.streamed in
+        let ends = map (λ (d : StreamResult S). d.end) did.streamed in
         let all = closed_all written failures given.options history same given.events gave.events
         given.circle gave.circle did.engine gave.why did.fed engine_knew left faults 1
-        given.readers did.streamed (map (λ (r : Replied). r.pass) did.replied) did.did
+        given.readers did.streamed (map (λ (r : SessionWork). r.pass) did.replied) did.did
         others_knew in
         let is : Contains ends (Closed reason) =
         subst (λ (each : List StreamEnd). Contains each (Closed reason)) did.ends_are there in
@@ -516,8 +517,8 @@ module _ (law : LegalIsSound) (fronts : FrontsAreLegal) (terms : Terms) (lines :
         (sessions_are written failures given.options history same given.events gave.events
         given.circle gave.circle did.engine gave.why did.fed engine_knew (1 + history.terms.streams)
         given.sessions did.replied did.answered_all
-        (All-behind (Knows author terms lines) (map (λ (d : Streamed S). d.pass) did.streamed)
-        (map (λ (r : Replied). r.pass) did.replied) others_knew))
+        (All-behind (Knows author terms lines) (map (λ (d : StreamResult S). d.pass) did.streamed)
+        (map (λ (r : SessionWork). r.pass) did.replied) others_knew))
 
     all_answered : gave.short_of_memory ≡ false → asks_answered gave.answers ≡ given.sessions
     all_answered none =
@@ -562,7 +563,7 @@ module _ (law : LegalIsSound) (fronts : FrontsAreLegal) {S K O : Type 0}
     (failures : K → ℕ) (seen : O → ObjectValue) (task : Task S) (history : HistoryValue)
     (same : history.terms ≡ terms_of task) (lines : List Line)
     (legal : IsLegal (length task.readers.items) task.limit lines) (before after : K)
-    (circle : Parts O) (outcome : Outcome S O) (passes : List Each) where
+    (circle : Parts O) (outcome : RunOutcome S O) (passes : List Each) where
   abbrev gave : Gave S K
   gave = record {
     sources = outcome.sources.items;

@@ -1,9 +1,9 @@
-mod Blocks
-pub mod Grows
-mod Tellings
-mod Stopping
-mod Fronts
-mod Turns
-mod Rebuilt
+mod Outcomes
+mod BlockParts
+mod Writing
+mod StepsGoOn
+mod AllWritten
+mod ComingNext
+mod Closing
 mod Starting
 mod Finishing

@@ -1,5 +1,5 @@
 -- What a run begins with.
-use Rattle.std.proofs.Common.{◌≡◌, ℕ, suc, ◌<◌, List, [], ◌∷◌, length, refl, sym, ap, subst, ◌∙◌}
+use Rattle.std.proofs.Common.{◌≡◌, ℕ, suc, ◌<◌, Bool, true, false, List, [], ◌∷◌, length, refl, sym, ap, subst, ◌∙◌}
 use Rattle.std.proofs.Common.{Option, get_or, arith}
 use Rattle.std.specs.List.{All}
 use Rattle.std.proofs.lemmas.List.Elements.{All-map, All-same}
@@ -19,18 +19,22 @@ use Rattle.stream_history.specs.Journal.{empty_view}
 use Rattle.stream_history.specs.Laws.{FirstView}
 use Rattle.ask_text.specs.declared.ask.Ask.{Ask}
 use Rattle.ask_text.specs.Ranges.{IsInRange, IsSession}
-use Rattle.rpq_workers.specs.Started.{new_pass}
+use Rattle.stream_threads.specs.Started.{new_pass}
 use Rattle.rpq_threads.specs.declared.task.Task.{Task}
 use Rattle.rpq_threads.specs.Fed.{IsFed}
 use Rattle.rpq_threads.specs.Runs.{IsTask}
 use Rattle.rpq_threads.specs.Served.{AreAbout}
-use Rattle.rpq_threads.proofs.Rebuilt.{walked_none}
-use Rattle.rpq_threads.proofs.Turns.{first_fed}
+use Rattle.rpq_threads.proofs.Closing.{first_fed}
 
 pub length-definitions : (queries : List CompiledValue) →
     length (definitions_of queries) ≡ length queries
 length-definitions [] = refl
 length-definitions (each ∷ queries) = ap suc (length-definitions queries)
+
+-- where there are no entries none are walked
+walked_none : (two_way : Bool) → ◌≡◌ {A = List Entry} (walked two_way []) []
+walked_none false = refl
+walked_none true = refl
 
 -- the view over no entries is the one with which a history begins
 pub first_shown : FirstView → (evaluator : EvaluatorValue) (queries : List Query) (view : ViewValue) →
@@ -61,7 +65,7 @@ module _ {S : Type 0} (left : S → Option (List ℕ)) (faults : S → ℕ) (tas
   same_queries : history.terms.queries ≡ definitions_of task.queries.items
   same_queries = ap (λ (t : Terms). t.queries) terms
 
-  -- the history's queries can be evaluated, and the conjunctions are over them
+  -- the history's queries can be evaluated, and the joins are over them
   begun_can_run : All Moves (definitions_of task.queries.items) →
       CanRun task.options history.terms.queries
   begun_can_run move =

@@ -25,15 +25,14 @@ use Rattle.ask_text.specs.Reply.{IsReply}
 use Rattle.standing.specs.Objects.{ObjectValue}
 use Rattle.standing.specs.Circles.{Parts, as_seen}
 use Rattle.rpq_threads.specs.declared.task.Task.{Task}
-use Rattle.rpq_threads.specs.declared.task.Outcome.{Outcome}
+use Rattle.rpq_threads.specs.declared.task.RunOutcome.{RunOutcome}
 use Rattle.rpq_threads.specs.Understood.{AreUnderstood}
 use Rattle.rpq_threads.specs.Written.{Grew, GrewByPrefix, GrewByProperPrefix}
 use Rattle.rpq_threads.specs.Told.{TellsObjects}
 
 -- what is given to the threads of a run: queries, understood; new readers of from 1 to 64 streams;
 -- at most 64 sessions about the queries; how many entries the history may have; and at most 32
--- conjunctions over the queries. Where edges may be taken backwards, nobody asks, and no paths are
--- told
+-- joins over the queries. Where edges may be taken backwards, nobody asks, and no paths are told
 pub record IsTask {S : Type 0} (left : S → Option (List ℕ)) (faults : S → ℕ) (task : Task S)
     : Type 0 where
   pub understood : AreUnderstood task.queries.items
@@ -106,7 +105,7 @@ pub record HasAnswered (queries : List Query) (history : List Entry) (asked : Li
 -- text, written; the answers of the sessions; and the objects, which were told of its events
 pub record Holds {S K O : Type 0} (left : S → Option (List ℕ)) (faults : S → ℕ)
     (written : K → Option (List ℕ)) (failures : K → ℕ) (seen : O → ObjectValue) (task : Task S)
-    (events_old events_new : K) (circle : Parts O) (outcome : Outcome S O) : Type 0 where
+    (events_old events_new : K) (circle : Parts O) (outcome : RunOutcome S O) : Type 0 where
   pub streams : AreStreamsOf left faults task.limit
       (map (λ (reader : ReaderState S). left reader.source) task.readers.items)
       outcome.sources.items outcome.history.items outcome.ends.items

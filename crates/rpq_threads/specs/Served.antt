@@ -3,7 +3,7 @@
 use Rattle.std.specs.Prelude.{◌≡◌, ℕ, ◌+◌, ◌≤◌, Bool, List, [], ◌∷◌, ◌++◌, length, map, Option, All}
 use Rattle.std.specs.Global.{Vec}
 use Rattle.std.specs.List.{list_any}
-use Rattle.std.specs.Vec.{vec_len, vec_capacity}
+use Rattle.std.specs.Vec.{vec_capacity}
 use Rattle.rpq_io.specs.Reader.{ReaderState}
 use Rattle.rpq_model.specs.Query.{Query}
 use Rattle.rpq_text.specs.Definitions.{definitions_of}
@@ -20,16 +20,15 @@ use Rattle.ask_text.specs.Answered.{AnsweredValue}
 use Rattle.ask_text.specs.Ranges.{IsInRange}
 use Rattle.standing.specs.Objects.{ObjectValue}
 use Rattle.standing.specs.Circles.{CircleValue, Parts, as_seen}
-use Rattle.rpq_workers.specs.declared.session_worker.Replied.{Replied}
-use Rattle.rpq_workers.specs.declared.stream_worker.Streamed.{Streamed}
-use Rattle.rpq_workers.specs.Started.{HaveStreamed, new_pass, new_passes}
-use Rattle.rpq_workers.specs.Readers.{HaveReplied}
-use Rattle.rpq_threads.specs.declared.beside.Waiting.{Waiting}
-use Rattle.rpq_threads.specs.declared.room.Gathered.{Gathered}
-use Rattle.rpq_threads.specs.declared.room.Room.{Room}
-use Rattle.rpq_threads.specs.declared.run.Begun.{Begun}
+use Rattle.stream_threads.specs.declared.session_work.SessionWork.{SessionWork}
+use Rattle.stream_threads.specs.declared.stream_worker.StreamResult.{StreamResult}
+use Rattle.stream_threads.specs.Started.{HaveStreamed, new_pass}
+use Rattle.stream_threads.specs.Readers.{HaveReplied}
+use Rattle.rpq_threads.specs.declared.room.ThreadResults.{ThreadResults}
+use Rattle.rpq_threads.specs.declared.room.ResultRoom.{ResultRoom}
+use Rattle.rpq_threads.specs.declared.run.NewRun.{NewRun}
 use Rattle.rpq_threads.specs.declared.serving.Job.{Job}
-use Rattle.rpq_threads.specs.declared.serving.Served.{Served}
+use Rattle.rpq_threads.specs.declared.serving.JobResult.{JobResult}
 use Rattle.rpq_threads.specs.declared.task.Task.{Task}
 use Rattle.rpq_threads.specs.Fed.{IsFed, HasFed}
 
@@ -37,18 +36,10 @@ use Rattle.rpq_threads.specs.Fed.{IsFed, HasFed}
 abbrev pub AreAbout : HistoryValue → List (List Ask) → Type 0
 AreAbout history sessions = All (All (IsInRange (length history.terms.queries))) sessions
 
--- the sessions have the passes of the first readers, which are new; their asks are about the
--- history's queries; and no worker gave anything yet, but there is room for it
-pub record AreWaiting (history : HistoryValue) (waiting : Waiting) : Type 0 where
-  pub passes : waiting.passes.items
-      ≡ new_passes history (1 + history.terms.streams) (length waiting.sessions.items)
-  pub asks : AreAbout history waiting.sessions.items
-  pub none : waiting.replied.items ≡ []
-  pub room : vec_len waiting.sessions ≤ vec_capacity waiting.replied
-
 -- the lists are empty and have room for what the workers of so many streams and sessions give, and
 -- for the engine's pass
-pub record HasRoomFor {S : Type 0} (streams sessions : ℕ) (gathered : Gathered S) : Type 0 where
+pub record HasRoomFor {S : Type 0} (streams sessions : ℕ)
+    (gathered : ThreadResults S) : Type 0 where
   pub no_passes : gathered.passes.items ≡ []
   pub no_sources : gathered.sources.items ≡ []
   pub no_ends : gathered.ends.items ≡ []
@@ -59,15 +50,13 @@ pub record HasRoomFor {S : Type 0} (streams sessions : ℕ) (gathered : Gathered
   pub answers : sessions ≤ vec_capacity gathered.answers
 
 -- the lists are empty and have room for what the workers are started with and give
-pub record HasRoom {S : Type 0} (history : HistoryValue) (room : Room S) : Type 0 where
+pub record HasRoom {S : Type 0} (history : HistoryValue) (room : ResultRoom S) : Type 0 where
   pub no_started : room.started.items ≡ []
   pub no_streamed : room.streamed.items ≡ []
-  pub no_waiting : room.waiting.items ≡ []
-  pub no_replied : room.replied.items ≡ []
+  pub no_works : room.works.items ≡ []
   pub started : history.terms.streams ≤ vec_capacity room.started
   pub streamed : history.terms.streams ≤ vec_capacity room.streamed
-  pub waiting : history.readers ≤ vec_capacity room.waiting
-  pub replied : history.readers ≤ vec_capacity room.replied
+  pub works : history.readers ≤ vec_capacity room.works
   pub gathered : HasRoomFor history.terms.streams history.readers room.gathered
 
 -- what the threads of a run work with: the queries of the history, all new passes, an engine at its
@@ -81,6 +70,7 @@ pub record IsJob {S : Type 0} (left : S → Option (List ℕ)) (faults : S → �
   pub streams : length job.readers.items ≡ history.terms.streams
   pub fresh : All (IsNewReader left faults) job.readers.items
   pub readers : length job.sessions.items ≡ history.readers
+  pub few : history.readers ≤ 64
   pub asks : AreAbout history job.sessions.items
   pub room : HasRoom history job.room
 
@@ -94,7 +84,7 @@ pub record IsWork {S O : Type 0} (left : S → Option (List ℕ)) (faults : S �
 -- what was made for a run: a history of its queries and streams, which takes so many entries, and
 -- what its threads work with, among this the readers and the sessions that were given
 pub record IsBegun {S : Type 0} (left : S → Option (List ℕ)) (faults : S → ℕ) (task : Task S)
-    (begun : Begun S) : Type 0 where
+    (begun : NewRun S) : Type 0 where
   pub terms : begun.history.terms ≡ record {
     queries = definitions_of task.queries.items;
     streams = length task.readers.items;
@@ -135,7 +125,7 @@ given_by job events circle = record {
 }
 
 -- what they gave back
-abbrev pub gave_by : {S K O : Type 0} → (O → ObjectValue) → Served S K O → Gave S K
+abbrev pub gave_by : {S K O : Type 0} → (O → ObjectValue) → JobResult S K O → Gave S K
 gave_by seen served = record {
   sources = served.gathered.sources.items;
   ends = served.gathered.ends.items;
@@ -150,8 +140,8 @@ gave_by seen served = record {
 pub record IsServed {S K : Type 0} (left : S → Option (List ℕ)) (faults : S → ℕ)
     (written : K → Option (List ℕ)) (failures : K → ℕ) (history : HistoryValue)
     (given : Given S K) (gave : Gave S K) (passes : List (PassValue Line Terms)) : Type 0 where
-  pub streamed : List (Streamed S)
-  pub replied : List Replied
+  pub streamed : List (StreamResult S)
+  pub replied : List SessionWork
   pub engine : PassValue Line Terms
   pub did : HaveStreamed left faults history 1 given.readers streamed
   pub answered_all : HaveReplied history (1 + history.terms.streams) given.sessions replied

@@ -1,201 +1,103 @@
-//! The engine's loop.
+//! The engine in the calling thread.
 
-ghost use Rattle.std.specs.Prelude.{◌≡◌, ◌<◌, ◌≤◌, ◌+◌, true, length, OnOk, IfErr, Ok, Err};
-ghost use Rattle.rpq_io.specs.Counts.{CountsFault};
-ghost use Rattle.history_model.specs.Lines.{entries, published};
-ghost use Rattle.turn_lock.specs.Lines.{StartsWith};
-ghost use Rattle.stream_history.specs.History.{IsFeedingPass};
+ghost use Rattle.std.specs.Prelude.{◌≡◌, OnOk, IfErr};
+ghost use Rattle.std.specs.Result.{result_err};
+ghost use Rattle.history_model.specs.Lines.{shut_line};
 ghost use Rattle.standing.specs.Circles.{as_seen};
-ghost use Rattle.rpq_threads.specs.Fed.{ComeNext, GetsOn, Stops, KeepsUp, IsFed, IsAtStart};
-ghost use Rattle.rpq_threads.specs.Fed.{HasFed, IsWhole, answered};
+ghost use Rattle.stream_history.specs.History.{IsFeedingPass, HasAdded};
+ghost use Rattle.rpq_threads.specs.Fed.{IsAtStart, HasFed};
 
-use crate::emitting::emit_front;
-use crate::loop_state::LoopState;
-use entry_steps::Evaluator;
+use crate::blocks::{BlockText, Blocks};
+use crate::entries::HistoryEntries;
+use engine_loop::answer_all;
+use entry_steps::{Evaluator, every_entry_has_a_step};
 use history_model::Why;
-use rpq_base::{Entry, Memory};
 use rpq_io::{Gate, Sink};
-use rpq_text::every_history_has_a_text;
-use rpq_workers::Shared;
 use standing::{Circle, Standing};
 use std::sync::Wait;
 use std::thread::Threads;
-use stream_history::{Heard, History, Pass, PublishFault};
+use stream_history::Pass;
+use stream_threads::RunParts;
+
+/// The engine with its pass, where its events are written, and the objects that are told of them;
+/// and at the end, why it ended early, if it did.
+#[derive(Drop)]
+pub struct EngineWork<'a, K, O> {
+    pub pass: Pass,
+    pub evaluator: Evaluator,
+    pub events: &'a mut K,
+    pub circle: Circle<O>,
+    pub why: Option<Why>,
+}
 
 /// Feeds the engine with all entries, writes their blocks, tells the objects of their events and
 /// publishes the answers, until all streams have ended and no entry is left. Where memory runs out
-/// or a write fails, it shuts the history and answers why.
-pub fn feed_all<R: Threads + Wait + Sync, G: Gate, K: Sink, O: Standing>(
-    shared: &Shared<'_, R, G>,
+/// or a write fails, it shuts the history and says why.
+pub fn feed_all<'a, K: Sink, O: Standing, G: Gate, R: Threads + Wait + Sync>(
+    shared: &RunParts<'_, R, G>,
+    work: EngineWork<'a, K, O>,
+) -> EngineWork<'a, K, O>
+    requires { IsAtStart shared.now.history.now work.evaluator work.pass
+        (as_seen O.seen work.circle) }
+    ensures fed { HasFed K.written K.faults work.entry.evaluator.options shared.now.history.now
+        work.entry.events.now result.events.now (as_seen O.seen work.entry.circle)
+        (as_seen O.seen result.circle) result.pass result.why }
+    ensures same { result.events.ghost_name ≡ work.entry.events.ghost_name }
+{
+    every_entry_has_a_step(); // called for its clause
+    let EngineWork {
+        pass,
+        mut evaluator,
+        events,
+        circle,
+        why: _,
+    } = work;
+    let context = shared.context;
+    let mut source = HistoryEntries::new(context.rt, context.alloc, shared.history, pass);
+    let mut blocks = Blocks {
+        text: BlockText {
+            alloc: context.alloc,
+            bytes: Vec::new(context.alloc),
+        },
+        count: 0,
+        events,
+        circle,
+    };
+    let ended = answer_all(context, &mut source, &mut evaluator, &mut blocks);
+    let mut pass = source.into_pass();
+    let why = shut_for(shared, &mut pass, ended);
+    let Blocks {
+        text: _,
+        count: _,
+        events,
+        circle,
+    } = blocks;
+    EngineWork {
+        pass,
+        evaluator,
+        events,
+        circle,
+        why,
+    }
+}
+
+/// Shuts the history, if the engine's loop ended early, and answers why it did.
+fn shut_for<G: Gate, R: Threads + Wait + Sync>(
+    shared: &RunParts<'_, R, G>,
     pass: &mut Pass,
-    state: &mut LoopState,
-    events: &mut K,
-    circle: &mut Circle<O>,
+    ended: Result<(), Why>,
 ) -> Option<Why>
-    requires { IsAtStart shared.now.history.now state.old.evaluator pass.old
-        (as_seen O.seen circle.old) }
-    ensures { HasFed K.written K.faults state.old.evaluator.options shared.now.history.now
-        events.old events.new (as_seen O.seen circle.old) (as_seen O.seen circle.new)
-        pass.new result }
+    requires { IsFeedingPass shared.now.history.now pass.old }
+    ensures why { result ≡ result_err ended }
+    ensures as_it_was { OnOk ended (pass.new ≡ pass.old) }
+    ensures shut { IfErr ended (λ why.
+        HasAdded shared.now.history.now pass.old (shut_line why) pass.new) }
 {
-    every_history_has_a_text(); // called for its clause
-    for _ in shared.rt.forever() {
-        match turn(shared, pass, state, events, circle) {
-            Ok(true) => return None,
-            Ok(false) => {}
-            Err(why) => {
-                shared.history.shut(shared.rt, pass, why);
-                return Some(why);
-            }
+    match ended {
+        Ok(()) => None,
+        Err(why) => {
+            shared.history.shut(shared.context.rt, pass, why);
+            Some(why)
         }
-    }
-    unreachable!()
-}
-
-/// Takes the next entries, writes their blocks, tells the objects of their events and publishes the
-/// answers. It answers whether all streams have ended and no entry is left, or why it can't go on.
-fn turn<R: Threads + Wait + Sync, G: Gate, K: Sink, O: Standing>(
-    shared: &Shared<'_, R, G>,
-    pass: &mut Pass,
-    state: &mut LoopState,
-    events: &mut K,
-    circle: &mut Circle<O>,
-) -> Result<bool, Why>
-    requires { IsFed shared.now.history.now state.old.evaluator pass.old }
-    ensures feeds { IsFeedingPass shared.now.history.now pass.new }
-    ensures over { result ≡ Ok true → IsWhole shared.now.history.now state.new.evaluator pass.new }
-    ensures gets_on { OnOk result (GetsOn shared.now.history.now
-        state.old.evaluator state.new.evaluator
-        pass.old pass.new (K.written events.old) (K.written events.new)
-        (as_seen O.seen circle.old) (as_seen O.seen circle.new)) }
-    ensures stops { IfErr result (λ why. Stops state.old.evaluator.options
-        shared.now.history.now.terms.queries
-        (answered state.old.evaluator pass.old) (entries pass.new.seen) why
-        (K.written events.old) (K.written events.new)
-        (as_seen O.seen circle.old) (as_seen O.seen circle.new)) }
-    ensures counted { CountsFault (result ≡ Err Why.Write)
-        (K.faults events.old) (K.faults events.new) }
-{
-    every_history_has_a_text(); // called for its clause
-    let history = shared.history;
-    let heard = history.entries_heard();
-    let position = state.evaluator.position();
-    let Ok(front) = history.after(shared.rt, shared.alloc, pass, position) else {
-        return Err(Why::Memory);
-    };
-    if front.entries.is_empty() {
-        sleep_unless(shared.rt, history, front.all_ended, heard);
-        return Ok(front.all_ended);
-    }
-    answer_front(shared, pass, state, &front.entries, events, circle)?;
-    Ok(false)
-}
-
-/// Answers these entries, which come next, as many at once as the evaluator takes: writes their
-/// blocks, tells the objects of their events and publishes the answers. It answers why not all of
-/// this was done.
-fn answer_front<R: Threads + Wait + Sync, G: Gate, K: Sink, O: Standing>(
-    shared: &Shared<'_, R, G>,
-    pass: &mut Pass,
-    state: &mut LoopState,
-    next: &[Entry],
-    events: &mut K,
-    circle: &mut Circle<O>,
-) -> Result<(), Why>
-    requires fed { IsFed shared.now.history.now state.old.evaluator pass.old }
-    requires next { ComeNext state.old.evaluator pass.old next.now }
-    ensures feeds { IsFeedingPass shared.now.history.now pass.new }
-    ensures seen { StartsWith pass.new.seen pass.old.seen }
-    ensures gets_on { OnOk result (GetsOn shared.now.history.now
-        state.old.evaluator state.new.evaluator
-        pass.old pass.new (K.written events.old) (K.written events.new)
-        (as_seen O.seen circle.old) (as_seen O.seen circle.new)) }
-    ensures stops { IfErr result (λ why. Stops state.old.evaluator.options
-        shared.now.history.now.terms.queries
-        (answered state.old.evaluator pass.old) (entries pass.new.seen) why
-        (K.written events.old) (K.written events.new)
-        (as_seen O.seen circle.old) (as_seen O.seen circle.new)) }
-    ensures counted { CountsFault (result ≡ Err Why.Write)
-        (K.faults events.old) (K.faults events.new) }
-{
-    let at_once = state.evaluator.at_once();
-    let mut rest = next;
-    while !rest.is_empty() {
-        let (part, later) = rest.split_at(at_once.min(rest.len()));
-        answer_part(shared, pass, state, part, events, circle)?;
-        rest = later;
-    }
-    Ok(())
-}
-
-/// Answers these entries, which come next, all at once, as [`answer_front`] does.
-fn answer_part<R: Threads + Wait + Sync, G: Gate, K: Sink, O: Standing>(
-    shared: &Shared<'_, R, G>,
-    pass: &mut Pass,
-    state: &mut LoopState,
-    next: &[Entry],
-    events: &mut K,
-    circle: &mut Circle<O>,
-) -> Result<(), Why>
-    requires fed { IsFed shared.now.history.now state.old.evaluator pass.old }
-    requires next { ComeNext state.old.evaluator pass.old next.now }
-    requires some { 1 ≤ length next.now }
-    requires one { state.old.evaluator.options.paths ≡ true → length next.now ≤ 1 }
-    ensures feeds { IsFeedingPass shared.now.history.now pass.new }
-    ensures seen { StartsWith pass.new.seen pass.old.seen }
-    ensures further { OnOk result
-        (state.new.evaluator.position ≡ state.old.evaluator.position + length next.now) }
-    ensures gets_on { OnOk result (GetsOn shared.now.history.now
-        state.old.evaluator state.new.evaluator
-        pass.old pass.new (K.written events.old) (K.written events.new)
-        (as_seen O.seen circle.old) (as_seen O.seen circle.new)) }
-    ensures stops { IfErr result (λ why. Stops state.old.evaluator.options
-        shared.now.history.now.terms.queries
-        (answered state.old.evaluator pass.old) (entries pass.new.seen) why
-        (K.written events.old) (K.written events.new)
-        (as_seen O.seen circle.old) (as_seen O.seen circle.new)) }
-    ensures counted { CountsFault (result ≡ Err Why.Write)
-        (K.faults events.old) (K.faults events.new) }
-{
-    every_history_has_a_text(); // called for its clause
-    emit_front(shared, pass, state, next, events, circle)?;
-    let Ok(()) = publish_answers(shared.rt, shared.history, pass, &mut state.evaluator) else {
-        return Err(Why::Memory);
-    };
-    Ok(())
-}
-
-/// Sleeps until the history has something new, unless it will have nothing.
-fn sleep_unless<R: Wait>(rt: &R, history: &History, over: bool, heard: Heard) {
-    if !over {
-        history.sleep_until_entries(rt, heard);
-    }
-}
-
-/// Publishes the answers over all entries that were answered, where the history has readers. The
-/// only error is [`Memory`].
-fn publish_answers<R: Wait>(
-    rt: &R,
-    history: &History,
-    pass: &mut Pass,
-    evaluator: &mut Evaluator,
-) -> Result<(), Memory>
-    requires keeps_up { KeepsUp history.now evaluator.old pass.old }
-    requires ahead { 0 < history.now.readers
-        → published pass.old.mine < evaluator.old.position }
-    ensures feeds { IsFeedingPass history.now pass.new }
-    ensures seen { StartsWith pass.new.seen pass.old.seen }
-    ensures fed { OnOk result (IsFed history.now evaluator.new pass.new) }
-    ensures kept { (evaluator.new.position ≡ evaluator.old.position)
-        × (evaluator.new.options ≡ evaluator.old.options) }
-{
-    if history.readers() == 0 {
-        return Ok(());
-    }
-    let view = evaluator.view()?;
-    match history.publish(rt, pass, view) {
-        Ok(()) => Ok(()),
-        Err(PublishFault::Memory(memory)) => Err(memory),
-        Err(PublishFault::Behind(_)) => unreachable!(),
     }
 }

@@ -3,40 +3,37 @@
 ghost use Rattle.std.specs.Prelude.{◌≡◌, ◌≤◌, ◌+◌, ◌++◌, ◌∷◌, false, length, map, IfOk};
 ghost use Rattle.std.specs.List.{list_any};
 ghost use Rattle.std.specs.Vec.{vec_len, vec_capacity};
-ghost use Rattle.std.specs.Vec.Iter.{into_iter_items};
 ghost use Rattle.stream_history.specs.History.{passes_for};
 ghost use Rattle.rpq_threads.specs.Served.{HasRoom, HasRoomFor};
 
 use ask_text::Answered;
 use rpq_base::Memory;
 use rpq_io::Source;
-use rpq_workers::{Replied, Started, Streamed};
 use std::alloc::Global;
-use std::vec::IntoIter;
 use stream_history::{History, Pass};
+use stream_threads::{SessionWork, StreamResult, StreamThread};
 use stream_tuples::StreamEnd;
 
 /// Lists that are long enough for a run, so that after the start nothing but the work needs memory.
 #[derive(Drop)]
-pub struct Room<S: Source> {
-    pub started: Vec<Started<S>>,
-    pub streamed: Vec<Streamed<S>>,
-    pub waiting: Vec<Pass>,
-    pub replied: Vec<Replied>,
-    pub gathered: Gathered<S>,
+pub struct ResultRoom<S: Source> {
+    pub started: Vec<StreamThread<S>>,
+    pub streamed: Vec<StreamResult<S>>,
+    pub works: Vec<SessionWork>,
+    pub gathered: ThreadResults<S>,
 }
 
 /// The passes of all threads, the sources and the ends of the streams, and the answers of the
 /// sessions.
 #[derive(Drop)]
-pub struct Gathered<S> {
+pub struct ThreadResults<S> {
     pub passes: Vec<Pass>,
     pub sources: Vec<S>,
     pub ends: Vec<StreamEnd>,
     pub answers: Vec<Vec<Answered>>,
 }
 
-impl<S: Source + Drop> Room<S> {
+impl<S: Source + Drop> ResultRoom<S> {
     /// Empty lists for so many streams, sessions and passes. The only error is [`Memory`].
     pub fn new(
         alloc: Global,
@@ -44,19 +41,18 @@ impl<S: Source + Drop> Room<S> {
         streams: usize,
         sessions: usize,
         passes: usize,
-    ) -> Result<Room<S>, Memory>
+    ) -> Result<ResultRoom<S>, Memory>
         requires streams { streams ≡ history.now.terms.streams }
         requires sessions { sessions ≡ history.now.readers }
         requires passes { passes ≡ passes_for history.now.terms history.now.readers }
         ensures { IfOk result (HasRoom history.now) }
     {
         let _ = history;
-        Ok(Room {
+        Ok(ResultRoom {
             started: Vec::with_capacity(alloc, streams)?,
             streamed: Vec::with_capacity(alloc, streams)?,
-            waiting: Vec::with_capacity(alloc, sessions)?,
-            replied: Vec::with_capacity(alloc, sessions)?,
-            gathered: Gathered {
+            works: Vec::with_capacity(alloc, sessions)?,
+            gathered: ThreadResults {
                 passes: Vec::with_capacity(alloc, passes)?,
                 sources: Vec::with_capacity(alloc, streams)?,
                 ends: Vec::with_capacity(alloc, streams)?,
@@ -70,9 +66,9 @@ impl<S: Source + Drop> Room<S> {
 /// out for one of the sessions.
 pub fn put_all<S: Source + Drop>(
     engine: Pass,
-    streamed: Vec<Streamed<S>>,
-    replied: Vec<Replied>,
-    gathered: &mut Gathered<S>,
+    streamed: Vec<StreamResult<S>>,
+    replied: Vec<SessionWork>,
+    gathered: &mut ThreadResults<S>,
 ) -> bool
     requires room { HasRoomFor (vec_len streamed) (vec_len replied) gathered.old }
     ensures passes { gathered.new.passes.items
@@ -94,7 +90,7 @@ pub fn put_all<S: Source + Drop>(
 
 /// Puts what the workers of the streams gave into lists.
 fn put_streamed<S: Source + Drop>(
-    streamed: Vec<Streamed<S>>,
+    streamed: Vec<StreamResult<S>>,
     passes: &mut Vec<Pass>,
     sources: &mut Vec<S>,
     ends: &mut Vec<StreamEnd>,
@@ -110,7 +106,7 @@ fn put_streamed<S: Source + Drop>(
     ensures room { vec_capacity passes.new ≡ vec_capacity passes.old }
 {
     for one in streamed {
-        let Streamed { pass, source, end } = one;
+        let StreamResult { pass, source, end } = one;
         passes.push_reserved(pass);
         sources.push_reserved(source);
         ends.push_reserved(end);
@@ -120,7 +116,7 @@ fn put_streamed<S: Source + Drop>(
 /// Puts what the workers of the sessions gave into lists, and answers whether memory ran out for
 /// one of them.
 fn put_replied(
-    replied: Vec<Replied>,
+    replied: Vec<SessionWork>,
     passes: &mut Vec<Pass>,
     answers: &mut Vec<Vec<Answered>>,
 ) -> bool
@@ -132,24 +128,17 @@ fn put_replied(
 {
     let mut short_of_memory = false;
     for one in replied {
-        let Replied {
+        let SessionWork {
+            number: _,
             pass,
+            asks: _,
             answers: own,
             memory,
+            told: _,
         } = one;
         passes.push_reserved(pass);
         answers.push_reserved(own);
         short_of_memory |= memory;
     }
     short_of_memory
-}
-
-/// Puts the rest of the passes into the list.
-pub fn put_passes(given: IntoIter<Pass>, passes: &mut Vec<Pass>)
-    requires { vec_len passes.old + length (into_iter_items given) ≤ vec_capacity passes.old }
-    ensures items { passes.new.items ≡ passes.old.items ++ into_iter_items given }
-{
-    for pass in given {
-        passes.push_reserved(pass);
-    }
 }

@@ -4,22 +4,22 @@ ghost use Rattle.std.specs.Prelude.{◌≡◌, [], IfOk, IfErr, OnErr};
 ghost use Rattle.rpq_threads.specs.Runs.{IsTask, Holds};
 ghost use Rattle.rpq_threads.specs.Served.{IsBegun};
 
-use crate::definitions::windows_move;
-use crate::room::{Gathered, Room};
-use crate::serving::{Job, Served, serve};
-use crate::task::{Outcome, Task};
+use crate::room::{ResultRoom, ThreadResults};
+use crate::serving::{Job, JobResult, serve};
+use crate::task::{RunOutcome, Task};
+use engine_loop::windows_move;
 use entry_steps::Evaluator;
 use history_model::{fronts_are_legal, legal_is_sound};
 use query_file::copied_definitions;
 use rpq_base::Memory;
 use rpq_io::{Context, Gate, Sink, Source};
 use rpq_model::QueryDef;
-use rpq_workers::Shared;
 use standing::{Circle, Standing};
 use std::random::RandomSource;
 use std::sync::{Arc, Wait};
 use std::thread::Threads;
 use stream_history::{History, first_view};
+use stream_threads::RunParts;
 
 /// Takes the tuples of all streams into one history, each stream by a thread of its own, as far as
 /// threads can be made. Meanwhile it answers the entries in the calling thread, writes their blocks
@@ -36,7 +36,7 @@ pub fn run_threads<R, G: Gate, S: Source + Send + Drop, K: Sink, O: Standing>(
     task: Task<S>,
     events: &mut K,
     circle: Circle<O>,
-) -> Result<Outcome<S, O>, (Circle<O>, Memory)>
+) -> Result<RunOutcome<S, O>, (Circle<O>, Memory)>
 where
     R: Threads + Wait + RandomSource + Sync,
     requires task { IsTask S.left S.faults task }
@@ -48,7 +48,7 @@ where
 {
     legal_is_sound(); // these are called for their clauses
     fronts_are_legal();
-    let Begun {
+    let NewRun {
         history,
         definitions,
         job,
@@ -56,14 +56,12 @@ where
         Ok(begun) => begun,
         Err(memory) => return Err((circle, memory)),
     };
-    let shared = Shared {
-        rt: context.rt,
-        alloc: context.alloc,
-        gate: context.gate,
+    let shared = RunParts {
+        context,
         history: &history,
         queries: &definitions,
     };
-    let Served {
+    let JobResult {
         gathered,
         short_of_memory,
         why,
@@ -71,14 +69,14 @@ where
         circle,
     } = serve(&shared, job, events, circle);
     take_back(back);
-    let Gathered {
+    let ThreadResults {
         passes,
         sources,
         ends,
         answers,
     } = gathered;
     let journal = history.finish(passes);
-    Ok(Outcome {
+    Ok(RunOutcome {
         history: journal.into_entries(),
         ends,
         sources,
@@ -97,7 +95,7 @@ fn take_back<T>(x: &mut T)
 
 /// A history, the definitions of its queries, and what its threads work with.
 #[derive(Drop)]
-pub struct Begun<S: Source> {
+pub struct NewRun<S: Source> {
     pub history: History,
     pub definitions: Arc<Vec<QueryDef>>,
     pub job: Job<S>,
@@ -108,7 +106,7 @@ pub struct Begun<S: Source> {
 fn begin<R: RandomSource, G: Gate, S: Source + Drop>(
     context: &Context<'_, R, G>,
     task: Task<S>,
-) -> Result<Begun<S>, Memory>
+) -> Result<NewRun<S>, Memory>
     requires { IsTask S.left S.faults task }
     ensures { IfOk result (IsBegun S.left S.faults task) }
 {
@@ -130,7 +128,7 @@ fn begin<R: RandomSource, G: Gate, S: Source + Drop>(
     let asking = sessions.len() as u32;
     let given = Arc::try_clone(&definitions)?;
     let (history, passes) = History::new(alloc, given, streams, asking, limit, first)?;
-    let room = Room::new(alloc, &history, readers.len(), sessions.len(), passes.len())?;
+    let room = ResultRoom::new(alloc, &history, readers.len(), sessions.len(), passes.len())?;
     let job = Job {
         passes,
         evaluator,
@@ -138,7 +136,7 @@ fn begin<R: RandomSource, G: Gate, S: Source + Drop>(
         sessions,
         room,
     };
-    Ok(Begun {
+    Ok(NewRun {
         history,
         definitions,
         job,

@@ -4,19 +4,23 @@ ghost use Rattle.std.specs.Prelude.{◌≡◌, ◌∷◌, ◌++◌, map};
 ghost use Rattle.std.specs.List.{list_any};
 ghost use Rattle.std.specs.Vec.{vec_len};
 ghost use Rattle.standing.specs.Circles.{as_seen};
+ghost use Rattle.rpq_threads.specs.Fed.{IsAtStart, HasFed};
 ghost use Rattle.rpq_threads.specs.Served.{HasRoomFor, IsWork, IsServed, given_by, gave_by};
 
-use crate::beside::{Beside, Feeding, Waiting, feed_beside};
-use crate::room::{Gathered, Room, put_all, put_passes};
+use crate::feeding::{EngineWork, feed_all};
+use crate::room::{ResultRoom, ThreadResults, put_all};
 use ask_text::Session;
 use entry_steps::Evaluator;
 use history_model::Why;
 use rpq_io::{Gate, LineReader, Sink, Source};
-use rpq_workers::{Shared, Streamed, join_streams, start_streams};
 use standing::{Circle, Standing};
 use std::sync::Wait;
 use std::thread::{Scope, Threads, scope, scope_env};
 use stream_history::Pass;
+use stream_threads::{
+    RunParts, SessionWork, StreamResult, beside_sessions, join_streams, session_works,
+    start_streams,
+};
 
 /// What the threads of a run work with.
 #[derive(Drop)]
@@ -25,13 +29,13 @@ pub struct Job<S: Source> {
     pub evaluator: Evaluator,
     pub readers: Vec<LineReader<S>>,
     pub sessions: Vec<Session>,
-    pub room: Room<S>,
+    pub room: ResultRoom<S>,
 }
 
 /// What the threads of a run gave back.
 #[derive(Drop)]
-pub struct Served<'a, S, K, O> {
-    pub gathered: Gathered<S>,
+pub struct JobResult<'a, S, K, O> {
+    pub gathered: ThreadResults<S>,
     pub short_of_memory: bool,
     pub why: Option<Why>,
     pub events: &'a mut K,
@@ -40,11 +44,11 @@ pub struct Served<'a, S, K, O> {
 
 /// Starts the workers, runs the engine and waits for the workers.
 pub fn serve<'a, S: Source + Send + Drop, K: Sink, O: Standing, G: Gate, R: Threads + Wait + Sync>(
-    shared: &Shared<'_, R, G>,
+    shared: &RunParts<'_, R, G>,
     job: Job<S>,
     events: &'a mut K,
     circle: Circle<O>,
-) -> Served<'a, S, K, O>
+) -> JobResult<'a, S, K, O>
     requires { IsWork S.left S.faults shared.now.history.now shared.now.queries.now job circle }
     ensures served { IsServed S.left S.faults K.written K.faults shared.now.history.now
         (given_by job events.entry.now (as_seen O.seen circle)) (gave_by O.seen result)
@@ -53,8 +57,8 @@ pub fn serve<'a, S: Source + Send + Drop, K: Sink, O: Standing, G: Gate, R: Thre
 {
     scope(
         scope_env(),
-        shared.rt,
-        move |scope| -> Served<'_, S, K, O>
+        shared.context.rt,
+        move |scope| -> JobResult<'_, S, K, O>
             requires { IsWork S.left S.faults shared.now.history.now shared.now.queries.now job
                 circle }
             ensures served { IsServed S.left S.faults K.written K.faults
@@ -78,11 +82,11 @@ fn serve_within<
     R: Threads + Wait + Sync,
 >(
     scope: &Scope<'s, &'e ()>,
-    shared: &'s Shared<'s, R, G>,
+    shared: &'s RunParts<'s, R, G>,
     job: Job<S>,
     events: &'a mut K,
     circle: Circle<O>,
-) -> Served<'a, S, K, O>
+) -> JobResult<'a, S, K, O>
     requires { IsWork S.left S.faults shared.now.history.now shared.now.queries.now job circle }
     ensures served { IsServed S.left S.faults K.written K.faults shared.now.history.now
         (given_by job events.entry.now (as_seen O.seen circle)) (gave_by O.seen result)
@@ -96,11 +100,10 @@ fn serve_within<
         sessions,
         room,
     } = job;
-    let Room {
+    let ResultRoom {
         started,
         streamed,
-        mut waiting,
-        replied,
+        works,
         gathered,
     } = room;
     let mut given = passes.into_iter();
@@ -108,51 +111,60 @@ fn serve_within<
         unreachable!()
     };
     let started = start_streams(scope, shared, &mut given, readers, started);
-    put_passes(given, &mut waiting);
-    let feeding = Feeding {
+    let works = session_works(shared.context.alloc, shared.history, given, sessions, works);
+    let work = EngineWork {
         pass,
         evaluator,
         events,
         circle,
+        why: None,
     };
-    let waiting = Waiting {
-        passes: waiting,
-        sessions,
-        replied,
-    };
-    let beside = feed_beside(scope, shared, feeding, waiting);
-    let streamed = join_streams(shared.rt, started, streamed);
-    gather(beside, streamed, gathered)
+    let (replied, engine) = beside_sessions(
+        shared,
+        works,
+        move || -> EngineWork<'_, K, O>
+            requires { IsAtStart shared.now.history.now work.evaluator work.pass
+                (as_seen O.seen work.circle) }
+            ensures fed { HasFed K.written K.faults work.entry.evaluator.options
+                shared.entry.now.history.now work.entry.events.now result.events.now
+                (as_seen O.seen work.entry.circle) (as_seen O.seen result.circle) result.pass
+                result.why }
+            ensures same { result.events.ghost_name ≡ work.entry.events.ghost_name }
+        { feed_all(shared, work) },
+    );
+    let streamed = join_streams(shared.context.rt, started, streamed);
+    gather(engine, streamed, replied, gathered)
 }
 
 /// Puts what the engine and the workers gave together.
 fn gather<'a, S: Source + Drop, K: Sink, O: Standing>(
-    beside: Beside<'a, K, O>,
-    streamed: Vec<Streamed<S>>,
-    mut gathered: Gathered<S>,
-) -> Served<'a, S, K, O>
-    requires { HasRoomFor (vec_len streamed) (vec_len beside.replied) gathered }
-    ensures passes { result.gathered.passes.items ≡ beside.entry.engine
-        ∷ (map (λ d. d.pass) streamed.items ++ map (λ r. r.pass) beside.entry.replied.items) }
+    engine: EngineWork<'a, K, O>,
+    streamed: Vec<StreamResult<S>>,
+    replied: Vec<SessionWork>,
+    mut gathered: ThreadResults<S>,
+) -> JobResult<'a, S, K, O>
+    requires { HasRoomFor (vec_len streamed) (vec_len replied) gathered }
+    ensures passes { result.gathered.passes.items ≡ engine.entry.pass
+        ∷ (map (λ d. d.pass) streamed.items ++ map (λ r. r.pass) replied.items) }
     ensures sources { result.gathered.sources.items ≡ map (λ d. d.source) streamed.items }
     ensures ends { result.gathered.ends.items ≡ map (λ d. d.end) streamed.items }
     ensures answers { result.gathered.answers.items
-        ≡ map (λ r. r.answers) beside.entry.replied.items }
-    ensures memory { result.short_of_memory ≡ list_any (λ r. r.memory) beside.entry.replied.items }
-    ensures why { result.why ≡ beside.entry.why }
-    ensures events { (result.events.now ≡ beside.entry.events.now)
-        × (result.events.ghost_name ≡ beside.entry.events.ghost_name) }
-    ensures circle { result.circle ≡ beside.entry.circle }
+        ≡ map (λ r. r.answers) replied.items }
+    ensures memory { result.short_of_memory ≡ list_any (λ r. r.memory) replied.items }
+    ensures why { result.why ≡ engine.entry.why }
+    ensures events { (result.events.now ≡ engine.entry.events.now)
+        × (result.events.ghost_name ≡ engine.entry.events.ghost_name) }
+    ensures circle { result.circle ≡ engine.entry.circle }
 {
-    let Beside {
-        engine,
-        why,
+    let EngineWork {
+        pass,
+        evaluator: _,
         events,
         circle,
-        replied,
-    } = beside;
-    let short_of_memory = put_all(engine, streamed, replied, &mut gathered);
-    Served {
+        why,
+    } = engine;
+    let short_of_memory = put_all(pass, streamed, replied, &mut gathered);
+    JobResult {
         gathered,
         short_of_memory,
         why,

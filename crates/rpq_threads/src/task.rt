@@ -28,7 +28,7 @@ pub struct Task<S: Source> {
 
 /// What the threads of a run give.
 #[derive(Drop)]
-pub struct Outcome<S, O> {
+pub struct RunOutcome<S, O> {
     /// The entries, in the order in which they were taken.
     pub history: Vec<Entry>,
     /// How each stream ended.

@@ -4,12 +4,12 @@ use Rattle.std.specs.Prelude.{◌&&◌, ◌||◌, ◌==◌, not, nat_lt, bytes_e
 use Rattle.std.specs.Prelude.{Option, Some, None, is_some, option_map}
 use Rattle.std.proofs.lemmas.Bool.{ne_eqb}
 use Rattle.clap.specs.Walk.{Text, is_empty}
-use Rattle.rpq_words.specs.declared.found.Found.{Found}
-use Rattle.rpq_words.specs.declared.found.StreamWords.{StreamWords}
-use Rattle.rpq_words.specs.declared.settings.Mode.TheVariants.{Streams}
+use Rattle.rpq_words.specs.declared.parsed_words.ParsedWords.{ParsedWords}
+use Rattle.rpq_words.specs.declared.parsed_words.StreamWords.{StreamWords}
+use Rattle.rpq_words.specs.declared.settings.RunMode.TheVariants.{Streams}
 use Rattle.rpq_words.specs.declared.settings.StreamSettings.TheVariants.{Forwards}
-use Rattle.rpq_words.specs.declared.settings.Shown.{Shown}
-use Rattle.rpq_words.specs.declared.settings.Shown.TheVariants.{Pairs, Paths, Bindings}
+use Rattle.rpq_words.specs.declared.settings.OutputKind.{OutputKind}
+use Rattle.rpq_words.specs.declared.settings.OutputKind.TheVariants.{Pairs, Paths, Bindings}
 use Rattle.rpq_words.specs.declared.settings.AskFiles.{AskFiles}
 use Rattle.rpq_words.specs.Clash.{clash, is_same_file}
 use Rattle.rpq_words.specs.Modes.{SettingsAreFound, words_of}
@@ -34,7 +34,7 @@ passes_or_fails false = inr refl
 module _ (workers history : ℕ) (queries : Text) where
   -- what was found, by its parts
   abbrev found_by : Bool → Option ℕ → Bool → Option Text → Option Text → Bool → Option Text
-      → Option Text → Option Text → List Text → Found
+      → Option Text → Option Text → List Text → ParsedWords
   found_by check generate two_way asks replies paths joins from save streams = record {
     workers = workers;
     history = history;
@@ -53,7 +53,7 @@ module _ (workers history : ℕ) (queries : Text) where
     };
   }
 
-  abbrev IsArranged : Found → Type 0
+  abbrev IsArranged : ParsedWords → Type 0
   IsArranged found =
       option_map words_of (settings_from found) ≡ only_if (λ all. not (clash all)) found
 
@@ -123,7 +123,8 @@ module _ (workers history : ℕ) (queries : Text) where
       ]
 
   -- and one in which they aren't, behind what is asked and shown
-  abbrev run_by : Shown → Option AskFiles → Option Text → Option Text → List Text → Option Settings
+  abbrev run_by : OutputKind → Option AskFiles → Option Text → Option Text → List Text →
+      Option Settings
   run_by shown asked from save streams =
       (((input_from from streams >>= λ input. if saves_over save input then None
       else Some (record { input = input; shown = shown; asked = asked; save = save }))
@@ -139,7 +140,8 @@ module _ (workers history : ℕ) (queries : Text) where
   input_clashes from save streams = is_empty streams || (nat_lt 64 (length streams)
       || ((is_some from && not (length streams == 1)) || is_same_file save from))
 
-  reads : (shown : Shown) (asked : Option AskFiles) (from save : Option Text) (streams : List Text)
+  reads : (shown : OutputKind) (asked : Option AskFiles) (from save : Option Text)
+      (streams : List Text)
       → option_map words_of (run_by shown asked from save streams)
       ≡ (if not (input_clashes from save streams) then Some (found_by false None false
       (asks_in asked) (replies_in asked) (has_paths shown) (joins_in shown) from save streams)

@@ -9,9 +9,9 @@ use Rattle.std.proofs.lemmas.Slice.Eq.{bytes_eq-Decides}
 use Rattle.clap.specs.Walk.{Row, Text, all_of, first_of, is_empty}
 use Rattle.clap.proofs.WalkLemmas.{both}
 use Rattle.text_parts.specs.Numbers.{is_digit_text, number_of, number_within}
-use Rattle.rpq_words.specs.declared.found.Found.{Found}
-use Rattle.rpq_words.specs.declared.settings.Mode.{Mode}
-use Rattle.rpq_words.specs.declared.settings.Mode.TheVariants.{Check, Generate, Streams}
+use Rattle.rpq_words.specs.declared.parsed_words.ParsedWords.{ParsedWords}
+use Rattle.rpq_words.specs.declared.settings.RunMode.{RunMode}
+use Rattle.rpq_words.specs.declared.settings.RunMode.TheVariants.{Check, Generate, Streams}
 use Rattle.rpq_words.specs.declared.settings.StreamSettings.TheVariants.{Forwards, BothWays}
 use Rattle.rpq_words.specs.declared.settings.ForwardSettings.{ForwardSettings}
 use Rattle.rpq_words.specs.declared.settings.Input.{Input}
@@ -84,14 +84,14 @@ optional_in_range most None (Some number) is = absurd cc
 -- ---- what was found
 
 -- each number that was found is in its range
-record IsInRange (found : Found) : Type 0 where
+record IsInRange (found : ParsedWords) : Type 0 where
   workers_in : IsWithin 64 found.workers
   history_in : IsWithin 2000000 found.history
   generate_in : IfSome found.generate (IsWithin 1000000)
 
-module _ (make : ℕ → ℕ → Option ℕ → Text → Found) where
+module _ (make : ℕ → ℕ → Option ℕ → Text → ParsedWords) where
   made_by : (workers history : Option ℕ) (generate : Option (Option ℕ)) (queries : Option Text)
-      (found : Found) →
+      (found : ParsedWords) →
       (workers >>= λ w. (history >>= λ h. (generate >>= λ g.
       (queries >>= λ q. Some (make w h g q))))) ≡ Some found →
       (w : ℕ) × (h : ℕ) × (g : Option ℕ) × (q : Text) × (workers ≡ Some w) × (history ≡ Some h)
@@ -102,7 +102,7 @@ module _ (make : ℕ → ℕ → Option ℕ → Text → Found) where
   made_by (Some w) (Some h) None queries found is = absurd cc
   made_by (Some w) (Some h) (Some g) None found is = absurd cc
 
-found_in_range : (rows : List Row) (found : Found) → words_found rows ≡ Some found
+found_in_range : (rows : List Row) (found : ParsedWords) → words_found rows ≡ Some found
     → IsInRange found
 unfolding words_found
 found_in_range rows found is =
@@ -176,22 +176,24 @@ input_is : (save : Option Text) (input : Input)
 input_is save (Fresh streams) is = within_by streams _ is
 input_is save (Resumed from stream) is = another_file save from is
 
-mode_is : (given : Settings) (mode : Mode) → given.mode ≡ mode → clash (words_of given) ≡ false
+mode_is : (given : Settings) (mode : RunMode) → given.mode ≡ mode → clash (words_of given) ≡ false
     → IfSome (words_of given).generate (IsWithin 1000000) → IsMode mode
 unfolding clash
 mode_is given (Check directions) is agrees made = tt
 mode_is given (Generate directions count) is agrees made =
-    subst (λ (m : Mode). IfSome (words_of (record given { mode = m })).generate (IsWithin 1000000))
+    subst (λ (m : RunMode). IfSome (words_of (record given { mode = m })).generate
+    (IsWithin 1000000))
     is made
 mode_is given (Streams (BothWays streams)) is agrees made =
-    within_by streams _ (subst (λ (m : Mode). clash (words_of (record given { mode = m })) ≡ false)
+    within_by streams _
+    (subst (λ (m : RunMode). clash (words_of (record given { mode = m })) ≡ false)
     is agrees)
 mode_is given (Streams (Forwards run)) is agrees made = input_is run.save run.input
     (second_fails (has_paths run.shown && is_some (joins_in run.shown)) _
     (second_fails (is_one_alone (asks_in run.asked) (replies_in run.asked)) _
-    (subst (λ (m : Mode). clash (words_of (record given { mode = m })) ≡ false) is agrees)))
+    (subst (λ (m : RunMode). clash (words_of (record given { mode = m })) ≡ false) is agrees)))
 
-are_settings : (found : Found) (given : Settings) → settings_from found ≡ Some given
+are_settings : (found : ParsedWords) (given : Settings) → settings_from found ≡ Some given
     → IsInRange found → AreSettings given
 are_settings found given is ranges =
     let kept = guarded (not (clash found)) found (words_of given)

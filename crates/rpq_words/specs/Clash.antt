@@ -2,11 +2,11 @@
 use Rattle.std.specs.Prelude.{ℕ, Bool, true, false, not, ◌&&◌, ◌||◌, ◌==◌, nat_lt, List, length}
 use Rattle.std.specs.Prelude.{bytes_eq, Option, Some, None, is_some}
 use Rattle.clap.specs.Walk.{Text, is_empty}
-use Rattle.rpq_words.specs.declared.found.Found.{Found}
-use Rattle.rpq_words.specs.declared.found.StreamWords.{StreamWords}
+use Rattle.rpq_words.specs.declared.parsed_words.ParsedWords.{ParsedWords}
+use Rattle.rpq_words.specs.declared.parsed_words.StreamWords.{StreamWords}
 
 -- no stream is to be read: the queries are checked alone, or tuples are generated
-abbrev pub reads_none : Found → Bool
+abbrev pub reads_none : ParsedWords → Bool
 reads_none found = found.check || is_some found.generate
 
 -- exactly one of the two is there
@@ -22,8 +22,8 @@ names_file words =
     || (is_some words.joins || (is_some words.save || is_some words.from))
 
 -- paths are written, but no stream is read, edges may be taken backwards, or there is a file of
--- conjunctions
-abbrev pub paths_clash : Found → Bool
+-- joins
+abbrev pub paths_clash : ParsedWords → Bool
 paths_clash found = found.words.paths
     && (reads_none found || (found.two_way || is_some found.words.joins))
 
@@ -40,18 +40,18 @@ from_clashes words =
 
 -- no stream is there where some are to be read, or more than are taken, or a file to begin with
 -- clashes
-abbrev pub streams_clash : Found → Bool
+abbrev pub streams_clash : ParsedWords → Bool
 streams_clash found =
     (not (reads_none found) && is_empty found.words.streams)
     || (nat_lt 64 (length found.words.streams) || from_clashes found.words)
 
 -- what can't stand together does: one of the asks and the replies without the other; a check and
--- generated tuples; one of these and asks, conjunctions, a file to save to or to begin with, or a
--- stream; edges taken backwards and asks, conjunctions, or a file to save to or to begin with;
--- paths and a check, generated tuples, edges taken backwards, or conjunctions; neither a check nor
--- generated tuples, and no stream; more streams than are taken; or a file to begin with and not
--- exactly one stream, or the same file to save to
-unfoldable pub clash : Found → Bool
+-- generated tuples; one of these and asks, joins, a file to save to or to begin with, or a stream;
+-- edges taken backwards and asks, joins, or a file to save to or to begin with; paths and a check,
+-- generated tuples, edges taken backwards, or joins; neither a check nor generated tuples, and no
+-- stream; more streams than are taken; or a file to begin with and not exactly one stream, or the
+-- same file to save to
+unfoldable pub clash : ParsedWords → Bool
 clash found =
     is_one_alone found.words.asks found.words.replies
     || ((found.check && is_some found.generate)

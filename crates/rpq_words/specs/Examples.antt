@@ -1,19 +1,19 @@
 -- Some command lines with what they give.
 use Rattle.std.specs.Prelude.{◌≡◌, List, [], ◌∷◌, codes, Some, None}
 use Rattle.clap.specs.Walk.{Text}
-use Rattle.rpq_words.specs.declared.settings.Mode.{Mode}
-use Rattle.rpq_words.specs.declared.settings.Mode.TheVariants.{Check, Generate, Streams}
+use Rattle.rpq_words.specs.declared.settings.RunMode.{RunMode}
+use Rattle.rpq_words.specs.declared.settings.RunMode.TheVariants.{Check, Generate, Streams}
 use Rattle.rpq_words.specs.declared.settings.Directions.TheVariants.{Forwards, BothWays}
 use Rattle.rpq_words.specs.declared.settings.StreamSettings.TheVariants.{Forwards as ForwardRun}
 use Rattle.rpq_words.specs.declared.settings.StreamSettings.TheVariants.{BothWays as TwoWayRun}
 use Rattle.rpq_words.specs.declared.settings.ForwardSettings.{ForwardSettings}
 use Rattle.rpq_words.specs.declared.settings.Input.TheVariants.{Fresh, Resumed}
-use Rattle.rpq_words.specs.declared.settings.Shown.TheVariants.{Pairs, Paths, Bindings}
+use Rattle.rpq_words.specs.declared.settings.OutputKind.TheVariants.{Pairs, Paths, Bindings}
 use Rattle.rpq_words.specs.declared.settings.Settings.{Settings}
 use Rattle.rpq_words.specs.Settings.{settings}
 
 -- these are the settings, where nothing else is said
-abbrev pub plain : Mode → Settings
+abbrev pub plain : RunMode → Settings
 plain mode = record { queries = codes "q"; workers = 4; history = 1000000; mode = mode }
 
 -- a run over these streams, where nothing else is said
@@ -84,9 +84,9 @@ pub record PathsExamples : Type 0 where
   pub backwards : settings (codes "rpq" ∷ codes "--two-way" ∷ codes "--paths" ∷ codes "q"
       ∷ codes "t" ∷ []) ≡ None
 
--- Conjunctions in a run over a stream; and with asks and replies, a file to save to, and one to
--- begin with. Refused: in a check; over generated tuples; with edges taken backwards; with paths;
--- and the option given twice.
+-- Joins in a run over a stream; and with asks and replies, a file to save to, and one to begin
+-- with. Refused: in a check; over generated tuples; with edges taken backwards; with paths; and the
+-- option given twice.
 pub record JoinsExamples : Type 0 where
   pub over_stream : settings (codes "rpq" ∷ codes "--joins" ∷ codes "j" ∷ codes "q" ∷ codes "t"
       ∷ [])
@@ -111,7 +111,7 @@ pub record JoinsExamples : Type 0 where
 -- below it, or with a sign; a flag given twice; asks without replies; a check with generated
 -- tuples, or with a stream; a value that begins with `-`; a name cut short; and `--help`.
 -- And the examples of files to save to and to begin with, of edges taken backwards, of paths, and
--- of conjunctions.
+-- of joins.
 pub record SettingsExamples : Type 0 where
   pub defaults : settings (codes "rpq" ∷ codes "q" ∷ codes "s" ∷ [])
       ≡ Some (forwards (over (codes "s" ∷ [])))

@@ -4,7 +4,7 @@ use Rattle.std.specs.Prelude.{Option, Some, None, option_map, unwrap_or}
 use Rattle.std.specs.Option.{option_map_or}
 use Rattle.clap.specs.Walk.{Row, Text, all_of, first_of}
 use Rattle.text_parts.specs.Numbers.{number_within}
-use Rattle.rpq_words.specs.declared.found.Found.{Found}
+use Rattle.rpq_words.specs.declared.parsed_words.ParsedWords.{ParsedWords}
 use Rattle.rpq_words.specs.Options.{◌>>=◌, only_if}
 
 -- the number that a text writes in digits, where it is from 1 to `most`; zeros may stand in front
@@ -24,7 +24,7 @@ has_flag name rows = option_map_or (bytes_eq (codes "true")) (first_of name rows
 -- numbers of workers and of entries in the history; whether the queries are to be checked alone;
 -- how many tuples are to be generated; whether expressions may take edges backwards; whether a path
 -- is told behind each gained pair; and the names of the files
-unfoldable pub words_found : List Row → Option Found
+unfoldable pub words_found : List Row → Option ParsedWords
 words_found rows =
     first_of (codes "workers") rows >>= number_from_one 64 >>= λ workers.
     first_of (codes "history") rows >>= number_from_one 2000000 >>= λ history.

@@ -2,9 +2,9 @@
 use Rattle.std.specs.Prelude.{◌≡◌, ◌≢◌, ◌≤◌, ℕ, Bool, true, false, not, List, length}
 use Rattle.std.specs.Prelude.{Option, Some, None, option_map}
 use Rattle.clap.specs.Walk.{Text}
-use Rattle.rpq_words.specs.declared.found.Found.{Found}
-use Rattle.rpq_words.specs.declared.settings.Mode.{Mode}
-use Rattle.rpq_words.specs.declared.settings.Mode.TheVariants.{Check, Generate, Streams}
+use Rattle.rpq_words.specs.declared.parsed_words.ParsedWords.{ParsedWords}
+use Rattle.rpq_words.specs.declared.settings.RunMode.{RunMode}
+use Rattle.rpq_words.specs.declared.settings.RunMode.TheVariants.{Check, Generate, Streams}
 use Rattle.rpq_words.specs.declared.settings.StreamSettings.{StreamSettings}
 use Rattle.rpq_words.specs.declared.settings.StreamSettings.TheVariants.{Forwards, BothWays}
 use Rattle.rpq_words.specs.declared.settings.Input.{Input}
@@ -17,19 +17,19 @@ use Rattle.rpq_words.specs.Views.{asks_of, from_of, joins_of, paths_of, replies_
 use Rattle.rpq_words.specs.Views.{streams_of, two_way_of}
 
 -- the queries are checked, and nothing is run
-abbrev pub is_check : Mode → Bool
+abbrev pub is_check : RunMode → Bool
 is_check (Check directions) = true
 is_check (Generate directions count) = false
 is_check (Streams run) = false
 
 -- how many tuples are generated
-abbrev pub count_of : Mode → Option ℕ
+abbrev pub count_of : RunMode → Option ℕ
 count_of (Check directions) = None
 count_of (Generate directions count) = Some count
 count_of (Streams run) = None
 
 -- what is found in words that have these settings
-abbrev pub words_of : Settings → Found
+abbrev pub words_of : Settings → ParsedWords
 words_of given = record {
   workers = given.workers;
   history = given.history;
@@ -50,7 +50,7 @@ words_of given = record {
 
 -- what was found has settings exactly where it doesn't clash, and they say all that was found
 abbrev pub SettingsAreFound : Type 0
-SettingsAreFound = (found : Found)
+SettingsAreFound = (found : ParsedWords)
     → option_map words_of (settings_from found) ≡ only_if (λ all. not (clash all)) found
 
 -- from 1 to `most`
@@ -63,7 +63,7 @@ abbrev pub IsInput : Option Text → Input → Type 0
 IsInput save (Fresh streams) = IsWithin 64 (length streams)
 IsInput save (Resumed from stream) = save ≢ Some from
 
-abbrev pub IsMode : Mode → Type 0
+abbrev pub IsMode : RunMode → Type 0
 IsMode (Check directions) = Unit {0}
 IsMode (Generate directions count) = IsWithin 1000000 count
 IsMode (Streams (BothWays streams)) = IsWithin 64 (length streams)

@@ -4,10 +4,10 @@ use Rattle.std.specs.Prelude.{Option, Some, None, is_some, if◌then◌else◌, 
 use Rattle.std.specs.Prelude.{bytes_eq}
 use Rattle.std.specs.Global.{Global}
 use Rattle.clap.specs.Walk.{Row, Text, is_empty}
-use Rattle.rpq_words.specs.declared.found.Found.{Found}
-use Rattle.rpq_words.specs.declared.found.StreamWords.{StreamWords}
-use Rattle.rpq_words.specs.declared.settings.Mode.{Mode}
-use Rattle.rpq_words.specs.declared.settings.Mode.TheVariants.{Check, Generate, Streams}
+use Rattle.rpq_words.specs.declared.parsed_words.ParsedWords.{ParsedWords}
+use Rattle.rpq_words.specs.declared.parsed_words.StreamWords.{StreamWords}
+use Rattle.rpq_words.specs.declared.settings.RunMode.{RunMode}
+use Rattle.rpq_words.specs.declared.settings.RunMode.TheVariants.{Check, Generate, Streams}
 use Rattle.rpq_words.specs.declared.settings.Directions.{Directions}
 use Rattle.rpq_words.specs.declared.settings.Directions.TheVariants.{Forwards, BothWays}
 use Rattle.rpq_words.specs.declared.settings.StreamSettings.{StreamSettings}
@@ -16,8 +16,8 @@ use Rattle.rpq_words.specs.declared.settings.StreamSettings.TheVariants.{BothWay
 use Rattle.rpq_words.specs.declared.settings.ForwardSettings.{ForwardSettings}
 use Rattle.rpq_words.specs.declared.settings.Input.{Input}
 use Rattle.rpq_words.specs.declared.settings.Input.TheVariants.{Fresh, Resumed}
-use Rattle.rpq_words.specs.declared.settings.Shown.{Shown}
-use Rattle.rpq_words.specs.declared.settings.Shown.TheVariants.{Pairs, Paths, Bindings}
+use Rattle.rpq_words.specs.declared.settings.OutputKind.{OutputKind}
+use Rattle.rpq_words.specs.declared.settings.OutputKind.TheVariants.{Pairs, Paths, Bindings}
 use Rattle.rpq_words.specs.declared.settings.AskFiles.{AskFiles}
 use Rattle.rpq_words.specs.Clash.{names_file}
 use Rattle.rpq_words.specs.Command.{found_in, is_taken}
@@ -50,7 +50,7 @@ input_from None names = names_from names >>= λ streams. Some (Fresh streams)
 input_from (Some from) names = only_name names >>= λ stream. Some (Resumed from stream)
 
 -- what is told beside the pairs: not paths and bindings at once
-unfoldable pub shown_from : Bool → Option Text → Option Shown
+unfoldable pub shown_from : Bool → Option Text → Option OutputKind
 shown_from false None = Some Pairs
 shown_from false (Some joins) = Some (Bindings joins)
 shown_from true None = Some Paths
@@ -94,7 +94,7 @@ streams_from true words = if has_forward_words words then None
     else (names_from words.streams >>= λ streams. Some (TwoWayRun streams))
 
 -- what is done with the queries
-unfoldable pub mode_from : Bool → Option ℕ → Bool → StreamWords → Option Mode
+unfoldable pub mode_from : Bool → Option ℕ → Bool → StreamWords → Option RunMode
 mode_from true (Some count) two_way words = None
 mode_from true None two_way words =
     if has_stream_words words then None else Some (Check (directions_from two_way))
@@ -103,7 +103,7 @@ mode_from false (Some count) two_way words =
 mode_from false None two_way words = streams_from two_way words >>= λ run. Some (Streams run)
 
 -- the settings, where all that was found can stand together
-unfoldable pub settings_from : Found → Option Settings
+unfoldable pub settings_from : ParsedWords → Option Settings
 settings_from found = mode_from found.check found.generate found.two_way found.words >>= λ mode.
     Some (record {
       queries = found.queries;

@@ -3,8 +3,8 @@
 use Rattle.std.specs.Prelude.{ℕ, Bool, true, false, List, [], ◌∷◌, Option, Some, None}
 use Rattle.clap.specs.Walk.{Text}
 use Rattle.rpq_words.specs.declared.settings.Settings.{Settings}
-use Rattle.rpq_words.specs.declared.settings.Mode.{Mode}
-use Rattle.rpq_words.specs.declared.settings.Mode.TheVariants.{Check, Generate, Streams}
+use Rattle.rpq_words.specs.declared.settings.RunMode.{RunMode}
+use Rattle.rpq_words.specs.declared.settings.RunMode.TheVariants.{Check, Generate, Streams}
 use Rattle.rpq_words.specs.declared.settings.Directions.{Directions}
 use Rattle.rpq_words.specs.declared.settings.Directions.TheVariants.{Forwards, BothWays}
 use Rattle.rpq_words.specs.declared.settings.StreamSettings.{StreamSettings}
@@ -13,8 +13,8 @@ use Rattle.rpq_words.specs.declared.settings.StreamSettings.TheVariants.{BothWay
 use Rattle.rpq_words.specs.declared.settings.ForwardSettings.{ForwardSettings}
 use Rattle.rpq_words.specs.declared.settings.Input.{Input}
 use Rattle.rpq_words.specs.declared.settings.Input.TheVariants.{Fresh, Resumed}
-use Rattle.rpq_words.specs.declared.settings.Shown.{Shown}
-use Rattle.rpq_words.specs.declared.settings.Shown.TheVariants.{Pairs, Paths, Bindings}
+use Rattle.rpq_words.specs.declared.settings.OutputKind.{OutputKind}
+use Rattle.rpq_words.specs.declared.settings.OutputKind.TheVariants.{Pairs, Paths, Bindings}
 use Rattle.rpq_words.specs.declared.settings.AskFiles.{AskFiles}
 use Rattle.rpq_words.specs.Options.{◌>>=◌}
 
@@ -23,7 +23,7 @@ abbrev pub is_both_ways : Directions → Bool
 is_both_ways Forwards = false
 is_both_ways BothWays = true
 
-abbrev pub two_way_in : Mode → Bool
+abbrev pub two_way_in : RunMode → Bool
 two_way_in (Check directions) = is_both_ways directions
 two_way_in (Generate directions count) = is_both_ways directions
 two_way_in (Streams (TwoWayRun streams)) = true
@@ -33,7 +33,7 @@ abbrev pub two_way_of : Settings → Bool
 two_way_of given = two_way_in given.mode
 
 -- the settings of a run over streams that takes edges forwards alone
-abbrev pub forwards_in : Mode → Option ForwardSettings
+abbrev pub forwards_in : RunMode → Option ForwardSettings
 forwards_in (Check directions) = None
 forwards_in (Generate directions count) = None
 forwards_in (Streams (TwoWayRun streams)) = None
@@ -43,7 +43,7 @@ abbrev pub forwards_of : Settings → Option ForwardSettings
 forwards_of given = forwards_in given.mode
 
 -- a path is told behind each gained pair
-abbrev pub has_paths : Shown → Bool
+abbrev pub has_paths : OutputKind → Bool
 has_paths Pairs = false
 has_paths Paths = true
 has_paths (Bindings joins) = false
@@ -55,8 +55,8 @@ paths_in (Some run) = has_paths run.shown
 abbrev pub paths_of : Settings → Bool
 paths_of given = paths_in (forwards_of given)
 
--- the file of the conjunctions whose bindings are told
-abbrev pub joins_in : Shown → Option Text
+-- the file of the joins whose bindings are told
+abbrev pub joins_in : OutputKind → Option Text
 joins_in Pairs = None
 joins_in Paths = None
 joins_in (Bindings joins) = Some joins
@@ -97,7 +97,7 @@ abbrev pub names_in : Input → List Text
 names_in (Fresh streams) = streams
 names_in (Resumed from stream) = stream ∷ []
 
-abbrev pub streams_in : Mode → List Text
+abbrev pub streams_in : RunMode → List Text
 streams_in (Check directions) = []
 streams_in (Generate directions count) = []
 streams_in (Streams (TwoWayRun streams)) = streams

@@ -15,10 +15,10 @@
 mod command;
 mod fault;
 mod file_word;
-mod found;
 mod laws;
 mod matches;
 mod numbers;
+mod parsed_words;
 mod read;
 mod settings;
 mod stream_names;
@@ -29,7 +29,7 @@ pub use file_word::FileWord;
 pub use laws::{settings_are_found, settings_examples, words_are_settings};
 pub use read::read_words;
 pub use settings::{
-    AskFiles, Directions, ForwardSettings, Input, Mode, Settings, Shown, StreamSettings,
+    AskFiles, Directions, ForwardSettings, Input, OutputKind, RunMode, Settings, StreamSettings,
 };
 pub use stream_names::StreamNames;
 pub use usage::usage_line;

@@ -11,9 +11,9 @@ ghost use Rattle.rpq_words.specs.Settings.{settings, settled, texts};
 use crate::command::command;
 use crate::fault::WordsFault;
 use crate::file_word::{FileWord, file_words, optional_file_word};
-use crate::found::{Found, StreamWords};
 use crate::matches::{all_of, first_of, has_flag};
 use crate::numbers::{needed_number, needed_workers, optional_number};
+use crate::parsed_words::{ParsedWords, StreamWords};
 use crate::settings::Settings;
 use crate::stream_names::StreamNames;
 use clap::ArgMatches;
@@ -81,7 +81,7 @@ fn settings_of_matches(alloc: Global, matches: &ArgMatches<'_>) -> Result<Settin
 
 /// What was found, where each number is in its range.
 #[tactic(auto, unfolding(crate::specs::Found::words_found))]
-fn read_found(alloc: Global, matches: &ArgMatches<'_>) -> Result<Found, WordsFault>
+fn read_found(alloc: Global, matches: &ArgMatches<'_>) -> Result<ParsedWords, WordsFault>
     ensures ok { IfOk result (λ found.
         words_found (rows_of (found_of matches.now)) ≡ Some found) }
     ensures refused { result ≡ Err WordsFault.Refused
@@ -95,7 +95,7 @@ fn read_found(alloc: Global, matches: &ArgMatches<'_>) -> Result<Found, WordsFau
         WordsFault::Refused,
     )?;
     let queries = first_of(matches, "queries").ok_or(WordsFault::Refused)?;
-    Ok(Found {
+    Ok(ParsedWords {
         workers,
         history,
         check: has_flag(matches, "check"),

@@ -18,12 +18,12 @@ pub struct Settings {
     /// How many tuples the history holds at most.
     pub history: u64,
     /// What is done with the queries.
-    pub mode: Mode,
+    pub mode: RunMode,
 }
 
 /// What is done with the queries.
 #[derive(Debug, Drop)]
-pub enum Mode {
+pub enum RunMode {
     /// They are checked, and nothing is run.
     Check(Directions),
     /// They are evaluated over this many generated tuples.
@@ -56,7 +56,7 @@ pub struct ForwardSettings {
     /// What is read.
     pub input: Input,
     /// What is told beside the pairs.
-    pub shown: Shown,
+    pub shown: OutputKind,
     /// The files of the asks and the replies, if readers ask.
     pub asked: Option<AskFiles>,
     /// The file that gets what a later run needs, if there is one.
@@ -74,12 +74,12 @@ pub enum Input {
 
 /// What is told beside the pairs that are gained and lost.
 #[derive(Debug, Drop)]
-pub enum Shown {
+pub enum OutputKind {
     /// Nothing.
     Pairs,
     /// Behind each gained pair a path that shows it.
     Paths,
-    /// The bindings of the conjunctions in this file.
+    /// The bindings of the joins in this file.
     Bindings(FileWord),
 }
 
@@ -108,10 +108,10 @@ impl Settings {
         ensures { result ≡ two_way_of self.now }
     {
         match &self.mode {
-            Mode::Check(directions) => directions.is_both_ways(),
-            Mode::Generate(directions, _count) => directions.is_both_ways(),
-            Mode::Streams(StreamSettings::BothWays(_names)) => true,
-            Mode::Streams(StreamSettings::Forwards(_run)) => false,
+            RunMode::Check(directions) => directions.is_both_ways(),
+            RunMode::Generate(directions, _count) => directions.is_both_ways(),
+            RunMode::Streams(StreamSettings::BothWays(_names)) => true,
+            RunMode::Streams(StreamSettings::Forwards(_run)) => false,
         }
     }
 
@@ -120,9 +120,9 @@ impl Settings {
         ensures { option_copied result ≡ forwards_of self.now }
     {
         match &self.mode {
-            Mode::Streams(StreamSettings::Forwards(run)) => Some(run),
-            Mode::Check(_) | Mode::Generate(_, _) => None,
-            Mode::Streams(StreamSettings::BothWays(_)) => None,
+            RunMode::Streams(StreamSettings::Forwards(run)) => Some(run),
+            RunMode::Check(_) | RunMode::Generate(_, _) => None,
+            RunMode::Streams(StreamSettings::BothWays(_)) => None,
         }
     }
 
@@ -131,18 +131,18 @@ impl Settings {
         ensures { result ≡ paths_of self.now }
     {
         match self.forwards() {
-            Some(run) => matches!(run.shown, Shown::Paths),
+            Some(run) => matches!(run.shown, OutputKind::Paths),
             None => false,
         }
     }
 
-    /// The file of the conjunctions over the queries, if there is one.
+    /// The file of the joins over the queries, if there is one.
     pub fn joins(&self) -> Option<&FileWord>
         ensures { option_copied result ≡ joins_of self.now }
     {
         match &self.forwards()?.shown {
-            Shown::Bindings(joins) => Some(joins),
-            Shown::Pairs | Shown::Paths => None,
+            OutputKind::Bindings(joins) => Some(joins),
+            OutputKind::Pairs | OutputKind::Paths => None,
         }
     }
 

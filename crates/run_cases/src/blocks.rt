@@ -9,7 +9,7 @@ use text_parts::push_decimal;
 
 /// The text of some blocks, and how many events they have that gain a pair, and that lose one.
 #[derive(Drop)]
-pub struct Blocks {
+pub struct WrittenBlocks {
     pub text: Vec<u8>,
     pub added: u64,
     pub retracted: u64,
@@ -22,8 +22,8 @@ pub fn blocks_of(
     queries: &[Compiled],
     history: &[Entry],
     written: usize,
-) -> anyhow::Result<Blocks> {
-    let mut blocks = Blocks::new(alloc);
+) -> anyhow::Result<WrittenBlocks> {
+    let mut blocks = WrittenBlocks::new(alloc);
     for count in 1..=history.len() {
         let block = last_block(alloc, queries, &history[..count])?;
         blocks.put_block(&block, written)?;
@@ -32,8 +32,12 @@ pub fn blocks_of(
 }
 
 /// The block of the last of some entries.
-fn last_block(alloc: Global, queries: &[Compiled], entries: &[Entry]) -> anyhow::Result<Blocks> {
-    let mut block = Blocks::new(alloc);
+fn last_block(
+    alloc: Global,
+    queries: &[Compiled],
+    entries: &[Entry],
+) -> anyhow::Result<WrittenBlocks> {
+    let mut block = WrittenBlocks::new(alloc);
     if let Some((last, before)) = entries.split_last() {
         block.put_entry(entries.len() as u64, last)?;
         for query in queries {
@@ -43,10 +47,10 @@ fn last_block(alloc: Global, queries: &[Compiled], entries: &[Entry]) -> anyhow:
     Ok(block)
 }
 
-impl Blocks {
+impl WrittenBlocks {
     /// No block.
-    fn new(alloc: Global) -> Blocks {
-        Blocks {
+    fn new(alloc: Global) -> WrittenBlocks {
+        WrittenBlocks {
             text: Vec::new(alloc),
             added: 0,
             retracted: 0,
@@ -54,7 +58,7 @@ impl Blocks {
     }
 
     /// Puts a block behind these. Its events count where it ends among the first `written` bytes.
-    fn put_block(&mut self, block: &Blocks, written: usize) -> Result<(), AllocError> {
+    fn put_block(&mut self, block: &WrittenBlocks, written: usize) -> Result<(), AllocError> {
         self.text.extend_from_slice(&block.text)?;
         if self.text.len() <= written {
             self.added = self.added.saturating_add(block.added);

@@ -1,8 +1,8 @@
 //! Runs over three streams beside readers, in which a call to the outside fails.
 
-use crate::blocks::{Blocks, blocks_of};
-use crate::given::{Faults, Given, Sizes, Texts};
-use crate::left::Left;
+use crate::blocks::{WrittenBlocks, blocks_of};
+use crate::given::{Faults, RunInput, Sizes, Texts};
+use crate::left::RunOutput;
 use crate::made::left_by;
 use case_lines::{Fields, Output, decoded};
 use query_file::{Compiled, read_queries};
@@ -27,9 +27,9 @@ pub fn answer_faults<R: RandomSource + Threads + Wait + Sync>(
 }
 
 /// What the fields give.
-fn given<'a>(fields: Fields<'a>) -> Given<'a> {
+fn given<'a>(fields: Fields<'a>) -> RunInput<'a> {
     let mut fields = fields;
-    Given {
+    RunInput {
         faults: Faults {
             opening: fields.number(),
             file: fields.next(),
@@ -53,7 +53,12 @@ fn given<'a>(fields: Fields<'a>) -> Given<'a> {
 }
 
 /// Puts what a run with the queries of this field left behind.
-fn put_faults(alloc: Global, out: &mut Output, queries: &[u8], left: &Left) -> anyhow::Result<()> {
+fn put_faults(
+    alloc: Global,
+    out: &mut Output,
+    queries: &[u8],
+    left: &RunOutput,
+) -> anyhow::Result<()> {
     let due = due_of(alloc, queries, left)?;
     out.put_shown(&left.status)?;
     put_extent(out, &left.events, &due.text)?;
@@ -68,7 +73,7 @@ fn put_faults(alloc: Global, out: &mut Output, queries: &[u8], left: &Left) -> a
 
 /// The text of a run's history, from scratch, and the events of those of its blocks that were
 /// written whole.
-fn due_of(alloc: Global, queries: &[u8], left: &Left) -> anyhow::Result<Blocks> {
+fn due_of(alloc: Global, queries: &[u8], left: &RunOutput) -> anyhow::Result<WrittenBlocks> {
     let queries = queries_of(alloc, queries)?;
     blocks_of(alloc, &queries, &left.history, left.events.len())
 }
@@ -96,7 +101,7 @@ fn put_extent(out: &mut Output, written: &[u8], text: &[u8]) -> anyhow::Result<(
 
 /// Puts how many entries a history has, or `-` where not all of its text was written, since it's up
 /// to the machine then how far the streams come.
-fn put_entries(out: &mut Output, left: &Left, text: &[u8]) -> anyhow::Result<()> {
+fn put_entries(out: &mut Output, left: &RunOutput, text: &[u8]) -> anyhow::Result<()> {
     if left.events.as_slice() == text {
         put_count(out, left.history.len())
     } else {
@@ -110,7 +115,7 @@ fn put_count(out: &mut Output, count: usize) -> anyhow::Result<()> {
 }
 
 /// Puts how much of the text of its sessions a run wrote on its replies, or `-` where it has none.
-fn put_replies(out: &mut Output, left: &Left) -> anyhow::Result<()> {
+fn put_replies(out: &mut Output, left: &RunOutput) -> anyhow::Result<()> {
     match &left.replies {
         Some(replies) => put_extent(out, replies, &left.answers),
         None => out.put(" -"),
@@ -118,7 +123,12 @@ fn put_replies(out: &mut Output, left: &Left) -> anyhow::Result<()> {
 }
 
 /// Puts whether the tally says what is due, and in which list it is.
-fn put_tallies(alloc: Global, out: &mut Output, left: &Left, due: &Blocks) -> anyhow::Result<()> {
+fn put_tallies(
+    alloc: Global,
+    out: &mut Output,
+    left: &RunOutput,
+    due: &WrittenBlocks,
+) -> anyhow::Result<()> {
     let wanted = format!(in alloc; "tally {} {}", due.added, due.retracted)?;
     put_said(out, &left.stayed, "standing", wanted.as_bytes())?;
     put_said(out, &left.gone, "left", wanted.as_bytes())

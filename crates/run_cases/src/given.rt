@@ -3,7 +3,7 @@
 /// What a run is given: no more than bytes and numbers. A call that fails is told by its number
 /// among those of its kind, counted from 1, and 0 is none.
 #[derive(Clone, Copy)]
-pub struct Given<'a> {
+pub struct RunInput<'a> {
     /// The words, as a field has them, the program's name first.
     pub words: &'a [u8],
     pub texts: Texts<'a>,

@@ -1,6 +1,6 @@
 //! What a run leaves behind, as bytes.
 
-use crate::outside::Outside;
+use crate::outside::RunArguments;
 use rpq_base::Entry;
 use rpq_io::{MemoryFiles, MemorySink};
 use rpq_run::{Answered, Report};
@@ -11,7 +11,7 @@ use text_parts::push_decimal;
 
 /// What a run leaves behind.
 #[derive(Drop)]
-pub struct Left {
+pub struct RunOutput {
     pub status: u8,
     pub history: Vec<Entry>,
     /// How many sources the report has.
@@ -35,21 +35,21 @@ pub struct Left {
 /// What a run leaves behind with this report, these sinks and these objects.
 pub fn left_of(
     alloc: Global,
-    outside: Outside,
+    outside: RunArguments,
     standing: Vec<Box<dyn Standing>>,
     report: Report<MemoryFiles>,
-) -> anyhow::Result<Left> {
+) -> anyhow::Result<RunOutput> {
     let mut report = report;
-    let mut left = Left::new(alloc, report.status);
+    let mut left = RunOutput::new(alloc, report.status);
     left.note(alloc, &outside, &standing, &report)?;
     mem::swap(&mut left.history, &mut report.history);
     Ok(left)
 }
 
-impl Left {
+impl RunOutput {
     /// Nothing but a status.
-    fn new(alloc: Global, status: u8) -> Left {
-        Left {
+    fn new(alloc: Global, status: u8) -> RunOutput {
+        RunOutput {
             status,
             history: Vec::new(alloc),
             sources: 0,
@@ -68,7 +68,7 @@ impl Left {
     fn note(
         &mut self,
         alloc: Global,
-        outside: &Outside,
+        outside: &RunArguments,
         standing: &[Box<dyn Standing>],
         report: &Report<MemoryFiles>,
     ) -> anyhow::Result<()> {

@@ -1,7 +1,7 @@
 //! A run over what is given.
 
-use crate::given::Given;
-use crate::left::{Left, left_of};
+use crate::given::RunInput;
+use crate::left::{RunOutput, left_of};
 use crate::outside::outside_of;
 use rpq_base::Memory;
 use rpq_io::OpenGate;
@@ -17,8 +17,8 @@ use std::thread::Threads;
 pub fn left_by<R: RandomSource + Threads + Wait + Sync>(
     rt: &R,
     alloc: Global,
-    given: &Given,
-) -> anyhow::Result<Left> {
+    given: &RunInput,
+) -> anyhow::Result<RunOutput> {
     let mut standing: Vec<Box<dyn Standing>> = Vec::new(alloc);
     if let Some(tally) = tally_of(alloc, given)? {
         standing.push(tally)?;
@@ -38,7 +38,7 @@ pub fn left_by<R: RandomSource + Threads + Wait + Sync>(
 }
 
 /// A tally of all events, if one is to be among the objects.
-fn tally_of(alloc: Global, given: &Given) -> Result<Option<Box<Tally>>, Memory> {
+fn tally_of(alloc: Global, given: &RunInput) -> Result<Option<Box<Tally>>, Memory> {
     if given.is_counted {
         Ok(Some(Box::new(alloc, Tally::all(alloc)?)?))
     } else {

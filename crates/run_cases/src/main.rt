@@ -57,7 +57,7 @@ mod runs;
 
 use case_lines::{Fields, Output, answer_lines};
 use engines::{Way, answer_engine};
-use request::Request;
+use request::RunRequest;
 use std::alloc::Global;
 use std::random::RandomSource;
 use std::sync::Wait;
@@ -68,17 +68,17 @@ fn answer<R: RandomSource + Threads + Wait + Sync>(
     rt: &R,
     alloc: Global,
     out: &mut Output,
-    request: Request,
+    request: RunRequest,
     fields: Fields,
 ) -> anyhow::Result<()> {
     match request {
-        Request::Engine => answer_engine(rt, alloc, out, Way::Each, fields),
-        Request::Front => answer_engine(rt, alloc, out, Way::Front, fields),
-        Request::Rebuild => answer_engine(rt, alloc, out, Way::Rebuilt, fields),
-        Request::Run => runs::answer_run(rt, alloc, out, fields),
-        Request::Calls => runs::answer_calls(rt, alloc, out, fields),
-        Request::Readers => readers::answer_readers(rt, alloc, out, fields),
-        Request::Faults => faults::answer_faults(rt, alloc, out, fields),
+        RunRequest::Engine => answer_engine(rt, alloc, out, Way::Each, fields),
+        RunRequest::Front => answer_engine(rt, alloc, out, Way::Front, fields),
+        RunRequest::Rebuild => answer_engine(rt, alloc, out, Way::Rebuilt, fields),
+        RunRequest::Run => runs::answer_run(rt, alloc, out, fields),
+        RunRequest::Calls => runs::answer_calls(rt, alloc, out, fields),
+        RunRequest::Readers => readers::answer_readers(rt, alloc, out, fields),
+        RunRequest::Faults => faults::answer_faults(rt, alloc, out, fields),
     }
 }
 
@@ -90,7 +90,7 @@ fn answer_keyword<R: RandomSource + Threads + Wait + Sync>(
     keyword: &[u8],
     fields: Fields,
 ) -> anyhow::Result<bool> {
-    match Request::named(keyword) {
+    match RunRequest::named(keyword) {
         Some(request) => {
             answer(rt, alloc, out, request, fields)?;
             Ok(true)

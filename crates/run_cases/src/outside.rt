@@ -2,14 +2,14 @@
 
 ghost use Rattle.std.specs.Prelude.{List, ℕ, None, ◌≡◌, ◌≢◌, codes};
 
-use crate::given::Given;
+use crate::given::RunInput;
 use case_lines::{decoded, words_of};
 use rpq_io::{Files, MemoryFiles, MemorySink};
 use std::alloc::Global;
 
 /// What a run is handed.
 #[derive(Drop)]
-pub struct Outside {
+pub struct RunArguments {
     pub words: Vec<String>,
     pub files: MemoryFiles,
     pub events: MemorySink,
@@ -17,10 +17,10 @@ pub struct Outside {
 }
 
 /// The outside of a run that is given this.
-pub fn outside_of(alloc: Global, given: &Given) -> anyhow::Result<Outside> {
+pub fn outside_of(alloc: Global, given: &RunInput) -> anyhow::Result<RunArguments> {
     let sizes = &given.sizes;
     let faults = &given.faults;
-    Ok(Outside {
+    Ok(RunArguments {
         words: words_of(alloc, given.words)?,
         events: sink(alloc, sizes.events, sizes.write, faults.event)?,
         errors: sink(alloc, sizes.others, sizes.write, faults.error)?,
@@ -35,7 +35,7 @@ fn sink(alloc: Global, room: usize, piece: usize, fails: u64) -> anyhow::Result<
 }
 
 /// The files of what is given.
-fn files_of(alloc: Global, given: &Given) -> anyhow::Result<MemoryFiles> {
+fn files_of(alloc: Global, given: &RunInput) -> anyhow::Result<MemoryFiles> {
     let sizes = &given.sizes;
     let faults = &given.faults;
     let piece = sizes.write.max(1);
@@ -51,7 +51,7 @@ fn files_of(alloc: Global, given: &Given) -> anyhow::Result<MemoryFiles> {
 }
 
 /// Puts each of the files that are given among files that have none of their names.
-fn put_files(alloc: Global, files: &mut MemoryFiles, given: &Given) -> anyhow::Result<()>
+fn put_files(alloc: Global, files: &mut MemoryFiles, given: &RunInput) -> anyhow::Result<()>
     requires { (name : List ℕ) → ⟦<MemoryFiles as Files>⟧.holds files.old name ≡ None }
 {
     let texts = &given.texts;
@@ -62,7 +62,7 @@ fn put_files(alloc: Global, files: &mut MemoryFiles, given: &Given) -> anyhow::R
 }
 
 /// Puts the streams that are given among files that have none of their names.
-fn put_streams(alloc: Global, files: &mut MemoryFiles, given: &Given) -> anyhow::Result<()>
+fn put_streams(alloc: Global, files: &mut MemoryFiles, given: &RunInput) -> anyhow::Result<()>
     requires { (name : List ℕ) → ⟦<MemoryFiles as Files>⟧.holds files.old name ≡ None }
     ensures { (other : List ℕ) → other ≢ codes "s" → other ≢ codes "t" → other ≢ codes "u"
         → ⟦<MemoryFiles as Files>⟧.holds files.new other
@@ -78,7 +78,7 @@ fn put_streams(alloc: Global, files: &mut MemoryFiles, given: &Given) -> anyhow:
 fn put_file(
     alloc: Global,
     files: &mut MemoryFiles,
-    given: &Given,
+    given: &RunInput,
     name: &str,
     text: Option<&[u8]>,
 ) -> anyhow::Result<()>

@@ -1,7 +1,7 @@
 //! Runs over several streams beside readers, of which the replies are told.
 
-use crate::given::{Faults, Given, Sizes, Texts};
-use crate::left::Left;
+use crate::given::{Faults, RunInput, Sizes, Texts};
+use crate::left::RunOutput;
 use crate::made::left_by;
 use case_lines::{Fields, Output};
 use rpq_base::Entry;
@@ -29,9 +29,9 @@ pub fn answer_readers<R: RandomSource + Threads + Wait + Sync>(
 }
 
 /// What the fields give.
-fn given<'a>(fields: Fields<'a>) -> Given<'a> {
+fn given<'a>(fields: Fields<'a>) -> RunInput<'a> {
     let mut fields = fields;
-    Given {
+    RunInput {
         sizes: Sizes::of(fields.number() as usize, ROOM),
         words: fields.next(),
         texts: Texts {
@@ -47,7 +47,7 @@ fn given<'a>(fields: Fields<'a>) -> Given<'a> {
 }
 
 /// Puts what a run with readers left behind.
-fn put_readers(out: &mut Output, left: &Left) -> anyhow::Result<()> {
+fn put_readers(out: &mut Output, left: &RunOutput) -> anyhow::Result<()> {
     out.put_shown(&left.status)?;
     put_counts(out, &left.history)?;
     out.put("|")?;

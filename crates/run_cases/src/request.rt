@@ -2,7 +2,7 @@
 
 /// What is asked.
 #[derive(Clone, Copy)]
-pub enum Request {
+pub enum RunRequest {
     Engine,
     Front,
     Rebuild,
@@ -12,17 +12,17 @@ pub enum Request {
     Faults,
 }
 
-impl Request {
+impl RunRequest {
     /// What the keyword asks.
-    pub fn named(keyword: &[u8]) -> Option<Request> {
+    pub fn named(keyword: &[u8]) -> Option<RunRequest> {
         match keyword {
-            b"engine" => Some(Request::Engine),
-            b"front" => Some(Request::Front),
-            b"rebuild" => Some(Request::Rebuild),
-            b"run" => Some(Request::Run),
-            b"calls" => Some(Request::Calls),
-            b"readers" => Some(Request::Readers),
-            b"faults" => Some(Request::Faults),
+            b"engine" => Some(RunRequest::Engine),
+            b"front" => Some(RunRequest::Front),
+            b"rebuild" => Some(RunRequest::Rebuild),
+            b"run" => Some(RunRequest::Run),
+            b"calls" => Some(RunRequest::Calls),
+            b"readers" => Some(RunRequest::Readers),
+            b"faults" => Some(RunRequest::Faults),
             _ => None,
         }
     }

@@ -1,7 +1,7 @@
 //! Runs over one stream, of which all bytes are told.
 
-use crate::given::{Faults, Given, Sizes, Texts};
-use crate::left::Left;
+use crate::given::{Faults, RunInput, Sizes, Texts};
+use crate::left::RunOutput;
 use crate::made::left_by;
 use case_lines::{Fields, Output};
 use std::alloc::Global;
@@ -34,7 +34,7 @@ pub fn answer_calls<R: RandomSource + Threads + Wait + Sync>(
 }
 
 /// What the fields of `run` give.
-fn run_given<'a>(fields: Fields<'a>) -> Given<'a> {
+fn run_given<'a>(fields: Fields<'a>) -> RunInput<'a> {
     let mut fields = fields;
     let sizes = Sizes::of(fields.number() as usize, ROOM);
     let opening = fields.number();
@@ -52,7 +52,7 @@ fn run_given<'a>(fields: Fields<'a>) -> Given<'a> {
         opened: fields.number(),
         ..Faults::none()
     };
-    Given {
+    RunInput {
         words,
         texts,
         sizes,
@@ -62,7 +62,7 @@ fn run_given<'a>(fields: Fields<'a>) -> Given<'a> {
 }
 
 /// What the fields of `calls` give.
-fn calls_given<'a>(fields: Fields<'a>) -> Given<'a> {
+fn calls_given<'a>(fields: Fields<'a>) -> RunInput<'a> {
     let mut fields = fields;
     let sizes = Sizes {
         read: fields.number() as usize,
@@ -84,7 +84,7 @@ fn calls_given<'a>(fields: Fields<'a>) -> Given<'a> {
         s: Some(fields.next()),
         ..Texts::none()
     };
-    Given {
+    RunInput {
         words,
         texts,
         sizes,
@@ -94,7 +94,7 @@ fn calls_given<'a>(fields: Fields<'a>) -> Given<'a> {
 }
 
 /// Puts what a run left behind.
-fn put_run(out: &mut Output, left: &Left) -> anyhow::Result<()> {
+fn put_run(out: &mut Output, left: &RunOutput) -> anyhow::Result<()> {
     out.put_shown(&left.status)?;
     out.put(" ")?;
     out.put_bytes(&left.events)?;

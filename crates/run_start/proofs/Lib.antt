@@ -2,3 +2,4 @@ pub mod Modes
 pub mod Using
 pub mod Opening
 pub mod SinkSteps
+mod OrderOfFiles

@@ -1,8 +1,8 @@
 -- What settings say of a run over streams.
 use Rattle.std.proofs.Common.{arith, ◌≡◌, true, false, List, [], ◌∷◌, length, refl, subst, sym}
 use Rattle.std.specs.Prelude.{Option, Some, None, is_some}
-use Rattle.rpq_words.specs.declared.settings.Mode.{Mode}
-use Rattle.rpq_words.specs.declared.settings.Mode.TheVariants.{Check, Generate, Streams}
+use Rattle.rpq_words.specs.declared.settings.RunMode.{RunMode}
+use Rattle.rpq_words.specs.declared.settings.RunMode.TheVariants.{Check, Generate, Streams}
 use Rattle.rpq_words.specs.declared.settings.StreamSettings.{StreamSettings}
 use Rattle.rpq_words.specs.declared.settings.StreamSettings.TheVariants.{BothWays, Forwards}
 use Rattle.rpq_words.specs.declared.settings.Input.{Input}
@@ -22,7 +22,8 @@ some_streams given run is are = by given.mode is are.mode
     by_input save (Fresh streams) within = within
     by_input save (Resumed from stream) another = (omega arith, omega arith)
 
-    by : (mode : Mode) → mode ≡ Streams run → IsMode mode → IsWithin 64 (length (streams_in mode))
+    by : (mode : RunMode) → mode ≡ Streams run → IsMode mode → IsWithin 64
+        (length (streams_in mode))
     by (Check directions) is within = absurd (cc is)
     by (Generate directions count) is within = absurd (cc is)
     by (Streams (BothWays streams)) is within = within
@@ -37,7 +38,7 @@ one_stream given is = by given.mode is
     by_input (Fresh streams) is = absurd (cc is)
     by_input (Resumed from stream) is = refl
 
-    by : (mode : Mode) → true ≡ is_some (from_of (record given { mode = mode }))
+    by : (mode : RunMode) → true ≡ is_some (from_of (record given { mode = mode }))
         → length (streams_in mode) ≡ 1
     by (Check directions) is = absurd (cc is)
     by (Generate directions count) is = absurd (cc is)
@@ -48,7 +49,7 @@ one_stream given is = by given.mode is
 pub unasked : (given : Settings) → two_way_of given ≡ true → asks_of given ≡ None
 unasked given is = by given.mode is
   where
-    by : (mode : Mode) → two_way_in mode ≡ true → asks_of (record given { mode = mode }) ≡ None
+    by : (mode : RunMode) → two_way_in mode ≡ true → asks_of (record given { mode = mode }) ≡ None
     by (Check directions) is = refl
     by (Generate directions count) is = refl
     by (Streams (BothWays streams)) is = refl
@@ -58,7 +59,7 @@ unasked given is = by given.mode is
 pub forwards_alone : (given : Settings) → paths_of given ≡ true → two_way_of given ≡ false
 forwards_alone given is = by given.mode is
   where
-    by : (mode : Mode) → paths_in (forwards_in mode) ≡ true → two_way_in mode ≡ false
+    by : (mode : RunMode) → paths_in (forwards_in mode) ≡ true → two_way_in mode ≡ false
     by (Check directions) is = absurd (cc is)
     by (Generate directions count) is = absurd (cc is)
     by (Streams (BothWays streams)) is = absurd (cc is)

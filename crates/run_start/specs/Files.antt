@@ -45,7 +45,7 @@ abbrev pub IsFaultyFile : Bool → Option (List ℕ) → QueryFault → Type 0
 IsFaultyFile two_way file fault =
     (fault.kind ≢ Memory) × IfSome file (λ bytes. HasFault two_way bytes fault)
 
--- a joins file over these queries has these bytes, which are not too many, and these conjunctions
+-- a joins file over these queries has these bytes, which are not too many, and these joins
 abbrev pub HasJoins : List Query → List ℕ → List JoinValue → Type 0
 HasJoins queries bytes found = (length bytes < file_limit) × (joins queries bytes ≡ Ok found)
 
@@ -54,15 +54,15 @@ abbrev pub HasJoinsFault : List Query → List ℕ → JoinFileFault → Type 0
 HasJoinsFault queries bytes fault =
     (length bytes < file_limit) × (joins queries bytes ≡ Err fault)
 
--- the conjunctions of a run over these queries, where the bytes of the joins file are told, and
--- this holds of them; where no joins file is named there is none
+-- the joins of a run over these queries, where the bytes of the joins file are told, and this holds
+-- of them; where no joins file is named there is none
 abbrev pub ForJoins : Settings → (List ℕ → Option (List ℕ)) → List Query
     → (List JoinValue → Type 0) → Type 0
 ForJoins given holds queries P = MatchOption (joins_of given) (P []) (λ name. IfSome (holds name)
     (λ bytes. (found : List JoinValue) × HasJoins queries bytes found × P found))
 
--- what is evaluated in a run: its queries and the conjunctions over them, where the bytes of their
--- files are told, and this holds of them
+-- what is evaluated in a run: its queries and the joins over them, where the bytes of their files
+-- are told, and this holds of them
 abbrev pub ForJoined : Settings → (List ℕ → Option (List ℕ))
     → (List Query → List JoinValue → Type 0) → Type 0
 ForJoined given holds P = ForQueries (two_way_of given) (holds given.queries)

@@ -4,3 +4,4 @@ pub mod Readers
 pub mod Start
 pub mod Ready
 pub mod Steps
+pub mod Laws

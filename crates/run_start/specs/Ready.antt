@@ -7,7 +7,7 @@ use Rattle.query_file.specs.Compiled.{CompiledValue, IsCompiled}
 use Rattle.join_file.specs.Sound.{IsSound}
 use Rattle.ask_text.specs.Ranges.{IsSession}
 use Rattle.rpq_words.specs.declared.settings.Directions.{Directions}
-use Rattle.rpq_words.specs.declared.settings.Mode.TheVariants.{Check, Generate, Streams}
+use Rattle.rpq_words.specs.declared.settings.RunMode.TheVariants.{Check, Generate, Streams}
 use Rattle.rpq_words.specs.declared.settings.StreamSettings.{StreamSettings}
 use Rattle.rpq_words.specs.declared.settings.Settings.{Settings}
 use Rattle.rpq_words.specs.Views.{asks_of, from_of, joins_of, replies_of, save_of, two_way_of}
@@ -18,7 +18,7 @@ use Rattle.rpq_text.specs.declared.ends.StartFault.TheVariants.{Words, Queries, 
 use Rattle.rpq_text.specs.declared.ends.StartFault.TheVariants.{Open, Read, Long, Memory}
 use Rattle.run_start.specs.Files.{ForJoins, ForSessions, HasQueries, stream_contents}
 use Rattle.run_start.specs.Readers.{AreNew, contents_of, is_behind}
-use Rattle.run_start.specs.declared.ready.Reads.{Reads}
+use Rattle.run_start.specs.declared.ready.StreamsPlan.{StreamsPlan}
 use Rattle.run_start.specs.declared.ready.Work.{Work}
 use Rattle.run_start.specs.declared.ready.Work.TheVariants.{Check as Checks, Generate as Generates}
 use Rattle.run_start.specs.declared.ready.Work.TheVariants.{Read as Reading}
@@ -54,11 +54,11 @@ pub record AreNewSinks {K : Type 0} (written : K → Option (List ℕ)) (failure
   pub new_save : IfSome sinks.save (IsNewSink written failures)
 
 -- what is read and answered in a run over streams: a new reader of each stream, in order, with the
--- saved window in front of it where one is named; the conjunctions of the joins file and the
--- sessions of the asks file, not too many of each, and each about the queries; and the sinks
+-- saved window in front of it where one is named; the joins of the joins file and the sessions of
+-- the asks file, not too many of each, and each about the queries; and the sinks
 pub record IsReading {S K : Type 0} (left : S → Option (List ℕ)) (faults : S → ℕ)
     (written : K → Option (List ℕ)) (failures : K → ℕ) (given : Settings)
-    (holds : List ℕ → Option (List ℕ)) (queries : List CompiledValue) (reading : Reads S K)
+    (holds : List ℕ → Option (List ℕ)) (queries : List CompiledValue) (reading : StreamsPlan S K)
     : Type 0 where
   pub run : StreamSettings
   pub mode : given.mode ≡ Streams run
@@ -77,7 +77,7 @@ pub record IsReading {S K : Type 0} (left : S → Option (List ℕ)) (faults : S
 
 -- the work that the settings ask for: a check, the evaluation over so many generated tuples, or
 -- that over streams, for which this holds of what is read
-abbrev pub IsWork : {S K : Type 0} → Settings → (Reads S K → Type 0) → Work S K → Type 0
+abbrev pub IsWork : {S K : Type 0} → Settings → (StreamsPlan S K → Type 0) → Work S K → Type 0
 IsWork given P Checks = (directions : Directions) × (given.mode ≡ Check directions)
 IsWork given P (Generates directions count) = given.mode ≡ Generate directions count
 IsWork given P (Reading reads) = P reads

@@ -75,8 +75,8 @@ pub record OpensSink {F : Type 0} (holds : F → List ℕ → Option (List ℕ))
   pub opened_stays : opened new ≡ opened old
   pub unread_stays : (any : List ℕ) → unread new any ≡ unread old any
 
--- why the bytes of a joins file give no conjunctions over these queries: their fault, which isn't
--- out of memory; or memory ran out
+-- why the bytes of a joins file give no joins over these queries: their fault, which isn't out of
+-- memory; or memory ran out
 abbrev pub IsFaultOfJoins : List Query → List ℕ → StartFault → Type 0
 IsFaultOfJoins queries bytes Words = ⊥
 IsFaultOfJoins queries bytes (Queries fault) = ⊥

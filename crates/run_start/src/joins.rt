@@ -23,8 +23,8 @@ use rpq_words::Settings;
 use std::alloc::Global;
 use std::sync::Arc;
 
-/// The conjunctions of the joins file over these queries, which are those of the queries file; none
-/// where no joins file is named.
+/// The joins of the joins file over these queries, which are those of the queries file; none where
+/// no joins file is named.
 pub fn joins_of_file<F: Files>(
     alloc: Global,
     files: &mut F,
@@ -60,14 +60,14 @@ pub fn joins_of_file<F: Files>(
     }
 }
 
-/// The conjunctions, to be shared.
+/// The joins, to be shared.
 fn shared(alloc: Global, joins: Vec<JoinDef>) -> Result<Arc<Vec<JoinDef>>, Memory>
     ensures { IfOk result (λ shared. shared.value.items ≡ joins.items) }
 {
     Ok(Arc::new(alloc, joins)?)
 }
 
-/// The conjunctions that these bytes of a joins file give over the queries.
+/// The joins that these bytes of a joins file give over the queries.
 fn joins_over(
     alloc: Global,
     bytes: &[u8],

@@ -10,6 +10,7 @@
 #![tactic(auto)]
 
 mod joins;
+mod laws;
 mod limits;
 mod queries;
 mod ready;
@@ -20,7 +21,8 @@ mod streams;
 mod whole;
 mod words;
 
-pub use ready::{Reads, Ready, Work, begin};
+pub use laws::{files_are_in_order, saved_comes_first};
+pub use ready::{RunPlan, StreamsPlan, Work, begin};
 pub use refusal::Refusal;
 pub use sinks::OwnSinks;
 pub use streams::Readers;

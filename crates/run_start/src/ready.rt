@@ -3,7 +3,7 @@
 ghost use Rattle.std.specs.Prelude.{◌≡◌, ◌∷◌, [], Some, option_to_list, IfOk, IfErr};
 ghost use Rattle.std.specs.Prelude.{IfSome};
 ghost use Rattle.rpq_words.specs.Modes.{AreSettings};
-ghost use Rattle.rpq_words.specs.declared.settings.Mode.{Mode};
+ghost use Rattle.rpq_words.specs.declared.settings.RunMode.{RunMode};
 ghost use Rattle.rpq_words.specs.Views.{asks_of, joins_of, two_way_of};
 ghost use Rattle.rpq_text.specs.Definitions.{definitions_of};
 ghost use Rattle.run_start.specs.Files.{HasQueries};
@@ -23,13 +23,13 @@ use ask_text::Session;
 use join_file::JoinDef;
 use query_file::Compiled;
 use rpq_io::{Files, Sink, Source};
-use rpq_words::{Directions, Mode, Settings, StreamSettings};
+use rpq_words::{Directions, RunMode, Settings, StreamSettings};
 use std::alloc::Global;
 use std::sync::Arc;
 
 /// What a run begins with.
 #[derive(Drop)]
-pub struct Ready<S: Source, K: Sink> {
+pub struct RunPlan<S: Source, K: Sink> {
     pub queries: Vec<Compiled>,
     /// What is done with them.
     pub work: Work<S, K>,
@@ -43,15 +43,15 @@ pub enum Work<S: Source, K: Sink> {
     /// They are evaluated over this many generated tuples.
     Generate(Directions, u64),
     /// They are evaluated over what is read.
-    Read(Reads<S, K>),
+    Read(StreamsPlan<S, K>),
 }
 
 /// What is read and answered in a run.
 #[derive(Drop)]
-pub struct Reads<S: Source, K: Sink> {
+pub struct StreamsPlan<S: Source, K: Sink> {
     /// The lines of each stream, in order, of which none was read.
     pub readers: Readers<S>,
-    /// The conjunctions over the queries, in the order of their file.
+    /// The joins over the queries, in the order of their file.
     pub joins: Arc<Vec<JoinDef>>,
     /// What each session asks, in order.
     pub sessions: Vec<Session>,
@@ -68,7 +68,7 @@ pub fn begin<F: Files>(
     alloc: Global,
     files: &mut F,
     chosen: &Settings,
-) -> Result<Ready<F::Source, F::Sink>, Refusal<F::Source>>
+) -> Result<RunPlan<F::Source, F::Sink>, Refusal<F::Source>>
     requires { AreSettings chosen.now }
     ensures ready { IfOk result (λ ready. IsReady F.Source.left F.Source.faults
         F.Sink.written F.Sink.faults chosen.now (F.holds files.old)
@@ -85,17 +85,17 @@ pub fn begin<F: Files>(
 {
     let queries = queries_of_file(alloc, files, chosen)?;
     match &chosen.mode {
-        Mode::Check(_directions) => Ok(Ready {
+        RunMode::Check(_directions) => Ok(RunPlan {
             queries,
             work: Work::Check,
         }),
-        Mode::Generate(directions, count) => Ok(Ready {
+        RunMode::Generate(directions, count) => Ok(RunPlan {
             queries,
             work: Work::Generate(*directions, *count),
         }),
-        Mode::Streams(run) => {
+        RunMode::Streams(run) => {
             let reads = begin_reading(alloc, files, chosen, run, &queries)?;
-            Ok(Ready {
+            Ok(RunPlan {
                 queries,
                 work: Work::Read(reads),
             })
@@ -111,9 +111,9 @@ fn begin_reading<F: Files>(
     chosen: &Settings,
     run: &StreamSettings,
     queries: &[Compiled],
-) -> Result<Reads<F::Source, F::Sink>, Refusal<F::Source>>
+) -> Result<StreamsPlan<F::Source, F::Sink>, Refusal<F::Source>>
     requires settings { AreSettings chosen.now }
-    requires streams { chosen.now.mode ≡ Mode.Streams run.now }
+    requires streams { chosen.now.mode ≡ RunMode.Streams run.now }
     requires understood { AreUnderstood queries.now }
     requires has { IfSome (F.holds files.old chosen.now.queries)
         (λ bytes. HasQueries (two_way_of chosen.now) bytes (definitions_of queries.now)) }
@@ -133,7 +133,7 @@ fn begin_reading<F: Files>(
     let sessions = sessions_of_file(alloc, files, chosen, queries)?;
     let readers = open_readers(alloc, files, chosen, run)?;
     let sinks = open_sinks(files, chosen)?;
-    Ok(Reads {
+    Ok(StreamsPlan {
         readers,
         joins,
         sessions,

@@ -4,7 +4,7 @@ ghost use Rattle.std.specs.Prelude.{◌≡◌, ◌≤◌, ◌∷◌, ◌++◌, [
 ghost use Rattle.std.specs.Prelude.{Some, option_to_list, IfOk, IfErr, IfSome};
 ghost use Rattle.rpq_io.specs.Files.{IsNewSource};
 ghost use Rattle.rpq_words.specs.Modes.{AreSettings};
-ghost use Rattle.rpq_words.specs.declared.settings.Mode.{Mode};
+ghost use Rattle.rpq_words.specs.declared.settings.RunMode.{RunMode};
 ghost use Rattle.rpq_words.specs.Views.{from_of, streams_of};
 ghost use Rattle.saved_window.specs.Then.{count_of, left_of_both, left_of_first, faults_of_both};
 ghost use Rattle.saved_window.specs.Then.{faults_of_first, join_known};
@@ -20,7 +20,7 @@ use rpq_base::Memory;
 use rpq_io::{Files, LineReader, OpenFault, Source};
 use rpq_text::{StartFault, Which};
 use rpq_words::{FileWord, Input, Settings, StreamNames, StreamSettings};
-use saved_window::{Alone, Behind, Front, Then};
+use saved_window::{NoPrefix, OnePrefix, Prefix, Then};
 use std::alloc::Global;
 use stream_tuples::{BYTE_LIMIT, LINE_LIMIT};
 
@@ -28,9 +28,9 @@ use stream_tuples::{BYTE_LIMIT, LINE_LIMIT};
 #[derive(Drop)]
 pub enum Readers<S: Source> {
     /// Each stream is what its file holds.
-    Alone(Vec<LineReader<Then<S, Alone>>>),
+    Alone(Vec<LineReader<Then<S, NoPrefix>>>),
     /// The one stream is what a saved window holds, and then what its file does.
-    Behind(Vec<LineReader<Then<S, Behind>>>),
+    Behind(Vec<LineReader<Then<S, OnePrefix>>>),
 }
 
 /// Readers of the lines of all streams, in order, which have read nothing yet. Where a saved window
@@ -42,7 +42,7 @@ pub fn open_readers<F: Files>(
     run: &StreamSettings,
 ) -> Result<Readers<F::Source>, Refusal<F::Source>>
     requires settings { AreSettings chosen.now }
-    requires streams { chosen.now.mode ≡ Mode.Streams run.now }
+    requires streams { chosen.now.mode ≡ RunMode.Streams run.now }
     requires understood { AreUnderstoodFiles chosen.now (F.holds files.old) }
     ensures contents { IfOk result (λ readers.
         stream_contents chosen.now (F.holds files.old) ≡ contents_of F.Source.left readers) }
@@ -74,7 +74,7 @@ fn open_streams<F: Files>(
     files: &mut F,
     chosen: &Settings,
     names: &StreamNames,
-) -> Result<Vec<LineReader<Then<F::Source, Alone>>>, Refusal<F::Source>>
+) -> Result<Vec<LineReader<Then<F::Source, NoPrefix>>>, Refusal<F::Source>>
     requires named { streams_of chosen.now ≡ names.now }
     requires few { length names.now ≤ 64 }
     requires understood { AreUnderstoodFiles chosen.now (F.holds files.old) }
@@ -106,7 +106,7 @@ fn open_behind<F: Files>(
     chosen: &Settings,
     name: &FileWord,
     stream: &FileWord,
-) -> Result<Vec<LineReader<Then<F::Source, Behind>>>, Refusal<F::Source>>
+) -> Result<Vec<LineReader<Then<F::Source, OnePrefix>>>, Refusal<F::Source>>
     requires named { from_of chosen.now ≡ Some name.now }
     requires one_stream { streams_of chosen.now ≡ stream.now ∷ [] }
     requires understood { AreUnderstoodFiles chosen.now (F.holds files.old) }
@@ -130,7 +130,7 @@ fn open_behind<F: Files>(
 
 /// A reader of the lines of the stream with this name and number, which has read nothing yet and
 /// reads the first source, if there is one, before the file.
-fn open_stream<F: Files, P: Front>(
+fn open_stream<F: Files, P: Prefix>(
     alloc: Global,
     files: &mut F,
     name: &str,

@@ -1,6 +1,9 @@
 //! Files that are read whole.
 
-ghost use Rattle.std.specs.Prelude.{◌≡◌, ◌<◌, length, option_to_list, IfOk, IfErr, IfSome};
+ghost use Rattle.std.specs.Prelude.{◌≡◌, ◌<◌, length, Some, None, option_to_list, IfOk, IfErr};
+ghost use Rattle.std.specs.Prelude.{IfSome};
+ghost use Rattle.rpq_io.specs.declared.fault.AllFault.{AllFault};
+ghost use Rattle.rpq_text.specs.declared.ends.StartFault.{StartFault};
 ghost use Rattle.rpq_text.specs.Limits.{file_limit};
 ghost use Rattle.run_start.specs.Ready.{IsReadWhole, fault_of};
 ghost use Rattle.run_start.specs.Start.{AreSourcesOf};
@@ -38,11 +41,25 @@ pub fn whole_file<F: Files>(
     };
     match read_all(alloc, &mut source, FILE_LIMIT) {
         Ok(bytes) => Ok(bytes),
-        Err(AllFault::Read) => Err(Refusal {
+        Err(fault) => Err(refusal_of(fault, which, source)),
+    }
+}
+
+/// The refusal for this fault of reading the file whole; the source is left where a read failed.
+fn refusal_of<S: Drop>(fault: AllFault, which: Which, source: S) -> Refusal<S>
+    ensures read { fault ≡ AllFault.Read →
+        result ≡ record { fault = StartFault.Read which; source = Some source } }
+    ensures long { fault ≡ AllFault.Long →
+        result ≡ record { fault = StartFault.Long which; source = None } }
+    ensures memory { fault ≡ AllFault.Memory →
+        result ≡ record { fault = StartFault.Memory; source = None } }
+{
+    match fault {
+        AllFault::Read => Refusal {
             fault: StartFault::Read(which),
             source: Some(source),
-        }),
-        Err(AllFault::Long) => Err(without_source(StartFault::Long(which))),
-        Err(AllFault::Memory) => Err(without_source(StartFault::Memory)),
+        },
+        AllFault::Long => without_source(StartFault::Long(which)),
+        AllFault::Memory => without_source(StartFault::Memory),
     }
 }

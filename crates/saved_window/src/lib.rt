@@ -23,4 +23,4 @@ mod then;
 pub use laws::{saved_continues, saved_example, saved_text_is_read};
 pub use saving::saved;
 pub use text::{push_saved, saved_text};
-pub use then::{Alone, Behind, Front, Then};
+pub use then::{NoPrefix, OnePrefix, Prefix, Then};

@@ -13,24 +13,24 @@ use std::marker::{Model, PhantomData};
 
 /// Whether a source is read before the second one of a [`Then`]. A type says so, and no value, so
 /// that it stays known whatever is read.
-pub trait Front {
+pub trait Prefix {
     /// How many sources are read before: none or one.
     ghost COUNT: { ℕ };
 }
 
 /// No source is read before.
 #[derive(Clone, Copy, Debug)]
-pub struct Alone;
+pub struct NoPrefix;
 
-impl Front for Alone {
+impl Prefix for NoPrefix {
     ghost COUNT = { 0 };
 }
 
 /// One source is read before.
 #[derive(Clone, Copy, Debug)]
-pub struct Behind;
+pub struct OnePrefix;
 
-impl Front for Behind {
+impl Prefix for OnePrefix {
     ghost COUNT = { 1 };
 }
 
@@ -40,14 +40,14 @@ impl Front for Behind {
 /// It takes no memory, and a read of it is one read of a source, or two where the first tells its
 /// end.
 #[derive(Drop)]
-pub struct Then<S: Source, P: Front> {
+pub struct Then<S: Source, P: Prefix> {
     first: Option<S>,
     second: S,
     is_past_first: bool,
     front: PhantomData<P>,
 }
 
-impl<S: Source, P: Front> Model for Then<S, P> {
+impl<S: Source, P: Prefix> Model for Then<S, P> {
     ghost use Rattle.saved_window.specs.Then.{TwoSources, IsKnownOver};
 
     ghost Value = { TwoSources S };
@@ -58,7 +58,7 @@ impl<S: Source, P: Front> Model for Then<S, P> {
         IsKnownOver S.left S.has_told_end P.COUNT then.first then.is_past_first };
 }
 
-impl<S: Source, P: Front> Then<S, P> {
+impl<S: Source, P: Prefix> Then<S, P> {
     /// The first source, if there is one, and then the second.
     pub fn new(first: Option<S>, second: S) -> Then<S, P>
         requires there { count_of first ≡ P.COUNT }
@@ -117,7 +117,7 @@ impl<S: Source, P: Front> Then<S, P> {
     }
 }
 
-impl<S: Source, P: Front> Source for Then<S, P> {
+impl<S: Source, P: Prefix> Source for Then<S, P> {
     ghost left = { λ then. left_of_both S.left then };
 
     ghost has_told_end = { λ then. S.has_told_end then.second };

@@ -7,7 +7,7 @@ ghost use Rattle.source_table.specs.Places.{place_of};
 
 use crate::places::Places;
 use rpq_base::{Memory, Workers};
-use rpq_io::{Context, Gate, Who};
+use run_context::{Context, Gate, Who};
 use source_tree::{Change, ProductGraph, SourceTree};
 use std::thread;
 use std::thread::Threads;

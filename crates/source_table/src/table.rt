@@ -10,7 +10,7 @@ use crate::part::{change_all, check, choose, chunk_size};
 use crate::places::Places;
 use due_queue::give_back;
 use rpq_base::{Memory, Workers};
-use rpq_io::{Context, Gate};
+use run_context::{Context, Gate};
 use source_tree::{Change, ProductGraph, SourceTree};
 use std::alloc::Global;
 use std::marker::Model;

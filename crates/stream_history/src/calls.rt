@@ -1,6 +1,6 @@
 //! What threads do with a history.
 
-ghost use Rattle.std.specs.Prelude.{◌≡◌, ℕ, ◌<◌, ◌≤◌, ◌↔◌, Some, Err, length, take, drop};
+ghost use Rattle.std.specs.Prelude.{◌≡◌, ℕ, ◌<◌, ◌≤◌, ◌↔◌, Some, None, Err, length, take, drop};
 ghost use Rattle.std.specs.Prelude.{IsTrue, IfOk, IfErr, OnOk, OnErr};
 ghost use Rattle.rpq_base.specs.Plain.{IsPlainTuple};
 ghost use Rattle.history_model.specs.declared.line.Why.{Why as Reason};
@@ -8,11 +8,11 @@ ghost use Rattle.history_model.specs.Lines.{append_line, end_line, publish_line,
 ghost use Rattle.history_model.specs.Lines.{entries, published, AllEnded, IsShutFor};
 ghost use Rattle.stream_history.specs.Journal.{ShowsFront, IsSound};
 ghost use Rattle.stream_history.specs.History.{IsPassOf, IsOpenPass, IsEnginePass, IsFeedingPass};
-ghost use Rattle.stream_history.specs.History.{HasSeen, HasAdded, AreFull};
+ghost use Rattle.stream_history.specs.History.{HasSeen, HasAdded, AreFull, IsOver};
 ghost use Rattle.stream_history.specs.declared.fault.AppendFault.{AppendFault as NotAppended};
 ghost use Rattle.stream_history.specs.declared.fault.PublishFault.{PublishFault as NotPublished};
 
-use crate::bell::Heard;
+use crate::bell::{EntryRings, ViewRings};
 use crate::fault::{AppendFault, PublishFault};
 use crate::history::{History, Pass};
 use crate::journal::Journal;
@@ -25,23 +25,25 @@ use std::sync::{Arc, Wait};
 /// The most entries that one [`History::after`] gives.
 const MOST: usize = 256;
 
-/// The entries behind a position, or the first of them, how many entries there are, and whether all
-/// streams have ended.
+/// The entries behind a position, or the first of them, how many entries there are, whether all
+/// streams have ended, and what the bell of the entries had heard by then.
 #[derive(Drop)]
 pub struct Front {
     pub entries: Vec<Entry>,
     pub length: u64,
     pub all_ended: bool,
+    pub heard: EntryRings,
 }
 
 /// The view that was published last, how many entries there are, whether all streams have ended,
-/// and why the history was shut, if it was.
+/// why the history was shut, if it was, and what the bell of the views had heard by then.
 #[derive(Drop)]
 pub struct Looked {
     pub view: Arc<View>,
     pub length: u64,
     pub all_ended: bool,
     pub shut: Option<Why>,
+    pub heard: ViewRings,
 }
 
 impl History {
@@ -66,7 +68,7 @@ impl History {
         let mut journal = self.turns.take(rt, pass);
         let answer = journal.append(stream, tuple);
         self.turns.give(pass, journal);
-        self.entry_bell.ring();
+        self.entry_bell.ring(pass);
         answer
     }
 
@@ -79,8 +81,8 @@ impl History {
         let mut journal = self.turns.take(rt, pass);
         journal.end_stream(stream);
         self.turns.give(pass, journal);
-        self.entry_bell.ring();
-        self.view_bell.ring();
+        self.entry_bell.ring(pass);
+        self.view_bell.ring(pass);
     }
 
     /// Publishes a view over the first entries, as many as its position says.
@@ -111,16 +113,18 @@ impl History {
         let answer = journal.publish(view);
         let are_ended = journal.all_ended();
         self.turns.give(pass, journal);
-        self.ring_for_view(position, are_ended);
+        self.ring_for_view(pass, position, are_ended);
         answer
     }
 
-    // Wakes those who wait for this position, or all where no further entry is to come.
-    fn ring_for_view(&self, position: u64, are_ended: bool) {
+    // Wakes those who wait for this position, or all if no further entry is to come.
+    fn ring_for_view(&self, pass: &Pass, position: u64, are_ended: bool)
+        requires { pass.now.found ≡ None }
+    {
         if are_ended {
-            self.view_bell.ring();
+            self.view_bell.ring(pass);
         } else {
-            self.view_bell.ring_at(position);
+            self.view_bell.ring_at(pass, position);
         }
     }
 
@@ -133,8 +137,8 @@ impl History {
         let mut journal = self.turns.take(rt, pass);
         journal.shut(why);
         self.turns.give(pass, journal);
-        self.entry_bell.ring();
-        self.view_bell.ring();
+        self.entry_bell.ring(pass);
+        self.view_bell.ring(pass);
     }
 
     /// The entries behind so many first ones, all of them or the first 256.
@@ -157,9 +161,10 @@ impl History {
         ensures length { IfOk result (λ front. front.length ≡ length (entries pass.new.seen)) }
         ensures all_ended { IfOk result (λ front.
             IsTrue front.all_ended ↔ AllEnded self.now.terms.streams pass.new.seen) }
+        ensures heard { IfOk result (λ front. front.heard ≡ pass.new.seen) }
     {
         let journal = self.turns.take(rt, pass);
-        let front = front_of(alloc, &journal, from);
+        let front = front_of(alloc, &journal, from, self.entry_bell.heard(&journal));
         self.turns.give(pass, journal);
         front
     }
@@ -178,56 +183,61 @@ impl History {
             IsTrue looked.all_ended ↔ AllEnded self.now.terms.streams pass.new.seen) }
         ensures shut { IfOk result (λ looked. (why : Reason) →
             (looked.shut ≡ Some why) ↔ IsShutFor pass.new.seen why) }
+        ensures heard { IfOk result (λ looked. looked.heard ≡ pass.new.seen) }
     {
         let journal = self.turns.take(rt, pass);
-        let looked = look_at(&journal);
+        let looked = look_at(&journal, self.view_bell.heard(&journal));
         self.turns.give(pass, journal);
         looked
     }
 
-    /// How often so far an entry was appended, a stream ended, or the history was shut. It costs
-    /// no turn.
+    /// Sleeps until an entry is appended, a stream ends, or the history is shut, unless some of this
+    /// came since a [`History::after`] heard this. It may return earlier, so look again after it.
     ///
-    /// Ask before [`History::after`], and sleep by [`History::sleep_until_entries`] only where that
-    /// found nothing to do.
-    pub fn entries_heard(&self) -> Heard {
-        self.entry_bell.heard()
-    }
-
-    /// Sleeps until an entry is appended, a stream ends, or the history is shut, where none of this
-    /// came since `heard` was asked. It may return earlier, so look again after it.
-    ///
-    /// No clause says that anybody is woken.
-    pub fn sleep_until_entries<R: Wait>(&self, rt: &R, heard: Heard) {
+    /// Who sleeps has nothing to do: it answered all the entries that were there, published the
+    /// answers if there are readers, and further entries may come. `answered` says how many entries
+    /// it answered; contracts alone read it and the pass. No clause says that anybody is woken.
+    pub fn sleep_until_entries<R: Wait>(
+        &self,
+        rt: &R,
+        pass: &Pass,
+        heard: EntryRings,
+        answered: u64,
+    )
+        requires engine { IsFeedingPass self.now pass.now }
+        requires heard { heard ≡ pass.now.seen }
+        requires answered { answered ≡ length (entries pass.now.seen) }
+        requires goes_on { AllEnded self.now.terms.streams pass.now.seen → ⊥ }
+        requires published { 0 < self.now.readers → published pass.now.mine ≡ answered }
+    {
+        let _ = pass;
+        let _ = answered;
         self.entry_bell.sleep(rt, heard);
     }
 
-    /// How often so far those who wait for views were woken. It costs no turn.
-    ///
-    /// Ask before [`History::look`], and sleep by [`History::sleep_until_views`] only where that
-    /// found nothing to do.
-    pub fn views_heard(&self) -> Heard {
-        self.view_bell.heard()
-    }
-
     /// Sleeps until a view at this position or a later one is published, a stream ends, the last
-    /// view is published, or the history is shut, where none of this came since `heard` was asked.
-    /// It may return earlier, so look again after it.
+    /// view is published, or the history is shut, unless some of this came since a
+    /// [`History::look`] heard this. It may return earlier, so look again after it.
     ///
-    /// No clause says that anybody is woken.
-    pub fn sleep_until_views<R: Wait>(&self, rt: &R, heard: Heard, position: u64) {
+    /// Who sleeps has nothing to do: the position wasn't published, and a further one may come. No
+    /// clause says that anybody is woken.
+    pub fn sleep_until_views<R: Wait>(&self, rt: &R, heard: ViewRings, position: u64)
+        requires waits { published heard < position }
+        requires goes_on { IsOver self.now.terms.streams heard (published heard) → ⊥ }
+    {
         self.view_bell.sleep(rt, heard, position);
     }
 }
 
-// What stands behind so many first entries.
-fn front_of(alloc: Global, journal: &Journal, from: u64) -> Result<Front, Memory>
+// What stands behind so many first entries, with what was heard.
+fn front_of(alloc: Global, journal: &Journal, from: u64, heard: EntryRings) -> Result<Front, Memory>
     requires { from ≤ length (entries journal.now.lines) }
     ensures entries { IfOk result (λ front.
         front.entries.items ≡ take 256 (drop from (entries journal.now.lines))) }
     ensures length { IfOk result (λ front. front.length ≡ length (entries journal.now.lines)) }
     ensures all_ended { IfOk result (λ front.
         IsTrue front.all_ended ↔ AllEnded journal.now.terms.streams journal.now.lines) }
+    ensures heard { IfOk result (λ front. front.heard ≡ heard) }
     ensures sound { IsSound journal.now }
 {
     let length = journal.length();
@@ -237,17 +247,19 @@ fn front_of(alloc: Global, journal: &Journal, from: u64) -> Result<Front, Memory
         entries: copy_all(alloc, &behind[..count])?,
         length,
         all_ended: journal.all_ended(),
+        heard,
     })
 }
 
-// What a reader finds.
-fn look_at(journal: &Journal) -> Result<Looked, Memory>
+// What a reader finds, with what was heard.
+fn look_at(journal: &Journal, heard: ViewRings) -> Result<Looked, Memory>
     ensures view { IfOk result (λ looked. looked.view.value ≡ journal.now.view) }
     ensures length { IfOk result (λ looked. looked.length ≡ length (entries journal.now.lines)) }
     ensures all_ended { IfOk result (λ looked.
         IsTrue looked.all_ended ↔ AllEnded journal.now.terms.streams journal.now.lines) }
     ensures shut { IfOk result (λ looked. (why : Reason) →
         (looked.shut ≡ Some why) ↔ IsShutFor journal.now.lines why) }
+    ensures heard { IfOk result (λ looked. looked.heard ≡ heard) }
     ensures sound { IsSound journal.now }
 {
     Ok(Looked {
@@ -255,5 +267,6 @@ fn look_at(journal: &Journal) -> Result<Looked, Memory>
         length: journal.length(),
         all_ended: journal.all_ended(),
         shut: journal.shut_reason(),
+        heard,
     })
 }

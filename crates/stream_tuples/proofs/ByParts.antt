@@ -30,7 +30,7 @@ record ArePartsFrom (number : ℕ) (lines : List (List ℕ)) (last : StreamEnd) 
   kept : tuples ≡ flat_map option_to_list given
   ends : IsEndOf others (number + length good) last end
 
-short_gives : (number : ℕ) (line : List ℕ) → length line ≤ line_limit
+pub short_gives : (number : ℕ) (line : List ℕ) → length line ≤ line_limit
     → line_gives number line ≡ numbered number (line_tuple (without_return line))
 unfolding line_gives
 short_gives number line short = rw (le-leb (length line) line_limit short) refl

@@ -1,3 +1,4 @@
 mod ByParts
+mod Longest
 pub mod StreamTexts
 pub mod Reading

@@ -1,6 +1,6 @@
 -- What the definitions are meant to say, as laws.
-use Rattle.std.specs.Prelude.{◌≡◌, ℕ, ◌+◌, ◌<◌, ◌≤◌, ◌⊎◌, ◌↔◌, List, [], ◌∷◌, ◌++◌, length, take}
-use Rattle.std.specs.Prelude.{map, All, Option, option_to_list, Ok, Err}
+use Rattle.std.specs.Prelude.{◌≡◌, ℕ, ◌+◌, ◌-◌, ◌^◌, ◌<◌, ◌≤◌, ◌⊎◌, ◌↔◌, List, [], ◌∷◌, ◌++◌}
+use Rattle.std.specs.Prelude.{length, take, map, All, Option, option_to_list, Ok, Err}
 use Rattle.std.specs.List.{flat_map}
 use Rattle.text_parts.specs.Lines.{raw_lines, without_return}
 use Rattle.text_parts.specs.EndedLines.{ended_lines, open_line}
@@ -10,7 +10,8 @@ use Rattle.tuple_text.specs.Reading.{line_tuple}
 use Rattle.stream_tuples.specs.declared.ends.StreamEnd.{StreamEnd}
 use Rattle.stream_tuples.specs.declared.ends.StreamEnd.TheVariants.{Whole, Line, LongLine}
 use Rattle.stream_tuples.specs.Limits.{line_limit, byte_limit}
-use Rattle.stream_tuples.specs.StreamText.{tuples_with, cut_end, stream_tuples}
+use Rattle.stream_tuples.specs.StreamText.{tuples_with, numbered, line_gives, tuples_of_lines}
+use Rattle.stream_tuples.specs.StreamText.{cut_end, cut_tuples, stream_tuples}
 
 -- how the lines that follow the good ones end a stream: at once, with a line that is too long, or
 -- with one that has a fault
@@ -50,3 +51,15 @@ pub record IsStreamByParts (text : List ℕ) (tuples : List Tuple) (end : Stream
 abbrev pub StreamByParts : Type 0
 StreamByParts =
     (text : List ℕ) (tuples : List Tuple) (end : StreamEnd) → IsStreamByParts text tuples end
+
+-- a line of 1,024 bytes is read, and one more is too many; a stream of 2^40 - 1 bytes is read to its
+-- end, and one more is too many: then it is cut off
+pub record LimitExamples : Type 0 where
+  pub longest_line : (number : ℕ) (line : List ℕ) → length line ≡ 1024 →
+      line_gives number line ≡ numbered number (line_tuple (without_return line))
+  pub longer_line : (number : ℕ) (line : List ℕ) → length line ≡ 1025 →
+      line_gives number line ≡ Err (LongLine number)
+  pub longest_stream : (text : List ℕ) → length text ≡ 2 ^ 40 - 1 →
+      stream_tuples text ≡ tuples_of_lines (raw_lines text) 1 Whole
+  pub longer_stream : (text : List ℕ) → length text ≡ 2 ^ 40 →
+      stream_tuples text ≡ cut_tuples 1 text

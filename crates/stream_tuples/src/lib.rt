@@ -13,6 +13,6 @@ mod limits;
 mod stream;
 
 pub use ends::StreamEnd;
-pub use laws::stream_by_parts;
+pub use laws::{limit_examples, stream_by_parts};
 pub use limits::{BYTE_LIMIT, LINE_LIMIT};
 pub use stream::next_tuple;

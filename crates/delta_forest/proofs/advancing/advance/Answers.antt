@@ -10,7 +10,7 @@ use Rattle.delta_forest.specs.Changes.{Applies, AreEndChangesOf, AreTouched}
 use Rattle.delta_forest.specs.Keeping.{forest_with}
 use Rattle.delta_forest.specs.Settling.{AreFound, AreSettled, forest_of}
 use Rattle.delta_forest.specs.declared.index.Index.{Index}
-use Rattle.delta_forest.specs.declared.index.State.{State}
+use Rattle.delta_forest.specs.declared.index.ForestState.{ForestState}
 use Rattle.delta_forest.proofs.ChangedEnds.{are_end_changes}
 use Rattle.delta_forest.proofs.Following.{Follows}
 use Rattle.delta_forest.proofs.Grown.{ready}
@@ -97,7 +97,7 @@ returns-clause-applies g c = λ broken.
     let found = c.settle_all.new.found in
     let finds = subst (λ (each : List ℕ). AreFound table each found)
     c.deref-2.ensures.value c.in_ok-settle_all.ensures.found in
-    let new : State = record {
+    let new : ForestState = record {
       store = c.change_store.new.store;
       index = c.settle_all.new.index;
       roots = c.find_candidates.new.roots;

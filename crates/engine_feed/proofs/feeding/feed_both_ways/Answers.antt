@@ -15,8 +15,8 @@ use Rattle.engine_feed.proofs.BothWays.{if_ok, all_shown, at_most_twice, all_sor
 use Rattle.engine_feed.proofs.feeding.feed_both_ways.Goals as goal
 
 -- at most twice as many entries are fed
-pub feed-requires-clause-short : goal.feed-requires-clause-short
-feed-requires-clause-short g c κs within =
+pub feed_by_names-requires-clause-short : goal.feed_by_names-requires-clause-short
+feed_by_names-requires-clause-short g c κs within =
     let entries = c.args.entries.now in
     let fed : length c.deref.result.now ≡ length (doubled entries) =
     ap (λ (both : List Entry). length both) (c.deref.ensures.value ∙ c.in_ok-both.ensures) in
@@ -36,7 +36,7 @@ net_each-requires-clause-as_many g c =
     let history = c.requires.stands.0 in
     let show = λ (own : Vec Event Global). own.items in
     let fed =
-    answers c.args.engine.now c.feed.new.engine c.args.entries.now c.deref.result.now c.in_ok-both.both.items c.in_ok-lists.lists.items c.deref-2.result.now
+    answers c.args.engine.now c.feed_by_names.new.engine c.args.entries.now c.deref.result.now c.in_ok-both.both.items c.in_ok-lists.lists.items c.deref-2.result.now
     c.deref.ensures.value c.in_ok-both.ensures c.deref-2.ensures.value c.in_ok-lists.ensures.feeds in
     let lists = c.deref-2.result.now in
     sym (length-map lists show)
@@ -48,7 +48,7 @@ net_each-requires-clause-sorted g c =
     let history = c.requires.stands.0 in
     let show = λ (own : Vec Event Global). own.items in
     let fed =
-    answers c.args.engine.now c.feed.new.engine c.args.entries.now c.deref.result.now c.in_ok-both.both.items c.in_ok-lists.lists.items c.deref-2.result.now
+    answers c.args.engine.now c.feed_by_names.new.engine c.args.entries.now c.deref.result.now c.in_ok-both.both.items c.in_ok-lists.lists.items c.deref-2.result.now
     c.deref.ensures.value c.in_ok-both.ensures c.deref-2.ensures.value c.in_ok-lists.ensures.feeds in
     let lists = c.deref-2.result.now in
     all_shown (IsStrictlySortedBy event_cmp) show lists
@@ -59,13 +59,13 @@ pub returns-clause-feeds : goal.returns-clause-feeds
 returns-clause-feeds g c =
     let show = λ (own : Vec Event Global). own.items in
     let fed =
-    answers c.args.engine.now c.feed.new.engine c.args.entries.now c.deref.result.now c.in_ok-both.both.items c.in_ok-lists.lists.items c.deref-2.result.now
+    answers c.args.engine.now c.feed_by_names.new.engine c.args.entries.now c.deref.result.now c.in_ok-both.both.items c.in_ok-lists.lists.items c.deref-2.result.now
     c.deref.ensures.value c.in_ok-both.ensures c.deref-2.ensures.value c.in_ok-lists.ensures.feeds in
     let entries = c.args.entries.now in
     let lists = map show c.deref-2.result.now in
     if_ok (λ (netted : Vec (Vec Event Global) Global). AreAllNet entries lists (map show netted.items))
-    (λ (netted : Vec (Vec Event Global) Global). FeedsEntries true c.args.engine.now entries c.feed.new.engine (map show netted.items))
+    (λ (netted : Vec (Vec Event Global) Global). FeedsEntries true c.args.engine.now entries c.feed_by_names.new.engine (map show netted.items))
     (λ netted nets.
-    netted_feeds c.events_are_differences.ensures c.all_net_are_two_way.ensures entries c.args.engine.now c.feed.new.engine lists (map show netted.items)
+    netted_feeds c.events_are_differences.ensures c.all_net_are_two_way.ensures entries c.args.engine.now c.feed_by_names.new.engine lists (map show netted.items)
     fed nets)
     c.net_each.result c.net_each.ensures

@@ -13,11 +13,11 @@ feed_both_ways-requires-clause-short g c κs within =
     c.requires.stands.1.counted ∙ ap (λ (both : Bool). length (walked both history)) c.if-two_way.true in
     omega (arith, fed, at_most_twice history, c.requires.stands.2)
 
-pub returns-in_ok-feed_numbered-clause-feeds : goal.returns-in_ok-feed_numbered-clause-feeds
-returns-in_ok-feed_numbered-clause-feeds g c =
+pub returns-in_ok-feed_by_numbers-clause-feeds : goal.returns-in_ok-feed_by_numbers-clause-feeds
+returns-in_ok-feed_by_numbers-clause-feeds g c =
     let old = c.args.engine.now in
-    let new = c.feed_numbered.new.engine in
+    let new = c.feed_by_numbers.new.engine in
     let entries = c.args.entries.now in
-    let lists = named_lists new.names c.in_ok-feed_numbered.field-0.items in
+    let lists = named_lists new.names c.in_ok-feed_by_numbers.field-0.items in
     subst (λ (two_way : Bool). FeedsEntries two_way old entries new lists) (sym c.if-two_way.false)
-    (front_feeds entries old new lists c.in_ok-feed_numbered.ensures.feeds)
+    (front_feeds entries old new lists c.in_ok-feed_by_numbers.ensures.feeds)

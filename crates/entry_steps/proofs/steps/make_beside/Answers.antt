@@ -7,7 +7,7 @@ use Rattle.entry_steps.specs.Joining.{MayTake, MayTakeEach, Takes, TakesEach}
 use Rattle.entry_steps.specs.Showing.{MayShow, AreShownBy}
 use Rattle.entry_steps.specs.Steps.{StepValue, lines_of}
 use Rattle.entry_steps.specs.Telling.{lists_in, steps_with}
-use Rattle.entry_steps.specs.declared.told.Beside.{Beside}
+use Rattle.entry_steps.specs.declared.unnamed_steps.PathsAndJoins.{PathsAndJoins}
 use Rattle.entry_steps.proofs.Taking.{takes_push}
 use Rattle.entry_steps.proofs.Telling.{drop_next, step_with, take_next, with_push}
 use Rattle.entry_steps.proofs.steps.make_beside.Goals as goal
@@ -34,7 +34,7 @@ loop-events-preserved c =
     let lists = lists_in (take i found) in
     let beside = c.loop-events.beside.items in
     let pushed = c.in_ok-push.ensures.items in
-    let made : Beside =
+    let made : PathsAndJoins =
     record { shown = c.in_ok-shown.shown; joined = c.in_ok-joined.joined } in
     let lines = c.in_ok-joined.joined.items in
     let state = c.joined_of.new.joins in

@@ -6,7 +6,7 @@ use Rattle.entry_steps.specs.Steps.{lines_of}
 use Rattle.entry_steps.specs.Telling.{lists_in, steps_with}
 use Rattle.entry_steps.proofs.steps.make_beside.Given as goal
 
--- what is shown of the events so far, and the lines that the conjunctions told of them
+-- what is shown of the events so far, and the lines that the joins told of them
 abbrev pub invariant-loop-events : goal.invariant-loop-events
 invariant-loop-events l =
     let lists = lists_in (take l.events-index l.found) in

@@ -6,7 +6,7 @@ use Rattle.entry_steps.specs.Steps.{OptionsValue, StepValue, lines_of}
 use Rattle.entry_steps.specs.Joining.{TakesEach}
 use Rattle.entry_steps.specs.Showing.{MayShow, AreShownBy, AreFound}
 use Rattle.entry_steps.specs.Telling.{lists_in, steps_with, AreToldBeside}
-use Rattle.entry_steps.specs.declared.told.Beside.{Beside}
+use Rattle.entry_steps.specs.declared.unnamed_steps.PathsAndJoins.{PathsAndJoins}
 use Rattle.entry_steps.proofs.Feeding.{ok_from_three}
 use Rattle.entry_steps.proofs.Finding.{each_given, each_may_show, few_taken, found_may_take}
 use Rattle.entry_steps.proofs.Finding.{steps_follow}
@@ -45,13 +45,13 @@ returns c =
     let new = c.make_beside.new.joins in
     let lists = lists_in c.args.found.now in
     ok_from_three c.make_beside.result
-    (λ (beside : Vec Beside Global). length beside.items ≡ length c.args.found.now)
-    (λ (beside : Vec Beside Global).
+    (λ (beside : Vec PathsAndJoins Global). length beside.items ≡ length c.args.found.now)
+    (λ (beside : Vec PathsAndJoins Global).
     All (λ (step : StepValue). AreShownBy engine marks step.events step.shown)
     (steps_with lists beside.items))
-    (λ (beside : Vec Beside Global).
+    (λ (beside : Vec PathsAndJoins Global).
     TakesEach old lists new (lines_of (steps_with lists beside.items)))
-    (λ (beside : Vec Beside Global). (options : OptionsValue) (before : List Entry) →
+    (λ (beside : Vec PathsAndJoins Global). (options : OptionsValue) (before : List Entry) →
     AreFound options engine c.args.marks.now old before entries lists →
     AreToldBeside options engine marks new before entries lists beside.items)
     (λ beside as_many shown taken options before found.

@@ -8,12 +8,12 @@ use Rattle.rpq_base.specs.declared.data.Event.{Event}
 use Rattle.rpq_base.proofs.Outcomes.{ok_from_both}
 use Rattle.join_bindings.specs.State.{JoinsValue}
 use Rattle.end_events.specs.Named.{named_lists}
-use Rattle.engine_feed.specs.Fed.{lists_of}
+use Rattle.engine_feed.specs.EventLists.{lists_of}
 use Rattle.path_witness.specs.Marks.{MarksValue}
 use Rattle.entry_steps.specs.Showing.{AreFound}
 use Rattle.entry_steps.specs.Steps.{OptionsValue}
 use Rattle.entry_steps.specs.Telling.{lists_in, TellsNothing, AreToldBeside}
-use Rattle.entry_steps.specs.declared.told.Beside.{Beside}
+use Rattle.entry_steps.specs.declared.unnamed_steps.PathsAndJoins.{PathsAndJoins}
 use Rattle.entry_steps.proofs.Finding.{nothing_told}
 use Rattle.entry_steps.proofs.steps.tell_of.Goals as goal
 
@@ -27,9 +27,9 @@ returns-then-is_none-2 c =
     let no_joins : c.args.joins.now ≡ None =
     first_of (search rules, grind (arith, common_steps)) in
     ok_from_both c.nothing_beside.result
-    (λ (beside : Vec Beside Global). length beside.items ≡ length entries)
-    (λ (beside : Vec Beside Global). All TellsNothing beside.items)
-    (λ (beside : Vec Beside Global). (options : OptionsValue) (before : List Entry) →
+    (λ (beside : Vec PathsAndJoins Global). length beside.items ≡ length entries)
+    (λ (beside : Vec PathsAndJoins Global). All TellsNothing beside.items)
+    (λ (beside : Vec PathsAndJoins Global). (options : OptionsValue) (before : List Entry) →
     AreFound options engine c.args.marks.now c.args.joins.now before entries lists →
     AreToldBeside options engine c.args.marks.now c.args.joins.now before entries lists
     beside.items)
@@ -54,7 +54,7 @@ returns-in_ok-own-in-Numbered c =
     ∙ (ap₂ named_lists c.names.ensures c.deref.ensures.value
     ∙ ap (lists_of engine.names) (sym c.in-Numbered.is))) in
     subst (λ (all : List (List Event)).
-    IfOk c.take_found.result (λ (beside : Vec Beside Global).
+    IfOk c.take_found.result (λ (beside : Vec PathsAndJoins Global).
     (options : OptionsValue) (before : List Entry) →
     AreFound options engine c.args.marks.now c.args.joins.now before c.args.entries.now all →
     AreToldBeside options engine c.take_found.new.marks c.take_found.new.joins before
@@ -66,7 +66,7 @@ returns-in-Named c =
     let same = ap lists_in c.deref-in-Named.ensures.value
     ∙ ap (lists_of engine.names) (sym c.in-Named.is) in
     subst (λ (all : List (List Event)).
-    IfOk c.take_found-in-Named.result (λ (beside : Vec Beside Global).
+    IfOk c.take_found-in-Named.result (λ (beside : Vec PathsAndJoins Global).
     (options : OptionsValue) (before : List Entry) →
     AreFound options engine c.args.marks.now c.args.joins.now before c.args.entries.now all →
     AreToldBeside options engine c.take_found-in-Named.new.marks c.take_found-in-Named.new.joins

@@ -1,122 +1,114 @@
-use Rattle.std.proofs.Common.{◌≡◌, ℕ, List, length, map, sym, ap, ap₂, subst, ◌∙◌}
+use Rattle.std.proofs.Common.{◌≡◌, ℕ, List, None, length, map, sym, ap, ap₂, subst, ◌∙◌}
 use Rattle.std.specs.Prelude.{⊤}
+use Rattle.std.specs.Result.{result_err}
 use Rattle.std.proofs.lemmas.List.{length-map}
-use Rattle.std.proofs.lemmas.Result.{IfOk-weaker}
 use Rattle.std.proofs.lemmas.Slice.Zip.{AllZip-long}
-use Rattle.rpq_base.proofs.Outcomes.{on_ok, on_err}
-use Rattle.rpq_model.specs.Query.{Query, path_query}
-use Rattle.two_way.specs.TwoWay.{walked}
 use Rattle.answer_rows.specs.Answers.{Answer}
 use Rattle.answer_view.specs.View.{ViewValue, AreRowsOf, IsViewOf}
+use Rattle.entry_steps.specs.Evaluator.{queries_of as queries_in}
+use Rattle.entry_steps.specs.Steps.{OptionsValue}
 use Rattle.query_file.specs.Compiled.{CompiledValue}
-use Rattle.path_engine.specs.Engine.{definitions}
+use Rattle.rpq_model.specs.Query.{Query, path_query}
 use Rattle.standing.specs.Circles.{as_seen}
 use Rattle.tuple_generator.specs.Generator.{generated_history}
+use Rattle.two_way.specs.TwoWay.{walked}
 use Rattle.generated_run.specs.Generates.{AreTold, queries_of, said_by}
-use Rattle.generated_run.specs.Summary.{summary_text, IsSummary}
-use Rattle.generated_run.proofs.Running.{told_none, ready_first, told_part, told_then, summary_then}
+use Rattle.generated_run.specs.Summary.{summary_text}
+use Rattle.generated_run.proofs.Running.{told_none, told_so, summary_so}
 use Rattle.generated_run.proofs.generating.run.Goals as goal
 
-pub returns-in_err-evaluator-clause-part : goal.returns-in_err-evaluator-clause-part
-returns-in_err-evaluator-clause-part g c =
+pub returns-in_default-clause-part : goal.returns-in_default-clause-part
+returns-in_default-clause-part g c =
     let queries = queries_of c.args.task in
-    let circle = as_seen g.O.Standing.seen c.args.circle.now in
-    on_err c.from_residual.result
-    (subst (λ (made : ℕ). AreTold c.args.task.two_way queries (generated_history made)
-    circle.members ⊥ circle)
+    let circle = c.args.counts.now.circle in
+    let seen = g.O.Standing.seen in
+    subst (λ (made : ℕ). AreTold c.args.task.two_way queries (generated_history made)
+    (map seen circle.members) ⊥ (as_seen seen circle))
     (sym c.requires.none)
-    (told_none c.args.task.two_way queries circle (ap (map g.O.Standing.seen) c.requires.fresh) ⊥))
+    (told_none seen c.args.task.two_way queries circle c.requires.new.fresh ⊥)
 
-pub answer_all-requires-clause-ready : goal.answer_all-requires-clause-ready
-answer_all-requires-clause-ready g c κs within =
-    let was = c.in_ok-evaluator.ensures in
-    ready_first c.args.task c.requires.task c.in_ok-evaluator.evaluator was.queries
-    was.two_way was.totals c.args.making.now c.requires.none was.stands
+pub returns-in_default-answer_all-clause-part : goal.returns-in_default-answer_all-clause-part
+returns-in_default-answer_all-clause-part g c =
+    let was = c.in-Ok.ensures in
+    (told_so g.O.Standing.seen c.args.task c.in-Ok.evaluator was.two_way was.queries
+    (generated_history c.args.entries.now.count)
+    (generated_history c.answer_all.new.source.count) (ap generated_history c.requires.none)
+    (result_err c.answer_all.result) c.args.counts.now c.answer_all.new.sink c.requires.new
+    c.answer_all.ensures.takes ⊥ (λ never. absurd never))
 
-pub returns-in_err-answer_all-clause-part : goal.returns-in_err-answer_all-clause-part
-returns-in_err-answer_all-clause-part g c =
-    let was = c.in_ok-evaluator.ensures in
-    on_err c.from_residual-in_err-answer_all.result
-    (told_part c.args.task c.requires.task c.in_ok-evaluator.evaluator was.queries
-    was.two_way was.totals c.args.making.now c.requires.none
-    (as_seen g.O.Standing.seen c.args.circle.now)
-    (ap (map g.O.Standing.seen) c.requires.fresh) (generated_history c.answer_all.new.making)
-    (as_seen g.O.Standing.seen c.answer_all.new.circle) c.in_err-answer_all.ensures.err)
+pub returns-in_default-view-clause-part : goal.returns-in_default-view-clause-part
+returns-in_default-view-clause-part g c =
+    let was = c.in-Ok.ensures in
+    (told_so g.O.Standing.seen c.args.task c.in-Ok.evaluator was.two_way was.queries
+    (generated_history c.args.entries.now.count)
+    (generated_history c.answer_all.new.source.count) (ap generated_history c.requires.none)
+    (result_err c.answer_all.result) c.args.counts.now c.answer_all.new.sink c.requires.new
+    c.answer_all.ensures.takes ⊥ (λ never. absurd never))
 
-pub returns-in_err-view-clause-part : goal.returns-in_err-view-clause-part
-returns-in_err-view-clause-part g c =
-    let was = c.in_ok-evaluator.ensures in
-    on_err c.from_residual-in_err-view.result
-    (told_then c.args.task c.requires.task c.in_ok-evaluator.evaluator was.queries
-    was.two_way was.totals c.args.making.now c.requires.none
-    (as_seen g.O.Standing.seen c.args.circle.now)
-    (ap (map g.O.Standing.seen) c.requires.fresh) (generated_history c.answer_all.new.making)
-    (as_seen g.O.Standing.seen c.answer_all.new.circle) c.answer_all.new.evaluator
-    c.in_ok-answer_all.ensures.ok ⊥)
+pub returns-in_default-summary_text-clause-part : goal.returns-in_default-summary_text-clause-part
+returns-in_default-summary_text-clause-part g c =
+    let was = c.in-Ok.ensures in
+    (told_so g.O.Standing.seen c.args.task c.in-Ok.evaluator was.two_way was.queries
+    (generated_history c.args.entries.now.count)
+    (generated_history c.answer_all.new.source.count) (ap generated_history c.requires.none)
+    (result_err c.answer_all.result) c.args.counts.now c.answer_all.new.sink c.requires.new
+    c.answer_all.ensures.takes ⊥ (λ never. absurd never))
 
 pub returns-clause-told : goal.returns-clause-told
 returns-clause-told g c =
-    let was = c.in_ok-evaluator.ensures in
-    on_ok c.summary_text.result
-    (told_then c.args.task c.requires.task c.in_ok-evaluator.evaluator was.queries
-    was.two_way was.totals c.args.making.now c.requires.none
-    (as_seen g.O.Standing.seen c.args.circle.now)
-    (ap (map g.O.Standing.seen) c.requires.fresh) (generated_history c.answer_all.new.making)
-    (as_seen g.O.Standing.seen c.answer_all.new.circle) c.answer_all.new.evaluator
-    c.in_ok-answer_all.ensures.ok ⊤)
-
-pub returns-clause-part : goal.returns-clause-part
-returns-clause-part g c =
-    let was = c.in_ok-evaluator.ensures in
-    on_err c.summary_text.result
-    (told_then c.args.task c.requires.task c.in_ok-evaluator.evaluator was.queries
-    was.two_way was.totals c.args.making.now c.requires.none
-    (as_seen g.O.Standing.seen c.args.circle.now)
-    (ap (map g.O.Standing.seen) c.requires.fresh) (generated_history c.answer_all.new.making)
-    (as_seen g.O.Standing.seen c.answer_all.new.circle) c.answer_all.new.evaluator
-    c.in_ok-answer_all.ensures.ok ⊥)
+    let was = c.in-Ok.ensures in
+    let whole : result_err c.answer_all.result ≡ None = ap result_err c.in-Ok-answer_all.is in
+    (told_so g.O.Standing.seen c.args.task c.in-Ok.evaluator was.two_way was.queries
+    (generated_history c.args.entries.now.count)
+    (generated_history c.answer_all.new.source.count) (ap generated_history c.requires.none)
+    (result_err c.answer_all.result) c.args.counts.now c.answer_all.new.sink c.requires.new
+    c.answer_all.ensures.takes ⊤ (λ _. whole))
 
 pub summary_text-requires-clause-view : goal.summary_text-requires-clause-view
 summary_text-requires-clause-view g c =
-    let evaluator = c.answer_all.new.evaluator in
-    let engine = evaluator.engine in
-    let history = walked evaluator.two_way (generated_history c.answer_all.new.making) in
-    let view = c.in_ok-view.view.value in
-    let on = c.in_ok-answer_all.ensures.ok in
-    let shows : IsViewOf (definitions engine) history view =
-    c.in_ok-view.ensures.view history on.ready.stands in
-    let many : length view.rows ≡ length (definitions engine) =
+    let new = c.answer_all.new.evaluator in
+    let made = generated_history c.answer_all.new.source.count in
+    let history = walked new.options.two_way made in
+    let view = c.in-Ok-view.view.value in
+    let stands = c.in-Ok-answer_all.ensures.along.stands in
+    let shows : IsViewOf (queries_in new) history view = c.in-Ok-view.ensures.view made stands in
+    let many : length view.rows ≡ length (queries_in new) =
     AllZip-long (λ (query : Query) (own : List Answer). AreRowsOf (path_query query) history own)
-    (definitions engine) view.rows shows.rows in
-    let kept : c.queries-queries.result.now ≡ engine.queries =
-    c.queries-queries.ensures ∙ c.view.ensures.queries in
+    (queries_in new) view.rows shows.rows in
+    let kept : c.queries-queries.result.now ≡ new.engine.queries =
+    c.queries-queries.ensures ∙ c.view.ensures.keeps.queries in
     ap (λ (each : ViewValue). length each.rows) c.deref.ensures
     ∙ (many
-    ∙ (length-map engine.queries (λ (each : CompiledValue). each.def)
+    ∙ (length-map new.engine.queries (λ (each : CompiledValue). each.def)
     ∙ ap (λ (each : List CompiledValue). length each) (sym kept)))
 
 pub returns-clause-summary : goal.returns-clause-summary
 returns-clause-summary g c =
-    let was = c.in_ok-evaluator.ensures in
+    let was = c.in-Ok.ensures in
+    let old = c.in-Ok.evaluator in
     let new = c.answer_all.new.evaluator in
-    let history = generated_history c.answer_all.new.making in
-    let last = as_seen g.O.Standing.seen c.answer_all.new.circle in
-    let view = c.in_ok-view.view.value in
-    let on = c.in_ok-answer_all.ensures.ok in
-    let kept : c.queries-queries.result.now ≡ new.engine.queries =
-    c.queries-queries.ensures ∙ c.view.ensures.queries in
+    let keeps = c.answer_all.ensures.keeps in
+    let seen = g.O.Standing.seen in
+    let made = generated_history c.answer_all.new.source.count in
+    let counts = c.answer_all.new.sink in
+    let said = said_by (as_seen seen counts.circle) in
+    let view = c.in-Ok-view.view.value in
+    let whole : result_err c.answer_all.result ≡ None = ap result_err c.in-Ok-answer_all.is in
+    let kept : c.queries-queries.result.now ≡ old.engine.queries =
+    c.queries-queries.ensures ∙ (c.view.ensures.keeps.queries ∙ keeps.queries) in
+    let shows : IsViewOf (queries_in old) (walked old.options.two_way made) view =
+    subst (λ (options : OptionsValue). IsViewOf (queries_in old) (walked options.two_way made) view)
+    keeps.options (subst (λ (compiled : List CompiledValue).
+    IsViewOf (map (λ (each : CompiledValue). each.def) compiled)
+    (walked new.options.two_way made) view) keeps.queries
+    (c.in-Ok-view.ensures.view made c.in-Ok-answer_all.ensures.along.stands)) in
     let by : List CompiledValue → ViewValue → List ℕ =
-    λ each shown. summary_text new.totals.entries new.totals.added new.totals.retracted
+    λ each shown. summary_text counts.totals.entries counts.totals.added counts.totals.retracted
     (map (λ (one : CompiledValue). one.def) each)
-    (map (λ (own : List Answer). length own) shown.rows) (said_by last) in
-    IfOk-weaker c.summary_text.result
-    (λ text. text.items ≡ by c.queries-queries.result.now c.deref.result.now)
-    (λ text. IsSummary c.args.task.two_way (queries_of c.args.task) history (said_by last)
-    text.items)
-    (λ text is. summary_then c.args.task c.requires.task c.in_ok-evaluator.evaluator was.queries
-    was.two_way was.totals c.args.making.now c.requires.none
-    (as_seen g.O.Standing.seen c.args.circle.now)
-    (ap (map g.O.Standing.seen) c.requires.fresh) history last new on view text.items
-    (c.in_ok-view.ensures.view (walked new.two_way history) on.ready.stands)
-    (is ∙ ap₂ by kept c.deref.ensures))
-    c.summary_text.ensures
+    (map (λ (own : List Answer). length own) shown.rows) said in
+    let text = c.in-Ok-summary_text.text in
+    summary_so seen c.args.task old was.two_way was.queries
+    (generated_history c.args.entries.now.count) made (ap generated_history c.requires.none)
+    (result_err c.answer_all.result) c.args.counts.now counts c.requires.new
+    c.answer_all.ensures.takes whole view text.items shows
+    (c.in-Ok-summary_text.ensures ∙ ap₂ by kept c.deref.ensures)

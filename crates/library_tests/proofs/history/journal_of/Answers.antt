@@ -18,7 +18,7 @@ share-requires-clause-passes g c κs within i d below =
     count_of made.result.0 count made.result.1.items made.ensures.passes in
     let here : i < count = omega (arith, are, below) in
     let new = are_new made.result.0 count made.result.1.items made.ensures.passes i d here in
-    (new.is, new.number, new.goes_on, new.feeds)
+    (new.is, new.number, new.goes_on, new.feeds, new.none)
 
 pub finish-requires-clause-all : goal.finish-requires-clause-all
 finish-requires-clause-all g c =

@@ -1,13 +1,13 @@
 use Rattle.std.proofs.Common.{◌≡◌, ℕ, ◌+◌, List, length, get_or, None}
 use Rattle.std.proofs.Common.{refl, sym, ap, subst, ◌∙◌, arith}
 use Rattle.std.proofs.lemmas.List.FromFn.{get_or-map-range_with_len, length-map-range_with_len}
-use Rattle.library_tests.specs.declared.turns.Entry.{Entry}
+use Rattle.library_tests.specs.declared.turns.BookEntry.{BookEntry}
 use Rattle.turn_lock.specs.Passes.{PassValue, newcomer}
 use Rattle.turn_lock.proofs.AllPasses.{all_by_place}
 use Rattle.library_tests.proofs.turns.has_each_once.Goals as goal
 
 abbrev Each : Type 0
-Each = PassValue Entry (Unit {0})
+Each = PassValue BookEntry (Unit {0})
 
 pub share-requires-clause-three : goal.share-requires-clause-three
 share-requires-clause-three g c κs within =

@@ -2,8 +2,8 @@ use Rattle.std.proofs.Common.{◌+◌, List, [], ◌∷◌, length, take, Option
 use Rattle.std.proofs.Common.{refl, sym, ap, subst, ◌∙◌, arith, length-append}
 use Rattle.std.proofs.lemmas.List.{take_all}
 use Rattle.rpq_base.specs.declared.data.Entry.{Entry}
-use Rattle.path_engine.specs.declared.ends.Ends.{Ends}
-use Rattle.path_engine.specs.Front.{AreAllFirstEnds, AreFirstEndsForEach}
+use Rattle.path_engine.specs.declared.ends.EdgeNumbers.{EdgeNumbers}
+use Rattle.path_engine.specs.Ends.{AreAllFirstEnds, AreFirstEndsForEach}
 use Rattle.path_engine.specs.Keeping.{BringsNoName}
 use Rattle.path_engine.proofs.Each.{zip_more}
 use Rattle.path_engine.proofs.Fronts.{all_ends_more}
@@ -19,14 +19,14 @@ first_of-requires-clause-named c = c.loop-entry.invariant.named
 
 pub loop-entry-init : goal.loop-entry-init
 loop-entry-init c = record {
-  as_many = ap (λ (all : List (Option Ends)). length all) c.new-found.ensures.items;
+  as_many = ap (λ (all : List (Option EdgeNumbers)). length all) c.new-found.ensures.items;
   kept = λ name number is. is;
   same = λ queries table none. refl;
   grown = omega arith;
   named = c.requires.named;
   ends = λ queries table.
       subst (AreAllFirstEnds c.args.names.now queries (take 0 c.args.entries.now))
-      (sym {A = List (Option Ends)} c.new-found.ensures.items) tt;
+      (sym {A = List (Option EdgeNumbers)} c.new-found.ensures.items) tt;
 }
 
 pub loop-entry-preserved : goal.loop-entry-preserved
@@ -37,12 +37,12 @@ loop-entry-preserved c =
     let entries = c.args.entries.now in
     let place = c.loop-entry.entry-index in
     let entry : Entry = c.entry-item.result in
-    let ends : Option Ends = c.in_ok-ends.ends in
+    let ends : Option EdgeNumbers = c.in_ok-ends.ends in
     record {
       as_many = omega (
         arith,
         was.as_many,
-        ap (λ (all : List (Option Ends)). length all) c.in_ok-push.ensures.items,
+        ap (λ (all : List (Option EdgeNumbers)). length all) c.in_ok-push.ensures.items,
         length-append c.loop-entry.found.items (ends ∷ []),
       );
       kept = λ name number is. did.kept name number (was.kept name number is);
@@ -57,8 +57,8 @@ loop-entry-preserved c =
       named = did.named;
       ends = λ queries table.
           subst (AreAllFirstEnds names queries (take (place + 1) entries))
-          (sym {A = List (Option Ends)} c.in_ok-push.ensures.items)
-          (zip_more (λ (each : Entry) (own : Option Ends).
+          (sym {A = List (Option EdgeNumbers)} c.in_ok-push.ensures.items)
+          (zip_more (λ (each : Entry) (own : Option EdgeNumbers).
           AreFirstEndsForEach names queries each.tuple.act own)
           entries c.loop-entry.found.items place entry ends c.loop-entry-test.true c.entry-item.is
           (all_ends_more c.loop-entry.names names queries (take place entries)

@@ -2,7 +2,7 @@ use Rattle.std.proofs.Common.{◌≡◌, ℕ, ◌<◌, ◌≤◌, ◌+◌, ◌*�
 use Rattle.rpq_base.specs.declared.data.Entry.{Entry}
 use Rattle.name_table.specs.Names.{KeepsNumbers}
 use Rattle.query_file.specs.Compiled.{CompiledValue}
-use Rattle.path_engine.specs.Front.{AreAllFirstEnds}
+use Rattle.path_engine.specs.Ends.{AreAllFirstEnds}
 use Rattle.path_engine.specs.Keeping.{BringsNoName}
 use Rattle.path_engine.specs.Labels.{IsTableOf}
 use Rattle.path_engine.proofs.ends.first_ends.Given as goal

@@ -1,6 +1,6 @@
 use Rattle.std.proofs.Common.{Some, sym, subst}
 use Rattle.rpq_base.specs.declared.data.Act.{Act}
-use Rattle.path_engine.specs.Front.{AreFirstEndsForEach}
+use Rattle.path_engine.specs.Ends.{AreFirstEndsForEach}
 use Rattle.path_engine.proofs.LabelRows.{known_insert}
 use Rattle.path_engine.proofs.ends.first_of.Goals as goal
 

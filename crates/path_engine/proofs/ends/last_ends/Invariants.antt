@@ -1,6 +1,6 @@
 use Rattle.std.proofs.Common.{List, take}
 use Rattle.query_file.specs.Compiled.{CompiledValue}
-use Rattle.path_engine.specs.Front.{AreAllEndsFor, AreAllFirstEnds}
+use Rattle.path_engine.specs.Ends.{AreAllEndsFor, AreAllFirstEnds}
 use Rattle.path_engine.specs.Labels.{IsTableOf}
 use Rattle.path_engine.proofs.ends.last_ends.Given as goal
 

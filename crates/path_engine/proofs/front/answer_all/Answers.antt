@@ -5,13 +5,13 @@ use Rattle.std.proofs.lemmas.Slice.Zip.{AllZip-long}
 use Rattle.rpq_base.specs.declared.data.Entry.{Entry}
 use Rattle.end_events.specs.declared.numbered_event.NumberedEvent.{NumberedEvent}
 use Rattle.dfa_table.specs.DfaValue.{DfaValue}
-use Rattle.path_engine.specs.declared.ends.Ends.{Ends}
-use Rattle.path_engine.specs.Answering.{AreEndsFor}
+use Rattle.path_engine.specs.declared.ends.EdgeNumbers.{EdgeNumbers}
+use Rattle.path_engine.specs.Ends.{AreEndsFor}
 use Rattle.path_engine.specs.Front.{HasAnsweredAll}
 use Rattle.path_engine.proofs.Fronts.{history_at, items_of, items_push, one_more, zip_both}
 use Rattle.path_engine.proofs.front.answer_all.Goals as goal
 
-abbrev Suit : List (List ℕ) → ℕ → DfaValue → Entry → Option Ends → Type 0
+abbrev Suit : List (List ℕ) → ℕ → DfaValue → Entry → Option EdgeNumbers → Type 0
 Suit names number dfa entry own = AreEndsFor names number dfa entry.tuple.act own
 
 pub loop-place-init : goal.loop-place-init
@@ -41,13 +41,15 @@ answer-requires-clause-index g c κs within =
     (items_of c.loop-place.owns.items) c.requires.index c.loop-place-test.true
     c.loop-place.invariant.answered
 
-pub answer-requires-clause-ends : goal.answer-requires-clause-ends
-answer-requires-clause-ends g c κs within =
+pub answer-requires-clause-edge : goal.answer-requires-clause-edge
+answer-requires-clause-edge g c κs within =
     let suit = Suit c.args.names.now c.args.share.now.place c.args.query.now.dfa in
-    subst (λ (each : Entry). suit each (slice_index_or c.args.ends.now c.loop-place.place None))
+    let entry : Entry = c.index-entries-place.result in
+    c.edge_for-id.ensures c.args.names.now c.args.query.now.dfa entry.tuple.act
+    (subst (λ (each : Entry). suit each (slice_index_or c.args.ends.now c.loop-place.place None))
     (sym c.index-entries-place.is)
-    (zip_both suit c.args.entries.now c.args.ends.now c.loop-place.place
-    c.index-entries-place.result None c.requires.ends c.loop-place-test.true)
+    (zip_both suit c.args.entries.now c.args.ends.now c.loop-place.place entry None
+    c.requires.ends c.loop-place-test.true))
 
 pub loop-place-preserved : goal.loop-place-preserved
 loop-place-preserved g c =
@@ -56,7 +58,7 @@ loop-place-preserved g c =
     let query = c.args.query.now in
     let number = c.args.share.now.place in
     let old = c.args.share.now.index in
-    let new = c.answer.new.index in
+    let new = c.answer.new.self in
     let place = c.loop-place.place in
     let entry : Entry = c.index-entries-place.result in
     let owns = c.loop-place.owns.items in

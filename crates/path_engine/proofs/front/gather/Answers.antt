@@ -2,7 +2,7 @@ use Rattle.std.proofs.Common.{◌++◌, ◌∷◌, [], List, length, map, Vec, G
 use Rattle.std.proofs.Common.{sym, ap, subst, ◌∙◌, append_assoc, arith}
 use Rattle.std.proofs.lemmas.List.{append-nil}
 use Rattle.end_events.specs.declared.numbered_event.NumberedEvent.{NumberedEvent}
-use Rattle.path_engine.specs.declared.index.Index.{Index}
+use Rattle.query_index.specs.IndexValue.{IndexValue}
 use Rattle.path_engine.specs.declared.front.Share.{Share}
 use Rattle.path_engine.specs.Front.{AreGathered}
 use Rattle.path_engine.proofs.Fronts.{index_of, items_of, nothing_left}
@@ -15,7 +15,7 @@ loop-share-init c =
       tt,
       tt,
       omega (arith, gives.1, ap length gives.0),
-      ap (λ (all : List Index). all ++ map index_of rest) c.requires.none
+      ap (λ (all : List IndexValue). all ++ map index_of rest) c.requires.none
           ∙ ap (λ (all : List Share). map index_of all) gives.0,
       λ all given.
           subst (λ (shares : List Share). AreGathered [] shares all) {x = rest} {y = c.args.shares.items}
@@ -36,7 +36,7 @@ loop-share-preserved c =
       tt,
       tt,
       omega (arith, was.2, steps.1, ap (λ (xs : List Share). length xs) steps.0),
-      ap (λ (all : List Index). all ++ map index_of rest) c.in_ok-push.ensures.items
+      ap (λ (all : List IndexValue). all ++ map index_of rest) c.in_ok-push.ensures.items
           ∙ (append_assoc olds (share.index ∷ []) (map index_of rest)
           ∙ (ap (λ (all : List Share). olds ++ map index_of all) (sym steps.0) ∙ was.3)),
       λ all given.

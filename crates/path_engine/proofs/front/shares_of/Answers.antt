@@ -1,7 +1,7 @@
 use Rattle.std.proofs.Common.{◌++◌, ◌∷◌, [], List, length, map, length-append}
 use Rattle.std.proofs.Common.{sym, ap, ◌∙◌, append_assoc, arith}
 use Rattle.std.proofs.lemmas.List.{length-map, map-append, append-nil}
-use Rattle.path_engine.specs.declared.index.Index.{Index}
+use Rattle.query_index.specs.IndexValue.{IndexValue}
 use Rattle.path_engine.specs.declared.front.Share.{Share}
 use Rattle.path_engine.proofs.Fronts.{in_place_more, index_of, nothing_left}
 use Rattle.path_engine.proofs.front.shares_of.Goals as goal
@@ -28,7 +28,7 @@ overflow_add-place c =
         arith,
         c.requires.few,
         was.4,
-        ap (λ (all : List Index). length all) was.3,
+        ap (λ (all : List IndexValue). length all) was.3,
         length-append (map index_of shares) c.loop-index.index-iterator.rest.items,
         length-map shares index_of,
       );
@@ -43,13 +43,13 @@ loop-index-preserved c =
     let share = c.share_of-share.result in (
       tt,
       tt,
-      omega (arith, was.2, steps.1, ap (λ (xs : List Index). length xs) steps.0),
+      omega (arith, was.2, steps.1, ap (λ (xs : List IndexValue). length xs) steps.0),
       ap (λ (all : List Share). map index_of all ++ rest) c.in_ok-push.ensures.items
-          ∙ (ap (λ (all : List Index). all ++ rest) (map-append index_of shares (share ∷ []))
+          ∙ (ap (λ (all : List IndexValue). all ++ rest) (map-append index_of shares (share ∷ []))
           ∙ (append_assoc (map index_of shares) (share.index ∷ []) rest
-          ∙ (ap (λ (each : Index). map index_of shares ++ each ∷ rest)
+          ∙ (ap (λ (each : IndexValue). map index_of shares ++ each ∷ rest)
           c.share_of-share.ensures.index
-          ∙ (ap (λ (all : List Index). map index_of shares ++ all) (sym steps.0) ∙ was.3)))),
+          ∙ (ap (λ (all : List IndexValue). map index_of shares ++ all) (sym steps.0) ∙ was.3)))),
       omega (
         arith,
         was.4,
@@ -64,7 +64,7 @@ pub returns-clause-indexes : goal.returns-clause-indexes
 returns-clause-indexes c =
     let was = c.loop-index.invariant in
     sym (append-nil (map index_of c.loop-index.shares.items))
-    ∙ (ap (λ (all : List Index). map index_of c.loop-index.shares.items ++ all)
+    ∙ (ap (λ (all : List IndexValue). map index_of c.loop-index.shares.items ++ all)
     (sym (nothing_left c.loop-index.index-iterator.rest.items
     (omega (arith, was.2, c.in-None.ensures.steps.0)))) ∙ was.3)
 

@@ -6,9 +6,9 @@ use Rattle.rpq_model.specs.Query.{path_query}
 use Rattle.answer_rows.specs.Answers.{Answer}
 use Rattle.answer_view.specs.View.{AreRowsOf}
 use Rattle.query_file.specs.Compiled.{CompiledValue}
-use Rattle.path_engine.specs.declared.index.Index.{Index}
-use Rattle.path_engine.specs.Answering.{HasHistory}
-use Rattle.path_engine.specs.Engine.{IsIndexFor}
+use Rattle.query_index.specs.IndexValue.{IndexValue}
+use Rattle.query_index.specs.Answering.{HasHistory}
+use Rattle.query_index.specs.Index.{IsIndexFor}
 use Rattle.path_engine.proofs.Each.{zip_at, zip_more}
 use Rattle.path_engine.proofs.Still.{all_still, histories_more, still_more}
 use Rattle.path_engine.proofs.showing.rows_of_each.Goals as goal
@@ -26,12 +26,12 @@ loop-place-init c = record {
       subst (Have history []) (sym {A = List (List Answer)} c.in_ok-rows.ensures.items) tt;
 }
 
-pub rows_of-requires-clause-index : goal.rows_of-requires-clause-index
-rows_of-requires-clause-index c =
+pub rows-requires-clause-index : goal.rows-requires-clause-index
+rows-requires-clause-index c =
     let found = c.index-indexes-place.result in
     let query = c.index-queries-place.result in
     subst (HasHistory query c.args.names.now) c.index-indexes-place.is
-    (zip_at (λ (each : CompiledValue) (index : Index). HasHistory each c.args.names.now index)
+    (zip_at (λ (each : CompiledValue) (index : IndexValue). HasHistory each c.args.names.now index)
     c.args.queries.now c.loop-place.indexes c.loop-place.place query found
     c.loop-place.invariant.have
     (omega (arith, c.requires.as_many, c.loop-place-test.true)) c.index-queries-place.is
@@ -45,10 +45,10 @@ returns-in_err-own-clause-kept c =
     let within : place < length current =
     omega (arith, c.loop-place.auto.indexes, c.loop-place-test.true) in
     still_more c.args.queries.now c.args.names.now c.args.indexes.now current place
-    c.index-queries-place.result (get_or current place found) c.rows_of.new.index
+    c.index-queries-place.result (get_or current place found) c.rows.new.self
     (omega (arith, c.requires.as_many, c.loop-place-test.true)) within c.index-queries-place.is
     (get_or_default current place found (get_or current place found) within)
-    c.rows_of.ensures.kept c.loop-place.invariant.still
+    c.rows.ensures.kept c.loop-place.invariant.still
 
 pub returns-in_err-push-clause-kept : goal.returns-in_err-push-clause-kept
 returns-in_err-push-clause-kept c =
@@ -58,10 +58,10 @@ returns-in_err-push-clause-kept c =
     let within : place < length current =
     omega (arith, c.loop-place.auto.indexes, c.loop-place-test.true) in
     still_more c.args.queries.now c.args.names.now c.args.indexes.now current place
-    c.index-queries-place.result (get_or current place found) c.rows_of.new.index
+    c.index-queries-place.result (get_or current place found) c.rows.new.self
     (omega (arith, c.requires.as_many, c.loop-place-test.true)) within c.index-queries-place.is
     (get_or_default current place found (get_or current place found) within)
-    c.rows_of.ensures.kept c.loop-place.invariant.still
+    c.rows.ensures.kept c.loop-place.invariant.still
 
 pub loop-place-preserved : goal.loop-place-preserved
 loop-place-preserved c =
@@ -80,12 +80,12 @@ loop-place-preserved c =
     omega (arith, c.loop-place.auto.indexes, c.loop-place-test.true) in
     let old_is : old ≡ get_or current place old = get_or_default current place found old within in
     record {
-      have = histories_more queries names olds current place query old c.rows_of.new.index inside
-          within c.index-queries-place.is old_is c.rows_of.ensures.kept was.have;
-      still = still_more queries names olds current place query old c.rows_of.new.index inside
-          within c.index-queries-place.is old_is c.rows_of.ensures.kept was.still;
+      have = histories_more queries names olds current place query old c.rows.new.self inside
+          within c.index-queries-place.is old_is c.rows.ensures.kept was.have;
+      still = still_more queries names olds current place query old c.rows.new.self inside
+          within c.index-queries-place.is old_is c.rows.ensures.kept was.still;
       shown = λ history are.
-          let is = zip_at (λ (each : CompiledValue) (index : Index).
+          let is = zip_at (λ (each : CompiledValue) (index : IndexValue).
           IsIndexFor each history names index) queries current place query old
           (was.still.stand history are) inside c.index-queries-place.is old_is in
           subst (Have history (take (place + 1) queries))

@@ -9,7 +9,7 @@ use Rattle.rpq_run.specs.Failed.{failed_sinks}
 use Rattle.rpq_run.specs.Outcome.{meanings, sinks}
 use Rattle.rpq_run.specs.Written.{TellsLines}
 use Rattle.rpq_run.proofs.ErrorTexts.{told_lines}
-use Rattle.rpq_run.proofs.Running.{runs_check}
+use Rattle.rpq_run.proofs.Checking.{runs_check}
 use Rattle.rpq_run.proofs.check.run_check.Goals as goal
 
 pub returns-clause-runs : goal.returns-clause-runs
@@ -36,5 +36,4 @@ returns-clause-runs g c = λ two_way file kept leaves has.
     (map (λ (own : Vec AnsweredValue). own.items) c.new-4.result.items)
     c.new.ensures.items c.new-2.ensures.items c.new-3.ensures.items
     (ap (map (λ (own : Vec AnsweredValue). own.items)) c.new-4.ensures.items) leaves
-    has c.requires.compiled c.write_verdicts-written.ensures
-    (record { memory = λ eight. status_is ∙ eight; others = λ other. status_is }) told
+    has c.requires.compiled c.write_verdicts-written.ensures status_is told

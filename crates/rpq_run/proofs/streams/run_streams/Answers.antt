@@ -11,7 +11,7 @@ use Rattle.saved_window.specs.Saved.{saved}
 use Rattle.saved_window.specs.SavedText.{saved_text}
 use Rattle.saved_window.specs.Then.{TwoSources, left_of_both}
 use Rattle.rpq_threads.specs.Runs.{IsSessionOf}
-use Rattle.rpq_run.specs.Ending.{IsUnsaved, SavesIfThere}
+use Rattle.rpq_run.specs.Ending.{SavesIfThere, is_left_out}
 use Rattle.rpq_run.specs.Outcome.{meanings, sinks}
 use Rattle.rpq_run.proofs.Running.{run_reported}
 use Rattle.rpq_run.proofs.streams.run_streams.Goals as goal
@@ -73,8 +73,8 @@ returns-clause-runs g c = λ given holds asked.
     c.in_ok-circle.circle threads report texts asked c.in-Ok.ensures.ok
     c.write_own-written.ensures.replied
     (subst (λ (queries : List Query). SavesIfThere written failures
-    (saved_text (saved queries threads.history.items)) threads.why
-    (IsUnsaved threads.why threads.short_of_memory threads.ends.items texts.replied)
+    (saved_text (saved queries threads.history.items))
+    (is_left_out threads.why threads.short_of_memory threads.ends.items texts.replied)
     c.args.own.save own.save texts.saved) definitions c.write_own-written.ensures.saved)
     ended.sources ended.from ended.memory ended.status ended.parts c.args.standing.now.items
     c.end_run.new.standing.items report.left.items c.in_ok-circle.ensures.members

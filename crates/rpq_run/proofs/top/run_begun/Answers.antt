@@ -1,14 +1,15 @@
-use Rattle.std.proofs.Common.{◌≡◌, Bool, List, inr, refl, sym, subst}
+use Rattle.std.proofs.Common.{List, inr, refl, sym, subst}
 use Rattle.std.specs.Prelude.{IfSome}
 use Rattle.std.proofs.lemmas.Result.{IfOk-weaker}
 use Rattle.query_file.specs.Compiled.{CompiledValue}
-use Rattle.rpq_words.specs.declared.settings.Mode.TheVariants.{Check, Generate}
+use Rattle.rpq_words.specs.declared.settings.RunMode.TheVariants.{Check}
 use Rattle.rpq_words.specs.Views.{from_of, is_both_ways}
 use Rattle.rpq_text.specs.Definitions.{definitions_of}
 use Rattle.run_start.specs.Files.{HasQueries}
 use Rattle.run_start.specs.Ready.{IsReading, IsWork}
 use Rattle.rpq_run.proofs.Running.{leaves_objects}
-use Rattle.rpq_run.proofs.Tops.{generated_in, none_named, one_named, one_reader, queries_in, runs_in, streams_run}
+use Rattle.rpq_run.proofs.Tops.{generated_in, is_generation, none_named, one_named, one_reader, queries_in}
+use Rattle.rpq_run.proofs.Tops.{runs_in, streams_run}
 use Rattle.rpq_run.proofs.Tops.{task_is}
 use Rattle.rpq_run.proofs.top.run_begun.Goals as goal
 
@@ -83,13 +84,21 @@ returns-in-Generate-clause-runs g c = IfOk-weaker c.run_generated.result _ _
     (λ report runs holds ready.
     let given = c.args.chosen.now in
     let queries = c.args.ready.queries.items in
-    let count = c.in-Generate.count in
     let work = subst (IsWork given (IsReading g.F.Source.Source.left g.F.Source.Source.faults
     g.F.Sink.Sink.written g.F.Sink.Sink.faults given holds queries)) c.in-Generate.is
     ready.asked_for in
-    generated_in _ given holds _ _ _ c.in-Generate.directions count _ work c.is_both_ways.ensures
-    (runs (holds given.queries) (subst (λ (two_way : Bool). IfSome (holds given.queries)
-    (λ bytes. HasQueries two_way bytes (definitions_of queries)))
-    (sym {A = Bool} c.is_both_ways.ensures)
-    (queries_in given (holds given.queries) (definitions_of queries)
-    (Generate c.in-Generate.directions count) work ready.has)))) c.run_generated.ensures.runs
+    generated_in _ given holds _ _ _ c.in-Generate.directions c.in-Generate.count queries
+    c.generation_of-generation.result c.generation_of-generation.ensures work ready.has runs)
+    c.run_generated.ensures.runs
+
+pub run_generated-requires-clause-generation : goal.run_generated-requires-clause-generation
+run_generated-requires-clause-generation g c = λ κs within.
+    let given = c.args.chosen.now in
+    let queries = c.args.ready.queries.items in
+    let ready = c.requires.ready.1 in
+    let asked_for = subst (IsWork given (IsReading g.F.Source.Source.left g.F.Source.Source.faults
+    g.F.Sink.Sink.written g.F.Sink.Sink.faults given c.requires.ready.0 queries)) c.in-Generate.is
+    ready.asked_for in
+    is_generation given c.in-Generate.directions c.in-Generate.count queries
+    c.generation_of-generation.result c.generation_of-generation.ensures ready.understood
+    c.requires.settings asked_for

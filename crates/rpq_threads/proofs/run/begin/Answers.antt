@@ -1,7 +1,7 @@
-use Rattle.std.proofs.Common.{◌≡◌, List, [], All, length, refl, sym, ap, subst, ◌∙◌, arith, rules}
+use Rattle.std.proofs.Common.{◌≡◌, [], All, length, refl, sym, ap, subst, ◌∙◌, arith, rules}
 use Rattle.history_model.specs.World.{Terms}
 use Rattle.rpq_text.specs.Definitions.{definitions_of}
-use Rattle.rpq_workers.proofs.Numbering.{new_length}
+use Rattle.stream_threads.proofs.Numbering.{new_length}
 use Rattle.rpq_threads.proofs.Starting.{first_shown, Moves, terms_of, begun_fed, begun_asks}
 use Rattle.rpq_threads.proofs.run.begin.Goals as goal
 
@@ -65,6 +65,7 @@ returns g c =
         streams = sym (ap (λ (t : Terms). t.streams) terms);
         fresh = c.requires.fresh;
         readers = sym (made.readers ∙ asking);
+        few = omega (arith, made.readers, asking, c.requires.few);
         asks = begun_asks g.S.Source.left g.S.Source.faults task c.requires history terms;
         room = c.in_ok-room.ensures;
       };

@@ -4,7 +4,7 @@ use Rattle.turn_lock.specs.Passes.{Knows}
 use Rattle.history_model.specs.Legal.{IsLegal}
 use Rattle.history_model.specs.World.{Terms}
 use Rattle.stream_history.specs.History.{author}
-use Rattle.rpq_threads.specs.declared.task.Outcome.{Outcome}
+use Rattle.rpq_threads.specs.declared.task.RunOutcome.{RunOutcome}
 use Rattle.rpq_threads.specs.Runs.{Holds}
 use Rattle.rpq_threads.proofs.Finishing.{all_are_back, all_are_passes, outcome_holds}
 use Rattle.rpq_threads.proofs.Starting.{terms_of}
@@ -42,7 +42,7 @@ returns-clause-ok g c =
     finished.sound.legal in
     let knows = subst (λ (t : Terms). All (Knows author t journal.lines) passes) same
     finished.passes in
-    let outcome : Outcome _ _ = record {
+    let outcome : RunOutcome _ _ = record {
       history = c.into_entries.result;
       ends = served.gathered.ends;
       sources = served.gathered.sources;

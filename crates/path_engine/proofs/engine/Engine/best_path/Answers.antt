@@ -5,12 +5,13 @@ use Rattle.rpq_base.specs.declared.data.Edge.{Edge}
 use Rattle.rpq_base.specs.declared.data.Entry.{Entry}
 use Rattle.rpq_base.specs.declared.data.Pair.{Pair}
 use Rattle.query_file.specs.Compiled.{CompiledValue}
-use Rattle.path_engine.specs.declared.index.Index.{Index}
-use Rattle.path_engine.specs.Answering.{HasHistory}
-use Rattle.path_engine.specs.Engine.{EngineValue, IsIndexFor, StandsFor}
-use Rattle.path_engine.specs.Paths.{ShowsPair}
+use Rattle.query_index.specs.IndexValue.{IndexValue}
+use Rattle.query_index.specs.Answering.{HasHistory}
+use Rattle.path_engine.specs.Engine.{EngineValue, StandsFor}
+use Rattle.query_index.specs.Index.{IsIndexFor}
+use Rattle.query_index.specs.Paths.{ShowsPair}
 use Rattle.path_engine.proofs.Each.{have_histories, zip_at}
-use Rattle.path_engine.proofs.Feeding.{if_ok_map}
+use Rattle.query_index.proofs.Outcomes.{if_ok_map}
 use Rattle.path_engine.proofs.engine.Engine.best_path.Goals as goal
 
 pub index-index-requires : goal.index-index-requires
@@ -18,21 +19,21 @@ index-index-requires c =
     let inside = c.self.inside in
     let unspent = ap (λ (engine : EngineValue). engine.spent) c.self.view_is ∙ c.requires.unspent in
     let found = c.self.invariant.stands unspent in
-    let as_many = AllZip-long (λ (query : CompiledValue) (index : Index).
+    let as_many = AllZip-long (λ (query : CompiledValue) (index : IndexValue).
     IsIndexFor query found.0 inside.names index) inside.queries.items inside.indexes.items
     found.1.indexes in
     let queries = ap (λ (engine : EngineValue). length engine.queries) c.self.view_is in
     omega (arith, as_many, inside.indexes.ok.0, queries, c.requires.some)
 
-pub path_for-requires : goal.path_for-requires
-path_for-requires c =
+pub best_path-requires : goal.best_path-requires
+best_path-requires c =
     let inside = c.self.inside in
     let unspent = ap (λ (engine : EngineValue). engine.spent) c.self.view_is ∙ c.requires.unspent in
     let found = c.self.invariant.stands unspent in
     let have = have_histories found.0 inside.names inside.queries.items inside.indexes.items
     (omega (arith, found.1.counted, c.self.invariant.short)) found.1.indexes in
     let queries = ap (λ (engine : EngineValue). length engine.queries) c.self.view_is in
-    zip_at (λ (query : CompiledValue) (index : Index). HasHistory query inside.names index)
+    zip_at (λ (query : CompiledValue) (index : IndexValue). HasHistory query inside.names index)
     inside.queries.items inside.indexes.items c.args.q c.index-query.result.now
     c.index-index.result.now have
     (omega (arith, queries, c.requires.some)) c.index-query.ensures c.index-index.ensures
@@ -58,11 +59,11 @@ returns c =
     (sym c.self.view_is) query_is in
     let same : here ≡ query =
     c.index-query.ensures ∙ get_or_from_slice_get queries c.args.q query here there in
-    let is = zip_at (λ (each : CompiledValue) (own : Index).
+    let is = zip_at (λ (each : CompiledValue) (own : IndexValue).
     IsIndexFor each history inside.names own) queries inside.indexes.items c.args.q query index
     engine.indexes (slice_get_within queries c.args.q query there)
     (sym (get_or_from_slice_get queries c.args.q query query there)) c.index-index.ensures in
     subst (λ (each : CompiledValue). ShowsPair each.def history pair found) same
     (shows history (subst (λ (each : CompiledValue). IsIndexFor each history inside.names index)
     (sym {A = CompiledValue} same) is)))
-    c.path_for.result c.path_for.ensures
+    c.best_path.result c.best_path.ensures

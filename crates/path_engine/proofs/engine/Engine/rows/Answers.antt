@@ -6,12 +6,12 @@ use Rattle.rpq_model.specs.Query.{path_query}
 use Rattle.answer_rows.specs.Answers.{Answer}
 use Rattle.answer_view.specs.View.{AreRowsOf}
 use Rattle.query_file.specs.Compiled.{CompiledValue}
-use Rattle.path_engine.specs.declared.index.Index.{Index}
-use Rattle.path_engine.specs.Answering.{HasHistory}
+use Rattle.query_index.specs.IndexValue.{IndexValue}
+use Rattle.query_index.specs.Answering.{HasHistory}
 use Rattle.path_engine.specs.Engine.{EngineValue, StandsFor}
 use Rattle.path_engine.specs.Showing.{StandStill}
 use Rattle.path_engine.proofs.Each.{AreIndexes, HaveHistories, have_histories, written_back}
-use Rattle.path_engine.proofs.Feeding.{if_ok_map}
+use Rattle.query_index.proofs.Outcomes.{if_ok_map}
 use Rattle.path_engine.proofs.Still.{engine_still, still_long}
 use Rattle.path_engine.proofs.engine.Engine.rows.Goals as goal
 
@@ -28,8 +28,8 @@ have c =
 pub rows_of_each-requires-clause-as_many : goal.rows_of_each-requires-clause-as_many
 rows_of_each-requires-clause-as_many c =
     let inside = c.self.inside in
-    ap (λ (all : List Index). length all) c.deref_mut.ensures.value
-    ∙ (AllZip-long (λ (query : CompiledValue) (index : Index). HasHistory query inside.names index)
+    ap (λ (all : List IndexValue). length all) c.deref_mut.ensures.value
+    ∙ (AllZip-long (λ (query : CompiledValue) (index : IndexValue). HasHistory query inside.names index)
     inside.queries.items inside.indexes.items (have c)
     ∙ ap (λ (all : List CompiledValue). length all)
     (sym {A = List CompiledValue} c.deref.ensures.value))
@@ -41,7 +41,7 @@ rows_of_each-requires-clause-indexes c =
     HaveHistories inside.names queries c.deref_mut.result.now)
     (sym {A = List CompiledValue} c.deref.ensures.value)
     (subst (HaveHistories inside.names inside.queries.items)
-    (sym {A = List Index} c.deref_mut.ensures.value) (have c))
+    (sym {A = List IndexValue} c.deref_mut.ensures.value) (have c))
 
 -- the engine before the call
 abbrev before : goal.After-self-1 → EngineValue
@@ -54,7 +54,7 @@ before c = record {
 }
 
 -- the indexes after it, written back into their list
-abbrev indexes : goal.After-self-1 → List Index
+abbrev indexes : goal.After-self-1 → List IndexValue
 indexes c =
     let news = c.rows_of_each.new.indexes in
     let all = c.self.inside.indexes in
@@ -72,10 +72,10 @@ still c =
     let given : StandStill queries inside.names olds news =
     subst (λ (all : List CompiledValue). StandStill all inside.names olds news)
     c.deref.ensures.value
-    (subst (λ (all : List Index). StandStill c.deref.result.now inside.names all news)
+    (subst (λ (all : List IndexValue). StandStill c.deref.result.now inside.names all news)
     c.deref_mut.ensures.value c.rows_of_each.ensures.kept) in
     subst (StandStill queries inside.names olds)
-    (sym {A = List Index} (written_back news olds inside.indexes.len
+    (sym {A = List IndexValue} (written_back news olds inside.indexes.len
     (still_long queries inside.names olds news given) inside.indexes.ok.0)) given
 
 pub invariant_of-self : goal.invariant_of-self
@@ -101,7 +101,7 @@ returns-clause-rows c = λ history stands.
     AreIndexes history inside.names queries c.deref_mut.result.now)
     (sym {A = List CompiledValue} c.deref.ensures.value)
     (subst (AreIndexes history inside.names inside.queries.items)
-    (sym {A = List Index} c.deref_mut.ensures.value) here.indexes) in
+    (sym {A = List IndexValue} c.deref_mut.ensures.value) here.indexes) in
     if_ok_map
     (λ (rows : Vec (List Answer) Global). (history : List Entry) →
     AreIndexes history inside.names c.deref.result.now c.deref_mut.result.now →

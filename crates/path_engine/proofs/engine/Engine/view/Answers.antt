@@ -2,7 +2,8 @@ use Rattle.std.proofs.Common.{◌≡◌, ℕ, ap, ◌∙◌, Global}
 use Rattle.std.specs.declared.sync.Arc.{Arc}
 use Rattle.answer_view.specs.View.{IsViewOf, ViewValue}
 use Rattle.path_engine.specs.Engine.{EngineValue, definitions}
-use Rattle.path_engine.proofs.Feeding.{if_ok_map, view_of}
+use Rattle.query_index.proofs.Outcomes.{if_ok_map}
+use Rattle.path_engine.proofs.Feeding.{view_of}
 use Rattle.path_engine.proofs.engine.Engine.view.Goals as goal
 
 pub returns-clause-view : goal.returns-clause-view

@@ -13,6 +13,3 @@ returns-in_err-opened-clause-faults g c =
     let noted : c.note_outcome.new.failed.names ≡ c.args.self.now.names.unmade_names ++ c.args.name.now ∷ [] =
     search rules in
     counts_noted _ _ _ _ (search rules) noted
-
-pub returns-clause-files : goal.returns-clause-files
-returns-clause-files g c = (c.in_ok-opened.opened.id, search rules, search rules)

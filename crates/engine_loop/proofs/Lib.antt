@@ -1,0 +1,4 @@
+pub mod TellingMore
+pub mod MoreSteps
+mod Rebuilding
+mod Taking

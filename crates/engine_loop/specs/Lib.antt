@@ -1,0 +1,4 @@
+pub mod Sources
+pub mod Sinks
+pub mod Loop
+pub mod Telling

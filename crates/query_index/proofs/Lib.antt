@@ -1,0 +1,14 @@
+pub mod Outcomes
+mod Telling
+mod Untouched
+mod Bare
+mod Small
+mod Stepping
+pub mod Kept
+mod Answered
+mod Choosing
+mod Rows
+mod Shown
+mod Starting
+pub mod Still
+mod BestPaths

@@ -1,0 +1,10 @@
+pub mod IndexValue
+pub mod Shown
+pub mod Index
+pub mod IndexLaws
+pub mod Keeping
+pub mod Answering
+pub mod Showing
+pub mod Stepping
+pub mod Laws
+pub mod Paths

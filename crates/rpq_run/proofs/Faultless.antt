@@ -1,0 +1,222 @@
+-- Which runs over streams are done.
+use Rattle.std.proofs.Common.{◌≡◌, ◌≢◌, ℕ, ◌≤◌, Bool, true, List, [], ◌∷◌, ◌++◌, length, Option}
+use Rattle.std.proofs.Common.{Some, None, Result, Ok, Err, refl, ap, sym, subst, ◌∙◌, arith, inl, inr}
+use Rattle.std.specs.Prelude.{IfSome, IsSomeAnd, codes, map, option_map, sum}
+use Rattle.std.specs.List.{All}
+use Rattle.std.proofs.lemmas.List.Elements.{All-cons, All-head, All-nil, All-tail}
+use Rattle.rpq_model.specs.Query.{Query}
+use Rattle.ask_text.specs.declared.ask.Ask.{Ask}
+use Rattle.ask_text.specs.declared.fault.AskFault.{AskFault}
+use Rattle.ask_text.specs.Asks.{asks}
+use Rattle.join_file.specs.declared.fault.JoinFileFault.{JoinFileFault}
+use Rattle.join_file.specs.Joins.{JoinValue}
+use Rattle.join_file.specs.JoinsFile.{joins}
+use Rattle.query_file.specs.declared.fault.QueryFault.{QueryFault}
+use Rattle.query_file.specs.Examples.{TwoWayExamples, inverse_line, inverse_query}
+use Rattle.query_file.specs.Laws.{OneOutcome, OneOutcomeOf, OneTwoWayOutcome}
+use Rattle.rpq_words.specs.declared.settings.RunMode.{RunMode}
+use Rattle.rpq_words.specs.declared.settings.RunMode.TheVariants.{Streams}
+use Rattle.rpq_words.specs.declared.settings.StreamSettings.{StreamSettings}
+use Rattle.rpq_words.specs.declared.settings.StreamSettings.TheVariants.{BothWays}
+use Rattle.rpq_words.specs.declared.settings.Settings.{Settings}
+use Rattle.rpq_words.specs.Examples.{SettingsExamples, plain}
+use Rattle.rpq_words.specs.Modes.{count_of}
+use Rattle.rpq_words.specs.Views.{asks_of, joins_of, two_way_of}
+use Rattle.run_start.specs.Files.{HasQueries, ForQueries, AreFaultlessAsks, AreFaultlessJoins}
+use Rattle.run_start.specs.Files.{IsFaultless, stream_contents}
+use Rattle.saved_window.specs.SavedText.{SavedTextIsRead, saved_text}
+use Rattle.saved_window.specs.Then.{join_known}
+use Rattle.stream_tuples.specs.declared.ends.StreamEnd.TheVariants.{Whole}
+use Rattle.stream_tuples.specs.StreamText.{StreamTuples, stream_tuples}
+use Rattle.entry_steps.specs.Laws.{StepsHaveJoinEvents, StepsHaveTheEvents}
+use Rattle.rpq_run.specs.Done.{CanBeDone, IsWholeStream, NothingRose, tuple_count}
+use Rattle.rpq_run.specs.Faultless.{AreFaultless, SmallRunCanBeDone}
+use Rattle.rpq_run.specs.Headline.{Told, IsTold, AreAsked, AreJoined, Headline, stream_texts}
+use Rattle.rpq_run.specs.Outcome.{Meanings, Sinks, Objects, Openings, Outcome}
+use Rattle.rpq_run.specs.RunsStreams.{RunsStreams}
+use Rattle.rpq_run.proofs.Done.{streams_done}
+use Rattle.rpq_run.proofs.Headlines.{contents_are, either_way, from_queries, headline_holds}
+use Rattle.rpq_run.proofs.Totals.{sum_front}
+
+-- ---- the files that are read whole
+
+-- a file that gives queries has no fault
+no_query_fault : (two_way : Bool) → OneOutcomeOf two_way → (bytes : List ℕ) (queries : List Query)
+    → HasQueries two_way bytes queries → IsFaultless two_way bytes
+no_query_fault two_way one bytes queries has = record {
+  short = has.0;
+  no_fault = λ fault gives.
+      let both : ◌≡◌ {A = Result (List Query) QueryFault} (Ok queries) (Err fault) =
+      one bytes (Ok queries) (Err fault) has.1 gives in
+      absurd (cc both);
+}
+
+module _ {S K : Type 0} (means : Meanings S K) (given : Settings)
+    (holds : List ℕ → Option (List ℕ)) (sinks : Sinks K) (told : Told)
+    (one : OneOutcomeOf (two_way_of given)) (is : IsTold means given holds sinks told)
+    (queries : List Query) (has : HasQueries (two_way_of given) told.queries queries) where
+  understood_in : IsSomeAnd (holds given.queries) (IsFaultless (two_way_of given))
+  understood_in = subst (λ (file : Option (List ℕ)). IsSomeAnd file (IsFaultless (two_way_of given)))
+      (sym is.queries) (no_query_fault (two_way_of given) one told.queries queries has)
+
+  -- what is so of all queries of the file is so of these
+  of_these : (P : List Query → Type 0) → ForQueries (two_way_of given) (holds given.queries) P
+      → P queries
+  of_these P p =
+      from_queries (two_way_of given) one (holds given.queries) told.queries queries P is.queries has p
+
+  joins_in : (found : List JoinValue) → AreJoined queries told.joins found
+      → IfSome (joins_of given) (λ name. IsSomeAnd (holds name)
+      (AreFaultlessJoins (two_way_of given) (holds given.queries)))
+  joins_in found joined = by (joins_of given) told.joins is.joins joined
+    where
+      by : (named known : Option (List ℕ))
+          → option_map holds named ≡ option_map (λ bytes. Some bytes) known
+          → AreJoined queries known found
+          → IfSome named (λ name. IsSomeAnd (holds name)
+          (AreFaultlessJoins (two_way_of given) (holds given.queries)))
+      by None known is joined = tt
+      by (Some name) None is joined = absurd (cc is)
+      by (Some name) (Some bytes) is joined =
+          let content : holds name ≡ Some bytes = cc is in
+          subst (λ (file : Option (List ℕ)). IsSomeAnd file
+          (AreFaultlessJoins (two_way_of given) (holds given.queries))) (sym content) (record {
+            short = joined.0;
+            no_fault = λ fault faulty.
+                let bad = of_these (λ all. joins all bytes ≡ Err fault) faulty in
+                let both : ◌≡◌ {A = Result (List JoinValue) JoinFileFault} (Ok found) (Err fault) =
+                sym joined.1 ∙ bad in
+                absurd (cc both);
+          })
+
+  asks_in : (sessions : List (List Ask)) → AreAsked queries told.asks sessions
+      → IfSome (asks_of given) (λ name. IsSomeAnd (holds name)
+      (AreFaultlessAsks (two_way_of given) (holds given.queries)))
+  asks_in sessions asked = by (asks_of given) told.asks is.asks asked
+    where
+      by : (named known : Option (List ℕ))
+          → option_map holds named ≡ option_map (λ bytes. Some bytes) known
+          → AreAsked queries known sessions
+          → IfSome named (λ name. IsSomeAnd (holds name)
+          (AreFaultlessAsks (two_way_of given) (holds given.queries)))
+      by None known is asked = tt
+      by (Some name) None is asked = absurd (cc is)
+      by (Some name) (Some bytes) is asked =
+          let content : holds name ≡ Some bytes = cc is in
+          subst (λ (file : Option (List ℕ)). IsSomeAnd file
+          (AreFaultlessAsks (two_way_of given) (holds given.queries))) (sym content) (record {
+            short = asked.0;
+            no_fault = λ fault faulty.
+                let bad = of_these (λ all. asks all bytes ≡ Err fault) faulty in
+                let both : ◌≡◌ {A = Result (List (List Ask)) AskFault} (Ok sessions) (Err fault) =
+                sym asked.1 ∙ bad in
+                absurd (cc both);
+          })
+
+-- ---- the streams
+
+whole_contents : (texts : List (List ℕ)) → All (λ text. (stream_tuples text).end ≡ Whole) texts
+    → All IsWholeStream (map (λ (bytes : List ℕ). Some bytes) texts)
+whole_contents [] whole = All-nil IsWholeStream
+whole_contents (text ∷ texts) whole =
+    let IsWhole : List ℕ → Type 0 = λ text. (stream_tuples text).end ≡ Whole in
+    All-cons IsWholeStream (Some text) (map (λ (bytes : List ℕ). Some bytes) texts)
+    (All-head IsWhole text texts whole) (whole_contents texts (All-tail IsWhole text texts whole))
+
+counted : (texts : List (List ℕ)) → map tuple_count (map (λ (bytes : List ℕ). Some bytes) texts)
+    ≡ map (λ text. length (stream_tuples text).tuples) texts
+counted [] = refl
+counted (text ∷ texts) =
+    ap (λ (rest : List ℕ). length (stream_tuples text).tuples ∷ rest) (counted texts)
+
+-- ---- all of it
+
+-- a run over streams can be done whose files have no fault
+pub can_be_done : {S K : Type 0} (means : Meanings S K) (given : Settings)
+    (holds : List ℕ → Option (List ℕ)) (sinks : Sinks K) (told : Told) (run : StreamSettings)
+    → OneOutcome → OneTwoWayOutcome → given.mode ≡ Streams run
+    → IsTold means given holds sinks told → AreFaultless told → CanBeDone given holds
+can_be_done means given holds sinks told run one_way two_way mode is fine =
+    let one = either_way one_way two_way (two_way_of given) in
+    let has = subst (λ (both_ways : Bool). HasQueries both_ways told.queries fine.queries)
+    (sym {A = Bool} is.two_way) fine.accepted in
+    let contents = contents_are given holds told is.from is.streams in
+    record {
+      understood = understood_in means given holds sinks told one is fine.queries has;
+      joins = joins_in means given holds sinks told one is fine.queries has fine.joins fine.joined;
+      asks = asks_in means given holds sinks told one is fine.queries has fine.sessions fine.asked;
+      whole = subst (λ (files : List (Option (List ℕ))). All IsWholeStream files)
+          (sym {A = List (Option (List ℕ))} contents) (whole_contents (stream_texts told) fine.whole);
+      few = omega (
+        arith,
+        ap (λ (files : List (Option (List ℕ))). sum (map tuple_count files)) contents,
+        ap (λ (counts : List ℕ). sum counts) (counted (stream_texts told)),
+        fine.few,
+        is.limit,
+      );
+      made = subst (λ (m : RunMode). IfSome (count_of m) (λ count. count ≤ given.history))
+          (sym {A = RunMode} mode) tt;
+    }
+
+-- and where nothing fails and memory doesn't run out, it is done
+pub faultless_done : {S K : Type 0} (means : Meanings S K) (given : Settings)
+    (holds : List ℕ → Option (List ℕ)) (sinks : Sinks K) (objects : Objects)
+    (outcome : Outcome S K) (told : Told) (openings : Openings) (run : StreamSettings)
+    → OneOutcome → OneTwoWayOutcome → StepsHaveTheEvents → StepsHaveJoinEvents
+    → given.mode ≡ Streams run → RunsStreams means given holds sinks objects outcome
+    → IsTold means given holds sinks told → AreFaultless told
+    → NothingRose means given openings sinks outcome → outcome.status ≢ 8
+    → Headline means told sinks objects outcome
+faultless_done means given holds sinks objects outcome told openings run one_way two_way law lines
+    mode runs is fine none other =
+    elim (streams_done means given holds openings sinks objects outcome runs
+    (can_be_done means given holds sinks told run one_way two_way mode is fine) none) [
+      | inl done ↦ headline_holds means given holds sinks objects outcome told one_way two_way law
+          lines runs done is
+      | inr eight ↦ absurd (other eight)
+    ]
+
+-- ---- a small run
+
+pub small_run : OneTwoWayOutcome → TwoWayExamples → SettingsExamples → SavedTextIsRead
+    → SmallRunCanBeDone
+small_run one examples words read = λ holds tuples queries stream may few short.
+    let given = plain (Streams (BothWays (codes "t" ∷ []))) in
+    let text = saved_text tuples in
+    let back : stream_tuples text ≡ record { tuples = tuples; end = Whole } =
+    (read tuples may).alone short in
+    let bytes = inverse_line ++ codes "\n" in
+    let bytes_are : length bytes ≡ 46 = refl in
+    let of_query : IsSomeAnd (holds (codes "q")) (IsFaultless true) =
+    subst (λ (file : Option (List ℕ)). IsSomeAnd file (IsFaultless true)) (sym queries)
+    (no_query_fault true one bytes (inverse_query ∷ [])
+    (omega (arith, bytes_are), examples.given)) in
+    let of_stream : IsWholeStream (holds (codes "t")) =
+    subst IsWholeStream (sym stream) (ap (λ (ts : StreamTuples). ts.end) back) in
+    let count : tuple_count (holds (codes "t")) ≡ length tuples =
+    ap tuple_count stream ∙ ap (λ (ts : StreamTuples). length ts.tuples) back in
+    let none : sum [] ≡ 0 = refl in
+    let contents : stream_contents given holds ≡ holds (codes "t") ∷ [] =
+    ap (λ (file : Option (List ℕ)). file ∷ []) (unread (holds (codes "t"))) in
+    subst (λ (found : Option Settings). IsSomeAnd found (λ all. CanBeDone all holds))
+    (sym words.both_ways.over_stream) (record {
+      understood = of_query;
+      joins = tt;
+      asks = tt;
+      whole = subst (λ (files : List (Option (List ℕ))). All IsWholeStream files)
+          (sym {A = List (Option (List ℕ))} contents)
+          (All-cons IsWholeStream (holds (codes "t")) [] of_stream (All-nil IsWholeStream));
+      few = omega (
+        arith,
+        ap (λ (files : List (Option (List ℕ))). sum (map tuple_count files)) contents,
+        sum_front (tuple_count (holds (codes "t"))) [],
+        none,
+        count,
+        few,
+      );
+      made = tt;
+    })
+  where
+    unread : (file : Option (List ℕ)) → join_known (Some []) file ≡ file
+    unread None = refl
+    unread (Some bytes) = refl

@@ -1,0 +1,223 @@
+-- The engine's loop has ended.
+use Rattle.std.proofs.Common.{◌≡◌, ℕ, ◌<◌, ◌≤◌, true, false, List, [], ◌∷◌, ◌++◌, length, take}
+use Rattle.std.proofs.Common.{drop, Option, Some, None, Result, Ok, Err, refl, sym, ap, subst, ◌∙◌}
+use Rattle.std.proofs.Common.{⊎_elim, arith}
+use Rattle.std.specs.Prelude.{Contains, OnOk, OnErr, IfErr}
+use Rattle.std.specs.Result.{result_err}
+use Rattle.std.proofs.lemmas.List.{take-append-drop, take_all}
+use Rattle.std.proofs.lemmas.List.Elements.{Contains-push_cases, All-nil}
+use Rattle.entry_steps.specs.Evaluator.{EvaluatorValue, StandsAfter, queries_of}
+use Rattle.entry_steps.specs.Laws.{EveryEntryHasAStep}
+use Rattle.entry_steps.specs.Steps.{OptionsValue, StepValue, CanRun, AreSteps, AreStepsFrom}
+use Rattle.history_model.specs.Lines.{shut_line, calls, entries, published, AllEnded}
+use Rattle.history_model.specs.Lines.{IsShut, IsShutFor}
+use Rattle.history_model.specs.declared.line.Call.{Call}
+use Rattle.history_model.specs.declared.line.CallAct.TheVariants.{Shut}
+use Rattle.history_model.specs.declared.line.Line.{Line}
+use Rattle.history_model.specs.declared.line.Why.{Why}
+use Rattle.history_model.specs.declared.line.Why.TheVariants.{Write}
+use Rattle.rpq_base.proofs.Members.{none_in}
+use Rattle.rpq_base.specs.Plain.{IsPlain}
+use Rattle.rpq_base.specs.declared.data.Entry.{Entry}
+use Rattle.rpq_io.specs.Counts.{CountsFault}
+use Rattle.rpq_model.specs.Query.{Query}
+use Rattle.stream_threads.proofs.Numbering.{Each, new_is}
+use Rattle.stream_threads.proofs.Seen.{added_starts, starts_then}
+use Rattle.stream_threads.specs.Started.{new_pass}
+use Rattle.standing.specs.Circles.{CircleValue}
+use Rattle.stream_history.proofs.Pushes.{calls_push, called}
+use Rattle.stream_history.proofs.Turns.{first_entries}
+use Rattle.stream_history.specs.History.{HistoryValue, IsFeedingPass, HasAdded}
+use Rattle.turn_lock.specs.Lines.{StartsWith}
+use Rattle.rpq_threads.specs.Blocks.{WritesBlocks}
+use Rattle.rpq_threads.specs.Entries.{FeedsFrom}
+use Rattle.rpq_threads.specs.Fed.{IsFed, HasFed}
+use Rattle.rpq_threads.proofs.AllWritten.{HaveWritten, wrote_of_longer, writes_text, told_objects}
+
+-- ---- the start
+
+-- a new pass of the engine, and an evaluator that answered nothing
+pub first_fed : (history : HistoryValue) (evaluator : EvaluatorValue) →
+    queries_of evaluator ≡ history.terms.queries →
+    CanRun evaluator.options history.terms.queries →
+    (evaluator.options.two_way ≡ true → history.readers ≡ 0) →
+    (evaluator.options.paths ≡ true → evaluator.options.two_way ≡ false) →
+    history.terms.cap ≤ 536870912 → StandsAfter evaluator [] →
+    IsFed history evaluator (new_pass history 0)
+first_fed history evaluator queries accepted unread forwards small stands = record {
+  feeds = record {
+    is = record { is = new_is history 0; number = refl };
+    goes_on = λ shut. none_in (record { by = 0; act = Shut shut.0 }) shut.1;
+  };
+  none_seen = refl;
+  none_added = refl;
+  queries = queries;
+  accepted = accepted;
+  unread = unread;
+  forwards = forwards;
+  few = small;
+  stands = stands;
+}
+
+-- nothing was given yet, and what comes may be
+pub feeds_first : (history : HistoryValue) (evaluator : EvaluatorValue) (pass : Each) →
+    IsFed history evaluator pass → FeedsFrom history pass 0 [] evaluator
+feeds_first history evaluator pass was = record {
+  feeds = was.feeds;
+  queries = was.queries;
+  unread = was.unread;
+  few = was.few;
+  place = omega (arith, was.stands.fed.counted);
+  told = λ some. ap published was.none_added ∙ sym was.stands.fed.counted;
+  rest_comes = record {
+    there = omega arith;
+    begins = (entries pass.seen, refl);
+    plain = All-nil IsPlain;
+    short = omega arith;
+  };
+}
+
+-- ---- the end
+
+-- a shut that is there is the new one
+shut_said : (lines : List Line) (why other : Why) → (IsShut lines → ⊥) →
+    IsShutFor (lines ++ shut_line why ∷ []) other → Some why ≡ Some other
+shut_said lines why other going shut =
+    let call : Call = record { by = 0; act = Shut other } in
+    ⊎_elim (λ old. absurd (going (other, old)))
+    (λ is. let same : Shut why ≡ Shut other = ap (λ (each : Call). each.act) is in
+    let reason : why ≡ other = cc in ap (λ (w : Why). Some w) reason)
+    (Contains-push_cases (calls lines) (record { by = 0; act = Shut why }) call
+    (subst (λ (all : List Call). Contains all call) (calls_push lines (shut_line why)) shut))
+
+module _ {K : Type 0} (written : K → Option (List ℕ)) (faults : K → ℕ) (options : OptionsValue)
+    (history : HistoryValue) (before after : K) (first last : CircleValue)
+    (fresh : first.left ≡ []) where
+  -- all streams have ended, and the blocks of all entries were written
+  pub fed_whole : (pass : Each) → IsFeedingPass history pass →
+      AllEnded history.terms.streams pass.seen →
+      (0 < history.readers → published pass.mine ≡ length (entries pass.seen)) →
+      HaveWritten options history.terms.queries (entries pass.seen) None (written before)
+      (written after) first last →
+      CountsFault (None ≡ Some Write) (faults before) (faults after) →
+      HasFed written faults options history before after first last pass None
+  fed_whole pass feeds ended told wrote counted = record {
+    is = feeds.is.is;
+    number = feeds.is.number;
+    ended = λ _. ended;
+    told = λ _ some. told some;
+    shut = λ other shut. absurd (feeds.goes_on (other, shut));
+    seen_shut = λ other is. absurd cc;
+    text = writes_text written faults options history.terms.queries (entries pass.seen) wrote.steps
+        wrote.are_steps None before after first last wrote.did counted;
+    objects = told_objects options history.terms.queries (entries pass.seen) wrote.steps
+        wrote.are_steps None (written before) (written after) first last wrote.did fresh;
+  }
+
+  -- the history was shut
+  pub fed_shut : EveryEntryHasAStep → CanRun options history.terms.queries →
+      (going pass : Each) (why : Why) → IsFeedingPass history going →
+      HasAdded history going (shut_line why) pass → (given : List Entry) →
+      StartsWith (entries going.seen) given →
+      HaveWritten options history.terms.queries given (Some why) (written before)
+      (written after) first last →
+      CountsFault (Some why ≡ Some Write) (faults before) (faults after) →
+      HasFed written faults options history before after first last pass (Some why)
+  fed_shut have can going pass why feeds added given starts wrote counted =
+      let all = starts_then (entries pass.seen) (entries going.seen) given
+      (first_entries pass.seen going.seen
+      (added_starts history going pass (shut_line why) added)) starts in
+      let longer = wrote_of_longer have options history.terms.queries can given
+      (entries pass.seen) all why (written before) (written after) first last wrote in
+      record {
+        is = added.is;
+        number = added.number ∙ feeds.is.number;
+        ended = λ is. absurd cc;
+        told = λ is some. absurd cc;
+        shut = λ other shut. shut_said going.mine why other feeds.goes_on
+            (subst (λ (lines : List Line). IsShutFor lines other) added.mine shut);
+        seen_shut = λ other is.
+            let same : why ≡ other = cc in
+            subst (λ (lines : List Line). IsShutFor lines other) (sym added.ends)
+            (subst (λ (w : Why). IsShutFor (added.found ++ shut_line why ∷ []) w) same
+            (called added.found (shut_line why)));
+        text = writes_text written faults options history.terms.queries (entries pass.seen)
+            longer.steps longer.are_steps (Some why) before after first last longer.did counted;
+        objects = told_objects options history.terms.queries (entries pass.seen) longer.steps
+            longer.are_steps (Some why) (written before) (written after) first last longer.did
+            fresh;
+      }
+
+-- ---- what the loop took since the start
+
+-- the steps that were taken from the start on are those of a history
+pub from_start : (options : OptionsValue) (queries : List Query) (none given later : List Entry)
+    (steps : List StepValue) → none ≡ [] → given ≡ none ++ later →
+    AreStepsFrom options queries none later steps →
+    (later ≡ given) × AreSteps options queries given steps
+from_start options queries none given later steps is all are =
+    let same : later ≡ given = sym (all ∙ ap (λ (h : List Entry). h ++ later) is) in (
+      same,
+      subst (λ (h : List Entry). AreSteps options queries h steps) same
+          (subst (λ (h : List Entry). AreStepsFrom options queries h later steps) is are),
+    )
+
+-- what was taken since the start was written of all that was given
+pub have_written : (options : OptionsValue) (own queries : List Query)
+    (none given later : List Entry) (steps : List StepValue) (why : Option Why)
+    (before after : Option (List ℕ)) (old new : CircleValue) → own ≡ queries → none ≡ [] →
+    given ≡ none ++ later → AreStepsFrom options own none later steps →
+    WritesBlocks own 1 later steps why before after old new →
+    HaveWritten options queries given why before after old new
+have_written options own queries none given later steps why before after old new same is all are
+    did =
+    let start = from_start options own none given later steps is all are in
+    subst (λ (qs : List Query). HaveWritten options qs given why before after old new) same
+    (record {
+      steps = steps;
+      are_steps = start.1;
+      did = subst (λ (entries : List Entry). WritesBlocks own 1 entries steps why before after old
+          new) start.0 did;
+    })
+
+-- what holds either way
+pub either : {T E X : Type 0} (result : Result T E) → OnOk result X → OnErr result X → X
+either (Ok x) ok err = ok
+either (Err e) ok err = err
+
+-- the loop ended, and the history was shut if it ended early
+pub has_fed : {K T : Type 0} (written : K → Option (List ℕ)) (faults : K → ℕ)
+    (options : OptionsValue) (history : HistoryValue) (before after : K)
+    (first last : CircleValue) → first.left ≡ [] → EveryEntryHasAStep →
+    CanRun options history.terms.queries → (going pass : Each) (count : ℕ)
+    (ended : Result T Why) → IsFeedingPass history going →
+    OnOk ended (AllEnded history.terms.streams going.seen × (count ≡ length (entries going.seen))
+    × (0 < history.readers → published going.mine ≡ count)) →
+    OnOk ended (pass ≡ going) →
+    IfErr ended (λ why. HasAdded history going (shut_line why) pass) →
+    HaveWritten options history.terms.queries (take count (entries going.seen))
+    (result_err ended) (written before) (written after) first last →
+    CountsFault (result_err ended ≡ Some Write) (faults before) (faults after) →
+    HasFed written faults options history before after first last pass (result_err ended)
+has_fed written faults options history before after first last fresh have can going pass count
+    (Ok x) feeds whole same shut wrote counted =
+    let all : take count (entries going.seen) ≡ entries going.seen =
+    take_all count (entries going.seen) (omega (arith, whole.1)) in
+    subst (λ (each : Each). HasFed written faults options history before after first last each
+    None) (sym same)
+    (fed_whole written faults options history before after first last fresh going feeds whole.0
+    (λ some. whole.2 some ∙ whole.1)
+    (subst (λ (h : List Entry). HaveWritten options history.terms.queries h None (written before)
+    (written after) first last) all wrote) counted)
+has_fed written faults options history before after first last fresh have can going pass count
+    (Err why) feeds whole same shut wrote counted =
+    fed_shut written faults options history before after first last fresh have can going pass why
+    feeds shut (take count (entries going.seen))
+    (drop count (entries going.seen), sym (take-append-drop count (entries going.seen))) wrote
+    counted
+
+-- both of two facts hold of an answer
+pub both_ok : {T E X Y Z : Type 0} (result : Result T E) → (X → Y → Z) → OnOk result X →
+    OnOk result Y → OnOk result Z
+both_ok (Ok x) then first second = then first second
+both_ok (Err e) then first second = tt

@@ -1,0 +1,111 @@
+use Rattle.std.proofs.Common.{◌≡◌, ◌<◌, Err, take, drop, ap, ◌∙◌, arith}
+use Rattle.history_model.specs.Lines.{entries}
+use Rattle.stream_history.specs.declared.fault.PublishFault.{PublishFault}
+use Rattle.stream_history.specs.declared.fault.PublishFault.TheVariants.{Behind}
+use Rattle.rpq_threads.proofs.ComingNext.{place_now, is_ahead, view_place, view_there, view_shows}
+use Rattle.rpq_threads.proofs.ComingNext.{feeds_published, given_published}
+use Rattle.rpq_threads.proofs.entries.HistoryEntriesEntrySource.publish.Goals as goal
+
+pub unreachable-requires : goal.unreachable-requires
+unreachable-requires g c =
+    let source = c.args.self.now in
+    let history = source.history.now in
+    let pass = source.pass in
+    let rest = drop source.to source.buffer.items in
+    let before = c.requires.feeds.0 in
+    let now = c.args.evaluator.now in
+    let was = c.requires.feeds.1.feeds_from in
+    let on = c.requires.feeds.2 in
+    let stands = c.requires.stands in
+    let view = c.in_ok-view.view.value in
+    let given = take source.count (entries pass.seen) in
+    let sees = c.in_ok-view.ensures.view given stands in
+    let some : 0 < history.readers = omega (arith, c.readers.ensures) in
+    let last = c.in-Err-Behind.field-0-0 in
+    let said : c.publish.result ≡ Err (Behind last) =
+    c.in-Err-Behind.is ∙ ap (λ (fault : PublishFault). Err fault) c.in-Err-Behind.field-0-is in
+    let both = (c.publish.ensures.behind last).0 said in
+    omega (
+      arith,
+      both.0,
+      both.1,
+      is_ahead history pass source.count rest before now was on stands some,
+      view_place history pass source.count rest before now was on stands some view sees,
+      place_now history pass source.count rest before now was on stands,
+    )
+
+pub publish-requires-clause-there : goal.publish-requires-clause-there
+publish-requires-clause-there g c =
+    let source = c.args.self.now in
+    let history = source.history.now in
+    let pass = source.pass in
+    let rest = drop source.to source.buffer.items in
+    let before = c.requires.feeds.0 in
+    let now = c.args.evaluator.now in
+    let was = c.requires.feeds.1.feeds_from in
+    let on = c.requires.feeds.2 in
+    let stands = c.requires.stands in
+    let view = c.in_ok-view.view.value in
+    let given = take source.count (entries pass.seen) in
+    let sees = c.in_ok-view.ensures.view given stands in
+    let some : 0 < history.readers = omega (arith, c.readers.ensures) in
+    view_there history pass source.count rest before now was on stands some view sees
+
+pub publish-requires-clause-shows : goal.publish-requires-clause-shows
+publish-requires-clause-shows g c =
+    let source = c.args.self.now in
+    let history = source.history.now in
+    let pass = source.pass in
+    let rest = drop source.to source.buffer.items in
+    let before = c.requires.feeds.0 in
+    let now = c.args.evaluator.now in
+    let was = c.requires.feeds.1.feeds_from in
+    let on = c.requires.feeds.2 in
+    let stands = c.requires.stands in
+    let view = c.in_ok-view.view.value in
+    let given = take source.count (entries pass.seen) in
+    let sees = c.in_ok-view.ensures.view given stands in
+    let some : 0 < history.readers = omega (arith, c.readers.ensures) in
+    view_shows history pass source.count rest before now was on stands some view sees
+
+pub returns-in-Ok-clause-given : goal.returns-in-Ok-clause-given
+returns-in-Ok-clause-given g c =
+    let source = c.args.self.now in
+    let history = source.history.now in
+    let pass = source.pass in
+    let rest = drop source.to source.buffer.items in
+    let before = c.requires.feeds.0 in
+    let now = c.args.evaluator.now in
+    let was = c.requires.feeds.1.feeds_from in
+    let on = c.requires.feeds.2 in
+    let stands = c.requires.stands in
+    let view = c.in_ok-view.view.value in
+    let given = take source.count (entries pass.seen) in
+    let sees = c.in_ok-view.ensures.view given stands in
+    let some : 0 < history.readers = omega (arith, c.readers.ensures) in
+    given_published history pass source.count rest before now was on stands c.view.new.self
+    c.view.ensures.keeps c.view.ensures.position c.publish.new.pass view.position
+    (view_place history pass source.count rest before now was on stands some view sees) c.in-Ok.ensures.line
+
+pub returns-in-Ok-clause-ok : goal.returns-in-Ok-clause-ok
+returns-in-Ok-clause-ok g c =
+    let source = c.args.self.now in
+    let history = source.history.now in
+    let pass = source.pass in
+    let rest = drop source.to source.buffer.items in
+    let before = c.requires.feeds.0 in
+    let now = c.args.evaluator.now in
+    let was = c.requires.feeds.1.feeds_from in
+    let on = c.requires.feeds.2 in
+    let stands = c.requires.stands in
+    let view = c.in_ok-view.view.value in
+    let given = take source.count (entries pass.seen) in
+    let sees = c.in_ok-view.ensures.view given stands in
+    let some : 0 < history.readers = omega (arith, c.readers.ensures) in
+    record {
+      within = c.requires.feeds.1.within;
+      feeds_from = feeds_published history pass source.count rest before now was on stands
+          c.view.new.self c.view.ensures.keeps c.view.ensures.position c.publish.new.pass
+          view.position (view_place history pass source.count rest before now was on stands some view
+          sees) c.in-Ok.ensures.line;
+    }

@@ -1,4 +1,0 @@
-mod Appending
-pub mod Seen
-pub mod Numbering
-pub mod Replying

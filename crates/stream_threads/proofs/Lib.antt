@@ -1,0 +1,5 @@
+mod Appending
+pub mod Seen
+pub mod Numbering
+pub mod Replying
+mod Serving
