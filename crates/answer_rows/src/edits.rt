@@ -10,7 +10,7 @@ ghost use Rattle.answer_rows.specs.RowEdits.{target, with_target, without_target
 use crate::row::Row;
 use crate::rows::Rows;
 use crate::target::{Target, has_target};
-use rpq_base::{Copied, Memory, Name, stored_in_all};
+use rpq_base::{Memory, Name, TryClone, stored_in_all};
 use shared_map::SharedMap;
 
 /// Puts a target into the row of a source, which has one. Answers whether it is new.

@@ -11,31 +11,31 @@ ghost use Rattle.answer_rows.specs.RowChanges.{row_without};
 use crate::row::Row;
 use crate::rows::Rows;
 use crate::target::{Target, has_target};
-use rpq_base::{Copied, Event, Memory, Name, Pair};
+use rpq_base::{Event, Memory, Name, Pair, TryClone};
 use std::alloc::Global;
 
 /// Which events are told, and of which query.
 #[derive(Clone, Copy)]
-struct Kind {
+struct EventKind {
     query: u32,
     added: bool,
 }
 
 /// The losses and the gains of a query.
-fn kinds(query: u32) -> (Kind, Kind)
+fn kinds(query: u32) -> (EventKind, EventKind)
     ensures losses { (result.0.query ≡ query) × (result.0.added ≡ false) }
     ensures gains { (result.1.query ≡ query) × (result.1.added ≡ true) }
 {
-    let losses = Kind {
+    let losses = EventKind {
         query,
         added: false,
     };
-    let gains = Kind { query, added: true };
+    let gains = EventKind { query, added: true };
     (losses, gains)
 }
 
 /// The event that this pair is gained or lost.
-fn event_of(kind: Kind, from: &Name, to: &Name) -> Result<Event, Memory>
+fn event_of(kind: EventKind, from: &Name, to: &Name) -> Result<Event, Memory>
     ensures { IfOk result (λ each. each ≡ event kind.query kind.added (pair from.now to.now)) }
 {
     Ok(Event {
@@ -51,7 +51,7 @@ fn event_of(kind: Kind, from: &Name, to: &Name) -> Result<Event, Memory>
 /// Adds an event for each of a source's targets that isn't among the others, in order.
 fn push_row(
     events: &mut Vec<Event>,
-    kind: Kind,
+    kind: EventKind,
     from: &Name,
     targets: &[Target],
     others: &[Target],
@@ -71,7 +71,7 @@ fn push_row(
 /// Adds an event for each pair of these sources that isn't in the others, in order.
 fn push_sources(
     events: &mut Vec<Event>,
-    kind: Kind,
+    kind: EventKind,
     sources: &[(Name, Row)],
     others: &Rows,
 ) -> Result<(), Memory>
@@ -85,7 +85,12 @@ fn push_sources(
 }
 
 /// Adds an event for each pair of the rows that isn't in the others, in order.
-fn push_all(events: &mut Vec<Event>, kind: Kind, rows: &Rows, others: &Rows) -> Result<(), Memory>
+fn push_all(
+    events: &mut Vec<Event>,
+    kind: EventKind,
+    rows: &Rows,
+    others: &Rows,
+) -> Result<(), Memory>
     ensures { OnOk result (events.new.items ≡ events.old.items
         ++ map (event kind.query kind.added) (without (pairs rows.now) (pairs others.now))) }
 {
@@ -99,7 +104,7 @@ fn push_all(events: &mut Vec<Event>, kind: Kind, rows: &Rows, others: &Rows) -> 
 /// The same, where the rows differ at most in those of these sources.
 fn push_in(
     events: &mut Vec<Event>,
-    kind: Kind,
+    kind: EventKind,
     rows: &Rows,
     others: &Rows,
     sources: &[Name],

@@ -6,7 +6,7 @@ ghost use Rattle.answer_rows.specs.Answers.{AreTargets, has_target};
 ghost use Rattle.answer_rows.specs.RowEdits.{with_target, without_target};
 
 use crate::target::{Target, place_of};
-use rpq_base::{Copied, Memory, Name};
+use rpq_base::{Memory, Name, TryClone};
 use std::alloc::Global;
 use std::marker::Model;
 use std::sync::Arc;
@@ -70,7 +70,7 @@ impl Row {
     }
 }
 
-impl Copied for Row {
+impl TryClone for Row {
     fn copy(&self) -> Result<Row, Memory> {
         Ok(Row {
             targets: Arc::try_clone(&self.targets)?,

@@ -8,7 +8,7 @@ ghost use Rattle.answer_rows.specs.Listing.{listed};
 
 use crate::row::Row;
 use crate::target::{Target, end_of};
-use rpq_base::{Copied, Memory, Name, stored_in_all};
+use rpq_base::{Memory, Name, TryClone, stored_in_all};
 use shared_map::SharedMap;
 use std::alloc::Global;
 use std::marker::Model;

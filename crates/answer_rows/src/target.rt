@@ -5,7 +5,7 @@ ghost use Rattle.std.specs.List.Sorted.{IsSearchInRange, IsBinarySearchResult};
 ghost use Rattle.rpq_base.specs.Order.{name_cmp};
 ghost use Rattle.answer_rows.specs.Answers.{AreTargets, has_target, end_of};
 
-use rpq_base::{Copied, Memory, Name};
+use rpq_base::{Memory, Name, TryClone};
 use std::alloc::AllocError;
 
 /// A vertex that a source leads to, and the time until which this answer lasts: at a clock below
@@ -16,7 +16,7 @@ pub struct Target {
     pub until: u64,
 }
 
-impl Copied for Target {
+impl TryClone for Target {
     fn copy(&self) -> Result<Target, Memory> {
         Ok(Target {
             to: self.to.copy()?,

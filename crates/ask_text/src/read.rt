@@ -12,7 +12,7 @@ use rpq_base::Memory;
 use rpq_model::QueryDef;
 use std::alloc::Global;
 use std::marker::Model;
-use text_parts::{LineReader, fields, is_blank_line, is_comment, read_lines};
+use text_parts::{TextReader, fields, is_blank_line, is_comment, read_lines};
 
 /// The most sessions that a file has.
 const MAX_SESSIONS: usize = 64;
@@ -49,7 +49,7 @@ struct AskReader<'a> {
     queries: &'a [QueryDef],
 }
 
-impl<'a> LineReader for AskReader<'a> {
+impl<'a> TextReader for AskReader<'a> {
     type Progress = Progress;
 
     type Fault = AskFault;

@@ -14,7 +14,7 @@ use Rattle.state_pairs.specs.Goals.{ReachesGoal}
 use Rattle.state_pairs.specs.Pairs.{accepts_at, IsExtraWord}
 use Rattle.containment_test.specs.Containment.{Shows}
 use Rattle.containment_test.specs.Needed.{NeedsAtMost, needed_at, AreNeeded, state_graph}
-use Rattle.containment_test.specs.declared.needed.Needed.{Needed}
+use Rattle.containment_test.specs.declared.needed.NeededLabel.{NeededLabel}
 use Rattle.containment_test.proofs.Words.{none_inside}
 
 -- a word after another is accepted where it is from the state that the other leads to
@@ -101,9 +101,9 @@ loop_of_shows dfa p w label state valid leads shows =
 -- ---- the state that the first word of a triple leads to
 
 -- the word leads to a state after which a label can't be left out
-pub record LeadsToNeeded (dfa : DfaValue) (list : List (Option Needed)) (word : List Label) : Type 0 where
+pub record LeadsToNeeded (dfa : DfaValue) (list : List (Option NeededLabel)) (word : List Label) : Type 0 where
   pub state : ℕ
-  pub needed : Needed
+  pub needed : NeededLabel
   pub leads : run_from dfa 0 word ≡ Some state
   pub has : needed_at list state ≡ Some needed
 
@@ -111,8 +111,8 @@ state_of : (o : Option ℕ) (dfa : DfaValue) (p q w : List Label) → run_from d
 state_of None dfa p q w leads shows = absurd (false≢true ((accepts_after dfa None p (q ++ w) leads).0 shows.inside))
 state_of (Some state) dfa p q w leads shows = (state, refl)
 
-needed_of : (o : Option Needed) (dfa : DfaValue) (p q w : List Label) (state : ℕ) → IsDfa dfa → run_from dfa 0 p ≡ Some state → NeedsAtMost dfa state o → Shows (Accepts dfa) p q w →
-    (needed : Needed) × (o ≡ Some needed)
+needed_of : (o : Option NeededLabel) (dfa : DfaValue) (p q w : List Label) (state : ℕ) → IsDfa dfa → run_from dfa 0 p ≡ Some state → NeedsAtMost dfa state o → Shows (Accepts dfa) p q w →
+    (needed : NeededLabel) × (o ≡ Some needed)
 needed_of None dfa p q w state valid leads none shows =
     let no_label : (label : Label) (rest : List Label) → Shows (Accepts dfa) p (label ∷ []) rest → ⊥ = λ label rest one.
     let loop = loop_of_shows dfa p rest label state valid leads one in
@@ -120,7 +120,7 @@ needed_of None dfa p q w state valid leads none shows =
     absurd (none_inside q (Accepts dfa) p w no_label shows.some shows.outside shows.inside)
 needed_of (Some needed) dfa p q w state valid leads none shows = (needed, refl)
 
-pub needed_of_shows : (dfa : DfaValue) (list : List (Option Needed)) (p q w : List Label) → AreNeeded dfa list → Shows (Accepts dfa) p q w → LeadsToNeeded dfa list p
+pub needed_of_shows : (dfa : DfaValue) (list : List (Option NeededLabel)) (p q w : List Label) → AreNeeded dfa list → Shows (Accepts dfa) p q w → LeadsToNeeded dfa list p
 needed_of_shows dfa list p q w are shows =
     let end = state_of (run_from dfa 0 p) dfa p q w refl shows in
     let below = runs_stay_within dfa 0 end.0 p are.valid (omega (arith, are.valid.some)) end.1 in
@@ -129,7 +129,7 @@ needed_of_shows dfa list p q w are shows =
 
 -- ---- words of numbers and goals
 
-pub goal_of_walk : (word : List ℕ) (dfa : DfaValue) (list : List (Option Needed)) (from state : ℕ) (needed : Needed) → IsDfa dfa → walk dfa from word ≡ Some state →
+pub goal_of_walk : (word : List ℕ) (dfa : DfaValue) (list : List (Option NeededLabel)) (from state : ℕ) (needed : NeededLabel) → IsDfa dfa → walk dfa from word ≡ Some state →
     needed_at list state ≡ Some needed → ReachesGoal (state_graph dfa list) from word
 goal_of_walk [] dfa list from state needed valid leads has =
     ap (λ (n : ℕ). is_some (needed_at list n)) (same_Some from state leads) ∙ ap is_some has
@@ -137,15 +137,16 @@ goal_of_walk (label ∷ word) dfa list from state needed valid leads has =
     option_and_then_some (λ next. walk dfa next word) (step_of dfa from label) state leads (λ next step further.
     (label_within dfa from label next valid step, (next, step, goal_of_walk word dfa list next state needed valid further has)))
 
-is_there : (o : Option Needed) → IsTrue (is_some o) → (needed : Needed) × (o ≡ Some needed)
+is_there : (o : Option NeededLabel) → IsTrue (is_some o) →
+    (needed : NeededLabel) × (o ≡ Some needed)
 is_there None some = absurd (false≢true some)
 is_there (Some needed) some = (needed, refl)
 
 -- the word of numbers leads from the state to one after which a label can't be left out
-abbrev pub WalksToNeeded : DfaValue → List (Option Needed) → ℕ → List ℕ → Type 0
-WalksToNeeded dfa list from word = (state : ℕ) × (walk dfa from word ≡ Some state) × ((needed : Needed) × (needed_at list state ≡ Some needed))
+abbrev pub WalksToNeeded : DfaValue → List (Option NeededLabel) → ℕ → List ℕ → Type 0
+WalksToNeeded dfa list from word = (state : ℕ) × (walk dfa from word ≡ Some state) × ((needed : NeededLabel) × (needed_at list state ≡ Some needed))
 
-pub walk_of_goal : (word : List ℕ) (dfa : DfaValue) (list : List (Option Needed)) (from : ℕ) → ReachesGoal (state_graph dfa list) from word → WalksToNeeded dfa list from word
+pub walk_of_goal : (word : List ℕ) (dfa : DfaValue) (list : List (Option NeededLabel)) (from : ℕ) → ReachesGoal (state_graph dfa list) from word → WalksToNeeded dfa list from word
 walk_of_goal [] dfa list from reaches = (from, refl, is_there (needed_at list from) reaches)
 walk_of_goal (label ∷ word) dfa list from reaches =
     let next = reaches.1.0 in

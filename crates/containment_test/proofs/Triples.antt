@@ -19,7 +19,7 @@ use Rattle.state_pairs.specs.Pairs.{IsExtraWord, IsLeastExtra}
 use Rattle.state_pairs.proofs.Extra.{word_cmp_at}
 use Rattle.containment_test.specs.Containment.{Contained, Shows, IsLeastTriple}
 use Rattle.containment_test.specs.Needed.{NeedsAtMost, needed_at, AreNeeded, state_graph, IsFront}
-use Rattle.containment_test.specs.declared.needed.Needed.{Needed}
+use Rattle.containment_test.specs.declared.needed.NeededLabel.{NeededLabel}
 use Rattle.containment_test.proofs.Loops.{shows_of_extra, extra_of_shows, loop_of_shows, needed_of_shows, goal_of_walk}
 
 -- the word of the labels of these numbers
@@ -29,11 +29,11 @@ spell dfa numbers = map (label_at dfa) numbers
 -- ---- none
 
 -- the first word of a triple has numbers that lead to a goal
-abbrev HasGoal : DfaValue → List (Option Needed) → List Label → Type 0
+abbrev HasGoal : DfaValue → List (Option NeededLabel) → List Label → Type 0
 HasGoal dfa list word =
     (numbers : List ℕ) × (spell dfa numbers ≡ word) × All (λ number. number < length dfa.labels) numbers × ReachesGoal (state_graph dfa list) 0 numbers
 
-goal_of_shows : (dfa : DfaValue) (list : List (Option Needed)) (p q w : List Label) → AreNeeded dfa list → Shows (Accepts dfa) p q w → HasGoal dfa list p
+goal_of_shows : (dfa : DfaValue) (list : List (Option NeededLabel)) (p q w : List Label) → AreNeeded dfa list → Shows (Accepts dfa) p q w → HasGoal dfa list p
 goal_of_shows dfa list p q w are shows =
     let to = needed_of_shows dfa list p q w are shows in
     let has = runs_go_by_numbers.numbered dfa 0 to.state p are.valid to.leads in (
@@ -47,7 +47,7 @@ accepts_or_not : (b : Bool) (dfa : DfaValue) (word : List Label) → accepts_fro
 accepts_or_not true dfa word is not_not = (accepted_words_pass dfa word).1 is
 accepts_or_not false dfa word is not_not = absurd (not_not (λ accepts. false≢true (sym is ∙ (accepted_words_pass dfa word).0 accepts)))
 
-pub contained_of : (dfa : DfaValue) (list : List (Option Needed)) → AreNeeded dfa list → ((word : List ℕ) → ReachesGoal (state_graph dfa list) 0 word → ⊥) →
+pub contained_of : (dfa : DfaValue) (list : List (Option NeededLabel)) → AreNeeded dfa list → ((word : List ℕ) → ReachesGoal (state_graph dfa list) 0 word → ⊥) →
     Contained (Accepts dfa)
 contained_of dfa list are none p q w some inside =
     accepts_or_not (accepts_from dfa 0 (p ++ w)) dfa (p ++ w) refl (λ outside.
@@ -57,26 +57,26 @@ contained_of dfa list are none p q w some inside =
 -- ---- the least one
 
 -- what the search gives
-pub record AreGiven (dfa : DfaValue) (list : List (Option Needed)) (word : List ℕ) (state : ℕ) (needed : Needed) (rest : List ℕ) : Type 0 where
+pub record AreGiven (dfa : DfaValue) (list : List (Option NeededLabel)) (word : List ℕ) (state : ℕ) (needed : NeededLabel) (rest : List ℕ) : Type 0 where
   pub are : AreNeeded dfa list
   pub front : IsFront dfa list word state needed
   pub last : IsLeastExtra dfa (Some state) needed.next rest
 
-pub front_within : (dfa : DfaValue) (list : List (Option Needed)) (word : List ℕ) (state : ℕ) (needed : Needed) → IsDfa dfa → IsFront dfa list word state needed →
+pub front_within : (dfa : DfaValue) (list : List (Option NeededLabel)) (word : List ℕ) (state : ℕ) (needed : NeededLabel) → IsDfa dfa → IsFront dfa list word state needed →
     All (λ number. number < length dfa.labels) word
 front_within dfa list word state needed valid front = runs_go_by_numbers.within dfa 0 state word valid front.leads
 
-front_leads : (dfa : DfaValue) (list : List (Option Needed)) (word : List ℕ) (state : ℕ) (needed : Needed) → IsDfa dfa → IsFront dfa list word state needed →
+front_leads : (dfa : DfaValue) (list : List (Option NeededLabel)) (word : List ℕ) (state : ℕ) (needed : NeededLabel) → IsDfa dfa → IsFront dfa list word state needed →
     run_from dfa 0 (spell dfa word) ≡ Some state
 front_leads dfa list word state needed valid front =
     runs_go_by_numbers.spelled dfa 0 word valid (front_within dfa list word state needed valid front) ∙ front.leads
 
 -- the needed label of the state that the front leads to
-front_needs : (o : Option Needed) (dfa : DfaValue) (state : ℕ) (needed : Needed) → NeedsAtMost dfa state o → o ≡ Some needed → NeedsAtMost dfa state (Some needed)
+front_needs : (o : Option NeededLabel) (dfa : DfaValue) (state : ℕ) (needed : NeededLabel) → NeedsAtMost dfa state o → o ≡ Some needed → NeedsAtMost dfa state (Some needed)
 front_needs o dfa state needed most is = subst (NeedsAtMost dfa state) is most
 
 -- the label after the front is one of the automaton
-pub label_of_front : (dfa : DfaValue) (list : List (Option Needed)) (word : List ℕ) (state : ℕ) (needed : Needed) → AreNeeded dfa list → IsFront dfa list word state needed →
+pub label_of_front : (dfa : DfaValue) (list : List (Option NeededLabel)) (word : List ℕ) (state : ℕ) (needed : NeededLabel) → AreNeeded dfa list → IsFront dfa list word state needed →
     All (λ number. number < length dfa.labels) (needed.label ∷ [])
 label_of_front dfa list word state needed are front =
     let within : ℕ → Type 0 = λ n. n < length dfa.labels in
@@ -100,7 +100,7 @@ shorter_not_greater Less n m rest is less greater = cc
 shorter_not_greater Equal n m rest is less greater = let same = ranked n m Equal is in omega (arith, less, same)
 shorter_not_greater Greater n m rest is less greater = let more = ranked n m Greater is in omega (arith, less, more)
 
-second_least : (q : List Label) (dfa : DfaValue) (p w : List Label) (state : ℕ) (needed : Needed) → IsDfa dfa → run_from dfa 0 p ≡ Some state → NeedsAtMost dfa state (Some needed) →
+second_least : (q : List Label) (dfa : DfaValue) (p w : List Label) (state : ℕ) (needed : NeededLabel) → IsDfa dfa → run_from dfa 0 p ≡ Some state → NeedsAtMost dfa state (Some needed) →
     Shows (Accepts dfa) p q w → word_cmp (spell dfa (needed.label ∷ [])) q ≢ Greater
 second_least [] dfa p w state needed valid leads needs shows greater = shows.outside shows.inside
 second_least (label ∷ []) dfa p w state needed valid leads needs shows greater =
@@ -118,7 +118,7 @@ third_least dfa p w label state next valid leads step shows =
     let found = extra_of_shows (Some next) dfa p w label state valid leads step shows in
     subst (λ (n : ℕ). IsExtraWord dfa (Some state) n w) (sym (same_Some next found.0 found.1)) found.2
 
-pub least_triple : (dfa : DfaValue) (list : List (Option Needed)) (word : List ℕ) (state : ℕ) (needed : Needed) (rest : List ℕ) → AreGiven dfa list word state needed rest →
+pub least_triple : (dfa : DfaValue) (list : List (Option NeededLabel)) (word : List ℕ) (state : ℕ) (needed : NeededLabel) (rest : List ℕ) → AreGiven dfa list word state needed rest →
     IsLeastTriple (Accepts dfa) (spell dfa word) (spell dfa (needed.label ∷ [])) (spell dfa rest)
 least_triple dfa list word state needed rest given =
     let p = spell dfa word in

@@ -9,7 +9,7 @@ use crate::front::least_front;
 use crate::needed::all_needed;
 use crate::verdict::Verdict;
 use dfa_table::Dfa;
-use rpq_base::{Copied, Memory, Word};
+use rpq_base::{Memory, TryClone, Word};
 use state_pairs::PairTable;
 use std::alloc::Global;
 

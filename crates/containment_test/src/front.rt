@@ -5,7 +5,7 @@ ghost use Rattle.dfa_table.specs.Runs.{walk};
 ghost use Rattle.state_pairs.specs.Goals.{ReachesGoal};
 ghost use Rattle.containment_test.specs.Needed.{AreNeeded, IsFront, state_graph};
 
-use crate::needed::Needed;
+use crate::needed::NeededLabel;
 use dfa_table::Dfa;
 use rpq_base::Memory;
 use state_pairs::{Graph, least_word, levels};
@@ -16,7 +16,7 @@ use std::alloc::Global;
 struct StateGraph<'a> {
     dfa: &'a Dfa,
     /// For each state the least such label.
-    needed: &'a [Option<Needed>],
+    needed: &'a [Option<NeededLabel>],
 }
 
 impl<'a> Graph for StateGraph<'a> {
@@ -47,10 +47,10 @@ impl<'a> Graph for StateGraph<'a> {
 /// The least word that leads from the start to a state after which a label can't be left out, as
 /// the numbers of its labels; the state, and its least such label.
 #[derive(Drop)]
-pub struct Front {
+pub struct WordFront {
     pub word: Vec<u32>,
     pub state: u32,
-    pub needed: Needed,
+    pub needed: NeededLabel,
 }
 
 /// The state that the word leads to from the start.
@@ -74,8 +74,8 @@ fn end_of(dfa: &Dfa, word: &[u32]) -> Option<u32>
 pub fn least_front(
     alloc: Global,
     dfa: &Dfa,
-    needed: &[Option<Needed>],
-) -> Result<Option<Front>, Memory>
+    needed: &[Option<NeededLabel>],
+) -> Result<Option<WordFront>, Memory>
     requires { AreNeeded dfa.now needed.now }
     ensures some { IfOk result (λ front. IfSome front (λ front.
         IsFront dfa.now needed.now front.word.items front.state front.needed)) }
@@ -93,7 +93,7 @@ pub fn least_front(
         return Ok(None);
     };
     match needed[state as usize] {
-        Some(needed) => Ok(Some(Front {
+        Some(needed) => Ok(Some(WordFront {
             word,
             state,
             needed,

@@ -1,6 +1,6 @@
 //! Verdicts.
 
-use rpq_base::{Copied, Memory, Word};
+use rpq_base::{Memory, TryClone, Word};
 
 /// Whether a language has the property of containment.
 #[derive(Debug, Drop)]
@@ -13,7 +13,7 @@ pub enum Verdict {
     No { p: Word, q: Word, w: Word },
 }
 
-impl Copied for Verdict {
+impl TryClone for Verdict {
     fn copy(&self) -> Result<Verdict, Memory> {
         match self {
             Verdict::Yes => Ok(Verdict::Yes),

@@ -14,7 +14,7 @@ use crate::automaton::Positions;
 use crate::fault::BuildFault;
 use crate::position_set::PositionSet;
 use path_syntax::{Expr, occurrences};
-use rpq_base::{Copied, Label, Memory};
+use rpq_base::{Label, Memory, TryClone};
 use std::alloc::Global;
 
 /// The greatest number of atoms of an expression for which an automaton is built.

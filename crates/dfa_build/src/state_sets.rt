@@ -8,7 +8,7 @@ ghost use Rattle.dfa_build.specs.StateSets.{IsAfter, AreRows, HasTooMany, set_of
 use crate::fault::BuildFault;
 use crate::position_set::PositionSet;
 use crate::transitions::PositionSets;
-use dfa_table::discovery::{Discovered, Walk, discover};
+use dfa_table::discovery::{Discovery, Walk, discover};
 use rpq_base::Memory;
 use std::alloc::Global;
 
@@ -52,7 +52,7 @@ impl Walk for PositionSets {
 
 /// The sets that are found from the first positions, as the nodes of a walk, and the rows of the
 /// start and of these.
-pub fn find_states(alloc: Global, sets: &PositionSets) -> Result<Discovered, BuildFault>
+pub fn find_states(alloc: Global, sets: &PositionSets) -> Result<Discovery, BuildFault>
     requires follow { length sets.now.follow.items ≤ 64 }
     requires masks { length sets.now.masks.items ≤ 64 }
     ensures states { IfOk result (λ found.

@@ -12,7 +12,7 @@ ghost use Rattle.dfa_build.specs.StateSets.{set_at, AreSetsOf};
 
 use crate::automaton::Positions;
 use crate::position_set::PositionSet;
-use rpq_base::{Copied, Label, Memory};
+use rpq_base::{Label, Memory, TryClone};
 use std::alloc::Global;
 use std::collections::BTreeSet;
 

@@ -10,11 +10,11 @@ use std::marker::Model;
 
 /// A list of states that grows. Contracts see it as this list.
 #[derive(Drop)]
-struct Growing {
+struct StateList {
     states: Vec<u32>,
 }
 
-impl Model for Growing {
+impl Model for StateList {
     ghost use Rattle.std.specs.Prelude.{List, ℕ};
 
     ghost Value = { List ℕ };
@@ -22,12 +22,12 @@ impl Model for Growing {
     ghost view = { λ growing. growing.states.items };
 }
 
-impl Growing {
+impl StateList {
     /// No states. Takes no memory.
-    fn new(alloc: Global) -> Growing
+    fn new(alloc: Global) -> StateList
         ensures { result ≡ [] }
     {
-        Growing {
+        StateList {
             states: Vec::new(alloc),
         }
     }
@@ -86,7 +86,7 @@ impl Befores {
 }
 
 /// The lists, one after another.
-fn join_lists(alloc: Global, lists: &[Growing]) -> Result<Befores, Memory>
+fn join_lists(alloc: Global, lists: &[StateList]) -> Result<Befores, Memory>
     ensures { IfOk result (λ befores. befores ≡ lists.now) }
 {
     let mut starts = Vec::new(alloc);
@@ -100,18 +100,18 @@ fn join_lists(alloc: Global, lists: &[Growing]) -> Result<Befores, Memory>
 }
 
 /// This many empty lists.
-fn empty_lists(alloc: Global, count: usize) -> Result<Vec<Growing>, Memory>
+fn empty_lists(alloc: Global, count: usize) -> Result<Vec<StateList>, Memory>
     ensures { IfOk result (λ lists. AreEmpty count lists.items) }
 {
     let mut lists = Vec::with_capacity(alloc, count)?;
     for _ in 0..count {
-        lists.push(Growing::new(alloc))?;
+        lists.push(StateList::new(alloc))?;
     }
     Ok(lists)
 }
 
 /// Adds the state to the list of the target.
-fn add_before(lists: &mut [Growing], target: u32, state: u32) -> Result<(), Memory>
+fn add_before(lists: &mut [StateList], target: u32, state: u32) -> Result<(), Memory>
     requires { target < length lists.old }
     ensures { OnOk result (AddsAt target state lists.old lists.new) }
 {
@@ -141,7 +141,7 @@ fn step_at(rows: &[Vec<Option<u32>>], state: usize, label: usize) -> Option<u32>
 fn list_befores(
     rows: &[Vec<Option<u32>>],
     label: usize,
-    lists: &mut [Growing],
+    lists: &mut [StateList],
 ) -> Result<(), Memory>
     requires few { length rows.now ≤ 513 }
     requires within { StayWithin (map (λ row. row.items) rows.now) }
@@ -162,7 +162,7 @@ fn gather(
     alloc: Global,
     rows: &[Vec<Option<u32>>],
     label: usize,
-    lists: &mut [Growing],
+    lists: &mut [StateList],
 ) -> Result<Befores, Memory>
     requires few { length rows.now ≤ 513 }
     requires within { StayWithin (map (λ row. row.items) rows.now) }

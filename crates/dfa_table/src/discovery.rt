@@ -80,7 +80,7 @@ impl Error for DiscoveryFault {}
 /// The nodes in the order of their discovery, and the rows of the start and of these nodes: for
 /// each label the number of the node to which it leads, which is its place and one.
 #[derive(Drop)]
-pub struct Discovered {
+pub struct Discovery {
     pub nodes: Vec<u64>,
     pub rows: Vec<Vec<Option<u32>>>,
 }
@@ -179,7 +179,7 @@ pub fn discover<G: Walk>(
     graph: &G,
     first: u64,
     limit: u32,
-) -> Result<Discovered, DiscoveryFault>
+) -> Result<Discovery, DiscoveryFault>
     requires { G.can_step graph.now }
     ensures rows { IfOk result (λ found.
         AreRows (G.graph graph.now) limit first found.nodes.items
@@ -200,5 +200,5 @@ pub fn discover<G: Walk>(
         rows.push(row(alloc, graph, &mut nodes, limit, front)?)?;
         done += 1;
     }
-    Ok(Discovered { nodes, rows })
+    Ok(Discovery { nodes, rows })
 }

@@ -24,14 +24,14 @@ const FEW: usize = 16;
 /// Contracts see it as all edges in the order of a walk, and the number of edges for which there is
 /// room.
 #[derive(Drop)]
-pub(crate) struct Row {
+pub(crate) struct EdgeRow {
     few: SmallVec<(HalfEdge, u64), 2>,
     more: EdgeMap,
     /// The greatest value that was put since the row had no edge.
     most: u64,
 }
 
-impl Model for Row {
+impl Model for EdgeRow {
     ghost use Rattle.edge_store.specs.Row.{RowValue};
 
     ghost Value = { RowValue };
@@ -65,12 +65,12 @@ fn set(few: &mut SmallVec<(HalfEdge, u64), 2>, at: usize, entry: (HalfEdge, u64)
     }
 }
 
-impl Row {
+impl EdgeRow {
     /// A row without edges, which takes no memory.
-    pub(crate) fn new(alloc: Global) -> Row
+    pub(crate) fn new(alloc: Global) -> EdgeRow
         ensures { result.entries ≡ [] }
     {
-        Row {
+        EdgeRow {
             few: SmallVec::new(alloc),
             more: EdgeMap::new(),
             most: 0,

@@ -12,7 +12,7 @@ ghost use Rattle.edge_store.specs.Rows.{TakesAt, Writes};
 
 use crate::edge::HalfEdge;
 use crate::owners::Owners;
-use crate::row::Row;
+use crate::row::EdgeRow;
 use due_queue::give_back;
 use rpq_base::Memory;
 use std::alloc::Global;
@@ -26,15 +26,15 @@ use std::marker::Model;
 /// Contracts see it as one row for each vertex, which is without entries and room where there is
 /// none.
 #[derive(Drop)]
-pub(crate) struct Rows {
+pub(crate) struct EdgeRows {
     /// For each vertex the number of its row from 1, or 0 where it has none.
     slots: Vec<u32>,
     /// The rows in the order in which they came.
-    rows: Vec<Row>,
+    rows: Vec<EdgeRow>,
     owners: Owners,
 }
 
-impl Model for Rows {
+impl Model for EdgeRows {
     ghost use Rattle.std.specs.Prelude.{List, length};
     ghost use Rattle.edge_store.specs.Row.{RowValue};
 
@@ -79,7 +79,7 @@ fn reach(slots: &mut Vec<u32>, vertex: u32) -> Result<(), Memory>
 }
 
 /// The vertex that has the row at this place, where that row has no edges.
-fn bare_owner(slots: &[u32], rows: &[Row], owners: &Owners, at: usize) -> Option<u32>
+fn bare_owner(slots: &[u32], rows: &[EdgeRow], owners: &Owners, at: usize) -> Option<u32>
     requires { IsSide slots.now (length rows.now) }
     ensures { IfSome result (IsBareAt slots.now rows.now at) }
 {
@@ -92,7 +92,7 @@ fn bare_owner(slots: &[u32], rows: &[Row], owners: &Owners, at: usize) -> Option
 
 /// A row without edges among the next few places: the vertex that has it, and its place. Where no
 /// row is without edges, none is looked at.
-fn find_bare(slots: &[u32], rows: &[Row], owners: &mut Owners) -> Option<(u32, usize)>
+fn find_bare(slots: &[u32], rows: &[EdgeRow], owners: &mut Owners) -> Option<(u32, usize)>
     requires { IsSide slots.now (length rows.now) }
     ensures { IfSome result (λ found. IsBareAt slots.now rows.now found.1 found.0) }
 {
@@ -113,7 +113,7 @@ fn find_bare(slots: &[u32], rows: &[Row], owners: &mut Owners) -> Option<(u32, u
 fn add(
     alloc: Global,
     slots: &mut Vec<u32>,
-    rows: &mut Vec<Row>,
+    rows: &mut Vec<EdgeRow>,
     owners: &mut Owners,
     vertex: u32,
 ) -> Result<usize, Memory>
@@ -128,13 +128,13 @@ fn add(
 {
     let at = rows.len();
     owners.add(at, vertex)?;
-    rows.push(Row::new(alloc))?;
+    rows.push(EdgeRow::new(alloc))?;
     slots[vertex as usize] = (at + 1) as u32;
     Ok(at)
 }
 
 /// The vertex that has the last row, where that row has no edges.
-fn last_bare(slots: &[u32], rows: &[Row], owners: &Owners) -> Option<u32>
+fn last_bare(slots: &[u32], rows: &[EdgeRow], owners: &Owners) -> Option<u32>
     requires { IsSide slots.now (length rows.now) }
     ensures { IfSome result (IsBareAt slots.now rows.now (length rows.now - 1)) }
 {
@@ -142,7 +142,7 @@ fn last_bare(slots: &[u32], rows: &[Row], owners: &Owners) -> Option<u32>
 }
 
 /// Takes the last row, which has no edges, away from the vertex that has it.
-fn drop_last(slots: &mut Vec<u32>, rows: &mut Vec<Row>, vertex: u32)
+fn drop_last(slots: &mut Vec<u32>, rows: &mut Vec<EdgeRow>, vertex: u32)
     requires side { IsSide slots.old.items (length rows.old.items) }
     requires numbered { AreNumbered slots.old.items (length rows.old.items) }
     requires bare { IsBareAt slots.old.items rows.old.items (length rows.old.items - 1) vertex }
@@ -157,7 +157,7 @@ fn drop_last(slots: &mut Vec<u32>, rows: &mut Vec<Row>, vertex: u32)
 
 /// Takes the rows away that have no edges and stand behind all that have some. Each was made once,
 /// so over a run this costs no more than the making of rows.
-fn trim(slots: &mut Vec<u32>, rows: &mut Vec<Row>, owners: &Owners)
+fn trim(slots: &mut Vec<u32>, rows: &mut Vec<EdgeRow>, owners: &Owners)
     requires side { IsSide slots.old.items (length rows.old.items) }
     requires numbered { AreNumbered slots.old.items (length rows.old.items) }
     ensures side { IsSide slots.new.items (length rows.new.items) }
@@ -188,7 +188,7 @@ fn give(slots: &mut Vec<u32>, from: u32, to: u32)
 fn place_new(
     alloc: Global,
     slots: &mut Vec<u32>,
-    rows: &mut Vec<Row>,
+    rows: &mut Vec<EdgeRow>,
     owners: &mut Owners,
     vertex: u32,
 ) -> Result<usize, Memory>
@@ -216,7 +216,7 @@ fn place_new(
 fn place_or_new(
     alloc: Global,
     slots: &mut Vec<u32>,
-    rows: &mut Vec<Row>,
+    rows: &mut Vec<EdgeRow>,
     owners: &mut Owners,
     vertex: u32,
 ) -> Result<usize, Memory>
@@ -234,12 +234,12 @@ fn place_or_new(
     }
 }
 
-impl Rows {
+impl EdgeRows {
     /// No rows, which take no memory.
-    pub(crate) fn new(alloc: Global) -> Rows
+    pub(crate) fn new(alloc: Global) -> EdgeRows
         ensures { result ≡ [] }
     {
-        Rows {
+        EdgeRows {
             slots: Vec::new(alloc),
             rows: Vec::new(alloc),
             owners: Owners::new(alloc),
@@ -257,7 +257,7 @@ impl Rows {
     }
 
     /// The row of the vertex, where it has one.
-    pub(crate) fn get(&self, vertex: u32) -> Option<&Row>
+    pub(crate) fn get(&self, vertex: u32) -> Option<&EdgeRow>
         ensures row { walk_of result ≡ row (rows_of self.now) vertex }
         ensures once { IsDistinct same_half (keys_of (walk_of result)) }
     {

@@ -7,7 +7,7 @@ ghost use Rattle.edge_store.specs.Edges.{out_half, in_half, JoinsSmall};
 ghost use Rattle.edge_store.specs.Rows.{rows_of, sides, Agree, HasSameRows, TakesAt};
 
 use crate::edge::{EdgeId, In, Out, Raised};
-use crate::rows::Rows;
+use crate::rows::EdgeRows;
 use crate::steps::Steps;
 use crate::walk::{Ins, Outs};
 use due_queue::DueQueue;
@@ -24,9 +24,9 @@ use std::sync::ledger::Ledger;
 pub struct EdgeStore {
     alloc: Global,
     /// For each vertex the edges that leave it.
-    outs: Rows,
+    outs: EdgeRows,
     /// For each vertex the edges that end at it.
-    ins: Rows,
+    ins: EdgeRows,
     /// Each edge with its value, and beside them values that an edge had before.
     dues: DueQueue<EdgeId>,
 }
@@ -66,8 +66,8 @@ impl EdgeStore {
     {
         Ok(EdgeStore {
             alloc,
-            outs: Rows::new(alloc),
-            ins: Rows::new(alloc),
+            outs: EdgeRows::new(alloc),
+            ins: EdgeRows::new(alloc),
             dues: DueQueue::new(alloc),
         })
     }
@@ -207,8 +207,8 @@ impl EdgeStore {
 /// Room on both sides for an edge that had this value before: a known edge needs none.
 fn make_room(
     alloc: Global,
-    outs: &mut Rows,
-    ins: &mut Rows,
+    outs: &mut EdgeRows,
+    ins: &mut EdgeRows,
     edge: EdgeId,
     before: Option<u64>,
 ) -> Result<(), Memory>
@@ -228,7 +228,7 @@ fn make_room(
 }
 
 /// Takes the edge out of both sides where its value is at most `now`.
-fn drop_due(outs: &mut Rows, ins: &mut Rows, edge: EdgeId, now: u64)
+fn drop_due(outs: &mut EdgeRows, ins: &mut EdgeRows, edge: EdgeId, now: u64)
     requires { Agree (rows_of outs.old) (rows_of ins.old) }
     ensures agree { Agree (rows_of outs.new) (rows_of ins.new) }
     ensures updates { Updates

@@ -5,7 +5,7 @@ ghost use Rattle.edge_store.specs.Edges.{AreAtMost, AreAtMostWithin, in_entry, o
 ghost use Rattle.edge_store.specs.Row.{walk_of};
 
 use crate::edge::{HalfEdge, In, Out};
-use crate::row::Row;
+use crate::row::EdgeRow;
 use crate::steps::Steps;
 use std::marker::Model;
 use std::sync::ledger::Ledger;
@@ -15,7 +15,7 @@ use std::sync::ledger::Ledger;
 /// Contracts see it as the half edges with their values, in the order of the walk.
 #[derive(Drop)]
 pub struct Outs<'a> {
-    row: Option<&'a Row>,
+    row: Option<&'a EdgeRow>,
 }
 
 impl<'a> Model for Outs<'a> {
@@ -31,7 +31,7 @@ impl<'a> Model for Outs<'a> {
 
 impl<'a> Outs<'a> {
     /// The edges of a row that may be there.
-    pub(crate) fn new(row: Option<&'a Row>) -> Outs<'a>
+    pub(crate) fn new(row: Option<&'a EdgeRow>) -> Outs<'a>
         ensures { result ≡ walk_of row.entry }
     {
         Outs { row }
@@ -89,7 +89,7 @@ impl<'a> Outs<'a> {
 /// Contracts see it as the half edges with their values, in the order of the walk.
 #[derive(Drop)]
 pub struct Ins<'a> {
-    row: Option<&'a Row>,
+    row: Option<&'a EdgeRow>,
 }
 
 impl<'a> Model for Ins<'a> {
@@ -105,7 +105,7 @@ impl<'a> Model for Ins<'a> {
 
 impl<'a> Ins<'a> {
     /// The edges of a row that may be there.
-    pub(crate) fn new(row: Option<&'a Row>) -> Ins<'a>
+    pub(crate) fn new(row: Option<&'a EdgeRow>) -> Ins<'a>
         ensures { result ≡ walk_of row.entry }
     {
         Ins { row }
@@ -134,7 +134,7 @@ impl<'a> Ins<'a> {
 }
 
 /// The number of edges of a row that may be there.
-fn len_of(row: Option<&Row>) -> usize
+fn len_of(row: Option<&EdgeRow>) -> usize
     ensures { result ≡ length (walk_of row.entry) }
 {
     match row {
@@ -144,7 +144,7 @@ fn len_of(row: Option<&Row>) -> usize
 }
 
 /// The edge at this place of a row that may be there. It counts one step.
-fn entry_at<L: Ledger>(row: Option<&Row>, place: usize, steps: &mut Steps<L>) -> (HalfEdge, u64)
+fn entry_at<L: Ledger>(row: Option<&EdgeRow>, place: usize, steps: &mut Steps<L>) -> (HalfEdge, u64)
     requires { place < length (walk_of row) }
     ensures there { slice_get (walk_of row.entry) place ≡ Some result }
     ensures counted { steps.new ≡ steps.old + 1 }

@@ -5,7 +5,7 @@ ghost use Rattle.end_events.specs.Named.{named, named_lists, HasNames, HaveAllNa
 
 use crate::numbered_event::NumberedEvent;
 use name_table::Names;
-use rpq_base::{Copied, Event, Memory, Pair};
+use rpq_base::{Event, Memory, Pair, TryClone};
 use std::alloc::Global;
 
 /// The events of each list, each with copies of its names. The only error is [`Memory`].

@@ -10,7 +10,7 @@ ghost use Rattle.join_bindings.specs.Partial.{IsFull};
 
 use crate::binding::Binding;
 use join_file::{JoinAtom, Term};
-use rpq_base::{Copied, Memory, Name};
+use rpq_base::{Memory, Name, TryClone};
 use std::alloc::Global;
 use std::marker::Model;
 

@@ -3,7 +3,7 @@
 ghost use Rattle.std.specs.Prelude.{◌≡◌, IfOk};
 
 use indexmap::Equivalent;
-use rpq_base::{Copied, Memory, Name};
+use rpq_base::{Memory, Name, TryClone};
 use std::hash::{Hash, Hasher};
 use std::marker::Model;
 

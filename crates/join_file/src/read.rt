@@ -13,11 +13,11 @@ use crate::atoms::read_atoms;
 use crate::data::JoinDef;
 use crate::fault::{JoinFileFault, JoinFileFaultKind};
 use crate::line::read_text;
-use rpq_base::{Copied, Name};
+use rpq_base::{Name, TryClone};
 use rpq_model::QueryDef;
 use std::alloc::Global;
 use std::marker::Model;
-use text_parts::{LineReader, fields, is_blank_line, is_comment, read_lines};
+use text_parts::{TextReader, fields, is_blank_line, is_comment, read_lines};
 
 /// The most joins of a file.
 const MAX_JOINS: usize = 32;
@@ -44,7 +44,7 @@ struct JoinReader<'a> {
     queries: &'a [QueryDef],
 }
 
-impl<'a> LineReader for JoinReader<'a> {
+impl<'a> TextReader for JoinReader<'a> {
     type Progress = JoinsSoFar;
 
     type Fault = JoinFileFault;

@@ -5,7 +5,7 @@ ghost use Rattle.dfa_table.specs.Discovery.{AreRows};
 ghost use Rattle.dfa_table.specs.declared.discovery.DiscoveryFault.{DiscoveryFault};
 ghost use Rattle.minimal_dfa.specs.Classes.{AcceptSame, AreTold, StandsFor, LeadsToClass, class_graph};
 
-use dfa_table::discovery::{Discovered, DiscoveryFault, Walk, discover};
+use dfa_table::discovery::{Discovery, DiscoveryFault, Walk, discover};
 use state_pairs::PairTable;
 use std::alloc::Global;
 
@@ -86,7 +86,7 @@ impl<'a> Walk for Classes<'a> {
 
 /// The classes that steps from the start lead to, in the order of their discovery, and the rows of
 /// the start and of these. There are fewer than states, so they are never too many.
-pub fn find_classes(alloc: Global, pairs: &PairTable<'_>) -> Result<Discovered, DiscoveryFault>
+pub fn find_classes(alloc: Global, pairs: &PairTable<'_>) -> Result<Discovery, DiscoveryFault>
     ensures rows { IfOk result (λ found.
         AreRows (class_graph pairs.now) 512 0 found.nodes.items
         (map (λ row. row.items) found.rows.items) (length found.nodes.items)) }

@@ -12,7 +12,7 @@ use crate::bytes_order::bytes_compared;
 use crate::ranks::{numbers_by_rank, places_in};
 use crate::sort_key::sort_key;
 use indexmap::IndexMap;
-use rpq_base::{Copied, KeyedHash, Memory, Name};
+use rpq_base::{KeyedHash, Memory, Name, TryClone};
 use std::alloc::Global;
 use std::cmp::Ordering;
 use std::marker::Model;

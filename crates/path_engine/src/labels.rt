@@ -4,7 +4,7 @@ ghost use Rattle.std.specs.Prelude.{◌≡◌, All, IfNone, IfOk, IfSome, None, 
 ghost use Rattle.path_engine.specs.Labels.{AddsRows, IsStrange, IsTableOf, row_at, row_for};
 
 use query_file::Compiled;
-use rpq_base::{Copied, Label, Memory};
+use rpq_base::{Label, Memory, TryClone};
 use std::alloc::Global;
 use std::collections::BTreeMap;
 

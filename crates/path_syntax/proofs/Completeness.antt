@@ -4,8 +4,8 @@ use Rattle.std.proofs.lemmas.List.{append-nil}
 use Rattle.std.proofs.lemmas.Bool.{and_parts, ne_eqb, cases_eq}
 use Rattle.std.specs.Option.{option_and_then}
 use Rattle.rpq_base.specs.Names.{is_name_byte}
-use Rattle.path_syntax.specs.declared.byte_kind.Kind.{Kind}
-use Rattle.path_syntax.specs.declared.byte_kind.Kind.TheVariants as kinds
+use Rattle.path_syntax.specs.declared.byte_kind.ByteKind.{ByteKind}
+use Rattle.path_syntax.specs.declared.byte_kind.ByteKind.TheVariants as kinds
 use Rattle.path_syntax.specs.Expression.{Expression, Atom, Seq, Alt, Star, Plus, Opt}
 use Rattle.path_syntax.specs.Grammar.{is_blank, AreBlanks, is_bare_byte, IsBare, AreNameBytes, escaped, quoted, label_with, label_named, inverse_named, IsLabel, Bare, Quoted, IsAlternative, OneSequence, Either, IsSequence, OneElement, Then, IsElement, Once, Starred, Plussed, Optional, IsPrimary, Named, Inverse, InParentheses}
 use Rattle.path_syntax.specs.Reading.{kind_of, FrameValue, ModeValue, Operand, BareLabel, QuotedLabel, Escape, Primary, Element, StateValue, state_with, empty_frame, initial, in_sequence, whole_with, after_element, after_primary, in_bare, in_quotes, step_by, step, element_of, whole_of}
@@ -21,27 +21,27 @@ primary_ends (Primary f) e is = is
 primary_ends (Element f) e is = absurd cc
 
 -- the signs that join elements, and the closing parenthesis
-abbrev IsJoint : Kind → Type 0
+abbrev IsJoint : ByteKind → Type 0
 IsJoint kinds.Slash = Unit {0}
 IsJoint kinds.Bar = Unit {0}
 IsJoint kinds.Close = Unit {0}
 IsJoint _ = ⊥
 
-primary_joint : (outer : List FrameValue) (frame : FrameValue) (e : Expression) (kind : Kind) → IsJoint kind →
+primary_joint : (outer : List FrameValue) (frame : FrameValue) (e : Expression) (kind : ByteKind) → IsJoint kind →
     after_primary outer frame e kind ≡ after_element outer frame e kind
 primary_joint outer frame e kinds.Slash j = refl
 primary_joint outer frame e kinds.Bar j = refl
 primary_joint outer frame e kinds.Close j = refl
 primary_joint outer frame e _ j = absurd j
 
-bare_joint : (outer : List FrameValue) (frame : FrameValue) (name : List ℕ) (back : Bool) (kind : Kind) (byte : ℕ) → IsJoint kind →
+bare_joint : (outer : List FrameValue) (frame : FrameValue) (name : List ℕ) (back : Bool) (kind : ByteKind) (byte : ℕ) → IsJoint kind →
     in_bare outer frame name back kind byte ≡ after_primary outer frame (Atom (label_with name back)) kind
 bare_joint outer frame name back kinds.Slash byte j = refl
 bare_joint outer frame name back kinds.Bar byte j = refl
 bare_joint outer frame name back kinds.Close byte j = refl
 bare_joint outer frame name back _ byte j = absurd j
 
-joint_step : (inverses : Bool) (outer : List FrameValue) (frame : FrameValue) (mode : ModeValue) (e : Expression) (kind : Kind) (byte : ℕ) →
+joint_step : (inverses : Bool) (outer : List FrameValue) (frame : FrameValue) (mode : ModeValue) (e : Expression) (kind : ByteKind) (byte : ℕ) →
     element_of mode ≡ Some e → IsJoint kind → step_by inverses outer frame mode kind byte ≡ after_element outer frame e kind
 joint_step inverses outer frame (Operand back) e kind byte ends j = absurd cc
 joint_step inverses outer frame (BareLabel name back) e kind byte ends j =
@@ -189,7 +189,7 @@ bare_run inverses (byte ∷ bytes) name back outer frame bare =
     rw (kind_of_bare byte both.0)
     (bare_run inverses bytes (name ++ byte ∷ []) back outer frame both.1 ∙ ap (λ t. Some (state_with outer frame (BareLabel t back))) (append_assoc name (byte ∷ []) bytes))
 
-plain_in_quotes : (outer : List FrameValue) (frame : FrameValue) (name : List ℕ) (back : Bool) (kind : Kind) (byte : ℕ) → Means kind byte →
+plain_in_quotes : (outer : List FrameValue) (frame : FrameValue) (name : List ℕ) (back : Bool) (kind : ByteKind) (byte : ℕ) → Means kind byte →
     is_name_byte byte ≡ true → (byte ≡ 34 → ⊥) → (byte ≡ 92 → ⊥) →
     in_quotes outer frame name back kind byte ≡ Some (state_with outer frame (QuotedLabel (name ++ byte ∷ []) back))
 plain_in_quotes outer frame name back kinds.Blank byte m named quote backslash = absurd (let h : false ≡ true = sym (blank_is_strange byte m) ∙ named in cc)

@@ -2,13 +2,13 @@
 use Rattle.std.proofs.Common.{◌≡◌, ℕ, ◌==◌, true, false, refl, sym, subst, ⊎_elim}
 use Rattle.std.proofs.lemmas.Bool.{cond_both, eqb-true, eqb-false, or_cases, and_parts}
 use Rattle.rpq_base.specs.Names.{is_name_byte}
-use Rattle.path_syntax.specs.declared.byte_kind.Kind.{Kind}
-use Rattle.path_syntax.specs.declared.byte_kind.Kind.TheVariants.{Blank, Bare, Quote, Backslash, Slash, Bar, Asterisk, PlusSign, QuestionMark, Open, Close, Caret, Reserved, Strange}
+use Rattle.path_syntax.specs.declared.byte_kind.ByteKind.{ByteKind}
+use Rattle.path_syntax.specs.declared.byte_kind.ByteKind.TheVariants.{Blank, Bare, Quote, Backslash, Slash, Bar, Asterisk, PlusSign, QuestionMark, Open, Close, Caret, Reserved, Strange}
 use Rattle.path_syntax.specs.Grammar.{is_blank, is_bare_byte}
 use Rattle.path_syntax.specs.Reading.{kind_of, kind_of_sign}
 
 -- what each kind says of its bytes
-abbrev pub Means : Kind → ℕ → Type 0
+abbrev pub Means : ByteKind → ℕ → Type 0
 Means Blank byte = is_blank byte ≡ true
 Means Bare byte = is_bare_byte byte ≡ true
 Means Quote byte = byte ≡ 34
@@ -26,7 +26,7 @@ Means Strange byte = is_name_byte byte ≡ false
 
 sign_means : (byte : ℕ) → is_name_byte byte ≡ true → Means (kind_of_sign byte) byte
 sign_means byte named =
-    let P : Kind → Type 0 = λ kind. Means kind byte in
+    let P : ByteKind → Type 0 = λ kind. Means kind byte in
     cond_both (byte == 34) Quote _ P (eqb-true byte 34) (λ not_quote.
     cond_both (byte == 92) Backslash _ P (eqb-true byte 92) (λ not_backslash.
     cond_both (byte == 47) Slash _ P (eqb-true byte 47) (λ _.
@@ -42,7 +42,7 @@ sign_means byte named =
 pub kind_means : (byte : ℕ) → Means (kind_of byte) byte
 unfolding kind_of
 kind_means byte =
-    let P : Kind → Type 0 = λ kind. Means kind byte in
+    let P : ByteKind → Type 0 = λ kind. Means kind byte in
     cond_both (is_bare_byte byte) Bare _ P (λ bare. bare) (λ _.
     cond_both (is_blank byte) Blank _ P (λ blank. blank) (λ _.
     cond_both (is_name_byte byte) (kind_of_sign byte) Strange P (sign_means byte) (λ strange. strange)))

@@ -1,8 +1,8 @@
 -- The texts without inverses are those with inverses whose labels point forwards.
 use Rattle.std.proofs.Common.{◌≡◌, ℕ, Bool, List, [], ◌∷◌, ◌++◌, Some, Ok, sym, ◌∙◌, subst, append_assoc}
 use Rattle.std.proofs.lemmas.Option.{option_and_then_some}
-use Rattle.path_syntax.specs.declared.byte_kind.Kind.{Kind}
-use Rattle.path_syntax.specs.declared.byte_kind.Kind.TheVariants as kinds
+use Rattle.path_syntax.specs.declared.byte_kind.ByteKind.{ByteKind}
+use Rattle.path_syntax.specs.declared.byte_kind.ByteKind.TheVariants as kinds
 use Rattle.path_syntax.specs.Expression.{Expression}
 use Rattle.path_syntax.specs.Plain.{IsPlainExpression}
 use Rattle.path_syntax.specs.Grammar.{one_way, two_way, IsAlternative, OneSequence, Either, IsSequence, OneElement, Then, IsElement, Once, Starred, Plussed, Optional, IsPrimary, Named, Inverse, InParentheses, IsText, CanGoOn}
@@ -77,7 +77,7 @@ limits_narrower : (bytes : List ℕ) → IsWithinLimits two_way bytes → IsWith
 limits_narrower bytes limits = record { few = limits.few; short = λ at h. limits.short at (long_wider bytes at h) }
 
 -- each step of the reader without inverses is one with them
-operand_wider : (outer : List FrameValue) (frame : FrameValue) (back : Bool) (kind : Kind) (byte : ℕ) (after : StateValue) →
+operand_wider : (outer : List FrameValue) (frame : FrameValue) (back : Bool) (kind : ByteKind) (byte : ℕ) (after : StateValue) →
     in_operand one_way outer frame back kind byte ≡ Some after → in_operand two_way outer frame back kind byte ≡ Some after
 operand_wider outer frame back kinds.Blank byte after e = e
 operand_wider outer frame back kinds.Open byte after e = e
@@ -86,7 +86,7 @@ operand_wider outer frame back kinds.Quote byte after e = e
 operand_wider outer frame back kinds.Bare byte after e = e
 operand_wider outer frame back _ byte after e = absurd cc
 
-by_wider : (outer : List FrameValue) (frame : FrameValue) (mode : ModeValue) (kind : Kind) (byte : ℕ) (after : StateValue) →
+by_wider : (outer : List FrameValue) (frame : FrameValue) (mode : ModeValue) (kind : ByteKind) (byte : ℕ) (after : StateValue) →
     step_by one_way outer frame mode kind byte ≡ Some after → step_by two_way outer frame mode kind byte ≡ Some after
 by_wider outer frame (Operand back) kind byte after e = operand_wider outer frame back kind byte after e
 by_wider outer frame (BareLabel name back) kind byte after e = e

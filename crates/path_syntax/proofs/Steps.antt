@@ -4,8 +4,8 @@ use Rattle.std.specs.Option.{option_and_then}
 use Rattle.std.proofs.lemmas.Bool.{eqb-false}
 use Rattle.std.proofs.lemmas.Option.{option_and_then_some}
 use Rattle.rpq_base.specs.Names.{is_name_byte}
-use Rattle.path_syntax.specs.declared.byte_kind.Kind.{Kind}
-use Rattle.path_syntax.specs.declared.byte_kind.Kind.TheVariants.{Blank, Bare, Quote, Backslash, Slash, Bar, Asterisk, PlusSign, QuestionMark, Open, Close, Caret, Reserved, Strange}
+use Rattle.path_syntax.specs.declared.byte_kind.ByteKind.{ByteKind}
+use Rattle.path_syntax.specs.declared.byte_kind.ByteKind.TheVariants.{Blank, Bare, Quote, Backslash, Slash, Bar, Asterisk, PlusSign, QuestionMark, Open, Close, Caret, Reserved, Strange}
 use Rattle.path_syntax.specs.Expression.{Expression, Atom, Star, Plus, Opt}
 use Rattle.path_syntax.specs.Grammar.{is_blank, is_bare_byte, label_with}
 use Rattle.path_syntax.specs.Reading.{kind_of, FrameValue, ModeValue, Operand, BareLabel, QuotedLabel, Escape, Primary, Element, StateValue, state_with, empty_frame, in_sequence, whole_with, after_element, after_primary, in_operand, in_quotes, in_escape, in_bare, ended_label, step_by, step, element_of}
@@ -83,7 +83,7 @@ leads_caret inverses false back outer frame byte is m = tt
 leads_caret inverses true true outer frame byte is m = tt
 leads_caret inverses true false outer frame byte is m = at_byte inverses 94 byte outer frame (Operand false) _ m (OperandCaret outer frame is)
 
-leads_operand : (inverses : Bool) (outer : List FrameValue) (frame : FrameValue) (back : Bool) (kind : Kind) (byte : ℕ) → Means kind byte →
+leads_operand : (inverses : Bool) (outer : List FrameValue) (frame : FrameValue) (back : Bool) (kind : ByteKind) (byte : ℕ) → Means kind byte →
     LeadsTo inverses outer frame (Operand back) byte (in_operand inverses outer frame back kind byte)
 leads_operand inverses outer frame back Blank byte m = OperandBlank outer frame back byte m
 leads_operand inverses outer frame back Open byte m = leads_open inverses outer frame back byte m
@@ -106,7 +106,7 @@ more_at inverses sign byte outer frame name back named no_quote no_backslash e =
 pub bare_no_quote : (byte sign : ℕ) → is_bare_byte sign ≡ false → is_bare_byte byte ≡ true → byte ≡ sign → ⊥
 bare_no_quote byte sign reserved bare e = let h : true ≡ false = sym bare ∙ ap is_bare_byte e ∙ reserved in cc
 
-leads_quotes : (inverses : Bool) (outer : List FrameValue) (frame : FrameValue) (name : List ℕ) (back : Bool) (kind : Kind) (byte : ℕ) → Means kind byte →
+leads_quotes : (inverses : Bool) (outer : List FrameValue) (frame : FrameValue) (name : List ℕ) (back : Bool) (kind : ByteKind) (byte : ℕ) → Means kind byte →
     LeadsTo inverses outer frame (QuotedLabel name back) byte (in_quotes outer frame name back kind byte)
 leads_quotes inverses outer frame name back Blank byte m = tt
 leads_quotes inverses outer frame name back Strange byte m = tt
@@ -124,7 +124,7 @@ leads_quotes inverses outer frame name back QuestionMark byte m = more_at invers
 leads_quotes inverses outer frame name back Open byte m = more_at inverses 40 byte outer frame name back refl (eqb-false 40 34 refl) (eqb-false 40 92 refl) m
 leads_quotes inverses outer frame name back Close byte m = more_at inverses 41 byte outer frame name back refl (eqb-false 41 34 refl) (eqb-false 41 92 refl) m
 
-leads_escape : (inverses : Bool) (outer : List FrameValue) (frame : FrameValue) (name : List ℕ) (back : Bool) (kind : Kind) (byte : ℕ) → Means kind byte →
+leads_escape : (inverses : Bool) (outer : List FrameValue) (frame : FrameValue) (name : List ℕ) (back : Bool) (kind : ByteKind) (byte : ℕ) → Means kind byte →
     LeadsTo inverses outer frame (Escape name back) byte (in_escape outer frame name back kind byte)
 leads_escape inverses outer frame name back Quote byte m =
     subst (λ b. Leads inverses outer frame (Escape name back) b (state_with outer frame (QuotedLabel (name ++ b ∷ []) back))) (sym m) (EscapeQuote outer frame name back)
@@ -138,7 +138,7 @@ leads_close inverses [] frame mode e byte ends m = tt
 leads_close inverses (other ∷ outer) frame mode e byte ends m = at_byte inverses 41 byte (other ∷ outer) frame mode _ m (ElementClose other outer frame mode e ends)
 
 -- what an element and a primary go on with alike
-leads_behind : (inverses : Bool) (outer : List FrameValue) (frame : FrameValue) (mode : ModeValue) (e : Expression) (kind : Kind) (byte : ℕ) →
+leads_behind : (inverses : Bool) (outer : List FrameValue) (frame : FrameValue) (mode : ModeValue) (e : Expression) (kind : ByteKind) (byte : ℕ) →
     element_of mode ≡ Some e → Means kind byte → (kind ≡ Blank → ⊥) → LeadsTo inverses outer frame mode byte (after_element outer frame e kind)
 leads_behind inverses outer frame mode e Blank byte ends m other = absurd (other refl)
 leads_behind inverses outer frame mode e Slash byte ends m other = at_byte inverses 47 byte outer frame mode _ m (ElementSlash outer frame mode e ends)
@@ -146,7 +146,7 @@ leads_behind inverses outer frame mode e Bar byte ends m other = at_byte inverse
 leads_behind inverses outer frame mode e Close byte ends m other = leads_close inverses outer frame mode e byte ends m
 leads_behind inverses outer frame mode e _ byte ends m other = tt
 
-leads_primary : (inverses : Bool) (outer : List FrameValue) (frame : FrameValue) (mode : ModeValue) (e : Expression) (kind : Kind) (byte : ℕ) →
+leads_primary : (inverses : Bool) (outer : List FrameValue) (frame : FrameValue) (mode : ModeValue) (e : Expression) (kind : ByteKind) (byte : ℕ) →
     primary_of mode ≡ Some e → element_of mode ≡ Some e → Means kind byte → LeadsTo inverses outer frame mode byte (after_primary outer frame e kind)
 leads_primary inverses outer frame mode e Blank byte is ends m = PrimaryBlank outer frame mode e byte is m
 leads_primary inverses outer frame mode e Asterisk byte is ends m = at_byte inverses 42 byte outer frame mode _ m (PrimaryStar outer frame mode e is)
@@ -157,7 +157,7 @@ leads_primary inverses outer frame mode e Bar byte is ends m = leads_behind inve
 leads_primary inverses outer frame mode e Close byte is ends m = leads_behind inverses outer frame mode e Close byte ends m (λ h. cc)
 leads_primary inverses outer frame mode e _ byte is ends m = tt
 
-leads_element : (inverses : Bool) (outer : List FrameValue) (frame : FrameValue) (e : Expression) (kind : Kind) (byte : ℕ) → Means kind byte →
+leads_element : (inverses : Bool) (outer : List FrameValue) (frame : FrameValue) (e : Expression) (kind : ByteKind) (byte : ℕ) → Means kind byte →
     LeadsTo inverses outer frame (Element e) byte (after_element outer frame e kind)
 leads_element inverses outer frame e Blank byte m = ElementBlank outer frame e byte m
 leads_element inverses outer frame e Slash byte m = leads_behind inverses outer frame (Element e) e Slash byte refl m (λ h. cc)
@@ -165,12 +165,12 @@ leads_element inverses outer frame e Bar byte m = leads_behind inverses outer fr
 leads_element inverses outer frame e Close byte m = leads_behind inverses outer frame (Element e) e Close byte refl m (λ h. cc)
 leads_element inverses outer frame e _ byte m = tt
 
-leads_bare : (inverses : Bool) (outer : List FrameValue) (frame : FrameValue) (name : List ℕ) (back : Bool) (kind : Kind) (byte : ℕ) → Means kind byte →
+leads_bare : (inverses : Bool) (outer : List FrameValue) (frame : FrameValue) (name : List ℕ) (back : Bool) (kind : ByteKind) (byte : ℕ) → Means kind byte →
     LeadsTo inverses outer frame (BareLabel name back) byte (in_bare outer frame name back kind byte)
 leads_bare inverses outer frame name back Bare byte m = BareMore outer frame name back byte m
 leads_bare inverses outer frame name back kind byte m = leads_primary inverses outer frame (BareLabel name back) (Atom (label_with name back)) kind byte refl refl m
 
-leads_by : (inverses : Bool) (outer : List FrameValue) (frame : FrameValue) (mode : ModeValue) (kind : Kind) (byte : ℕ) → Means kind byte →
+leads_by : (inverses : Bool) (outer : List FrameValue) (frame : FrameValue) (mode : ModeValue) (kind : ByteKind) (byte : ℕ) → Means kind byte →
     LeadsTo inverses outer frame mode byte (step_by inverses outer frame mode kind byte)
 leads_by inverses outer frame (Operand back) kind byte m = leads_operand inverses outer frame back kind byte m
 leads_by inverses outer frame (BareLabel name back) kind byte m = leads_bare inverses outer frame name back kind byte m

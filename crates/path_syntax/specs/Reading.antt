@@ -7,17 +7,17 @@ use Rattle.rpq_base.specs.Names.{is_name_byte, IsName}
 use Rattle.path_syntax.specs.declared.read.BadExpr.{BadExpr}
 use Rattle.path_syntax.specs.declared.read.BadExpr.TheVariants.{Unexpected, Ended, TooLarge}
 use Rattle.path_syntax.specs.declared.read.BadExpr.TheVariants.{LongName, Memory}
-use Rattle.path_syntax.specs.declared.byte_kind.Kind.{Kind}
-use Rattle.path_syntax.specs.declared.byte_kind.Kind.TheVariants.{Blank, Bare, Quote, Backslash}
-use Rattle.path_syntax.specs.declared.byte_kind.Kind.TheVariants.{Slash, Bar, Asterisk, PlusSign}
-use Rattle.path_syntax.specs.declared.byte_kind.Kind.TheVariants.{QuestionMark, Open, Close, Caret}
-use Rattle.path_syntax.specs.declared.byte_kind.Kind.TheVariants.{Reserved, Strange}
+use Rattle.path_syntax.specs.declared.byte_kind.ByteKind.{ByteKind}
+use Rattle.path_syntax.specs.declared.byte_kind.ByteKind.TheVariants.{Blank, Bare, Quote, Backslash}
+use Rattle.path_syntax.specs.declared.byte_kind.ByteKind.TheVariants.{Slash, Bar, Asterisk, Close}
+use Rattle.path_syntax.specs.declared.byte_kind.ByteKind.TheVariants.{PlusSign, QuestionMark, Open}
+use Rattle.path_syntax.specs.declared.byte_kind.ByteKind.TheVariants.{Caret, Reserved, Strange}
 use Rattle.path_syntax.specs.Expression.{Expression, Atom, Seq, Alt, Star, Plus, Opt}
 use Rattle.path_syntax.specs.Grammar.{is_blank, is_bare_byte, label_with}
 use Rattle.path_syntax.specs.Faults.{is_sign}
 
 -- the kind of a byte with a meaning of its own
-abbrev pub kind_of_sign : ℕ → Kind
+abbrev pub kind_of_sign : ℕ → ByteKind
 kind_of_sign byte =
     if byte == 34 then Quote else if byte == 92 then Backslash else
     if byte == 47 then Slash else if byte == 124 then Bar else
@@ -26,7 +26,7 @@ kind_of_sign byte =
     if byte == 41 then Close else if byte == 94 then Caret else Reserved
 
 -- the kind of a byte
-unfoldable pub kind_of : ℕ → Kind
+unfoldable pub kind_of : ℕ → ByteKind
 kind_of byte =
     if is_bare_byte byte then Bare else if is_blank byte then Blank else
     if is_name_byte byte then kind_of_sign byte else Strange
@@ -83,7 +83,7 @@ closed [] e = None
 closed (frame ∷ outer) e = Some (state_with outer frame (Primary e))
 
 -- what may stand behind an element
-abbrev pub after_element : List FrameValue → FrameValue → Expression → Kind → Option StateValue
+abbrev pub after_element : List FrameValue → FrameValue → Expression → ByteKind → Option StateValue
 after_element outer frame e Blank = Some (state_with outer frame (Element e))
 after_element outer frame e Slash =
     Some (state_with outer
@@ -95,7 +95,7 @@ after_element outer frame e Close = closed outer (whole_with frame e)
 after_element outer frame e _ = None
 
 -- what may stand behind a primary
-abbrev pub after_primary : List FrameValue → FrameValue → Expression → Kind → Option StateValue
+abbrev pub after_primary : List FrameValue → FrameValue → Expression → ByteKind → Option StateValue
 after_primary outer frame e Blank = Some (state_with outer frame (Primary e))
 after_primary outer frame e Asterisk = Some (state_with outer frame (Element (Star e)))
 after_primary outer frame e PlusSign = Some (state_with outer frame (Element (Plus e)))
@@ -103,7 +103,8 @@ after_primary outer frame e QuestionMark = Some (state_with outer frame (Element
 after_primary outer frame e kind = after_element outer frame e kind
 
 -- what may stand where an operand is to come, behind a '^' or not
-abbrev pub in_operand : Bool → List FrameValue → FrameValue → Bool → Kind → ℕ → Option StateValue
+abbrev pub in_operand : Bool → List FrameValue → FrameValue → Bool → ByteKind → ℕ →
+    Option StateValue
 in_operand inverses outer frame back Blank byte = Some (state_with outer frame (Operand back))
 in_operand inverses outer frame back Open byte =
     if back then None else Some (state_with (frame ∷ outer) empty_frame (Operand false))
@@ -121,7 +122,8 @@ ended_label outer frame [] back = None
 ended_label outer frame (byte ∷ name) back =
     Some (state_with outer frame (Primary (Atom (label_with (byte ∷ name) back))))
 
-abbrev pub in_quotes : List FrameValue → FrameValue → List ℕ → Bool → Kind → ℕ → Option StateValue
+abbrev pub in_quotes : List FrameValue → FrameValue → List ℕ → Bool → ByteKind → ℕ →
+    Option StateValue
 in_quotes outer frame name back Blank byte = None
 in_quotes outer frame name back Strange byte = None
 in_quotes outer frame name back Quote byte = ended_label outer frame name back
@@ -130,7 +132,8 @@ in_quotes outer frame name back _ byte =
     Some (state_with outer frame (QuotedLabel (name ++ byte ∷ []) back))
 
 -- what may stand behind a backslash
-abbrev pub in_escape : List FrameValue → FrameValue → List ℕ → Bool → Kind → ℕ → Option StateValue
+abbrev pub in_escape : List FrameValue → FrameValue → List ℕ → Bool → ByteKind → ℕ →
+    Option StateValue
 in_escape outer frame name back Quote byte =
     Some (state_with outer frame (QuotedLabel (name ++ byte ∷ []) back))
 in_escape outer frame name back Backslash byte =
@@ -138,14 +141,14 @@ in_escape outer frame name back Backslash byte =
 in_escape outer frame name back _ byte = None
 
 -- what may stand behind the byte of a bare label
-abbrev pub in_bare : List FrameValue → FrameValue → List ℕ → Bool → Kind → ℕ → Option StateValue
+abbrev pub in_bare : List FrameValue → FrameValue → List ℕ → Bool → ByteKind → ℕ → Option StateValue
 in_bare outer frame name back Bare byte =
     Some (state_with outer frame (BareLabel (name ++ byte ∷ []) back))
 in_bare outer frame name back kind byte =
     after_primary outer frame (Atom (label_with name back)) kind
 
 -- In what follows `inverses` says whether a '^' before a label takes it backwards.
-abbrev pub step_by : Bool → List FrameValue → FrameValue → ModeValue → Kind → ℕ →
+abbrev pub step_by : Bool → List FrameValue → FrameValue → ModeValue → ByteKind → ℕ →
     Option StateValue
 step_by inverses outer frame (Operand back) kind byte =
     in_operand inverses outer frame back kind byte

@@ -2,8 +2,8 @@
 use Rattle.std.specs.Prelude.{List, map, reverse, Option, option_map}
 use Rattle.path_syntax.specs.declared.expr.Expr.{Expr}
 use Rattle.path_syntax.specs.declared.state.Frame.{Frame}
-use Rattle.path_syntax.specs.declared.state.Mode.{Mode}
-use Rattle.path_syntax.specs.declared.state.Mode.TheVariants as at
+use Rattle.path_syntax.specs.declared.state.ReaderMode.{ReaderMode}
+use Rattle.path_syntax.specs.declared.state.ReaderMode.TheVariants as at
 use Rattle.path_syntax.specs.declared.state.State.{State}
 use Rattle.path_syntax.specs.declared.read.Reader.{Reader}
 use Rattle.path_syntax.specs.Expression.{Expression, expression}
@@ -21,7 +21,7 @@ frame_of frame =
 abbrev pub frames_of : List Frame → List FrameValue
 frames_of frames = map frame_of (reverse frames)
 
-abbrev pub mode_of : Mode → ModeValue
+abbrev pub mode_of : ReaderMode → ModeValue
 mode_of (at.Operand back) = Operand back
 mode_of (at.BareLabel label) = BareLabel label.name.items label.back
 mode_of (at.QuotedLabel label) = QuotedLabel label.name.items label.back

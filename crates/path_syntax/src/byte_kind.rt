@@ -8,7 +8,7 @@ use rpq_base::Name;
 
 /// What a byte may do in the text of an expression.
 #[derive(Clone, Copy, Debug, PartialEq, Eq)]
-pub(crate) enum Kind {
+pub(crate) enum ByteKind {
     /// A space or a tab.
     Blank,
     /// A byte of a bare label.
@@ -37,25 +37,25 @@ pub(crate) fn is_bare_byte(byte: u8) -> bool
 }
 
 #[tactic(auto, unfolding(crate::specs::Reading::kind_of))]
-pub(crate) fn kind_of(byte: u8) -> Kind
+pub(crate) fn kind_of(byte: u8) -> ByteKind
     ensures { result ≡ kind_of byte }
 {
     if is_bare_byte(byte) {
-        return Kind::Bare;
+        return ByteKind::Bare;
     }
     match byte {
-        b' ' | b'\t' => Kind::Blank,
-        b'"' => Kind::Quote,
-        b'\\' => Kind::Backslash,
-        b'/' => Kind::Slash,
-        b'|' => Kind::Bar,
-        b'*' => Kind::Asterisk,
-        b'+' => Kind::PlusSign,
-        b'?' => Kind::QuestionMark,
-        b'(' => Kind::Open,
-        b')' => Kind::Close,
-        b'^' => Kind::Caret,
-        b'!' => Kind::Reserved,
-        _ => Kind::Strange,
+        b' ' | b'\t' => ByteKind::Blank,
+        b'"' => ByteKind::Quote,
+        b'\\' => ByteKind::Backslash,
+        b'/' => ByteKind::Slash,
+        b'|' => ByteKind::Bar,
+        b'*' => ByteKind::Asterisk,
+        b'+' => ByteKind::PlusSign,
+        b'?' => ByteKind::QuestionMark,
+        b'(' => ByteKind::Open,
+        b')' => ByteKind::Close,
+        b'^' => ByteKind::Caret,
+        b'!' => ByteKind::Reserved,
+        _ => ByteKind::Strange,
     }
 }

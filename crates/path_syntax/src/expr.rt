@@ -3,7 +3,7 @@
 ghost use Rattle.std.specs.Prelude.{◌≡◌, IfOk};
 ghost use Rattle.path_syntax.specs.Expression.{expression};
 
-use rpq_base::{Copied, Label, Memory};
+use rpq_base::{Label, Memory, TryClone};
 use std::alloc::Global;
 
 /// A regular expression over labels.

@@ -12,7 +12,7 @@ ghost use Rattle.path_syntax.specs.Reading.{takes_operand, is_outside, closed, w
 ghost use Rattle.path_syntax.specs.Reading.{IsReady, Operand, state_with, empty_frame};
 ghost use Rattle.path_syntax.specs.Views.{frame_of, frames_of, state_of, mode_of, before_of};
 
-use crate::byte_kind::{Kind, kind_of};
+use crate::byte_kind::{ByteKind, kind_of};
 use crate::expr::Expr;
 use rpq_base::{Label, Memory, Name};
 use std::alloc::Global;
@@ -37,7 +37,7 @@ pub(crate) struct BegunLabel {
 
 /// What stands directly before the byte that is read next.
 #[derive(Debug, Drop)]
-pub(crate) enum Mode {
+pub(crate) enum ReaderMode {
     /// A sign behind which an operand is to come, or nothing. Behind a `^` it is a label.
     Operand { back: bool },
     /// A bare label, which may go on.
@@ -58,7 +58,7 @@ pub(crate) struct State {
     /// What stands before each parenthesis that is open, the innermost last.
     pub outer: Vec<Frame>,
     pub frame: Frame,
-    pub mode: Mode,
+    pub mode: ReaderMode,
 }
 
 /// The sequence of what stands before and an element.
@@ -100,7 +100,7 @@ fn closed(mut outer: Vec<Frame>, whole: Expr) -> Option<State>
     Some(State {
         outer,
         frame,
-        mode: Mode::Primary(whole),
+        mode: ReaderMode::Primary(whole),
     })
 }
 
@@ -110,22 +110,22 @@ fn after_element(
     outer: Vec<Frame>,
     frame: Frame,
     element: Expr,
-    kind: Kind,
+    kind: ByteKind,
 ) -> Result<Option<State>, Memory>
     ensures { IfOk result (λ next. option_map state_of next ≡
         after_element (frames_of outer.items) (frame_of frame) (expression element) kind) }
 {
     let (frame, mode) = match kind {
-        Kind::Blank => (frame, Mode::Element(element)),
-        Kind::Slash => (
+        ByteKind::Blank => (frame, ReaderMode::Element(element)),
+        ByteKind::Slash => (
             with_element(alloc, frame, element)?,
-            Mode::Operand { back: false },
+            ReaderMode::Operand { back: false },
         ),
-        Kind::Bar => (
+        ByteKind::Bar => (
             with_sequence(alloc, frame, element)?,
-            Mode::Operand { back: false },
+            ReaderMode::Operand { back: false },
         ),
-        Kind::Close => return Ok(closed(outer, whole_with(alloc, frame, element)?)),
+        ByteKind::Close => return Ok(closed(outer, whole_with(alloc, frame, element)?)),
         _ => return Ok(None),
     };
     Ok(Some(State { outer, frame, mode }))
@@ -164,16 +164,16 @@ fn after_primary(
     outer: Vec<Frame>,
     frame: Frame,
     primary: Expr,
-    kind: Kind,
+    kind: ByteKind,
 ) -> Result<Option<State>, Memory>
     ensures { IfOk result (λ next. option_map state_of next ≡
         after_primary (frames_of outer.items) (frame_of frame) (expression primary) kind) }
 {
     let mode = match kind {
-        Kind::Blank => Mode::Primary(primary),
-        Kind::Asterisk => Mode::Element(Expr::Star(Box::new(alloc, primary)?)),
-        Kind::PlusSign => Mode::Element(Expr::Plus(Box::new(alloc, primary)?)),
-        Kind::QuestionMark => Mode::Element(Expr::Opt(Box::new(alloc, primary)?)),
+        ByteKind::Blank => ReaderMode::Primary(primary),
+        ByteKind::Asterisk => ReaderMode::Element(Expr::Star(Box::new(alloc, primary)?)),
+        ByteKind::PlusSign => ReaderMode::Element(Expr::Plus(Box::new(alloc, primary)?)),
+        ByteKind::QuestionMark => ReaderMode::Element(Expr::Opt(Box::new(alloc, primary)?)),
         _ => return after_element(alloc, outer, frame, primary, kind),
     };
     Ok(Some(State { outer, frame, mode }))
@@ -187,18 +187,18 @@ fn in_operand(
     outer: Vec<Frame>,
     frame: Frame,
     back: bool,
-    kind: Kind,
+    kind: ByteKind,
     byte: u8,
 ) -> Result<Option<State>, Memory>
     ensures { IfOk result (λ next. option_map state_of next ≡
         in_operand inverses (frames_of outer.items) (frame_of frame) back kind byte) }
 {
     let mode = match kind {
-        Kind::Blank => Mode::Operand { back },
-        Kind::Quote => Mode::QuotedLabel(BegunLabel::new(alloc, back)),
-        Kind::Bare => Mode::BareLabel(BegunLabel::new(alloc, back).with_byte(byte)?),
-        Kind::Open if !back => return Ok(Some(opened(outer, frame)?)),
-        Kind::Caret if inverses && !back => Mode::Operand { back: true },
+        ByteKind::Blank => ReaderMode::Operand { back },
+        ByteKind::Quote => ReaderMode::QuotedLabel(BegunLabel::new(alloc, back)),
+        ByteKind::Bare => ReaderMode::BareLabel(BegunLabel::new(alloc, back).with_byte(byte)?),
+        ByteKind::Open if !back => return Ok(Some(opened(outer, frame)?)),
+        ByteKind::Caret if inverses && !back => ReaderMode::Operand { back: true },
         _ => return Ok(None),
     };
     Ok(Some(State { outer, frame, mode }))
@@ -216,7 +216,7 @@ fn opened(mut outer: Vec<Frame>, frame: Frame) -> Result<State, Memory>
             alternatives: None,
             sequence: None,
         },
-        mode: Mode::Operand { back: false },
+        mode: ReaderMode::Operand { back: false },
     })
 }
 
@@ -261,7 +261,7 @@ fn in_bare(
     outer: Vec<Frame>,
     frame: Frame,
     label: BegunLabel,
-    kind: Kind,
+    kind: ByteKind,
     byte: u8,
 ) -> Result<Option<State>, Memory>
     requires { IsName label.name.items }
@@ -269,10 +269,10 @@ fn in_bare(
         in_bare (frames_of outer.items) (frame_of frame) label.name.items label.back kind byte) }
 {
     match kind {
-        Kind::Bare => Ok(Some(State {
+        ByteKind::Bare => Ok(Some(State {
             outer,
             frame,
-            mode: Mode::BareLabel(label.with_byte(byte)?),
+            mode: ReaderMode::BareLabel(label.with_byte(byte)?),
         })),
         _ => after_primary(alloc, outer, frame, label.atom(alloc)?, kind),
     }
@@ -295,7 +295,7 @@ fn ended_label(
     Ok(Some(State {
         outer,
         frame,
-        mode: Mode::Primary(label.atom(alloc)?),
+        mode: ReaderMode::Primary(label.atom(alloc)?),
     }))
 }
 
@@ -306,7 +306,7 @@ fn in_quotes(
     outer: Vec<Frame>,
     frame: Frame,
     label: BegunLabel,
-    kind: Kind,
+    kind: ByteKind,
     byte: u8,
 ) -> Result<Option<State>, Memory>
     requires { label.name.items ≢ [] → IsName label.name.items }
@@ -314,10 +314,10 @@ fn in_quotes(
         in_quotes (frames_of outer.items) (frame_of frame) label.name.items label.back kind byte) }
 {
     let mode = match kind {
-        Kind::Blank | Kind::Strange => return Ok(None),
-        Kind::Quote => return ended_label(alloc, outer, frame, label),
-        Kind::Backslash => Mode::Escape(label),
-        _ => Mode::QuotedLabel(label.with_byte(byte)?),
+        ByteKind::Blank | ByteKind::Strange => return Ok(None),
+        ByteKind::Quote => return ended_label(alloc, outer, frame, label),
+        ByteKind::Backslash => ReaderMode::Escape(label),
+        _ => ReaderMode::QuotedLabel(label.with_byte(byte)?),
     };
     Ok(Some(State { outer, frame, mode }))
 }
@@ -327,17 +327,17 @@ fn in_escape(
     outer: Vec<Frame>,
     frame: Frame,
     label: BegunLabel,
-    kind: Kind,
+    kind: ByteKind,
     byte: u8,
 ) -> Result<Option<State>, Memory>
     ensures { IfOk result (λ next. option_map state_of next ≡
         in_escape (frames_of outer.items) (frame_of frame) label.name.items label.back kind byte) }
 {
     match kind {
-        Kind::Quote | Kind::Backslash => Ok(Some(State {
+        ByteKind::Quote | ByteKind::Backslash => Ok(Some(State {
             outer,
             frame,
-            mode: Mode::QuotedLabel(label.with_byte(byte)?),
+            mode: ReaderMode::QuotedLabel(label.with_byte(byte)?),
         })),
         _ => Ok(None),
     }
@@ -354,7 +354,7 @@ impl State {
                 alternatives: None,
                 sequence: None,
             },
-            mode: Mode::Operand { back: false },
+            mode: ReaderMode::Operand { back: false },
         }
     }
 
@@ -372,12 +372,14 @@ impl State {
         let State { outer, frame, mode } = self;
         let kind = kind_of(byte);
         match mode {
-            Mode::Operand { back } => in_operand(alloc, inverses, outer, frame, back, kind, byte),
-            Mode::BareLabel(label) => in_bare(alloc, outer, frame, label, kind, byte),
-            Mode::QuotedLabel(label) => in_quotes(alloc, outer, frame, label, kind, byte),
-            Mode::Escape(label) => in_escape(outer, frame, label, kind, byte),
-            Mode::Primary(primary) => after_primary(alloc, outer, frame, primary, kind),
-            Mode::Element(element) => after_element(alloc, outer, frame, element, kind),
+            ReaderMode::Operand { back } => in_operand(
+                alloc, inverses, outer, frame, back, kind, byte,
+            ),
+            ReaderMode::BareLabel(label) => in_bare(alloc, outer, frame, label, kind, byte),
+            ReaderMode::QuotedLabel(label) => in_quotes(alloc, outer, frame, label, kind, byte),
+            ReaderMode::Escape(label) => in_escape(outer, frame, label, kind, byte),
+            ReaderMode::Primary(primary) => after_primary(alloc, outer, frame, primary, kind),
+            ReaderMode::Element(element) => after_element(alloc, outer, frame, element, kind),
         }
     }
 
@@ -386,9 +388,9 @@ impl State {
         ensures { result ≡ name_length (mode_of self.now.mode) }
     {
         match &self.mode {
-            Mode::BareLabel(label) | Mode::QuotedLabel(label) | Mode::Escape(label) => {
-                label.name.len()
-            },
+            ReaderMode::BareLabel(label)
+            | ReaderMode::QuotedLabel(label)
+            | ReaderMode::Escape(label) => { label.name.len() },
             _ => 0,
         }
     }
@@ -396,14 +398,17 @@ impl State {
     pub(crate) fn takes_operand(&self) -> bool
         ensures { result ≡ takes_operand (mode_of self.now.mode) }
     {
-        matches!(self.mode, Mode::Operand { .. })
+        matches!(self.mode, ReaderMode::Operand { .. })
     }
 
     /// Whether the next byte stands outside quotes.
     pub(crate) fn is_outside(&self) -> bool
         ensures { result ≡ is_outside (mode_of self.now.mode) }
     {
-        !matches!(self.mode, Mode::QuotedLabel(_) | Mode::Escape(_))
+        !matches!(
+            self.mode,
+            ReaderMode::QuotedLabel(_) | ReaderMode::Escape(_)
+        )
     }
 
     /// The whole expression, if one ends here.
@@ -416,8 +421,8 @@ impl State {
             return Ok(None);
         }
         let element = match mode {
-            Mode::BareLabel(label) => label.atom(alloc)?,
-            Mode::Primary(element) | Mode::Element(element) => element,
+            ReaderMode::BareLabel(label) => label.atom(alloc)?,
+            ReaderMode::Primary(element) | ReaderMode::Element(element) => element,
             _ => return Ok(None),
         };
         Ok(Some(whole_with(alloc, frame, element)?))

@@ -67,11 +67,11 @@ impl Hash for KeptEdge {
 
 /// An edge that is looked up among keys.
 #[derive(Clone, Copy)]
-pub(crate) struct Sought<'a> {
+pub(crate) struct SearchKey<'a> {
     pub(crate) edge: &'a Edge,
 }
 
-impl<'a> PartialEq for Sought<'a> {
+impl<'a> PartialEq for SearchKey<'a> {
     ghost use Rattle.rpq_base.specs.Same.{same_edge};
     ghost use Rattle.std.specs.Cmp.{on_per};
     ghost use Rattle.path_witness.specs.Keys.{edges_per};
@@ -80,19 +80,19 @@ impl<'a> PartialEq for Sought<'a> {
 
     ghost laws = { on_per (λ sought. sought.edge.now) edges_per };
 
-    fn eq(&self, other: &Sought<'a>) -> bool {
+    fn eq(&self, other: &SearchKey<'a>) -> bool {
         *self.edge == *other.edge
     }
 }
 
-impl<'a> Eq for Sought<'a> {
+impl<'a> Eq for SearchKey<'a> {
     ghost use Rattle.std.specs.Cmp.{on_equiv};
     ghost use Rattle.path_witness.specs.Keys.{edges_equivalence};
 
     ghost laws = { on_equiv (λ sought. sought.edge.now) edges_equivalence };
 }
 
-impl<'a> Hash for Sought<'a> {
+impl<'a> Hash for SearchKey<'a> {
     ghost use Rattle.path_witness.specs.Keys.{same_input};
     ghost use Rattle.path_witness.specs.Keys.{edge_input};
 
@@ -105,7 +105,7 @@ impl<'a> Hash for Sought<'a> {
     }
 }
 
-impl<'a> Equivalent<KeptEdge> for Sought<'a> {
+impl<'a> Equivalent<KeptEdge> for SearchKey<'a> {
     ghost use Rattle.rpq_base.specs.Same.{same_edge};
     ghost use Rattle.path_witness.specs.Keys.{same_input, same_as_other};
 

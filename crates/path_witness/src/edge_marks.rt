@@ -8,11 +8,11 @@ ghost use Rattle.path_witness.specs.declared.mark.Mark.{Mark as MarkMade};
 ghost use Rattle.path_witness.specs.Marks.{kept_mark};
 ghost use Rattle.path_witness.specs.Taking.{AreRaised, GivesMarks, LeavesOut, lasts};
 
-use crate::edge_key::{KeptEdge, Sought};
+use crate::edge_key::{KeptEdge, SearchKey};
 use crate::mark::{Mark, raised};
 use due_queue::room_to_keep;
 use indexmap::IndexMap;
-use rpq_base::{Copied, Edge, KeyedHash, Memory, Tuple};
+use rpq_base::{Edge, KeyedHash, Memory, TryClone, Tuple};
 use rpq_model::QueryDef;
 use std::alloc::Global;
 use std::marker::Model;
@@ -33,7 +33,7 @@ impl Model for EdgeMarks {
 }
 
 /// The marks of each edge of which an entry may be live.
-pub(crate) type Rows = IndexMap<KeptEdge, EdgeMarks, KeyedHash>;
+pub(crate) type MarkRows = IndexMap<KeptEdge, EdgeMarks, KeyedHash>;
 
 impl EdgeMarks {
     /// The mark for the query with this number.
@@ -76,17 +76,17 @@ impl EdgeMarks {
 }
 
 /// The mark that is kept for the edge and the query with this number.
-pub(crate) fn kept_mark(rows: &Rows, edge: &Edge, query: usize) -> Option<Mark>
+pub(crate) fn kept_mark(rows: &MarkRows, edge: &Edge, query: usize) -> Option<Mark>
     ensures { result ≡ kept_mark rows.now.entries edge.now query }
 {
-    rows.get(Sought { edge })?.get(query)
+    rows.get(SearchKey { edge })?.get(query)
 }
 
 /// Takes an insert of the edge into account, with its position. The only error is [`Memory`], after
 /// which the rows are as before.
 pub(crate) fn raise(
     alloc: Global,
-    rows: &mut Rows,
+    rows: &mut MarkRows,
     queries: &[QueryDef],
     edge: &Edge,
     position: u64,
@@ -98,7 +98,7 @@ pub(crate) fn raise(
         × GivesMarks rows.old.entries rows.new.entries edge.now (Some marks)) }
     ensures unchanged { OnErr result (rows.new.entries ≡ rows.old.entries) }
 {
-    let before = rows.get(Sought { edge });
+    let before = rows.get(SearchKey { edge });
     let row = EdgeMarks::raised(alloc, queries, position, tuple, before)?;
     let key = KeptEdge { edge: edge.copy()? };
     rows.insert(key, row)?;
@@ -106,14 +106,14 @@ pub(crate) fn raise(
 }
 
 /// Takes a delete of the edge into account.
-pub(crate) fn remove(rows: &mut Rows, edge: &Edge)
+pub(crate) fn remove(rows: &mut MarkRows, edge: &Edge)
     ensures { GivesMarks rows.old.entries rows.new.entries edge.now None }
 {
-    let _ = rows.swap_remove(Sought { edge });
+    let _ = rows.swap_remove(SearchKey { edge });
 }
 
 /// Forgets the edges all of whose marks have deadlines at most the clock.
-fn forget_past(rows: &mut Rows, now: u64)
+fn forget_past(rows: &mut MarkRows, now: u64)
     ensures { LeavesOut now rows.old.entries rows.new.entries }
 {
     if rows.len() > 0 {
@@ -122,7 +122,7 @@ fn forget_past(rows: &mut Rows, now: u64)
 }
 
 /// Gives the memory back that the rows need no more.
-fn give_back(rows: &mut Rows)
+fn give_back(rows: &mut MarkRows)
     ensures { rows.new.entries ≡ rows.old.entries }
 {
     if let Some(room) = room_to_keep(rows.len(), rows.capacity()) {
@@ -132,7 +132,7 @@ fn give_back(rows: &mut Rows)
 
 /// Forgets the edges all of whose marks have deadlines at most the clock, and gives the memory back
 /// that is needed no more.
-pub(crate) fn forget(rows: &mut Rows, now: u64)
+pub(crate) fn forget(rows: &mut MarkRows, now: u64)
     ensures { LeavesOut now rows.old.entries rows.new.entries }
 {
     forget_past(rows, now);

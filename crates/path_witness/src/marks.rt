@@ -8,7 +8,7 @@ ghost use Rattle.path_witness.specs.Found.{IsFound};
 ghost use Rattle.path_witness.specs.Marks.{StandsFor};
 ghost use Rattle.path_witness.specs.Taking.{TakeOne};
 
-use crate::edge_marks::{Rows, forget, kept_mark, raise, remove};
+use crate::edge_marks::{MarkRows, forget, kept_mark, raise, remove};
 use crate::mark::{Mark, mark_above};
 use indexmap::IndexMap;
 use rpq_base::{Act, Edge, Entry, KeyedHash, Memory};
@@ -31,7 +31,7 @@ pub struct Marks {
     /// The greatest time among them.
     clock: u64,
     /// The marks of each edge of which an entry may be live.
-    rows: Rows,
+    rows: MarkRows,
     /// How many entries more are taken before the edges are looked through for those that no
     /// window holds any more.
     until_look: usize,
@@ -149,7 +149,7 @@ impl Marks {
 /// before.
 fn take_one(
     alloc: Global,
-    rows: &mut Rows,
+    rows: &mut MarkRows,
     queries: &[QueryDef],
     position: u64,
     entry: &Entry,

@@ -6,7 +6,7 @@ ghost use Rattle.plain_checks.specs.PathTests.{edges_of, leads_to, avoids, are_a
 ghost use Rattle.plain_checks.specs.PathTests.{takes_path, Fits};
 
 use path_syntax::accepts;
-use rpq_base::{Copied, Edge, Label, Memory, Name, Pair};
+use rpq_base::{Edge, Label, Memory, Name, Pair, TryClone};
 use rpq_model::{Mode, QueryDef};
 use std::alloc::Global;
 

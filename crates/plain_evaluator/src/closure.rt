@@ -6,7 +6,7 @@ ghost use Rattle.rpq_base.specs.declared.data.Pair.{Pair};
 ghost use Rattle.rpq_model.specs.Relations.{targets, AreExactly, IsPairOver, IsReached};
 
 use crate::relation::{add_all, add_composed, in_order};
-use rpq_base::{Copied, Memory, Name, Pair};
+use rpq_base::{Memory, Name, Pair, TryClone};
 use std::alloc::Global;
 use std::collections::BTreeSet;
 

@@ -8,7 +8,7 @@ ghost use Rattle.rpq_base.specs.Order.{pair_cmp};
 ghost use Rattle.rpq_base.specs.Same.{same_pair};
 ghost use Rattle.rpq_model.specs.Events.{event, without, changes};
 
-use rpq_base::{Copied, Event, Memory, Pair};
+use rpq_base::{Event, Memory, Pair, TryClone};
 use std::alloc::Global;
 
 /// How many of the pairs, from the front on, come before this one.

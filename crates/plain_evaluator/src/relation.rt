@@ -9,7 +9,7 @@ ghost use Rattle.rpq_model.specs.declared.mode.Mode.TheVariants.{Arbitrary};
 ghost use Rattle.rpq_model.specs.Answers.{IsJoinedBy};
 ghost use Rattle.rpq_model.specs.Relations.{values, between, Adds, AreExactly, IsLedOn, IsComposed};
 
-use rpq_base::{Copied, Edge, Label, Memory, Name, Pair};
+use rpq_base::{Edge, Label, Memory, Name, Pair, TryClone};
 use std::alloc::Global;
 use std::collections::BTreeSet;
 

@@ -15,7 +15,7 @@ ghost use Rattle.plain_evaluator.specs.Onwards.{IsOnwards, IsAlong, IsSimplyAlon
 
 use crate::relation::{in_order, pair_of};
 use path_syntax::{Expr, accepts};
-use rpq_base::{Copied, Edge, Label, Memory, Name, Pair};
+use rpq_base::{Edge, Label, Memory, Name, Pair, TryClone};
 use std::alloc::Global;
 use std::collections::BTreeSet;
 

@@ -27,7 +27,7 @@ use crate::line_text::line_text;
 use containment_test::{Verdict, contained};
 use dfa_table::Dfa;
 use path_syntax::{BadExpr, Expr, read_expr, read_two_way};
-use rpq_base::{Copied, MAX_TIME, Name, NameFault};
+use rpq_base::{MAX_TIME, Name, NameFault, TryClone};
 use rpq_model::{Mode, QueryDef, Window};
 use std::alloc::Global;
 use text_parts::read_number;

@@ -20,7 +20,7 @@ use end_events::counts;
 use index_laws::{index_tells_answers, paths_by_numbers};
 use name_table::Names;
 use query_file::Compiled;
-use rpq_base::{Copied, Edge, Memory, Name};
+use rpq_base::{Edge, Memory, Name, TryClone};
 use std::alloc::Global;
 
 impl QueryIndex {

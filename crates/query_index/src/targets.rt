@@ -10,7 +10,7 @@ use answer_rows::{Rows, Target, ends_are_in_rows};
 use delta_forest::{Forest, Reached};
 use end_events::counts;
 use name_table::Names;
-use rpq_base::{Copied, Memory};
+use rpq_base::{Memory, TryClone};
 use rpq_model::Mode;
 use std::alloc::Global;
 

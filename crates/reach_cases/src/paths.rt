@@ -7,7 +7,7 @@ use anyhow::ensure;
 use case_lines::{Fields, Output, decoded, entries_of, parts};
 use path_witness::{Mark, Marks, ShownPath, cut_loops};
 use plain_checks::is_shown;
-use rpq_base::{Act, Copied, Edge, Entry, Label, Name, Pair};
+use rpq_base::{Act, Edge, Entry, Label, Name, Pair, TryClone};
 use std::alloc::Global;
 use std::random::RandomSource;
 use std::sync::Arc;

@@ -1,6 +1,6 @@
 //! Labels, edges, tuples, entries, pairs and events.
 
-use crate::memory::{Copied, Memory};
+use crate::memory::{Memory, TryClone};
 use crate::name::Name;
 use std::marker::Model;
 
@@ -147,7 +147,7 @@ impl Drop for Event {
     }
 }
 
-impl Copied for Label {
+impl TryClone for Label {
     fn copy(&self) -> Result<Label, Memory> {
         Ok(Label {
             name: self.name.copy()?,
@@ -156,7 +156,7 @@ impl Copied for Label {
     }
 }
 
-impl Copied for Edge {
+impl TryClone for Edge {
     fn copy(&self) -> Result<Edge, Memory> {
         Ok(Edge {
             from: self.from.copy()?,
@@ -166,7 +166,7 @@ impl Copied for Edge {
     }
 }
 
-impl Copied for Act {
+impl TryClone for Act {
     fn copy(&self) -> Result<Act, Memory> {
         match self {
             Act::Insert { edge, until } => Ok(Act::Insert {
@@ -179,7 +179,7 @@ impl Copied for Act {
     }
 }
 
-impl Copied for Tuple {
+impl TryClone for Tuple {
     fn copy(&self) -> Result<Tuple, Memory> {
         Ok(Tuple {
             time: self.time,
@@ -188,7 +188,7 @@ impl Copied for Tuple {
     }
 }
 
-impl Copied for Entry {
+impl TryClone for Entry {
     fn copy(&self) -> Result<Entry, Memory> {
         Ok(Entry {
             stream: self.stream,
@@ -197,7 +197,7 @@ impl Copied for Entry {
     }
 }
 
-impl Copied for Pair {
+impl TryClone for Pair {
     fn copy(&self) -> Result<Pair, Memory> {
         Ok(Pair {
             from: self.from.copy()?,
@@ -206,7 +206,7 @@ impl Copied for Pair {
     }
 }
 
-impl Copied for Event {
+impl TryClone for Event {
     fn copy(&self) -> Result<Event, Memory> {
         Ok(Event {
             query: self.query,

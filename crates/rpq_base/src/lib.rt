@@ -5,7 +5,7 @@
 //! an event is an answer gained or lost. Contracts see a [`Name`] as its bytes, a [`Word`] as its
 //! labels, and every other type as the record of its fields. Names are compared byte by byte, and
 //! all else field by field; names, labels and pairs have an order.
-//! Each value is copied by [`Copied::copy`], which gives an equal one, or answers that memory ran
+//! Each value is copied by [`TryClone::copy`], which gives an equal one, or answers that memory ran
 //! out. Beside them stand what all layers share: out of memory, a hash with random keys, and
 //! numbers of workers.
 #![tactic(auto)]
@@ -21,7 +21,7 @@ mod workers;
 pub use data::{Act, Edge, Entry, Event, Label, MAX_TIME, Pair, Tuple};
 pub use keyed_hash::KeyedHash;
 pub use laws::{equality_is_exact, greatest_time, orders_are_named, same_is_equal};
-pub use memory::{Copied, Memory, copy_all, stored_in_all};
+pub use memory::{Memory, TryClone, copy_all, stored_in_all};
 pub use name::{MAX_NAME, Name, NameFault};
 pub use word::Word;
 pub use workers::{MAX_WORKERS, Workers};

@@ -57,14 +57,14 @@ pub fn stored_in_all(stored: u128, more: u128) -> Result<u128, Memory>
 }
 
 /// A value that can be copied where memory allows.
-pub trait Copied: Drop {
+pub trait TryClone: Drop {
     /// An equal value.
     fn copy(&self) -> Result<Self, Memory>
         ensures { IfOk result (λ copy. copy ≡ self.now) };
 }
 
 /// Copies of all the values, in their order.
-pub fn copy_all<T: Copied>(alloc: Global, values: &[T]) -> Result<Vec<T>, Memory>
+pub fn copy_all<T: TryClone>(alloc: Global, values: &[T]) -> Result<Vec<T>, Memory>
     ensures { IfOk result (λ copies. copies.items ≡ values.now) }
 {
     let mut copies = Vec::with_capacity(alloc, values.len())?;

@@ -7,7 +7,7 @@ ghost use Rattle.rpq_base.specs.declared.name.NameFault.{NameFault};
 ghost use Rattle.rpq_base.specs.FaultTexts.{name_fault_text};
 ghost use Rattle.rpq_base.specs.Names.{is_name_byte, has_name_length, is_name, IsName, IsNameFault};
 
-use crate::memory::{Copied, Memory};
+use crate::memory::{Memory, TryClone};
 use smallvec::SmallVec;
 use std::alloc::{AllocError, Global};
 use std::cmp::Ordering;
@@ -144,7 +144,7 @@ impl Name {
     }
 }
 
-impl Copied for Name {
+impl TryClone for Name {
     fn copy(&self) -> Result<Name, Memory> {
         Ok(Name {
             bytes: SmallVec::from_slice(*self.bytes.allocator(), self.bytes.as_slice())?,

@@ -1,7 +1,7 @@
 //! Words of labels.
 
 use crate::data::Label;
-use crate::memory::{Copied, Memory, copy_all};
+use crate::memory::{Memory, TryClone, copy_all};
 use std::marker::Model;
 
 /// A word: a list of labels, which may be empty. Contracts see it as that list.
@@ -19,7 +19,7 @@ impl Model for Word {
     ghost view = { λ word. word.labels.items };
 }
 
-impl Copied for Word {
+impl TryClone for Word {
     fn copy(&self) -> Result<Word, Memory> {
         Ok(Word {
             labels: copy_all(*self.labels.allocator(), self.labels.as_slice())?,

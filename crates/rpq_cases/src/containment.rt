@@ -5,7 +5,7 @@ use crate::expressions::read;
 use case_lines::{Fields, Output};
 use containment_test::{Verdict, contained};
 use dfa_table::Dfa;
-use rpq_base::{Copied, Word};
+use rpq_base::{TryClone, Word};
 use std::alloc::Global;
 
 /// Whether the language of an expression has the property of containment, or the least three words

@@ -7,7 +7,7 @@ ghost use Rattle.path_syntax.specs.Size.{nodes};
 use crate::texts::name_of;
 use case_lines::{Fields, Output, decoded, parts};
 use path_syntax::{BadExpr, Expr, has_empty_word, occurrences, read_expr, write_expr, write_word};
-use rpq_base::{Copied, Label, Word};
+use rpq_base::{Label, TryClone, Word};
 use std::alloc::Global;
 
 /// The expression of a text.

@@ -6,7 +6,7 @@ ghost use Rattle.rpq_model.specs.Query.{place_named, query_named};
 use crate::mode::Mode;
 use crate::window::Window;
 use path_syntax::{Expr, Language};
-use rpq_base::{Copied, Memory, Name};
+use rpq_base::{Memory, Name, TryClone};
 use std::alloc::Global;
 use std::marker::Model;
 

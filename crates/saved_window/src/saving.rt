@@ -9,7 +9,7 @@ ghost use Rattle.saved_window.specs.Reach.{tuples_of};
 ghost use Rattle.saved_window.specs.Saved.{kept_tuples, with_clock, saved};
 
 use crate::reach::furthest;
-use rpq_base::{Act, Copied, Entry, Memory, Tuple};
+use rpq_base::{Act, Entry, Memory, TryClone, Tuple};
 use rpq_model::{Live, QueryDef, clock, live_entries};
 use std::alloc::Global;
 

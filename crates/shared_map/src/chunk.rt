@@ -10,7 +10,7 @@ ghost use Rattle.std.specs.Option.{option_copied};
 ghost use Rattle.std.specs.Borrow.{sem};
 ghost use Rattle.shared_map.specs.Lends.{lends_value};
 
-use rpq_base::{Copied, Memory};
+use rpq_base::{Memory, TryClone};
 use std::alloc::{AllocError, Global};
 use std::marker::Model;
 use std::mem;
@@ -22,12 +22,12 @@ const MOST: usize = 128;
 ///
 /// Contracts see the list of the entries.
 #[derive(Debug, Drop)]
-pub struct Chunk<K: Ord + Copied, V: Copied> {
+pub struct Chunk<K: Ord + TryClone, V: TryClone> {
     alloc: Global,
     entries: Vec<(K, V)>,
 }
 
-impl<K: Ord + Copied, V: Copied> Model for Chunk<K, V> {
+impl<K: Ord + TryClone, V: TryClone> Model for Chunk<K, V> {
     ghost use Rattle.std.specs.Prelude.{◌<◌, List, length};
 
     ghost Value = { List (K × V) };
@@ -38,7 +38,10 @@ impl<K: Ord + Copied, V: Copied> Model for Chunk<K, V> {
 }
 
 /// Copies of all the entries, in their order.
-fn copies<K: Copied, V: Copied>(alloc: Global, entries: &[(K, V)]) -> Result<Vec<(K, V)>, Memory>
+fn copies<K: TryClone, V: TryClone>(
+    alloc: Global,
+    entries: &[(K, V)],
+) -> Result<Vec<(K, V)>, Memory>
     ensures { IfOk result (λ copies. copies.items ≡ entries.now) }
 {
     let mut copies = Vec::with_capacity(alloc, entries.len())?;
@@ -48,7 +51,7 @@ fn copies<K: Copied, V: Copied>(alloc: Global, entries: &[(K, V)]) -> Result<Vec
     Ok(copies)
 }
 
-impl<K: Ord + Copied, V: Copied> Chunk<K, V> {
+impl<K: Ord + TryClone, V: TryClone> Chunk<K, V> {
     /// One entry alone.
     pub(crate) fn one(alloc: Global, key: K, value: V) -> Result<Chunk<K, V>, Memory>
         ensures { IfOk result (λ chunk. chunk ≡ (key, value) ∷ []) }
@@ -179,7 +182,7 @@ impl<K: Ord + Copied, V: Copied> Chunk<K, V> {
 }
 
 // A chunk that is shared is cloned before it is changed.
-impl<K: Ord + Copied, V: Copied> Clone for Chunk<K, V> {
+impl<K: Ord + TryClone, V: TryClone> Clone for Chunk<K, V> {
     ghost is_clone = { λ source clone. clone ≡ source };
 
     fn clone(&self) -> Result<Chunk<K, V>, AllocError> {

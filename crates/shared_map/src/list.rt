@@ -9,12 +9,15 @@ ghost use Rattle.std.specs.Map.{keys_of, lookup, remove_entry};
 ghost use Rattle.shared_map.specs.Chunks.{IsChunkOf, entries_of};
 
 use crate::chunk::Chunk;
-use rpq_base::{Copied, Memory};
+use rpq_base::{Memory, TryClone};
 use std::alloc::Global;
 use std::sync::Arc;
 
 /// The place of the chunk in which the key stands or would stand; 0 where there is no chunk.
-pub(crate) fn chunk_of<K: Ord + Copied, V: Copied>(chunks: &[Arc<Chunk<K, V>>], key: &K) -> usize
+pub(crate) fn chunk_of<K: Ord + TryClone, V: TryClone>(
+    chunks: &[Arc<Chunk<K, V>>],
+    key: &K,
+) -> usize
     requires { IsStrictlySortedBy K.cmp (keys_of (entries_of chunks.now)) }
     ensures place { IsChunkOf K.cmp key.now chunks.now result }
     ensures within { 0 < length chunks.now → result < length chunks.now }
@@ -33,7 +36,7 @@ pub(crate) fn chunk_of<K: Ord + Copied, V: Copied>(chunks: &[Arc<Chunk<K, V>>], 
 }
 
 /// The same chunks, which both lists share.
-pub(crate) fn shared<K: Ord + Copied, V: Copied>(
+pub(crate) fn shared<K: Ord + TryClone, V: TryClone>(
     alloc: Global,
     chunks: &[Arc<Chunk<K, V>>],
 ) -> Result<Vec<Arc<Chunk<K, V>>>, Memory>
@@ -47,7 +50,7 @@ pub(crate) fn shared<K: Ord + Copied, V: Copied>(
 }
 
 /// Puts two halves in the place of a chunk.
-fn split<K: Ord + Copied, V: Copied>(
+fn split<K: Ord + TryClone, V: TryClone>(
     alloc: Global,
     chunks: &mut Vec<Arc<Chunk<K, V>>>,
     place: usize,
@@ -67,7 +70,7 @@ fn split<K: Ord + Copied, V: Copied>(
 }
 
 /// Splits the chunk of a key where it is full.
-fn make_room<K: Ord + Copied, V: Copied>(
+fn make_room<K: Ord + TryClone, V: TryClone>(
     alloc: Global,
     chunks: &mut Vec<Arc<Chunk<K, V>>>,
     key: &K,
@@ -85,7 +88,7 @@ fn make_room<K: Ord + Copied, V: Copied>(
 }
 
 /// Gives a key a value in a chunk, which is made anew where it is shared.
-fn insert_in<K: Ord + Copied, V: Copied>(
+fn insert_in<K: Ord + TryClone, V: TryClone>(
     chunk: &mut Arc<Chunk<K, V>>,
     key: K,
     value: V,
@@ -99,7 +102,7 @@ fn insert_in<K: Ord + Copied, V: Copied>(
 }
 
 /// Takes a key's entry out of a chunk, which is made anew where it is shared.
-fn remove_from<K: Ord + Copied, V: Copied>(
+fn remove_from<K: Ord + TryClone, V: TryClone>(
     chunk: &mut Arc<Chunk<K, V>>,
     key: &K,
 ) -> Result<(), Memory>
@@ -114,7 +117,7 @@ fn remove_from<K: Ord + Copied, V: Copied>(
 }
 
 /// Gives a key a value in its chunk.
-fn put<K: Ord + Copied, V: Copied>(
+fn put<K: Ord + TryClone, V: TryClone>(
     chunks: &mut Vec<Arc<Chunk<K, V>>>,
     key: K,
     value: V,
@@ -132,7 +135,7 @@ fn put<K: Ord + Copied, V: Copied>(
 }
 
 /// Takes a key's entry out of its chunk. An emptied chunk goes away.
-fn take<K: Ord + Copied, V: Copied>(
+fn take<K: Ord + TryClone, V: TryClone>(
     chunks: &mut Vec<Arc<Chunk<K, V>>>,
     key: &K,
 ) -> Result<(), Memory>
@@ -155,7 +158,7 @@ fn take<K: Ord + Copied, V: Copied>(
 }
 
 /// Gives a key a value, and answers the one that it had. A full chunk is split first.
-pub(crate) fn insert<K: Ord + Copied, V: Copied>(
+pub(crate) fn insert<K: Ord + TryClone, V: TryClone>(
     alloc: Global,
     chunks: &mut Vec<Arc<Chunk<K, V>>>,
     key: K,
@@ -178,7 +181,7 @@ pub(crate) fn insert<K: Ord + Copied, V: Copied>(
 }
 
 /// Takes a key's entry out, if there is one.
-pub(crate) fn remove<K: Ord + Copied, V: Copied>(
+pub(crate) fn remove<K: Ord + TryClone, V: TryClone>(
     chunks: &mut Vec<Arc<Chunk<K, V>>>,
     key: &K,
 ) -> Result<(), Memory>

@@ -11,7 +11,7 @@ ghost use Rattle.shared_map.specs.LendsEntry.{lends_entry};
 
 use crate::chunk::Chunk;
 use crate::list::{chunk_of, insert, remove, shared};
-use rpq_base::{Copied, Memory};
+use rpq_base::{Memory, TryClone};
 use std::alloc::Global;
 use std::marker::Model;
 use std::sync::Arc;
@@ -20,12 +20,12 @@ use std::sync::Arc;
 ///
 /// Contracts see the list of the entries.
 #[derive(Debug, Drop)]
-pub struct SharedMap<K: Ord + Copied, V: Copied> {
+pub struct SharedMap<K: Ord + TryClone, V: TryClone> {
     alloc: Global,
     chunks: Vec<Arc<Chunk<K, V>>>,
 }
 
-impl<K: Ord + Copied, V: Copied> Model for SharedMap<K, V> {
+impl<K: Ord + TryClone, V: TryClone> Model for SharedMap<K, V> {
     ghost use Rattle.std.specs.Prelude.{List};
     ghost use Rattle.std.specs.List.Sorted.{IsStrictlySortedBy};
     ghost use Rattle.std.specs.Map.{keys_of};
@@ -38,7 +38,7 @@ impl<K: Ord + Copied, V: Copied> Model for SharedMap<K, V> {
     ghost invariant = { λ map. IsStrictlySortedBy K.cmp (keys_of (entries_of map.chunks.items)) };
 }
 
-impl<K: Ord + Copied, V: Copied> SharedMap<K, V> {
+impl<K: Ord + TryClone, V: TryClone> SharedMap<K, V> {
     /// No entries. Takes no memory.
     pub fn new(alloc: Global) -> SharedMap<K, V>
         ensures { result ≡ [] }

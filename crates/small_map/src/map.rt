@@ -6,7 +6,7 @@ ghost use Rattle.std.specs.List.{IsDistinct, swap_remove};
 ghost use Rattle.std.specs.Map.{keys_of, lookup};
 ghost use Rattle.small_map.specs.Places.{IsPlace};
 
-use crate::places::{Places, forget, look_up, note, scan};
+use crate::places::{KeyPlaces, forget, look_up, note, scan};
 use crate::room::{give_back, make_room};
 use std::alloc::{AllocError, Global};
 use std::hash::Hash;
@@ -19,7 +19,7 @@ use std::marker::Model;
 pub struct SmallMap<K: Eq + Hash + Copy, V: Copy> {
     alloc: Global,
     entries: Vec<(K, V)>,
-    places: Places<K>,
+    places: KeyPlaces<K>,
 }
 
 impl<K: Eq + Hash + Copy, V: Copy> Model for SmallMap<K, V> {

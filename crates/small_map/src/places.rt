@@ -14,7 +14,7 @@ use std::hash::Hash;
 const FEW: usize = 32;
 
 /// The place of each key, where there are many.
-pub(crate) type Places<K> = Option<Box<IndexMap<K, usize>>>;
+pub(crate) type KeyPlaces<K> = Option<Box<IndexMap<K, usize>>>;
 
 /// The place of the key's entry, found by going through the entries.
 pub(crate) fn scan<K: Eq, V>(entries: &[(K, V)], key: &K) -> Option<usize>
@@ -61,7 +61,7 @@ fn places_of<K: Eq + Hash + Copy, V: Copy>(
 /// Notes the place of a key that comes after these entries.
 pub(crate) fn note<K: Eq + Hash + Copy, V: Copy>(
     alloc: Global,
-    places: &mut Places<K>,
+    places: &mut KeyPlaces<K>,
     entries: &[(K, V)],
     key: K,
 ) -> Result<(), AllocError>
@@ -89,7 +89,7 @@ pub(crate) fn note<K: Eq + Hash + Copy, V: Copy>(
 
 /// Forgets the place of the key at `place`, into which the last entry comes.
 pub(crate) fn forget<K: Eq + Hash + Copy, V: Copy>(
-    places: &mut Places<K>,
+    places: &mut KeyPlaces<K>,
     entries: &[(K, V)],
     place: usize,
 )

@@ -6,8 +6,8 @@ use Rattle.std.proofs.lemmas.List.{get_or_default}
 use Rattle.std.proofs.lemmas.Option.{get_or_from_slice_get, slice_get_within}
 use Rattle.source_index.specs.Roots.{AddsRoot, DropsRoot}
 use Rattle.source_index.specs.Vertex.{AddsAt, DropsAt, IsFree, IsInStep, Rewrites, RootsByState, roots_in}
-use Rattle.source_index.specs.VertexKept.{Inserts, many_of, states_of}
-use Rattle.source_index.specs.declared.vertex.Kept.{Kept}
+use Rattle.source_index.specs.VertexStorage.{Inserts, many_of, states_of}
+use Rattle.source_index.specs.declared.vertex.VertexStorage.{VertexStorage}
 use Rattle.source_index.proofs.Places.{on_ok}
 use Rattle.source_index.proofs.Beside.{added_at, dropped_at, inserted_at, removed_at, remove_set, roots_found, roots_none, step_added, step_dropped, step_inserted, step_removed}
 
@@ -65,13 +65,13 @@ pub belongs : (own states : List ℕ) (place state : ℕ) → states ≡ own →
 belongs own states place state is free =
     subst (λ (all : List ℕ). IsFree all state place) is free
 
-abbrev pub by_state : Kept → RootsByState
+abbrev pub by_state : VertexStorage → RootsByState
 by_state kept = zip (states_of kept) (many_of kept)
 
-abbrev pub InStep : Kept → Type 0
+abbrev pub InStep : VertexStorage → Type 0
 InStep kept = IsInStep (states_of kept) (many_of kept)
 
-module _ (kept : Kept) (step : InStep kept) where
+module _ (kept : VertexStorage) (step : InStep kept) where
   -- what is read
   pub reads : (self : RootsByState) (state place : ℕ) (roots : List ℕ) → by_state kept ≡ self →
       slice_get (states_of kept) place ≡ Some state →
@@ -88,7 +88,8 @@ module _ (kept : Kept) (step : InStep kept) where
       ∙ roots_none (states_of kept) (many_of kept) step state place free
 
   -- a root is added to those of a state
-  module _ {E : Type 0} {X : Type 0} (new : Kept) (state place root : ℕ) (result : Result X E) where
+  module _ {E : Type 0} {X : Type 0} (new : VertexStorage) (state place root : ℕ)
+      (result : Result X E) where
     pub adds_found : slice_get (states_of kept) place ≡ Some state →
         states_of new ≡ states_of kept →
         OnOk result (Rewrites (many_of kept) (many_of new) place
@@ -108,7 +109,7 @@ module _ (kept : Kept) (step : InStep kept) where
         (inserted_at (states_of kept) (many_of kept) step state place root inserted.roots free
         inserted.single))
 
-  pub step_found : {X E : Type 0} (new : Kept) (place root : ℕ) (result : Result X E) →
+  pub step_found : {X E : Type 0} (new : VertexStorage) (place root : ℕ) (result : Result X E) →
       states_of new ≡ states_of kept →
       OnOk result (Rewrites (many_of kept) (many_of new) place
       (λ before after. AddsRoot before after root)) →
@@ -120,7 +121,8 @@ module _ (kept : Kept) (step : InStep kept) where
       subst (λ (all : List ℕ). IsInStep all (many_of new)) (sym same)
       (subst (λ (all : List (List ℕ)). IsInStep (states_of kept) all) (sym unchanged) step)
 
-  pub step_free : {X E : Type 0} (new : Kept) (state place root : ℕ) (result : Result X E) →
+  pub step_free : {X E : Type 0} (new : VertexStorage) (state place root : ℕ)
+      (result : Result X E) →
       IsFree (states_of kept) state place → OnOk result (Inserts kept new place state root) →
       OnErr result (states_of new ≡ states_of kept) →
       OnErr result (many_of new ≡ many_of kept) → InStep new
@@ -135,7 +137,7 @@ module _ (kept : Kept) (step : InStep kept) where
       (subst (λ (all : List (List ℕ)). IsInStep (states_of kept) all) (sym unchanged) step)
 
   -- a root is taken out of those of a state
-  module _ (taken : Kept) (state place root : ℕ) (roots : List ℕ)
+  module _ (taken : VertexStorage) (state place root : ℕ) (roots : List ℕ)
       (at : slice_get (states_of kept) place ≡ Some state)
       (same : states_of taken ≡ states_of kept)
       (changed : Rewrites (many_of kept) (many_of taken) place
@@ -162,7 +164,7 @@ module _ (kept : Kept) (step : InStep kept) where
         (omega (arith, step.paired, within)) (λ bare. some (sym is ∙ bare)))
 
     -- or it was the last, with which its state went
-    module _ (new : Kept) (states : states_of new ≡ remove (states_of taken) place)
+    module _ (new : VertexStorage) (states : states_of new ≡ remove (states_of taken) place)
         (many : many_of new ≡ remove (many_of taken) place) where
       pub drops_last : roots ≡ [] → DropsAt (by_state kept) (by_state new) state root
       drops_last bare =

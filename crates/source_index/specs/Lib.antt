@@ -1,7 +1,7 @@
 pub mod Dues
 pub mod Holders
-pub mod Kept
 pub mod Queue
+pub mod RootStorage
 pub mod Roots
 pub mod Vertex
-pub mod VertexKept
+pub mod VertexStorage

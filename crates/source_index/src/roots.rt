@@ -20,7 +20,7 @@ const LEAST_MANY: usize = 4;
 
 /// The roots at a place, as few that are gone through, or as many that are found by a hash.
 #[derive(Drop)]
-enum Kept {
+enum RootStorage {
     Few(SmallVec<u32, 4>),
     Many(Box<IndexSet<u32>>),
 }
@@ -28,13 +28,13 @@ enum Kept {
 /// The roots at a place, each once. The first four take no memory of their own.
 #[derive(Drop)]
 pub(crate) struct Roots {
-    kept: Kept,
+    kept: RootStorage,
 }
 
 impl Model for Roots {
     ghost use Rattle.std.specs.Prelude.{ℕ, List, nat_eq};
     ghost use Rattle.std.specs.List.{IsDistinct};
-    ghost use Rattle.source_index.specs.Kept.{roots_of};
+    ghost use Rattle.source_index.specs.RootStorage.{roots_of};
 
     ghost Value = { List ℕ };
 
@@ -93,7 +93,7 @@ fn many_with(few: &SmallVec<u32, 4>, root: u32) -> Result<Roots, Memory>
     let mut many = set_of(alloc, few.as_slice())?;
     many.insert(root)?;
     Ok(Roots {
-        kept: Kept::Many(Box::new(alloc, many)?),
+        kept: RootStorage::Many(Box::new(alloc, many)?),
     })
 }
 
@@ -103,7 +103,7 @@ fn few_of(many: &IndexSet<u32>) -> Result<Roots, AllocError>
 {
     let few = SmallVec::from_slice(*many.allocator(), many.as_slice())?;
     Ok(Roots {
-        kept: Kept::Few(few),
+        kept: RootStorage::Few(few),
     })
 }
 
@@ -113,7 +113,7 @@ impl Roots {
         ensures { result ≡ [] }
     {
         Roots {
-            kept: Kept::Few(SmallVec::new(alloc)),
+            kept: RootStorage::Few(SmallVec::new(alloc)),
         }
     }
 
@@ -123,8 +123,8 @@ impl Roots {
         ensures once { IsDistinct nat_eq result.now }
     {
         match &self.kept {
-            Kept::Few(few) => few.as_slice(),
-            Kept::Many(many) => many.as_slice(),
+            RootStorage::Few(few) => few.as_slice(),
+            RootStorage::Many(many) => many.as_slice(),
         }
     }
 
@@ -141,7 +141,7 @@ impl Roots {
         ensures unchanged { OnErr result (self.new ≡ self.old) }
     {
         match &mut self.kept {
-            Kept::Few(few) => {
+            RootStorage::Few(few) => {
                 if few.len() < MOST_FEW {
                     return add_to_few(few, root);
                 }
@@ -149,7 +149,7 @@ impl Roots {
                 *self = many;
                 Ok(())
             }
-            Kept::Many(many) => {
+            RootStorage::Many(many) => {
                 many.insert(root)?;
                 Ok(())
             }
@@ -161,8 +161,8 @@ impl Roots {
         ensures { DropsRoot self.old self.new root }
     {
         match &mut self.kept {
-            Kept::Few(few) => take_from_few(few, root),
-            Kept::Many(many) => {
+            RootStorage::Few(few) => take_from_few(few, root),
+            RootStorage::Many(many) => {
                 many.swap_remove(&root);
                 if many.len() > LEAST_MANY {
                     return;

@@ -2,7 +2,7 @@
 
 ghost use Rattle.std.specs.Prelude.{◌≡◌, ◌≢◌, ◌↔◌, ◌<◌, ◌≤◌, ℕ, [], length, insert, remove, nat_eq, slice_get, Some, Contains, IsTrue, IfOk, IfErr, OnOk, OnErr};
 ghost use Rattle.std.specs.List.{IsDistinct};
-ghost use Rattle.source_index.specs.VertexKept.{Inserts, are_several, many_of, states_of};
+ghost use Rattle.source_index.specs.VertexStorage.{Inserts, are_several, many_of, states_of};
 ghost use Rattle.source_index.specs.Roots.{AddsRoot, DropsRoot};
 ghost use Rattle.source_index.specs.Vertex.{AddsAt, DropsAt, IsFree, IsRising, Rewrites, roots_in};
 
@@ -16,7 +16,7 @@ use std::slice::from_ref;
 
 /// The states of a vertex in rising order, and the roots at each of them in the same order.
 #[derive(Drop)]
-enum Kept {
+enum VertexStorage {
     One(u32, Roots),
     Several(Vec<u32>, Vec<Roots>),
 }
@@ -26,12 +26,12 @@ enum Kept {
 #[derive(Drop)]
 pub(crate) struct VertexRoots {
     alloc: Global,
-    kept: Kept,
+    kept: VertexStorage,
 }
 
 impl Model for VertexRoots {
     ghost use Rattle.std.specs.List.{zip};
-    ghost use Rattle.source_index.specs.VertexKept.{many_of, states_of};
+    ghost use Rattle.source_index.specs.VertexStorage.{many_of, states_of};
     ghost use Rattle.source_index.specs.Vertex.{RootsByState, IsInStep};
 
     ghost Value = { RootsByState };
@@ -51,37 +51,37 @@ fn find(states: &[u32], state: u32) -> Result<usize, usize>
 }
 
 /// The states.
-fn states_of(kept: &Kept) -> &[u32]
+fn states_of(kept: &VertexStorage) -> &[u32]
     ensures { result.now ≡ states_of kept.now }
 {
     match kept {
-        Kept::One(state, _) => from_ref(state),
-        Kept::Several(states, _) => states.as_slice(),
+        VertexStorage::One(state, _) => from_ref(state),
+        VertexStorage::Several(states, _) => states.as_slice(),
     }
 }
 
 /// No state. Takes no memory.
-fn nothing(alloc: Global) -> Kept
+fn nothing(alloc: Global) -> VertexStorage
     ensures states { states_of result ≡ [] }
     ensures many { many_of result ≡ [] }
 {
-    Kept::Several(Vec::new(alloc), Vec::new(alloc))
+    VertexStorage::Several(Vec::new(alloc), Vec::new(alloc))
 }
 
 /// The roots at this place.
-fn roots_at(kept: &Kept, place: usize) -> &Roots
+fn roots_at(kept: &VertexStorage, place: usize) -> &Roots
     requires { place < length (many_of kept.now) }
     ensures { slice_get (many_of kept.now) place ≡ Some result.now }
 {
     match kept {
-        Kept::One(_, roots) => roots,
-        Kept::Several(_, many) => &many[place],
+        VertexStorage::One(_, roots) => roots,
+        VertexStorage::Several(_, many) => &many[place],
     }
 }
 
 /// Adds the root to those at a place. The only error is [`Memory`], after which the same roots are
 /// there.
-fn add_at(kept: &mut Kept, place: usize, root: u32) -> Result<(), Memory>
+fn add_at(kept: &mut VertexStorage, place: usize, root: u32) -> Result<(), Memory>
     requires { place < length (many_of kept.old) }
     ensures states { states_of kept.new ≡ states_of kept.old }
     ensures added { OnOk result (Rewrites (many_of kept.old) (many_of kept.new) place
@@ -89,40 +89,40 @@ fn add_at(kept: &mut Kept, place: usize, root: u32) -> Result<(), Memory>
     ensures unchanged { OnErr result (many_of kept.new ≡ many_of kept.old) }
 {
     match kept {
-        Kept::One(_, roots) => roots.add(root),
-        Kept::Several(_, many) => many[place].add(root),
+        VertexStorage::One(_, roots) => roots.add(root),
+        VertexStorage::Several(_, many) => many[place].add(root),
     }
 }
 
 /// Takes the root out of those at a place.
-fn take_at(kept: &mut Kept, place: usize, root: u32)
+fn take_at(kept: &mut VertexStorage, place: usize, root: u32)
     requires { place < length (many_of kept.old) }
     ensures states { states_of kept.new ≡ states_of kept.old }
     ensures dropped { Rewrites (many_of kept.old) (many_of kept.new) place
         (λ old new. DropsRoot old new root) }
 {
     match kept {
-        Kept::One(_, roots) => roots.remove(root),
-        Kept::Several(_, many) => many[place].remove(root),
+        VertexStorage::One(_, roots) => roots.remove(root),
+        VertexStorage::Several(_, many) => many[place].remove(root),
     }
 }
 
 /// Keeps what there is as one of several. The only error is [`Memory`].
-fn spread(kept: &mut Kept, alloc: Global) -> Result<(), Memory>
+fn spread(kept: &mut VertexStorage, alloc: Global) -> Result<(), Memory>
     ensures states { states_of kept.new ≡ states_of kept.old }
     ensures many { many_of kept.new ≡ many_of kept.old }
     ensures several { OnOk result (IsTrue (are_several kept.new)) }
 {
-    if let Kept::Several(_, _) = kept {
+    if let VertexStorage::Several(_, _) = kept {
         return Ok(());
     }
     let mut states = Vec::with_capacity(alloc, 2)?;
     let mut many = Vec::with_capacity(alloc, 2)?;
     match replace(kept, nothing(alloc)) {
-        Kept::One(state, roots) => {
+        VertexStorage::One(state, roots) => {
             states.push_reserved(state);
             many.push_reserved(roots);
-            *kept = Kept::Several(states, many);
+            *kept = VertexStorage::Several(states, many);
         }
         several => *kept = several,
     }
@@ -156,7 +156,7 @@ fn put(
 /// Puts a state with a root where it belongs. The only error is [`Memory`], after which nothing has
 /// changed.
 fn insert_at(
-    kept: &mut Kept,
+    kept: &mut VertexStorage,
     alloc: Global,
     place: usize,
     state: u32,
@@ -171,26 +171,26 @@ fn insert_at(
     let mut roots = Roots::new(alloc);
     roots.add(root)?;
     if states_of(kept).is_empty() {
-        *kept = Kept::One(state, roots);
+        *kept = VertexStorage::One(state, roots);
         return Ok(());
     }
     spread(kept, alloc)?;
-    if let Kept::Several(states, many) = kept {
+    if let VertexStorage::Several(states, many) = kept {
         put(states, many, place, state, roots)?;
     }
     Ok(())
 }
 
 /// Takes a state and its roots out, and gives memory back where most of it isn't used any more.
-fn remove_at(kept: &mut Kept, alloc: Global, place: usize)
+fn remove_at(kept: &mut VertexStorage, alloc: Global, place: usize)
     requires within { place < length (states_of kept.old) }
     requires paired { length (many_of kept.old) ≡ length (states_of kept.old) }
     ensures states { states_of kept.new ≡ remove (states_of kept.old) place }
     ensures many { many_of kept.new ≡ remove (many_of kept.old) place }
 {
     match kept {
-        Kept::One(_, _) => *kept = nothing(alloc),
-        Kept::Several(states, many) => {
+        VertexStorage::One(_, _) => *kept = nothing(alloc),
+        VertexStorage::Several(states, many) => {
             states.remove(place);
             many.remove(place);
             give_back(states);

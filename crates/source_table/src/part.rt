@@ -5,7 +5,7 @@ ghost use Rattle.std.specs.List.{IsDistinct};
 ghost use Rattle.source_table.specs.Parts.{AreSound, CanTry, CanTryOne, Tries, TriesOne};
 ghost use Rattle.source_table.specs.Places.{place_of};
 
-use crate::places::Places;
+use crate::places::SourcePlaces;
 use rpq_base::{Memory, Workers};
 use run_context::{Context, Gate, Who};
 use source_tree::{Change, ProductGraph, SourceTree};
@@ -14,7 +14,11 @@ use std::thread::Threads;
 use tree_insert::Search;
 
 /// Makes the list that of the places of these roots, of those that have one.
-pub(crate) fn choose(places: &Places, roots: &[u32], chosen: &mut Vec<usize>) -> Result<(), Memory>
+pub(crate) fn choose(
+    places: &SourcePlaces,
+    roots: &[u32],
+    chosen: &mut Vec<usize>,
+) -> Result<(), Memory>
     ensures { OnOk result
         (chosen.new.items ≡ filter_map (place_of places.now.marks.items) roots.now) }
 {

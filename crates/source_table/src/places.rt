@@ -9,7 +9,7 @@ use std::alloc::Global;
 /// For each root the place of its source. Roots are small numbers with few gaps, so this is a plain
 /// list: four bytes for each number up to the greatest root, and a look-up hashes nothing.
 #[derive(Drop)]
-pub(crate) struct Places {
+pub(crate) struct SourcePlaces {
     /// For each root 0 where it has no place, and else its place, counted from 1.
     marks: Vec<u32>,
 }
@@ -30,12 +30,12 @@ fn reach(marks: &mut Vec<u32>, root: u32) -> Result<(), Memory>
     Ok(())
 }
 
-impl Places {
+impl SourcePlaces {
     /// No root has a place. Takes no memory.
-    pub(crate) fn new(alloc: Global) -> Places
+    pub(crate) fn new(alloc: Global) -> SourcePlaces
         ensures { result.marks.items ≡ [] }
     {
-        Places {
+        SourcePlaces {
             marks: Vec::new(alloc),
         }
     }

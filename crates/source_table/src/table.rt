@@ -7,7 +7,7 @@ ghost use Rattle.source_tree.specs.Ends.{SourceValue};
 ghost use Rattle.source_table.specs.Sources.{AreApart, AreReady, GivesSource, HaveTaken, roots_of, source_in};
 
 use crate::part::{change_all, check, choose, chunk_size};
-use crate::places::Places;
+use crate::places::SourcePlaces;
 use due_queue::give_back;
 use rpq_base::{Memory, Workers};
 use run_context::{Context, Gate};
@@ -25,7 +25,7 @@ use tree_insert::Search;
 pub struct SourceTable {
     sources: Vec<SourceTree>,
     /// The place of each source, by its root.
-    places: Places,
+    places: SourcePlaces,
     /// The places of the sources that take a change, in the memory of the changes before.
     chosen: Vec<usize>,
     /// The room of the searches of one worker.
@@ -54,7 +54,7 @@ impl SourceTable {
     {
         SourceTable {
             sources: Vec::new(alloc),
-            places: Places::new(alloc),
+            places: SourcePlaces::new(alloc),
             chosen: Vec::new(alloc),
             search: Search::new(alloc),
         }

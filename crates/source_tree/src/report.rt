@@ -17,7 +17,7 @@ use tree_insert::Search;
 
 /// What the last change did to the tree.
 #[derive(Drop)]
-pub(crate) struct Report {
+pub(crate) struct ChangeReport {
     /// The places where nodes came or went.
     pub moved: Vec<NodeId>,
     /// The ends that came or went.
@@ -27,8 +27,8 @@ pub(crate) struct Report {
 }
 
 /// A report of nothing. It takes no memory.
-pub(crate) fn empty_report(alloc: Global) -> Report {
-    Report {
+pub(crate) fn empty_report(alloc: Global) -> ChangeReport {
+    ChangeReport {
         moved: Vec::new(alloc),
         log: Vec::new(alloc),
         touched: false,
@@ -59,7 +59,7 @@ fn fill(
     tree: &Tree,
     product: &ProductGraph<'_>,
     shifts: &[Shift],
-    report: &mut Report,
+    report: &mut ChangeReport,
 ) -> Result<(), Memory>
     requires finals { AreFinals product.now.dfa product.now.finals }
     ensures { OnOk result ((change : Change) (old : TreeValue) →
@@ -80,7 +80,7 @@ pub(crate) fn report_search(
     tree: &Tree,
     product: &ProductGraph<'_>,
     search: &mut Search,
-    report: &mut Report,
+    report: &mut ChangeReport,
 ) -> Result<(), Memory>
     requires finals { AreFinals product.now.dfa product.now.finals }
     ensures { OnOk result ((change : Change) (old : TreeValue) →
@@ -100,7 +100,7 @@ pub(crate) fn report_shifts(
     tree: &Tree,
     product: &ProductGraph<'_>,
     shifts: &mut Vec<Shift>,
-    report: &mut Report,
+    report: &mut ChangeReport,
 ) -> Result<(), Memory>
     requires finals { AreFinals product.now.dfa product.now.finals }
     ensures { OnOk result ((change : Change) (old : TreeValue) →

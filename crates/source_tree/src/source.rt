@@ -12,7 +12,7 @@ ghost use Rattle.source_tree.specs.Taking.{HasTaken, IsReady};
 use crate::change::{Change, EndChange, Reached};
 use crate::product::ProductGraph;
 use crate::reached::{keep_greatest, list_values};
-use crate::report::{Report, empty_report};
+use crate::report::{ChangeReport, empty_report};
 use crate::steps::change_tree;
 use delta_tree::{NodeId, Tree};
 use edge_store::EdgeId;
@@ -29,7 +29,7 @@ pub struct SourceTree {
     alloc: Global,
     tree: Tree,
     /// What the last change did to the tree.
-    report: Report,
+    report: ChangeReport,
     /// What came of the last change.
     outcome: Result<(), Memory>,
 }

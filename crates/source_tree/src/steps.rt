@@ -12,7 +12,7 @@ ghost use Rattle.source_tree.specs.declared.change.Change.TheVariants.{Raise, Re
 
 use crate::change::Change;
 use crate::product::ProductGraph;
-use crate::report::{Report, report_search, report_shifts};
+use crate::report::{ChangeReport, report_search, report_shifts};
 use delta_tree::{NodeId, Shift, Tree};
 use edge_store::{EdgeId, Steps};
 use rpq_base::Memory;
@@ -157,7 +157,7 @@ pub(crate) fn change_tree(
     tree: &mut Tree,
     product: &ProductGraph<'_>,
     change: Change,
-    report: &mut Report,
+    report: &mut ChangeReport,
 ) -> Result<(), Memory>
     requires puts { tree.old.puts < 2 ^ 126 }
     requires before { WasOptimalBefore change product.now tree.old }

@@ -5,7 +5,7 @@ ghost use Rattle.standing.specs.New.{IsNewObject};
 
 use crate::counter::Counter;
 use crate::object::{Standing, Stay};
-use rpq_base::{Copied, Event, Memory};
+use rpq_base::{Event, Memory, TryClone};
 use std::alloc::Global;
 use std::marker::Model;
 

@@ -11,7 +11,7 @@ ghost use Rattle.standing.specs.Told.{IsTold};
 use crate::counter::Counter;
 use crate::object::{Standing, Stay};
 use circular_buffer::HeapCircularBuffer;
-use rpq_base::{Copied, Event, Memory};
+use rpq_base::{Event, Memory, TryClone};
 use std::alloc::Global;
 use std::marker::{Model, PhantomData};
 use text_parts::push_decimal;

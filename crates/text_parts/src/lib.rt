@@ -19,4 +19,4 @@ pub use laws::{
 };
 pub use lines::{is_blank_line, is_comment, line_length, split_line, without_return};
 pub use numbers::{NumberFault, push_decimal, read_number};
-pub use reading::{LineReader, read_lines};
+pub use reading::{TextReader, read_lines};

@@ -9,7 +9,7 @@ use crate::lines::{split_line, without_return};
 /// What reads a text line by line. Contracts see the `step` that a line makes, which knows the
 /// line's number, from 1; the faults that are `told`, which are those of the text; and whether the
 /// reader `can_read`.
-pub trait LineReader {
+pub trait TextReader {
     /// What the lines so far give.
     type Progress: Drop;
 
@@ -38,7 +38,7 @@ pub trait LineReader {
 }
 
 /// What the lines of the bytes give, and how many they are; or the first fault.
-pub fn read_lines<R: LineReader>(
+pub fn read_lines<R: TextReader>(
     reader: &R,
     start: R::Progress,
     bytes: &[u8],

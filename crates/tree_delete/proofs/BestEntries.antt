@@ -19,28 +19,28 @@ use Rattle.tree_insert.specs.Trees.{Gives, IsValid}
 use Rattle.tree_insert.proofs.Bests.{at_least}
 use Rattle.tree_insert.proofs.Bests as bests
 use Rattle.tree_insert.proofs.Nodes.{carries_lower}
-use Rattle.tree_delete.specs.declared.entry.Entry.{Entry}
+use Rattle.tree_delete.specs.declared.entry.TreeEntry.{TreeEntry}
 use Rattle.std.proofs.lemmas.List.Sums.{sum_by_more, sum_by-take-le}
 use Rattle.tree_delete.specs.Entries.{value_in, steps_in, count_ins, IsEntryBy, IsEntry, CanEnter}
 
 -- ---- the better of two
 
-pub if_either : (first second result : Option Entry) (P : Entry → Type 0) →
+pub if_either : (first second result : Option TreeEntry) (P : TreeEntry → Type 0) →
     (result ≡ first) ⊎ (result ≡ second) → IfSome first P → IfSome second P → IfSome result P
 if_either first second result P either one other = ⊎_elim
-    (λ (is : result ≡ first). subst (λ (o : Option Entry). IfSome o P) (sym is) one)
-    (λ (is : result ≡ second). subst (λ (o : Option Entry). IfSome o P) (sym is) other)
+    (λ (is : result ≡ first). subst (λ (o : Option TreeEntry). IfSome o P) (sym is) one)
+    (λ (is : result ≡ second). subst (λ (o : Option TreeEntry). IfSome o P) (sym is) other)
     either
 
-pub if_weaker : (result : Option Entry) (P Q : Entry → Type 0) →
-    ((entry : Entry) → P entry → Q entry) → IfSome result P → IfSome result Q
+pub if_weaker : (result : Option TreeEntry) (P Q : TreeEntry → Type 0) →
+    ((entry : TreeEntry) → P entry → Q entry) → IfSome result P → IfSome result Q
 if_weaker None P Q more is = tt
 if_weaker (Some entry) P Q more is = more entry is
 
 -- ---- by one edge, from the first of some states
 
 abbrev pub IsMostFrom : (ℕ → ℕ → Option ℕ) → TreeValue → NodeId → EdgeId → ℕ → List ℕ →
-    Option Entry → ℕ → Type 0
+    Option TreeEntry → ℕ → Type 0
 IsMostFrom step tree id edge value states best bound =
     (place number : ℕ) → place < bound → number ≤ value →
     Carries tree (node_id edge.from (get_or states place 0)) number →
@@ -48,7 +48,7 @@ IsMostFrom step tree id edge value states best bound =
 
 module _ (step : ℕ → ℕ → Option ℕ) (tree : TreeValue) (id : NodeId) (edge : EdgeId) (value : ℕ)
     (states : List ℕ) where
-  pub most_one_more : (best more : Option Entry) (bound : ℕ) →
+  pub most_one_more : (best more : Option TreeEntry) (bound : ℕ) →
       IsMostFrom step tree id edge value states best bound →
       ((number : ℕ) → IsAtLeast number (value_in best) → IsAtLeast number (value_in more)) →
       ((number : ℕ) → number ≤ value → Carries tree (node_id edge.from (get_or states bound 0))
@@ -64,7 +64,7 @@ module _ (step : ℕ → ℕ → Option ℕ) (tree : TreeValue) (id : NodeId) (e
       (cases_eq place bound)
 
   -- all of them
-  pub most_of_all : (best : Option Entry) (bound before number : ℕ) → length states ≤ bound →
+  pub most_of_all : (best : Option TreeEntry) (bound before number : ℕ) → length states ≤ bound →
       IsMostFrom step tree id edge value states best bound → Contains states before →
       number ≤ value → Carries tree (node_id edge.from before) number →
       step before edge.label ≡ Some id.state → IsAtLeast number (value_in best)
@@ -79,7 +79,7 @@ module _ (step : ℕ → ℕ → Option ℕ) (tree : TreeValue) (id : NodeId) (e
 
 module _ (step : ℕ → ℕ → Option ℕ) (tree : TreeValue) (id : NodeId) where
   -- an entry by an edge that is there is a valid one
-  pub entry_of_edge : (values : EdgeId → Option ℕ) (edge : EdgeId) (value : ℕ) (entry : Entry) →
+  pub entry_of_edge : (values : EdgeId → Option ℕ) (edge : EdgeId) (value : ℕ) (entry : TreeEntry) →
       edge.to ≡ id.vertex → values edge ≡ Some value → IsEntryBy step tree id edge value entry →
       IsEntry values step tree id entry
   entry_of_edge values edge value entry ends there by =
@@ -108,7 +108,7 @@ module _ (step : ℕ → ℕ → Option ℕ) (tree : TreeValue) (id : NodeId) wh
 -- ---- by the first edges that end at the vertex
 
 abbrev pub IsMostFirst : (ℕ → ℕ → Option ℕ) → TreeValue → NodeId → List (HalfEdge × ℕ) →
-    Option Entry → ℕ → Type 0
+    Option TreeEntry → ℕ → Type 0
 IsMostFirst step tree id ins best bound =
     (place : ℕ) (half : HalfEdge) (value before number : ℕ) → place < bound →
     slice_get ins place ≡ Some (half, value) → number ≤ value →
@@ -116,7 +116,7 @@ IsMostFirst step tree id ins best bound =
     IsAtLeast number (value_in best)
 
 module _ (step : ℕ → ℕ → Option ℕ) (tree : TreeValue) (id : NodeId) where
-  pub first_one_more : (ins : List (HalfEdge × ℕ)) (best more : Option Entry) (bound : ℕ)
+  pub first_one_more : (ins : List (HalfEdge × ℕ)) (best more : Option TreeEntry) (bound : ℕ)
       (each : In) → IsMostFirst step tree id ins best bound →
       ((number : ℕ) → IsAtLeast number (value_in best) → IsAtLeast number (value_in more)) →
       slice_get ins bound ≡ Some (in_entry each) →
@@ -140,7 +140,7 @@ module _ (step : ℕ → ℕ → Option ℕ) (tree : TreeValue) (id : NodeId) wh
       (cases_eq place bound)
 
   module _ (store : Edges) (gives : GivesIns store id.vertex) where
-    pub first_all : (best : Option Entry) →
+    pub first_all : (best : Option TreeEntry) →
         IsMostFirst step tree id (ins_of store id.vertex) best (length (ins_of store id.vertex)) →
         (edge : EdgeId) (before number : ℕ) →
         CanEnter (value_of store) step tree id edge before number → IsAtLeast number (value_in best)
@@ -156,7 +156,7 @@ module _ (step : ℕ → ℕ → Option ℕ) (tree : TreeValue) (id : NodeId) wh
         most has.0 half there.0 before number has.1 at there.2 can.carries can.leads
 
     -- an entry by an edge of the walk
-    pub entry_of_walk : (k : ℕ) (each : In) (entry : Entry) →
+    pub entry_of_walk : (k : ℕ) (each : In) (entry : TreeEntry) →
         slice_get (ins_of store id.vertex) k ≡ Some (in_entry each) →
         IsEntryBy step tree id (record { from = each.from; label = each.label; to = id.vertex })
         each.value entry → IsEntry (value_of store) step tree id entry
@@ -190,7 +190,7 @@ module _ (values : EdgeId → Option ℕ) (step : ℕ → ℕ → Option ℕ) (t
     edge = bests.weaker (values each.edge) number lower gives.edge below;
   }
 
-  pub valid_more : (tries more : List Try) (id : NodeId) (best : Option Entry) →
+  pub valid_more : (tries more : List Try) (id : NodeId) (best : Option TreeEntry) →
       more ≡ tries ++ steps_in best → IfSome best (IsEntry values step tree id) →
       All (IsValid values step tree) tries →
       All (IsValid values step tree) more
@@ -201,7 +201,7 @@ module _ (values : EdgeId → Option ℕ) (step : ℕ → ℕ → Option ℕ) (t
       (All-push (IsValid values step tree) tries best.step valid entry.valid)
 
   pub entries_more : (ids : List NodeId) (tries more : List Try) (bound : ℕ) (id : NodeId)
-      (best : Option Entry) → HasEntriesFirst values step tree ids tries bound →
+      (best : Option TreeEntry) → HasEntriesFirst values step tree ids tries bound →
       slice_get ids bound ≡ Some id → more ≡ tries ++ steps_in best →
       IfSome best (IsEntry values step tree id) →
       ((edge : EdgeId) (before number : ℕ) → CanEnter values step tree id edge before number →
@@ -225,7 +225,7 @@ module _ (values : EdgeId → Option ℕ) (step : ℕ → ℕ → Option ℕ) (t
       ))
       (cases_eq place bound)
     where
-      new : (found : Option Entry) → more ≡ tries ++ steps_in found →
+      new : (found : Option TreeEntry) → more ≡ tries ++ steps_in found →
           IfSome found (IsEntry values step tree id) → IsAtLeast number (value_in found) →
           (try : Try) × Contains more try × (try.to ≡ id) × Gives values tree try number
       new None same entry_is reached = absurd reached

@@ -11,19 +11,19 @@ use Rattle.delta_tree.specs.declared.node.Node.{Node}
 use Rattle.delta_tree.specs.declared.node.NodeId.{NodeId}
 use Rattle.delta_tree.specs.Nodes.{GivesNodes, TreeValue, ids_of, node_id, node_of, root_id}
 use Rattle.tree_insert.specs.Best.{IsAtLeast}
-use Rattle.tree_delete.specs.declared.entry.Entry.{Entry}
+use Rattle.tree_delete.specs.declared.entry.TreeEntry.{TreeEntry}
 use Rattle.tree_delete.specs.Entries.{CanEnter, value_in}
 
 module _ (values : EdgeId → Option ℕ) (step : ℕ → ℕ → Option ℕ) (tree : TreeValue) (id : NodeId)
   where
     -- ---- from one place, by the first labels
 
-    abbrev pub IsMostByLabels : NodeId → Option Entry → ℕ → Type 0
+    abbrev pub IsMostByLabels : NodeId → Option TreeEntry → ℕ → Type 0
     IsMostByLabels from best bound =
         (edge : EdgeId) (number : ℕ) → edge.label < bound → edge.from ≡ from.vertex →
         CanEnter values step tree id edge from.state number → IsAtLeast number (value_in best)
 
-    pub label_one_more : (from : NodeId) (best more : Option Entry) (bound : ℕ) →
+    pub label_one_more : (from : NodeId) (best more : Option TreeEntry) (bound : ℕ) →
         IsMostByLabels from best bound →
         ((number : ℕ) → IsAtLeast number (value_in best) → IsAtLeast number (value_in more)) →
         ((number : ℕ) → CanEnter values step tree id
@@ -48,17 +48,17 @@ module _ (values : EdgeId → Option ℕ) (step : ℕ → ℕ → Option ℕ) (t
     IsAmong from bound = (from ≡ root_id tree)
         ⊎ ((place : ℕ) × (place < bound) × (slice_get (ids_of tree) place ≡ Some from))
 
-    abbrev pub IsMostFrom : Option Entry → ℕ → Type 0
+    abbrev pub IsMostFrom : Option TreeEntry → ℕ → Type 0
     IsMostFrom best bound =
         (edge : EdgeId) (before number : ℕ) → IsAmong (node_id edge.from before) bound →
         CanEnter values step tree id edge before number → IsAtLeast number (value_in best)
 
     -- from a place
-    abbrev IsMostAt : NodeId → Option Entry → Type 0
+    abbrev IsMostAt : NodeId → Option TreeEntry → Type 0
     IsMostAt from best = (edge : EdgeId) (number : ℕ) → edge.from ≡ from.vertex →
         CanEnter values step tree id edge from.state number → IsAtLeast number (value_in best)
 
-    at_place : (from : NodeId) (best : Option Entry) (edge : EdgeId) (before number : ℕ) →
+    at_place : (from : NodeId) (best : Option TreeEntry) (edge : EdgeId) (before number : ℕ) →
         IsMostAt from best → node_id edge.from before ≡ from →
         CanEnter values step tree id edge before number → IsAtLeast number (value_in best)
     at_place from best edge before number most is can =
@@ -66,7 +66,7 @@ module _ (values : EdgeId → Option ℕ) (step : ℕ → ℕ → Option ℕ) (t
         (subst (λ (state : ℕ). CanEnter values step tree id edge state number)
         (ap (λ (each : NodeId). each.state) is) can)
 
-    pub from_root : (best : Option Entry) → IsMostAt (root_id tree) best → IsMostFrom best 0
+    pub from_root : (best : Option TreeEntry) → IsMostAt (root_id tree) best → IsMostFrom best 0
     from_root best most edge before number among can = ⊎_elim
         (λ (root : node_id edge.from before ≡ root_id tree).
         at_place (root_id tree) best edge before number most root can)
@@ -74,7 +74,7 @@ module _ (values : EdgeId → Option ℕ) (step : ℕ → ℕ → Option ℕ) (t
         ≡ Some (node_id edge.from before))). absurd (let no : ⊥ = omega (arith, node.1) in no))
         among
 
-    pub node_one_more : (best more : Option Entry) (bound : ℕ) (from : NodeId) →
+    pub node_one_more : (best more : Option TreeEntry) (bound : ℕ) (from : NodeId) →
         IsMostFrom best bound →
         ((number : ℕ) → IsAtLeast number (value_in best) → IsAtLeast number (value_in more)) →
         slice_get (ids_of tree) bound ≡ Some from → IsMostAt from more →
@@ -95,7 +95,7 @@ module _ (values : EdgeId → Option ℕ) (step : ℕ → ℕ → Option ℕ) (t
         among
 
     -- from all of them
-    pub from_all : (best : Option Entry) (bound : ℕ) → length tree.nodes ≤ bound →
+    pub from_all : (best : Option TreeEntry) (bound : ℕ) → length tree.nodes ≤ bound →
         GivesNodes tree → IsMostFrom best bound → (edge : EdgeId) (before number : ℕ) →
         CanEnter values step tree id edge before number → IsAtLeast number (value_in best)
     from_all best bound all gives most edge before number can =
@@ -114,7 +114,7 @@ module _ (values : EdgeId → Option ℕ) (step : ℕ → ℕ → Option ℕ) (t
 
 -- a step by a label is one of the automaton's
 pub by_all_labels : (dfa : DfaValue) (values : EdgeId → Option ℕ) (tree : TreeValue) (id from : NodeId)
-    (best : Option Entry) (bound : ℕ) → IsDfa dfa → length dfa.labels ≤ bound →
+    (best : Option TreeEntry) (bound : ℕ) → IsDfa dfa → length dfa.labels ≤ bound →
     IsMostByLabels values (step_of dfa) tree id from best bound →
     (edge : EdgeId) (number : ℕ) → edge.from ≡ from.vertex →
     CanEnter values (step_of dfa) tree id edge from.state number → IsAtLeast number (value_in best)

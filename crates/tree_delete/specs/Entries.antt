@@ -9,20 +9,20 @@ use Rattle.delta_tree.specs.Nodes.{TreeValue, node_id}
 use Rattle.delta_tree.specs.Changes.{Carries}
 use Rattle.tree_insert.specs.Best.{IsAtLeast}
 use Rattle.tree_insert.specs.Trees.{Gives, IsValid}
-use Rattle.tree_delete.specs.declared.entry.Entry.{Entry}
+use Rattle.tree_delete.specs.declared.entry.TreeEntry.{TreeEntry}
 
 -- the value of an entry, where there is one
-abbrev pub value_in : Option Entry → Option ℕ
-value_in entry = option_map (λ (each : Entry). each.value) entry
+abbrev pub value_in : Option TreeEntry → Option ℕ
+value_in entry = option_map (λ (each : TreeEntry). each.value) entry
 
 -- its step, where there is one
-abbrev pub steps_in : Option Entry → List Try
+abbrev pub steps_in : Option TreeEntry → List Try
 steps_in None = []
 steps_in (Some entry) = entry.step ∷ []
 
 -- the entry leads to the place by this edge, from the root or a node of at least its value
 pub record IsEntryBy (step : ℕ → ℕ → Option ℕ) (tree : TreeValue) (id : NodeId) (edge : EdgeId)
-    (value : ℕ) (entry : Entry) : Type 0 where
+    (value : ℕ) (entry : TreeEntry) : Type 0 where
   pub from : entry.step.from.vertex ≡ edge.from
   pub edge_is : entry.step.edge ≡ edge
   pub to : entry.step.to ≡ id
@@ -32,7 +32,7 @@ pub record IsEntryBy (step : ℕ → ℕ → Option ℕ) (tree : TreeValue) (id 
 
 -- the entry is a valid try that gives the place its value
 pub record IsEntry (values : EdgeId → Option ℕ) (step : ℕ → ℕ → Option ℕ) (tree : TreeValue)
-    (id : NodeId) (entry : Entry) : Type 0 where
+    (id : NodeId) (entry : TreeEntry) : Type 0 where
   pub valid : IsValid values step tree entry.step
   pub to : entry.step.to ≡ id
   pub gives : Gives values tree entry.step entry.value

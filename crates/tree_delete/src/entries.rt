@@ -12,7 +12,7 @@ ghost use Rattle.tree_insert.specs.Trees.{IsValid};
 ghost use Rattle.tree_delete.specs.Entries.{CanEnter, HasEntries, IsEntry, IsEntryBy};
 ghost use Rattle.tree_delete.specs.Entries.{count_ins, steps_in, value_in};
 
-use crate::entry::{Entry, better};
+use crate::entry::{TreeEntry, better};
 use crate::from_nodes::best_from_nodes;
 use delta_tree::{NodeId, Shift, Tree, Try};
 use dfa_table::Dfa;
@@ -31,7 +31,7 @@ pub(crate) fn entry_from(
     edge: EdgeId,
     value: u64,
     before: u32,
-) -> Option<Entry>
+) -> Option<TreeEntry>
     requires root { root ≡ root_id tree.now }
     requires state { before < length dfa.now.rows }
     ensures entry { IfSome result (IsEntryBy (step_of dfa.now) tree.now id edge value) }
@@ -47,7 +47,7 @@ pub(crate) fn entry_from(
         state: before,
     };
     let most = greatest_from(tree, root, from)?;
-    Some(Entry {
+    Some(TreeEntry {
         step: Try { from, edge, to: id },
         value: most.min(value),
     })
@@ -61,7 +61,7 @@ fn entry_by(
     id: NodeId,
     edge: EdgeId,
     value: u64,
-) -> Option<Entry>
+) -> Option<TreeEntry>
     requires { root ≡ root_id tree.now }
     ensures entry { IfSome result (IsEntryBy (step_of dfa.now) tree.now id edge value) }
     ensures most { (before number : ℕ) → number ≤ value →
@@ -84,7 +84,7 @@ fn best_by_edges<L: Ledger>(
     root: NodeId,
     id: NodeId,
     steps: &mut Steps<L>,
-) -> Option<Entry>
+) -> Option<TreeEntry>
     requires { root ≡ root_id tree.now }
     ensures entry { IfSome result
         (IsEntry (value_of store.now) (step_of dfa.now) tree.now id) }
@@ -125,7 +125,7 @@ fn best_entry<L: Ledger>(
     root: NodeId,
     id: NodeId,
     steps: &mut Steps<L>,
-) -> Option<Entry>
+) -> Option<TreeEntry>
     requires { root ≡ root_id tree.now }
     ensures entry { IfSome result
         (IsEntry (value_of store.now) (step_of dfa.now) tree.now id) }
@@ -141,7 +141,7 @@ fn best_entry<L: Ledger>(
 }
 
 /// Adds the step of the entry, where there is one.
-fn add(tries: &mut Vec<Try>, entry: Option<Entry>) -> Result<(), Memory>
+fn add(tries: &mut Vec<Try>, entry: Option<TreeEntry>) -> Result<(), Memory>
     ensures { OnOk result (tries.new.items ≡ tries.old.items ++ steps_in entry) }
 {
     if let Some(entry) = entry {

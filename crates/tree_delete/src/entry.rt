@@ -8,13 +8,13 @@ use delta_tree::Try;
 
 /// A try with the value that it gives its target.
 #[derive(Clone, Copy)]
-pub(crate) struct Entry {
+pub(crate) struct TreeEntry {
     pub(crate) step: Try,
     pub(crate) value: u64,
 }
 
 /// The one of the two that gives more.
-pub(crate) fn better(first: Option<Entry>, second: Option<Entry>) -> Option<Entry>
+pub(crate) fn better(first: Option<TreeEntry>, second: Option<TreeEntry>) -> Option<TreeEntry>
     ensures either { (result ≡ first) ⊎ (result ≡ second) }
     ensures first { (number : ℕ) → IsAtLeast number (value_in first) →
         IsAtLeast number (value_in result) }

@@ -9,7 +9,7 @@ ghost use Rattle.tree_insert.specs.Best.{IsAtLeast};
 ghost use Rattle.tree_delete.specs.Entries.{CanEnter, IsEntry, value_in};
 
 use crate::entries::entry_from;
-use crate::entry::{Entry, better};
+use crate::entry::{TreeEntry, better};
 use delta_tree::{NodeId, Tree};
 use dfa_table::Dfa;
 use edge_store::{EdgeId, EdgeStore, Steps};
@@ -24,7 +24,7 @@ fn entry_along(
     id: NodeId,
     edge: EdgeId,
     before: u32,
-) -> Option<Entry>
+) -> Option<TreeEntry>
     requires root { root ≡ root_id tree.now }
     requires state { before < length dfa.now.rows }
     requires ends { edge.to ≡ id.vertex }
@@ -49,7 +49,7 @@ fn best_from(
     root: NodeId,
     id: NodeId,
     from: NodeId,
-) -> Option<Entry>
+) -> Option<TreeEntry>
     requires { root ≡ root_id tree.now }
     ensures entry { IfSome result
         (IsEntry (value_of store.now) (step_of dfa.now) tree.now id) }
@@ -81,7 +81,7 @@ pub(crate) fn best_from_nodes<L: Ledger>(
     root: NodeId,
     id: NodeId,
     steps: &mut Steps<L>,
-) -> Option<Entry>
+) -> Option<TreeEntry>
     requires { root ≡ root_id tree.now }
     ensures entry { IfSome result
         (IsEntry (value_of store.now) (step_of dfa.now) tree.now id) }

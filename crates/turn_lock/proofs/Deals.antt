@@ -9,8 +9,8 @@ use mathlib.Core.Option.{some, some-injective, some-ne-none}
 use lib.ListN.{get_elem?}
 use Rattle.atomic_table.specs.Table.{State, opening, Splits}
 use Rattle.atomic_table.proofs.Lists.{at_set, set_else, at_longer}
-use Rattle.turn_lock.specs.declared.view.Known.{Known}
-use Rattle.turn_lock.specs.declared.view.View.{View}
+use Rattle.turn_lock.specs.declared.view.PassKnowledge.{PassKnowledge}
+use Rattle.turn_lock.specs.declared.view.SeatView.{SeatView}
 use Rattle.turn_lock.specs.declared.view.Stage.{Stage}
 use Rattle.turn_lock.specs.declared.view.Stage.TheVariants.{Idle}
 use Rattle.turn_lock.specs.Turn.{IsLive, tickets, spent, fresh, in_turn, IsSo, Fits, IsKept}
@@ -33,13 +33,13 @@ at_push (x ∷ xs) a b (suc j) e = ⊎_elim (λ h. inl h) (λ h. inr (ap suc h.0
 module _ {T L F : Type 0} (lines : T → List L) (fixed : T → F) (author : L → ℕ) (kept : F)
     (most : ℕ) where
   abbrev St : Type 0
-  St = State (Option T) (View L F)
+  St = State (Option T) (SeatView L F)
 
   abbrev Kept : St → Type 0
   Kept s = IsKept lines fixed author kept most s
 
   -- a new seat knows nothing, which is so
-  fresh_fits : (log : List L) (drawn passed : ℕ) (holder : ℕ → ℕ) (views : List (View L F))
+  fresh_fits : (log : List L) (drawn passed : ℕ) (holder : ℕ → ℕ) (views : List (SeatView L F))
       (seat : ℕ) (f : Option F) → f ≡ Some kept → seat + 1 ≡ length views →
       All (λ line. author line < seat) log
       → Fits author kept log drawn passed holder seat views seat (fresh seat (seat + 1) f)
@@ -76,22 +76,23 @@ module _ {T L F : Type 0} (lines : T → List L) (fixed : T → F) (author : L �
     authors = All-nil (λ line. author line < 1);
   }
     where
-      one : (seat : ℕ) (v : View L F) → get_elem? (fresh 0 1 (Some kept) ∷ []) seat ≡ some v →
+      one : (seat : ℕ) (v : SeatView L F) → get_elem? (fresh 0 1 (Some kept) ∷ []) seat ≡ some v →
           Fits author kept [] 0 0 (λ k. 0) 0 (fresh 0 1 (Some kept) ∷ []) seat v
       one zero v e =
-          subst (λ (u : View L F). Fits author kept [] 0 0 (λ k. 0) 0 (fresh 0 1 (Some kept) ∷ []) 0
-          u) (some-injective _ _ e)
+          subst (λ (u : SeatView L F).
+          Fits author kept [] 0 0 (λ k. 0) 0 (fresh 0 1 (Some kept) ∷ []) 0 u)
+          (some-injective _ _ e)
           (fresh_fits [] 0 0 (λ k. 0) (fresh 0 1 (Some kept) ∷ []) 0 (Some kept) refl refl
           (All-nil (λ line. author line < 0)))
       one (suc seat) v e = absurd (some-ne-none v (sym e))
 
-  pub splits : (id : ℕ) (v : View L F) → v.stage ≡ Idle → 0 < v.made → v.made < most →
+  pub splits : (id : ℕ) (v : SeatView L F) → v.stage ≡ Idle → 0 < v.made → v.made < most →
       Splits (λ s. Kept s) id v (first_part v) (next_seat v)
   splits id v idle some_made room s r at =
-      let w : View L F = first_part v in
-      let new : View L F = next_seat v in
-      let halves : List (View L F) = set s.views id w in
-      let views : List (View L F) = halves ++ new ∷ [] in
+      let w : SeatView L F = first_part v in
+      let new : SeatView L F = next_seat v in
+      let halves : List (SeatView L F) = set s.views id w in
+      let views : List (SeatView L F) = halves ++ new ∷ [] in
       let live : IsLive v.stage = subst (λ (st : Stage L). IsLive st) (sym idle) tt in
       let mine = r.each id v at in
       let own = mine.knows live in
@@ -101,10 +102,11 @@ module _ {T L F : Type 0} (lines : T → List L) (fixed : T → F) (author : L �
       let halves_long : length halves ≡ n = length-set s.views id w in
       let long : length views ≡ n + 1 = length-append halves (new ∷ [])
       ∙ ap (λ (k : ℕ). k + 1) halves_long in
-      let there : (k : ℕ) (u : View L F) → k ≢ id → get_elem? s.views k ≡ some u →
+      let there : (k : ℕ) (u : SeatView L F) → k ≢ id → get_elem? s.views k ≡ some u →
       get_elem? views k ≡ some u
       = λ k u ne e. at_longer halves (new ∷ []) k u (set_else s.views id k w ne ∙ e) in
-      let heard : (b : View L F) (j : ℕ) → get_elem? s.views j ≡ some b → (k : Known L F) →
+      let heard : (b : SeatView L F) (j : ℕ) → get_elem? s.views j ≡ some b →
+      (k : PassKnowledge L F) →
       Contains b.heard k → IsSo author kept r.log k × (get_elem? views k.number ≡ some spent)
       = λ b j e k among. let h = (r.each j b e).heard k among in
       (h.0, there k.number spent (spent_else s.views id k.number v at live h.1) h.1) in
@@ -128,7 +130,7 @@ module _ {T L F : Type 0} (lines : T → List L) (fixed : T → F) (author : L �
         each = λ j u e. ⊎_elim
             (λ (e' : get_elem? halves j ≡ some u). ⊎_elim
             (λ (x : (j ≡ id) × (w ≡ u)). subst
-            (λ (y : ℕ × View L F). Fits author kept r.log d p r.holder made views y.0 y.1)
+            (λ (y : ℕ × SeatView L F). Fits author kept r.log d p r.holder made views y.0 y.1)
             (λ k. (sym x.0 k, x.1 k))
             record {
               stands = mine.stands;
@@ -145,7 +147,7 @@ module _ {T L F : Type 0} (lines : T → List L) (fixed : T → F) (author : L �
             })
             (at_set s.views id j w u e'))
             (λ (x : (j ≡ length halves) × (new ≡ u)). subst
-            (λ (y : ℕ × View L F). Fits author kept r.log d p r.holder made views y.0 y.1)
+            (λ (y : ℕ × SeatView L F). Fits author kept r.log d p r.holder made views y.0 y.1)
             (λ k. (sym (x.0 ∙ halves_long ∙ sym same) k, x.1 k))
             (fresh_fits r.log d p r.holder views made v.known.fixed own.1.fixed_is
             (let l : ℕ = length views in let l' : l ≡ n + 1 = long in

@@ -11,8 +11,8 @@ use lib.ListN.{get_elem?}
 use Rattle.atomic_table.specs.Table.{State, Joins, Final, Seen}
 use Rattle.atomic_table.proofs.Lists.{at_set, set_here, set_else}
 use Rattle.rpq_base.proofs.Members.{cons_members}
-use Rattle.turn_lock.specs.declared.view.Known.{Known}
-use Rattle.turn_lock.specs.declared.view.View.{View}
+use Rattle.turn_lock.specs.declared.view.PassKnowledge.{PassKnowledge}
+use Rattle.turn_lock.specs.declared.view.SeatView.{SeatView}
 use Rattle.turn_lock.specs.declared.view.Stage.{Stage}
 use Rattle.turn_lock.specs.declared.view.Stage.TheVariants.{Idle}
 use Rattle.turn_lock.specs.Passes.{PassValue, AreAll, Knows}
@@ -40,17 +40,18 @@ all_before P f (x ∷ xs) all = All-cons (λ y. P (f y)) x xs (All-head P (f x) 
 module _ {T L F : Type 0} (lines : T → List L) (fixed : T → F) (author : L → ℕ) (kept : F)
     (most : ℕ) where
   abbrev St : Type 0
-  St = State (Option T) (View L F)
+  St = State (Option T) (SeatView L F)
 
   abbrev Kept : St → Type 0
   Kept s = IsKept lines fixed author kept most s
 
-  pub joins : (id : ℕ) (v : View L F) (other : ℕ) (w : View L F) → v.stage ≡ Idle → w.stage ≡ Idle →
+  pub joins : (id : ℕ) (v : SeatView L F) (other : ℕ) (w : SeatView L F) → v.stage ≡ Idle →
+      w.stage ≡ Idle →
       Joins (λ s. Kept s) id v other w (with_other v w) spent
   joins id v other w idle idle' s r at apart there' =
-      let both : View L F = with_other v w in
-      let first : List (View L F) = set s.views id both in
-      let views : List (View L F) = set first other spent in
+      let both : SeatView L F = with_other v w in
+      let first : List (SeatView L F) = set s.views id both in
+      let views : List (SeatView L F) = set first other spent in
       let there : get_elem? s.views other ≡ some w = sym (set_else s.views id other both apart)
       ∙ there' in
       let live : IsLive v.stage = subst (λ (st : Stage L). IsLive st) (sym idle) tt in
@@ -67,7 +68,8 @@ module _ {T L F : Type 0} (lines : T → List L) (fixed : T → F) (author : L �
       let still : (k : ℕ) → get_elem? s.views k ≡ some spent → get_elem? views k ≡ some spent
       = λ k gone. set_else first other k spent (spent_else s.views other k w there live' gone)
       ∙ (set_else s.views id k both (spent_else s.views id k v at live gone) ∙ gone) in
-      let heard : (b : View L F) (j : ℕ) → get_elem? s.views j ≡ some b → (k : Known L F) →
+      let heard : (b : SeatView L F) (j : ℕ) → get_elem? s.views j ≡ some b →
+      (k : PassKnowledge L F) →
       Contains b.heard k → IsSo author kept r.log k × (get_elem? views k.number ≡ some spent)
       = λ b j e k among. let h = (r.each j b e).heard k among in (h.0, still k.number h.1) in
       let d : ℕ = r.drawn in let p : ℕ = r.passed in let c : ℕ = in_turn s.views in
@@ -89,7 +91,7 @@ module _ {T L F : Type 0} (lines : T → List L) (fixed : T → F) (author : L �
         small = r.small;
         each = λ j u e. ⊎_elim
             (λ (x : (j ≡ other) × (spent ≡ u)). subst
-            (λ (u' : View L F). Fits author kept r.log d p r.holder r.maker views j u') x.1
+            (λ (u' : SeatView L F). Fits author kept r.log d p r.holder r.maker views j u') x.1
             record {
               stands = tt;
               makes = λ none. absurd (let no : ⊥ = omega arith in
@@ -99,7 +101,7 @@ module _ {T L F : Type 0} (lines : T → List L) (fixed : T → F) (author : L �
             })
             (λ (x : (j ≢ other) × (get_elem? first j ≡ some u)). ⊎_elim
             (λ (y : (j ≡ id) × (both ≡ u)). subst
-            (λ (z : ℕ × View L F). Fits author kept r.log d p r.holder r.maker views z.0 z.1)
+            (λ (z : ℕ × SeatView L F). Fits author kept r.log d p r.holder r.maker views z.0 z.1)
             (λ k. (sym y.0 k, y.1 k))
             record {
               stands = mine.stands;
@@ -108,7 +110,8 @@ module _ {T L F : Type 0} (lines : T → List L) (fixed : T → F) (author : L �
               heard = λ k among. ⊎_elim
                   (λ (own : Contains v.heard k). heard v id at k own)
                   (λ (new : Contains (w.known ∷ w.heard) k). ⊎_elim
-                  (λ (same : w.known ≡ k). subst (λ (k' : Known L F). IsSo author kept r.log k'
+                  (λ (same : w.known ≡ k).
+                  subst (λ (k' : PassKnowledge L F). IsSo author kept r.log k'
                   × (get_elem? views k'.number ≡ some spent)) same
                   (their.1, ap (λ (n : ℕ). get_elem? views n) their.0 ∙ here))
                   (λ (old : Contains w.heard k). heard w other there k old)
@@ -131,7 +134,7 @@ module _ {T L F : Type 0} (lines : T → List L) (fixed : T → F) (author : L �
 
   -- once the seats of all passes were joined to one, the value is at home, and what each of them
   -- knew is so
-  pub ended : (s : St) (r : Kept s) (id : ℕ) (v : View L F) → get_elem? s.views id ≡ some v →
+  pub ended : (s : St) (r : Kept s) (id : ℕ) (v : SeatView L F) → get_elem? s.views id ≡ some v →
       v.stage ≡ Idle → (passes : List (PassValue L F)) → map known_of passes ≡ v.known ∷ v.heard →
       AreAll most passes
       → (x : T) × (get_elem? s.homes 0 ≡ some (some (Some x)))
@@ -146,19 +149,20 @@ module _ {T L F : Type 0} (lines : T → List L) (fixed : T → F) (author : L �
       let nobody : NobodyServed s.views = λ j u there.
       let below : j < n = within s.views j u there in
       let found = all j (let e : j < most = omega arith in e) in
-      let k : Known L F = known_of found.0 in
+      let k : PassKnowledge L F = known_of found.0 in
       ⊎_elim
       (λ (same : v.known ≡ k).
-      let e : id ≡ j = sym own.0 ∙ ap (λ (k' : Known L F). k'.number) same ∙ found.2 in
-      subst (λ (u' : View L F). IsServed u'.stage → ⊥)
+      let e : id ≡ j = sym own.0 ∙ ap (λ (k' : PassKnowledge L F). k'.number) same ∙ found.2 in
+      subst (λ (u' : SeatView L F). IsServed u'.stage → ⊥)
       (some-injective v u (sym at ∙ ap (λ i. get_elem? s.views i) e ∙ there))
       (idle_unserved v.stage idle))
       (λ (among : Contains v.heard k).
       let gone = (mine.heard k among).1 in
-      subst (λ (u' : View L F). IsServed u'.stage → ⊥)
+      subst (λ (u' : SeatView L F). IsServed u'.stage → ⊥)
       (some-injective spent u (sym gone ∙ ap (λ i. get_elem? s.views i) found.2 ∙ there))
       (λ no. no))
-      ((cons_members v.known v.heard k).0 (subst (λ (ks : List (Known L F)). Contains ks k) joined
+      ((cons_members v.known v.heard k).0
+      (subst (λ (ks : List (PassKnowledge L F)). Contains ks k) joined
       (among_map known_of passes found.0 found.1))) in
       let h = r.home nobody in
       let x : T = h.0 in
@@ -169,7 +173,7 @@ module _ {T L F : Type 0} (lines : T → List L) (fixed : T → F) (author : L �
       let so' : All (λ k. IsSo author (fixed x) (lines x) k) (map known_of passes) =
       subst (λ (z : F × List L). All (λ k. IsSo author z.0 z.1 k) (map known_of passes))
       (λ i. (sym h.3 i, sym h.2 i))
-      (subst (λ (ks : List (Known L F)). All (λ k. IsSo author kept r.log k) ks)
+      (subst (λ (ks : List (PassKnowledge L F)). All (λ k. IsSo author kept r.log k) ks)
       (sym joined) so) in
       let authors : All (λ line. author line < most) r.log = All-weaker (λ line. author line < n)
       (λ line. author line < most)
@@ -182,7 +186,7 @@ module _ {T L F : Type 0} (lines : T → List L) (fixed : T → F) (author : L �
       )
 
   -- the same of a table that was closed with the seat
-  pub closes : (id : ℕ) (v : View L F) (words : List ℕ) (slots : List (Option T)) →
+  pub closes : (id : ℕ) (v : SeatView L F) (words : List ℕ) (slots : List (Option T)) →
       Final (Seen (λ s. Kept s) id v) words slots → v.stage ≡ Idle →
       (passes : List (PassValue L F)) → map known_of passes ≡ v.known ∷ v.heard
       → (count : ℕ) → most ≡ count → AreAll count passes → (taken : Option T) →

@@ -14,8 +14,8 @@ use lib.ListN.{get_elem?}
 use Rattle.atomic_table.specs.Table.{State, Me, Act, keeps, takes, gives, homes_after}
 use Rattle.atomic_table.specs.Table.{carried_after, Valid, Allows}
 use Rattle.atomic_table.proofs.Lists.{at_set, set_here, set_else, set_again, one_turn}
-use Rattle.turn_lock.specs.declared.view.Known.{Known}
-use Rattle.turn_lock.specs.declared.view.View.{View}
+use Rattle.turn_lock.specs.declared.view.PassKnowledge.{PassKnowledge}
+use Rattle.turn_lock.specs.declared.view.SeatView.{SeatView}
 use Rattle.turn_lock.specs.declared.view.Stage.{Stage}
 use Rattle.turn_lock.specs.declared.view.Stage.TheVariants.{Spent, Idle, Waits, Served}
 use Rattle.turn_lock.specs.Lines.{Adds, Agrees}
@@ -29,21 +29,22 @@ use Rattle.turn_lock.proofs.Views.{other_unserved, waits_unserved, idle_unserved
 module _ {T L F : Type 0} (lines : T → List L) (fixed : T → F) (author : L → ℕ) (kept : F)
     (most : ℕ) where
   abbrev St : Type 0
-  St = State (Option T) (View L F)
+  St = State (Option T) (SeatView L F)
 
   abbrev Kept : St → Type 0
   Kept s = IsKept lines fixed author kept most s
 
   -- how a live seat's view may change, so that each seat still fits
-  turned : (s : St) (r : Kept s) (i : ℕ) (v : View L F) → get_elem? s.views i ≡ some v →
+  turned : (s : St) (r : Kept s) (i : ℕ) (v : SeatView L F) → get_elem? s.views i ≡ some v →
       IsLive v.stage
-      → (st : Stage L) (known : Known L F) (added : List L) (drawn passed : ℕ) (holder : ℕ → ℕ)
+      → (st : Stage L) (known : PassKnowledge L F) (added : List L) (drawn passed : ℕ)
+      (holder : ℕ → ℕ)
       → All (λ line. author line ≡ i) added
       → (known.number ≡ i) × IsSo author kept (r.log ++ added) known
       → Stands (r.log ++ added) drawn passed holder i st
       → ((j : ℕ) (st' : Stage L) → j ≢ i → Stands r.log r.drawn r.passed r.holder j st' →
       Stands (r.log ++ added) drawn passed holder j st')
-      → (j : ℕ) (u : View L F) →
+      → (j : ℕ) (u : SeatView L F) →
       get_elem? (set s.views i record {
         stage = st;
         made = v.made;
@@ -53,13 +54,14 @@ module _ {T L F : Type 0} (lines : T → List L) (fixed : T → F) (author : L �
       → Fits author kept (r.log ++ added) drawn passed holder r.maker
       (set s.views i record { stage = st; made = v.made; known = known; heard = v.heard }) j u
   turned s r i v at live st known added drawn passed holder all knows stands others j u there =
-      let w : View L F = record { stage = st; made = v.made; known = known; heard = v.heard } in
-      let views : List (View L F) = set s.views i w in
+      let w : SeatView L F = record { stage = st; made = v.made; known = known; heard = v.heard } in
+      let views : List (SeatView L F) = set s.views i w in
       let long : length views ≡ length s.views = length-set s.views i w in
-      let so : (k : Known L F) → k.number ≢ i → IsSo author kept r.log k →
+      let so : (k : PassKnowledge L F) → k.number ≢ i → IsSo author kept r.log k →
       IsSo author kept (r.log ++ added) k
       = λ k ne a. agrees_more author kept r.log added i k.number k.seen k.mine k.fixed all ne a in
-      let heard : (b : View L F) (n : ℕ) → get_elem? s.views n ≡ some b → (k : Known L F) →
+      let heard : (b : SeatView L F) (n : ℕ) → get_elem? s.views n ≡ some b →
+      (k : PassKnowledge L F) →
       Contains b.heard k →
       IsSo author kept (r.log ++ added) k × (get_elem? views k.number ≡ some spent)
       = λ b n there' k among. let h = (r.each n b there').heard k among in
@@ -67,7 +69,7 @@ module _ {T L F : Type 0} (lines : T → List L) (fixed : T → F) (author : L �
       (so k ne h.0, set_else s.views i k.number w ne ∙ h.1) in
       ⊎_elim
       (λ (x : (j ≡ i) × (w ≡ u)). subst
-      (λ (y : ℕ × View L F). Fits author kept (r.log ++ added) drawn passed holder r.maker views
+      (λ (y : ℕ × SeatView L F). Fits author kept (r.log ++ added) drawn passed holder r.maker views
       y.0 y.1) (λ n. (sym x.0 n, x.1 n))
       record {
         stands = stands;
@@ -85,9 +87,9 @@ module _ {T L F : Type 0} (lines : T → List L) (fixed : T → F) (author : L �
       (at_set s.views i j w u there)
 
   -- whatever the words are, the seat has a new view and an act that keep the rule
-  abbrev Goes : St → ℕ → ℕ → Me (Option T) (View L F) → (ℕ → ℕ) →
-      (ℕ → Me (Option T) (View L F) → Type 0) → List ℕ → Type 0
-  Goes s i id m f then ws = (w : View L F) × (a : Act (Option T)) × Valid s.homes m.1 a
+  abbrev Goes : St → ℕ → ℕ → Me (Option T) (SeatView L F) → (ℕ → ℕ) →
+      (ℕ → Me (Option T) (SeatView L F) → Type 0) → List ℕ → Type 0
+  Goes s i id m f then ws = (w : SeatView L F) × (a : Act (Option T)) × Valid s.homes m.1 a
       × Kept record {
         words = set ws i (f (slice_index ws i));
         homes = homes_after s.homes m.1 a;
@@ -120,11 +122,11 @@ module _ {T L F : Type 0} (lines : T → List L) (fixed : T → F) (author : L �
   live_if : (st st' : Stage L) → st ≡ st' → IsLive st' → IsLive st
   live_if st st' is live = subst (λ (x : Stage L). IsLive x) (sym is) live
 
-  pub draws : (slots id : ℕ) (m : Me (Option T) (View L F)) → m.0.stage ≡ Idle →
+  pub draws : (slots id : ℕ) (m : Me (Option T) (SeatView L F)) → m.0.stage ≡ Idle →
       Allows (λ s. Kept s) slots id m 0 (λ n. (n + 1) % 2 ^ 64) (Draws m)
   draws slots id m idle s r long at _ =
-      let v : View L F = m.0 in
-      let w : View L F = staged (Waits r.drawn) v in
+      let v : SeatView L F = m.0 in
+      let w : SeatView L F = staged (Waits r.drawn) v in
       let live : IsLive v.stage = live_if v.stage Idle idle tt in
       let own = (r.each id v at).knows live in
       let none : tickets v.stage ≡ 0 = ap (λ (st : Stage L). tickets st) idle in
@@ -181,27 +183,27 @@ module _ {T L F : Type 0} (lines : T → List L) (fixed : T → F) (author : L �
       let most' : n ≤ most = r.few in let small : most < 2 ^ 32 = r.small in
       let e : d < p + 2 ^ 64 = omega arith in e
 
-  stays : (s : St) (r : Kept s) (id : ℕ) (v : View L F) → get_elem? s.views id ≡ some v →
+  stays : (s : St) (r : Kept s) (id : ℕ) (v : SeatView L F) → get_elem? s.views id ≡ some v →
       Kept record {
         words = r.drawn % 2 ^ 64 ∷ r.passed % 2 ^ 64 ∷ [];
         homes = s.homes;
         views = set s.views id v;
       }
   stays s r id v at =
-      subst (λ (z : List ℕ × List (View L F)). Kept record {
+      subst (λ (z : List ℕ × List (SeatView L F)). Kept record {
         words = z.0;
         homes = s.homes;
         views = z.1;
       }) (λ n. (r.words n, sym (set_again s.views id v at) n)) r
 
   -- the one whose ticket is served takes the value
-  lifted : (s : St) (r : Kept s) (id : ℕ) (m : Me (Option T) (View L F)) (ticket : ℕ) →
+  lifted : (s : St) (r : Kept s) (id : ℕ) (m : Me (Option T) (SeatView L F)) (ticket : ℕ) →
       get_elem? s.views id ≡ some m.0 → m.0.stage ≡ Waits ticket →
       r.passed % 2 ^ 64 ≡ ticket % 2 ^ 64
       → Goes s 1 id m (λ n. n) (LooksAt lines fixed author (Waits ticket) m)
       (r.drawn % 2 ^ 64 ∷ r.passed % 2 ^ 64 ∷ [])
   lifted s r id m ticket at waits hit =
-      let v : View L F = m.0 in
+      let v : SeatView L F = m.0 in
       let d : ℕ = r.drawn in let p : ℕ = r.passed in
       let live : IsLive v.stage = live_if v.stage (Waits ticket) waits tt in
       let own = (r.each id v at).knows live in
@@ -213,13 +215,13 @@ module _ {T L F : Type 0} (lines : T → List L) (fixed : T → F) (author : L �
       (let e : ticket < p + 2 ^ 64 = omega arith in e) hit in
       let mine : r.holder p ≡ id = ap r.holder same ∙ stands.2 in
       let nobody : NobodyServed s.views = λ j u there. dite (ℕ_discrete j id)
-      (λ e. subst (λ (x : View L F). IsServed x.stage → ⊥)
+      (λ e. subst (λ (x : SeatView L F). IsServed x.stage → ⊥)
       (some-injective v u (sym at ∙ ap (λ k. get_elem? s.views k) (sym e) ∙ there))
       (waits_unserved v.stage ticket waits))
       (λ ne. other_unserved r.log d p r.holder id j u.stage mine ne (r.each j u there).stands) in
       let h = r.home nobody in
       let x : T = h.0 in
-      let w : View L F = staged (Served ticket (lines x)) v in
+      let w : SeatView L F = staged (Served ticket (lines x)) v in
       let count = in_turn_set s.views id v w at in
       let c : ℕ = in_turn s.views in let c' : ℕ = in_turn (set s.views id w) in
       let one : tickets v.stage ≡ 1 = ap (λ (st : Stage L). tickets st) waits in
@@ -255,7 +257,7 @@ module _ {T L F : Type 0} (lines : T → List L) (fixed : T → F) (author : L �
       own.1 in
       (w, takes 0 (Some x), h.1, kept', ((λ _. (x, refl, so)), λ miss. absurd (miss hit)))
 
-  pub looks : (slots id : ℕ) (m : Me (Option T) (View L F)) (ticket : ℕ) →
+  pub looks : (slots id : ℕ) (m : Me (Option T) (SeatView L F)) (ticket : ℕ) →
       m.0.stage ≡ Waits ticket →
       Allows (λ s. Kept s) slots id m 1 (λ n. n) (LooksAt lines fixed author m.0.stage m)
   looks slots id m ticket waits s r long at _ =
@@ -279,13 +281,14 @@ module _ {T L F : Type 0} (lines : T → List L) (fixed : T → F) (author : L �
   passes_on log log' drawn passed holder i j (Served k found) mine other s =
       absurd (other (sym s.2 ∙ ap holder s.0 ∙ mine))
 
-  pub gives_back : (slots id : ℕ) (v : View L F) (x : T) (ticket : ℕ) (found : List L) → 0 < slots →
+  pub gives_back : (slots id : ℕ) (v : SeatView L F) (x : T) (ticket : ℕ) (found : List L) →
+      0 < slots →
       v.stage ≡ Served ticket found → Some (fixed x) ≡ v.known.fixed →
       Adds author v.known.number found (lines x)
       → Allows (λ s. Kept s) slots id (v, (0, Some x) ∷ []) 1 (λ n. (n + 1) % 2 ^ 64)
       (λ _. GivesBack lines v.stage ((0, Some x) ∷ []) (v, (0, Some x) ∷ []))
   gives_back slots id v x ticket found some_slot served same_fixed adds s r long at _ =
-      let m : Me (Option T) (View L F) = (v, (0, Some x) ∷ []) in
+      let m : Me (Option T) (SeatView L F) = (v, (0, Some x) ∷ []) in
       let d : ℕ = r.drawn in let p : ℕ = r.passed in
       let live : IsLive v.stage = live_if v.stage (Served ticket found) served tt in
       let own = (r.each id v at).knows live in
@@ -297,7 +300,7 @@ module _ {T L F : Type 0} (lines : T → List L) (fixed : T → F) (author : L �
       let all : All (λ line. author line ≡ id) added =
       subst (λ (n : ℕ). All (λ line. author line ≡ n) added) own.0 adds.2 in
       let all_is : lines x ≡ r.log ++ added = adds.1 ∙ ap (λ ls. ls ++ added) stands.3 in
-      let w : View L F = returned found (lines x) v in
+      let w : SeatView L F = returned found (lines x) v in
       let learned : IsSo author kept (r.log ++ added) w.known =
       subst (λ (z : List L × List L). Agrees author kept (r.log ++ added) v.known.number z.0
       (v.known.mine ++ drop (length z.1) z.0) v.known.fixed)
@@ -348,14 +351,14 @@ module _ {T L F : Type 0} (lines : T → List L) (fixed : T → F) (author : L �
       (λ _. GivesBack lines (Served ticket found) ((0, Some x) ∷ []) m)) (sym r.words)
       (w, gives, tt, kept', refl))
 
-  pub gives_back_as : (slots id : ℕ) (m : Me (Option T) (View L F)) (v : View L F) (x : T)
+  pub gives_back_as : (slots id : ℕ) (m : Me (Option T) (SeatView L F)) (v : SeatView L F) (x : T)
       (ticket : ℕ) (found : List L) → m ≡ (v, (0, Some x) ∷ []) → slots ≡ 1 →
       v.stage ≡ Served ticket found → Some (fixed x) ≡ v.known.fixed
       → Adds author v.known.number found (lines x) →
       Allows (λ s. Kept s) slots id m 1 (λ n. (n + 1) % 2 ^ 64)
       (λ _. GivesBack lines m.0.stage m.1 m)
   gives_back_as slots id m v x ticket found is one served same_fixed adds =
-      subst (λ (m' : Me (Option T) (View L F)). Allows (λ s. Kept s) slots id m' 1
+      subst (λ (m' : Me (Option T) (SeatView L F)). Allows (λ s. Kept s) slots id m' 1
       (λ n. (n + 1) % 2 ^ 64) (λ _. GivesBack lines m'.0.stage m'.1 m')) (sym is)
       (gives_back slots id v x ticket found (let e : slots ≡ 1 = one in
       omega arith) served same_fixed adds)

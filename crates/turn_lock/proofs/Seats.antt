@@ -6,8 +6,8 @@ use Rattle.std.specs.Option.{unwrap_or}
 use Rattle.turn_lock.specs.declared.view.Stage.{Stage}
 use Rattle.turn_lock.specs.declared.view.Stage.TheVariants.{Spent, Idle, Waits, Served}
 use Rattle.turn_lock.specs.Seats.{found_of, pass_of, known_of, IsBetweenSteps}
-use Rattle.turn_lock.specs.declared.view.Known.{Known}
-use Rattle.turn_lock.specs.declared.view.View.{View}
+use Rattle.turn_lock.specs.declared.view.PassKnowledge.{PassKnowledge}
+use Rattle.turn_lock.specs.declared.view.SeatView.{SeatView}
 use Rattle.turn_lock.specs.Passes.{TableId, PassValue, newcomer, newcomers}
 use Rattle.turn_lock.specs.Turn.{fresh}
 
@@ -37,7 +37,7 @@ one_more id fixed n m dealt pass same is more =
     ∙ ap (newcomers id fixed) (sym more)
 
 -- the pass of a seat that is new, but for the right to make others
-pub newcomer_is : {L F : Type 0} (id id' : TableId) (v : View L F) (n m : ℕ) (f : Option F)
+pub newcomer_is : {L F : Type 0} (id id' : TableId) (v : SeatView L F) (n m : ℕ) (f : Option F)
     (fixed : F) → id ≡ id' → v ≡ fresh n m f → f ≡ Some fixed → pass_of id v ≡ newcomer id' fixed n
 newcomer_is id id' v n m f fixed same is known = ap (λ i. pass_of i v) same ∙ ap (pass_of id') is
     ∙ ap (λ o. pass_of id' (fresh n m o)) known
@@ -48,7 +48,7 @@ append_between [] y ys = refl
 append_between (x ∷ xs) y ys = ap (λ zs. x ∷ zs) (append_between xs y ys)
 
 -- the first of the passes is the seat that the others are joined to
-pub joined_first : {L F : Type 0} (id : TableId) (v : View L F) (all : List (PassValue L F))
+pub joined_first : {L F : Type 0} (id : TableId) (v : SeatView L F) (all : List (PassValue L F))
     (first : PassValue L F) (others : List (PassValue L F)) → all ≡ first ∷ others →
     pass_of id v ≡ first → v.heard ≡ []
     → map known_of all ≡ v.known ∷ (v.heard ++ map known_of others)
@@ -57,8 +57,9 @@ joined_first id v all first others is same none =
     ∙ ap (λ ks. v.known ∷ (ks ++ map known_of others)) (sym none)
 
 -- one pass more is joined
-pub joined_more : {L F : Type 0} (id : TableId) (known : Known L F) (heard : List (Known L F))
-    (w : View L F) (items : List (PassValue L F)) (next : PassValue L F)
+pub joined_more : {L F : Type 0} (id : TableId) (known : PassKnowledge L F)
+    (heard : List (PassKnowledge L F))
+    (w : SeatView L F) (items : List (PassValue L F)) (next : PassValue L F)
     (others : List (PassValue L F)) → items ≡ next ∷ others → pass_of id w ≡ next
     → w.heard ≡ [] →
     known ∷ (heard ++ map known_of items) ≡ known ∷

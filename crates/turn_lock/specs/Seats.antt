@@ -1,8 +1,8 @@
 -- A pass as its seat.
 use Rattle.std.specs.Prelude.{◌≡◌, ℕ, List, [], ◌∷◌, Option, Some, None}
 use Rattle.atomic_table.specs.Seated.{TableId}
-use Rattle.turn_lock.specs.declared.view.Known.{Known}
-use Rattle.turn_lock.specs.declared.view.View.{View}
+use Rattle.turn_lock.specs.declared.view.PassKnowledge.{PassKnowledge}
+use Rattle.turn_lock.specs.declared.view.SeatView.{SeatView}
 use Rattle.turn_lock.specs.declared.view.Stage.{Stage}
 use Rattle.turn_lock.specs.declared.view.Stage.TheVariants.{Spent, Idle, Waits, Served}
 use Rattle.turn_lock.specs.Passes.{PassValue}
@@ -13,7 +13,7 @@ found_of Idle = None
 found_of (Waits ticket) = None
 found_of (Served ticket found) = Some found
 
-abbrev pub pass_of : {L F : Type 0} → TableId → View L F → PassValue L F
+abbrev pub pass_of : {L F : Type 0} → TableId → SeatView L F → PassValue L F
 pass_of id v = record {
   id = id;
   number = v.known.number;
@@ -31,7 +31,7 @@ IsBetweenSteps (Waits ticket) held = ⊥
 IsBetweenSteps (Served ticket found) held = held ≡ (0, None) ∷ []
 
 -- what the pass knows, as its seat has it
-abbrev pub known_of : {L F : Type 0} → PassValue L F → Known L F
+abbrev pub known_of : {L F : Type 0} → PassValue L F → PassKnowledge L F
 known_of pass = record {
   number = pass.number;
   seen = pass.seen;

@@ -2,36 +2,36 @@
 use Rattle.std.specs.Prelude.{◌≡◌, ◌≢◌, ℕ, ◌+◌, ◌%◌, ◌^◌, List, ◌∷◌, ◌++◌, length, drop, Option}
 use Rattle.std.specs.Prelude.{Some}
 use Rattle.atomic_table.specs.Table.{Me}
-use Rattle.turn_lock.specs.declared.view.View.{View}
+use Rattle.turn_lock.specs.declared.view.SeatView.{SeatView}
 use Rattle.turn_lock.specs.declared.view.Stage.{Stage}
 use Rattle.turn_lock.specs.declared.view.Stage.TheVariants.{Spent, Idle, Waits, Served}
 use Rattle.turn_lock.specs.Turn.{fresh, IsSo}
 
 module _ {L F : Type 0} where
-  abbrev pub staged : Stage L → View L F → View L F
+  abbrev pub staged : Stage L → SeatView L F → SeatView L F
   staged stage v = record v { stage = stage }
 
   -- the view after a turn that found some lines and leaves these
-  abbrev pub returned : List L → List L → View L F → View L F
+  abbrev pub returned : List L → List L → SeatView L F → SeatView L F
   returned found all v = record v {
     stage = Idle;
     known = record v.known { seen = all; mine = v.known.mine ++ drop (length found) all };
   }
 
   -- the right to make the next seat goes on to the new one
-  abbrev pub first_part : View L F → View L F
+  abbrev pub first_part : SeatView L F → SeatView L F
   first_part v = record v { made = 0 }
 
-  abbrev pub next_seat : View L F → View L F
+  abbrev pub next_seat : SeatView L F → SeatView L F
   next_seat v = fresh v.made (v.made + 1) v.known.fixed
 
   -- the view with what the other knew
-  abbrev pub with_other : View L F → View L F → View L F
+  abbrev pub with_other : SeatView L F → SeatView L F → SeatView L F
   with_other v w = record v { made = 0; heard = v.heard ++ w.known ∷ w.heard }
 
 -- a seat with what it holds
 abbrev Seated : Type 0 → Type 0 → Type 0 → Type 0
-Seated T L F = Me (Option T) (View L F)
+Seated T L F = Me (Option T) (SeatView L F)
 
 module _ {T L F : Type 0} where
   -- a ticket was drawn

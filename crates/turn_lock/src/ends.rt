@@ -10,7 +10,7 @@ ghost use Rattle.turn_lock.specs.Turn.{fresh};
 use crate::kept::Kept;
 use crate::pass::Pass;
 use crate::rule::{Cut, Glue};
-use crate::turns::{Place, Turns};
+use crate::turns::{TurnSeat, Turns};
 use crate::view::Start;
 use atomic_table::{Refused, Table};
 use rpq_base::Memory;
@@ -58,7 +58,7 @@ impl<V: Kept> Turns<V> {
     }
 
     // Makes the other passes out of the first one's seat.
-    fn deal(&self, mut seat: Place<V>, dealt: &mut Vec<Pass<V>>)
+    fn deal(&self, mut seat: TurnSeat<V>, dealt: &mut Vec<Pass<V>>)
         requires table { seat.table_id ≡ self.now.id }
         requires first { seat.me ≡ (fresh 0 1 seat.me.0.known.fixed, []) }
         requires empty { dealt.old.items ≡ [] }
@@ -96,7 +96,7 @@ impl<V: Kept> Turns<V> {
     }
 
     // Joins the seats of all passes to one.
-    fn gather(&self, passes: Vec<Pass<V>>) -> Place<V>
+    fn gather(&self, passes: Vec<Pass<V>>) -> TurnSeat<V>
         requires rest { All (IsAtRest self.now) passes.items }
         requires some { 0 < vec_len passes }
         ensures table { result.table_id ≡ self.now.id }

@@ -2,7 +2,7 @@
 ghost use Rattle.std.specs.Prelude.{◌≡◌};
 
 use crate::kept::Kept;
-use crate::view::View;
+use crate::view::SeatView;
 use atomic_table::Seat;
 use std::marker::Model;
 
@@ -14,7 +14,7 @@ use std::marker::Model;
 /// it holds one. A pass that is dropped in its turn blocks all the others for ever.
 #[derive(Drop)]
 pub struct Pass<V: Kept> {
-    pub(crate) seat: Seat<Option<V>, View<V::Line, V::Fixed>>,
+    pub(crate) seat: Seat<Option<V>, SeatView<V::Line, V::Fixed>>,
     pub(crate) number: u32,
 }
 

@@ -7,14 +7,14 @@ ghost use Rattle.turn_lock.specs.Steps.{Lifts};
 use crate::kept::Kept;
 use crate::pass::Pass;
 use crate::rule::{Draw, InTurn, Look, PassOn};
-use crate::view::{Start, View};
+use crate::view::{SeatView, Start};
 use atomic_table::{Seat, Table};
 use std::alloc::Global;
 use std::hint::spin_loop;
 use std::marker::Model;
 use std::sync::Wait;
 
-pub(crate) type Place<V> = Seat<Option<V>, View<<V as Kept>::Line, <V as Kept>::Fixed>>;
+pub(crate) type TurnSeat<V> = Seat<Option<V>, SeatView<<V as Kept>::Line, <V as Kept>::Fixed>>;
 
 // Words of the table: how many tickets were drawn, and how many turns have ended.
 const DRAWN: usize = 0;
@@ -37,7 +37,7 @@ const LOW: u64 = 0xffff_ffff;
 /// order in which they asked. A pass that is dropped in its turn blocks all the others for ever.
 #[derive(Drop)]
 pub struct Turns<V: Kept> {
-    pub(crate) table: Table<Option<V>, View<V::Line, V::Fixed>, Start<V>, InTurn, Global>,
+    pub(crate) table: Table<Option<V>, SeatView<V::Line, V::Fixed>, Start<V>, InTurn, Global>,
     pub(crate) passes: u32,
 }
 
@@ -74,7 +74,7 @@ impl<V: Kept> Turns<V> {
     }
 
     // Waits until the ticket is served, and takes the slot.
-    fn wait<R: Wait>(&self, rt: &R, seat: &mut Place<V>, ticket: u64)
+    fn wait<R: Wait>(&self, rt: &R, seat: &mut TurnSeat<V>, ticket: u64)
         requires table { seat.old.table_id ≡ self.now.id }
         requires ticket { (drawn : _)
             × (drawn % 2 ^ 64 ≡ ticket) × (seat.old.me.0.stage ≡ Waits drawn) }

@@ -1,10 +1,10 @@
-//! What a seat at the table knows. These types are for the proofs alone: no value of a [`View`] or
-//! of its parts is made.
+//! What a seat at the table knows. These types are for the proofs alone: no value of a [`SeatView`]
+//! or of its parts is made.
 use std::collections::LinkedList;
 use std::snapshot::Snapshot;
 
 /// What a pass has seen of the value.
-pub struct Known<L, F> {
+pub struct PassKnowledge<L, F> {
     pub number: u64,
     /// The lines at the end of its last turn.
     pub seen: LinkedList<L>,
@@ -24,13 +24,13 @@ pub enum Stage<L> {
     Served(u64, LinkedList<L>),
 }
 
-pub struct View<L, F> {
+pub struct SeatView<L, F> {
     pub stage: Stage<L>,
     /// How many seats there are, where this one may make the next, and else 0.
     pub made: u64,
-    pub known: Known<L, F>,
+    pub known: PassKnowledge<L, F>,
     /// What the seats knew that were joined to this one.
-    pub heard: LinkedList<Known<L, F>>,
+    pub heard: LinkedList<PassKnowledge<L, F>>,
 }
 
 /// What the rule reads of the start.

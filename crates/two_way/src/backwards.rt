@@ -6,7 +6,7 @@ ghost use Rattle.rpq_base.specs.declared.data.Act.TheVariants.{Tick};
 ghost use Rattle.two_way.specs.Doubled.{inverse_edge, inverse_act, inverse_entry};
 ghost use Rattle.two_way.specs.Doubled.{doubled_by, doubled};
 
-use rpq_base::{Act, Copied, Edge, Entry, Label, Memory, Tuple};
+use rpq_base::{Act, Edge, Entry, Label, Memory, TryClone, Tuple};
 use std::alloc::Global;
 
 /// The edge from the target, by the inverse label, to the source.

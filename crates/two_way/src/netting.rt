@@ -7,7 +7,7 @@ ghost use Rattle.two_way.specs.Differences.{event_cmp};
 ghost use Rattle.two_way.specs.Doubled.{doubled, doubled_by};
 ghost use Rattle.two_way.specs.Net.{opposite, Stays, AreNet, IsNetOf, AreAllNet};
 
-use rpq_base::{Act, Copied, Entry, Event, Memory};
+use rpq_base::{Act, Entry, Event, Memory, TryClone};
 use std::alloc::Global;
 use std::cmp::Ordering;
 

@@ -4,10 +4,10 @@ use Rattle.std.proofs.lemmas.Option.{none-some, same_Some}
 use Rattle.dfa_table.specs.Runs.{walk}
 use Rattle.containment_test.proofs.Loops.{walk_of_goal}
 use Rattle.containment_test.specs.Needed.{needed_at}
-use Rattle.containment_test.specs.declared.needed.Needed.{Needed}
+use Rattle.containment_test.specs.declared.needed.NeededLabel.{NeededLabel}
 use Rattle.containment_test.proofs.front.least_front.Goals as goal
 
-no_needed : (needed : Needed) → None ≡ Some needed → ⊥
+no_needed : (needed : NeededLabel) → None ≡ Some needed → ⊥
 no_needed needed e = cc
 
 pub levels-requires-clause-within : goal.levels-requires-clause-within

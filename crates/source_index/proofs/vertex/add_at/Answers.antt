@@ -1,6 +1,6 @@
 use Rattle.std.proofs.Common.{ap}
 use Rattle.source_index.specs.Roots.{AddsRoot}
-use Rattle.source_index.specs.VertexKept.{many_of}
+use Rattle.source_index.specs.VertexStorage.{many_of}
 use Rattle.source_index.proofs.Keeping.{alone, among}
 use Rattle.source_index.proofs.Places.{on_ok}
 use Rattle.source_index.proofs.vertex.add_at.Goals as goal

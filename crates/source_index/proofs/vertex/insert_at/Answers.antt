@@ -1,7 +1,7 @@
 use Rattle.std.proofs.Common.{◌≡◌, ℕ, List, [], length, sym, ap, subst, ◌∙◌, arith}
 use Rattle.std.specs.Prelude.{insert}
 use Rattle.source_index.specs.Roots.{AddsRoot}
-use Rattle.source_index.specs.VertexKept.{many_of, states_of}
+use Rattle.source_index.specs.VertexStorage.{many_of, states_of}
 use Rattle.source_index.proofs.Keeping.{bare_of, none_of, put_first}
 use Rattle.source_index.proofs.vertex.insert_at.Goals as goal
 

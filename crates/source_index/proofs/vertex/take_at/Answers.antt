@@ -1,6 +1,6 @@
 use Rattle.std.proofs.Common.{ap}
 use Rattle.source_index.specs.Roots.{DropsRoot}
-use Rattle.source_index.specs.VertexKept.{many_of}
+use Rattle.source_index.specs.VertexStorage.{many_of}
 use Rattle.source_index.proofs.Keeping.{alone, among}
 use Rattle.source_index.proofs.vertex.take_at.Goals as goal
 

@@ -1,5 +1,5 @@
 use Rattle.std.proofs.Common.{sym, ap, subst, ◌∙◌}
-use Rattle.source_index.specs.Kept.{roots_of}
+use Rattle.source_index.specs.RootStorage.{roots_of}
 use Rattle.source_index.specs.Roots.{AddsRoot}
 use Rattle.source_index.proofs.Places.{on_ok, adds_root}
 use Rattle.source_index.proofs.roots.Roots.add.Goals as goal

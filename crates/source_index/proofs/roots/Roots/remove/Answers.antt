@@ -1,5 +1,5 @@
 use Rattle.std.proofs.Common.{◌≡◌, rules, sym, ap, subst, ◌∙◌}
-use Rattle.source_index.specs.Kept.{roots_of}
+use Rattle.source_index.specs.RootStorage.{roots_of}
 use Rattle.source_index.specs.Roots.{DropsRoot}
 use Rattle.source_index.proofs.Places.{drops_root}
 use Rattle.source_index.proofs.roots.Roots.remove.Goals as goal

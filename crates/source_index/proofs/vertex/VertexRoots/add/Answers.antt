@@ -1,6 +1,6 @@
 use Rattle.std.proofs.Common.{OnOk, subst}
 use Rattle.source_index.specs.Vertex.{AddsAt, RootsByState}
-use Rattle.source_index.specs.VertexKept.{states_of}
+use Rattle.source_index.specs.VertexStorage.{states_of}
 use Rattle.source_index.proofs.Keeping.{adds_found, adds_free, belongs, by_state, stands, step_found, step_free}
 use Rattle.source_index.proofs.vertex.VertexRoots.add.Goals as goal
 

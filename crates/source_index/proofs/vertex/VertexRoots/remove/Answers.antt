@@ -1,6 +1,6 @@
 use Rattle.std.proofs.Common.{ℕ, List, sym, subst, ◌∙◌, true≢false}
 use Rattle.source_index.specs.Vertex.{DropsAt, IsFree, RootsByState}
-use Rattle.source_index.specs.VertexKept.{states_of}
+use Rattle.source_index.specs.VertexStorage.{states_of}
 use Rattle.source_index.proofs.Beside.{drops_none_at}
 use Rattle.source_index.proofs.Keeping.{by_state, drops_found, drops_last, reads_none, stands, step_last, step_left}
 use Rattle.source_index.proofs.vertex.VertexRoots.remove.Goals as goal

@@ -1,6 +1,6 @@
 use Rattle.std.proofs.Common.{◌≢◌, ℕ, List, [], subst, sym, Contains}
 use Rattle.source_index.specs.Vertex.{RootsByState, roots_in}
-use Rattle.source_index.specs.VertexKept.{many_of, states_of}
+use Rattle.source_index.specs.VertexStorage.{many_of, states_of}
 use Rattle.source_index.proofs.Beside.{has_roots}
 use Rattle.source_index.proofs.vertex.VertexRoots.states.Goals as goal
 

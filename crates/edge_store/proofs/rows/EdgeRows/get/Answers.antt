@@ -1,7 +1,7 @@
 use Rattle.std.proofs.Common.{None, Some, sym}
 use Rattle.std.specs.List.{IsDistinct}
 use Rattle.edge_store.proofs.RowChanges.{place_is, row_there, row_none}
-use Rattle.edge_store.proofs.rows.Rows.get.Goals as goal
+use Rattle.edge_store.proofs.rows.EdgeRows.get.Goals as goal
 
 pub returns-in-Some-clause-row : goal.returns-in-Some-clause-row
 returns-in-Some-clause-row c =

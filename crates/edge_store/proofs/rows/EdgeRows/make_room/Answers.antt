@@ -2,7 +2,7 @@ use Rattle.std.proofs.Common.{ap, ◌∙◌}
 use Rattle.edge_store.specs.Edges.{row}
 use Rattle.edge_store.specs.Rows.{rows_of}
 use Rattle.edge_store.proofs.RowChanges.{row_same}
-use Rattle.edge_store.proofs.rows.Rows.make_room.Goals as goal
+use Rattle.edge_store.proofs.rows.EdgeRows.make_room.Goals as goal
 
 pub returns-in_err-reserve-clause-same : goal.returns-in_err-reserve-clause-same
 returns-in_err-reserve-clause-same c vertex =

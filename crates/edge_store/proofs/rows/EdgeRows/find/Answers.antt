@@ -2,7 +2,7 @@ use Rattle.std.proofs.Common.{None, Some, sym, ap, ◌∙◌}
 use Rattle.std.specs.Map.{lookup}
 use Rattle.edge_store.specs.Edges.{same_half}
 use Rattle.edge_store.proofs.RowChanges.{place_is, row_there, row_none}
-use Rattle.edge_store.proofs.rows.Rows.find.Goals as goal
+use Rattle.edge_store.proofs.rows.EdgeRows.find.Goals as goal
 
 pub returns-in-Some : goal.returns-in-Some
 returns-in-Some c =

@@ -1,7 +1,7 @@
 use Rattle.std.proofs.Common.{None}
 use Rattle.edge_store.specs.Rows.{rows_of}
 use Rattle.edge_store.proofs.RowChanges.{writes_same}
-use Rattle.edge_store.proofs.rows.Rows.take.Goals as goal
+use Rattle.edge_store.proofs.rows.EdgeRows.take.Goals as goal
 
 pub returns-clause-rest : goal.returns-clause-rest
 returns-clause-rest c =

@@ -1,7 +1,7 @@
 use Rattle.std.proofs.Common.{Some, slice_set, subst}
 use Rattle.edge_store.specs.Rows.{rows_of, side, Writes}
 use Rattle.edge_store.proofs.RowChanges.{place_is, writes}
-use Rattle.edge_store.proofs.rows.Rows.put.Goals as goal
+use Rattle.edge_store.proofs.rows.EdgeRows.put.Goals as goal
 
 pub returns : goal.returns
 returns c =

@@ -6,7 +6,7 @@ use Rattle.edge_store.specs.declared.edge.HalfEdge.{HalfEdge}
 use Rattle.edge_store.specs.Edges.{same_half}
 use Rattle.edge_store.proofs.RowEntries.{either, lookup_both}
 use Rattle.edge_store.proofs.RowPlaces.{place_value, place_none}
-use Rattle.edge_store.proofs.row.Row.get.Goals as goal
+use Rattle.edge_store.proofs.row.EdgeRow.get.Goals as goal
 
 pub returns-in-Some : goal.returns-in-Some
 returns-in-Some c =

@@ -8,8 +8,8 @@ use Rattle.edge_store.specs.Row.{room_of, Takes}
 use Rattle.edge_store.proofs.Bounds.{below_put}
 use Rattle.edge_store.proofs.RowEntries.{few_changed, more_changed, pushed}
 use Rattle.edge_store.proofs.RowPlaces.{place_none, set_half, set_half_distinct, push_distinct, insert_distinct, few_room, new_room, map_takes, none_from_test}
-use Rattle.edge_store.proofs.row.Row.put.Goals as goal
-use Rattle.edge_store.proofs.row.Row.put.Goals.{In-Some, else-len-lt-FEW-via-then-len-lt-FEW+else-not-contains, else-len-lt-FEW-via-else-len-lt-FEW}
+use Rattle.edge_store.proofs.row.EdgeRow.put.Goals as goal
+use Rattle.edge_store.proofs.row.EdgeRow.put.Goals.{In-Some, else-len-lt-FEW-via-then-len-lt-FEW+else-not-contains, else-len-lt-FEW-via-else-len-lt-FEW}
 
 -- the edge is found in the list
 found : (c : In-Some) →

@@ -2,7 +2,7 @@ use Rattle.std.proofs.Common.{◌+◌, length, length-append, refl, ap, subst, a
 use Rattle.edge_store.specs.Edges.{AreAtMostWithin}
 use Rattle.edge_store.specs.Row.{RowValue}
 use Rattle.edge_store.proofs.BlockBounds.{at_most_behind}
-use Rattle.edge_store.proofs.row.Row.next_above.Goals as goal
+use Rattle.edge_store.proofs.row.EdgeRow.next_above.Goals as goal
 
 pub overflow_add-result : goal.overflow_add-result
 overflow_add-result c =

@@ -7,7 +7,7 @@ use Rattle.edge_store.specs.Edges.{same_half}
 use Rattle.edge_store.proofs.Bounds.{below_taken}
 use Rattle.edge_store.proofs.RowEntries.{either, lookup_both, more_changed}
 use Rattle.edge_store.proofs.RowPlaces.{place_key, place_value, place_none, take_few, take_few_distinct, take_more_distinct}
-use Rattle.edge_store.proofs.row.Row.take_out.Goals as goal
+use Rattle.edge_store.proofs.row.EdgeRow.take_out.Goals as goal
 
 pub invariant_of-self : goal.invariant_of-self
 invariant_of-self c =

@@ -3,7 +3,7 @@ use Rattle.std.specs.Map.{lookup}
 use Rattle.edge_store.specs.Edges.{same_half}
 use Rattle.edge_store.specs.Rows.{rows_of, side, Writes}
 use Rattle.edge_store.proofs.RowChanges.{place_is, row_there, row_none, writes, writes_none}
-use Rattle.edge_store.proofs.rows.Rows.take_out.Goals as goal
+use Rattle.edge_store.proofs.rows.EdgeRows.take_out.Goals as goal
 
 pub returns-in-Some-clause-value : goal.returns-in-Some-clause-value
 returns-in-Some-clause-value c =

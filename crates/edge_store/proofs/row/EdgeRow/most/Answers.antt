@@ -2,7 +2,7 @@ use Rattle.std.proofs.Common.{subst}
 use Rattle.edge_store.specs.Edges.{AreAtMost}
 use Rattle.edge_store.specs.Row.{RowValue}
 use Rattle.edge_store.proofs.Bounds.{at_most}
-use Rattle.edge_store.proofs.row.Row.most.Goals as goal
+use Rattle.edge_store.proofs.row.EdgeRow.most.Goals as goal
 
 pub returns : goal.returns
 returns c =

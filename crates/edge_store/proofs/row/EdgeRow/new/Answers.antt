@@ -3,7 +3,7 @@ use Rattle.std.specs.List.{IsDistinct}
 use Rattle.std.specs.Map.{keys_of}
 use Rattle.edge_store.specs.Edges.{same_half}
 use Rattle.edge_store.proofs.Bounds.{below_none}
-use Rattle.edge_store.proofs.row.Row.new.Goals as goal
+use Rattle.edge_store.proofs.row.EdgeRow.new.Goals as goal
 
 -- both parts are empty
 none : (c : goal.After-new-2) → c.new.result.items ++ c.new-2.result.entries ≡ []
