@@ -14,3 +14,4 @@ pub mod Changed
 pub mod Overlaps
 pub mod State
 pub mod Leading
+pub mod FaultTexts

@@ -2,13 +2,14 @@
 
 ghost use Rattle.std.specs.Prelude.{◌≡◌, ◌≤◌, ◌<◌, ◌↔◌, true, false, Err, length, [], All, IfOk};
 ghost use Rattle.std.specs.Prelude.{OnOk, OnErr};
-ghost use Rattle.join_bindings.specs.declared.joins.ApplyFault.{ApplyFault};
+ghost use Rattle.join_bindings.specs.declared.fault.ApplyFault.{ApplyFault};
 ghost use Rattle.join_bindings.specs.Events.{AreJoinEvents};
 ghost use Rattle.join_file.specs.Sound.{IsSound};
 ghost use Rattle.join_bindings.specs.State.{family, ArePut, MayCome};
 
 use crate::change::change;
 use crate::event::{JoinEvent, put_in_order};
+use crate::fault::ApplyFault;
 use crate::found::add_found;
 use crate::query_pairs::QueryPairs;
 use join_file::JoinDef;
@@ -17,23 +18,6 @@ use std::alloc::Global;
 use std::marker::Model;
 use std::random::RandomSource;
 use std::sync::Arc;
-
-/// Why events aren't taken.
-#[derive(Clone, Copy, Debug, PartialEq, Eq)]
-pub enum ApplyFault {
-    /// Memory ran out. The joins are spent then.
-    Memory(Memory),
-    /// Memory ran out before.
-    Spent,
-}
-
-impl From<Memory> for ApplyFault {
-    ghost from_gives = { λ memory fault. fault ≡ ApplyFault.Memory memory };
-
-    fn from(memory: Memory) -> Self {
-        Self::Memory(memory)
-    }
-}
 
 /// Joins over the pairs of queries.
 pub struct Joins {

@@ -28,6 +28,7 @@ mod change;
 mod columns;
 mod event;
 mod extension;
+mod fault;
 mod found;
 mod joins;
 mod laws;
@@ -45,7 +46,8 @@ mod vertex_set;
 
 pub use binding::Binding;
 pub use event::JoinEvent;
-pub use joins::{ApplyFault, Joins};
+pub use fault::ApplyFault;
+pub use joins::Joins;
 pub use laws::{
     accepted_queries_have_join_events, binding_examples, bindings_hold, changes_are_touched,
     events_lead_on, joins_hold_bindings, text_examples, through_is_touched,

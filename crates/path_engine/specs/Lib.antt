@@ -8,3 +8,4 @@ pub mod Front
 pub mod Parts
 pub mod Sound
 pub mod Showing
+pub mod FaultTexts

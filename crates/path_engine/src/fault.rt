@@ -1,9 +1,12 @@
 //! Why an entry isn't answered.
 
-ghost use Rattle.std.specs.Prelude.{◌≡◌};
+ghost use Rattle.std.specs.Prelude.{◌≡◌, Some};
 ghost use Rattle.path_engine.specs.declared.fault.FeedFault.{FeedFault};
+ghost use Rattle.path_engine.specs.FaultTexts.{feed_fault_text};
 
 use rpq_base::Memory;
+use std::error::Error;
+use std::fmt;
 
 /// Why an entry isn't answered.
 #[derive(Clone, Copy, Debug, PartialEq, Eq)]
@@ -21,3 +24,16 @@ impl From<Memory> for FeedFault {
         Self::Memory(memory)
     }
 }
+
+impl fmt::Display for FeedFault {
+    ghost output = { λ fault. Some (feed_fault_text fault) };
+
+    fn fmt<W: fmt::Write>(&self, f: &mut fmt::Formatter<W>) -> fmt::Result {
+        match self {
+            Self::Memory(_) => f.write_str("out of memory"),
+            Self::Spent => f.write_str("the engine is spent since memory ran out"),
+        }
+    }
+}
+
+impl Error for FeedFault {}

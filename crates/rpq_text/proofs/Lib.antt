@@ -2,6 +2,7 @@ mod Pieces
 mod EventLines
 mod FaultExamples
 mod StatusExamples
+mod StartLines
 mod Orders
 mod VerdictExample
 pub mod Texts

@@ -5,6 +5,7 @@ pub mod Definitions
 pub mod WordTexts
 pub mod Statuses
 pub mod ErrorLines
+pub mod FaultTexts
 pub mod Laws
 pub mod Examples
 pub mod FaultExamples

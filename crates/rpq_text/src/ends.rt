@@ -1,12 +1,16 @@
 //! How a run can end: why it doesn't begin, and which sink fails.
 
-ghost use Rattle.std.specs.Prelude.{◌≡◌};
+ghost use Rattle.std.specs.Prelude.{◌≡◌, Some};
+ghost use Rattle.rpq_text.specs.ErrorLines.{file_text};
+ghost use Rattle.rpq_text.specs.FaultTexts.{start_fault_text};
 ghost use Rattle.rpq_text.specs.Statuses.{status_of_start, status_of_sink};
 
 use crate::status;
 use ask_text::AskFault;
 use join_file::JoinFileFault;
 use query_file::QueryFault;
+use std::error::Error;
+use std::fmt;
 
 /// One of the files that a run opens: the replies and the saved window to be written, and the others
 /// to be read. Streams are numbered from 1.
@@ -22,6 +26,22 @@ pub enum Which {
     Replies,
     /// The window that this run saves.
     Save,
+}
+
+impl fmt::Display for Which {
+    ghost output = { λ which. Some (file_text which) };
+
+    fn fmt<W: fmt::Write>(&self, f: &mut fmt::Formatter<W>) -> fmt::Result {
+        match self {
+            Which::Queries => f.write_str("queries"),
+            Which::Joins => f.write_str("joins"),
+            Which::Asks => f.write_str("asks"),
+            Which::From => f.write_str("from"),
+            Which::Stream(number) => write!(f, "stream {number}"),
+            Which::Replies => f.write_str("replies"),
+            Which::Save => f.write_str("save"),
+        }
+    }
 }
 
 /// One of the sinks on which a run writes what it finds.
@@ -44,6 +64,10 @@ impl SinkName {
 }
 
 /// Why a run didn't begin.
+///
+/// As a text it is what the line on the errors says behind `rpq: `; behind the line for refused
+/// words another says how the command is used. To tell a [`QueryFault`] as text may be an error, as
+/// its kind says.
 #[derive(Debug, Drop)]
 pub enum StartFault {
     /// The words of the command line have no settings.
@@ -81,3 +105,24 @@ impl StartFault {
         }
     }
 }
+
+impl fmt::Display for StartFault {
+    ghost output = { λ fault. Some (start_fault_text fault) };
+
+    fn fmt<W: fmt::Write>(&self, f: &mut fmt::Formatter<W>) -> fmt::Result {
+        match self {
+            StartFault::Words => f.write_str("words"),
+            StartFault::Queries(fault) => write!(f, "queries {fault}"),
+            StartFault::Joins(fault) => write!(f, "joins {fault}"),
+            StartFault::Asks(fault) => write!(f, "asks {fault}"),
+            StartFault::Open(which @ (Which::Replies | Which::Save)) => {
+                write!(f, "write failed: {which}")
+            }
+            StartFault::Open(which) | StartFault::Read(which) => write!(f, "read failed: {which}"),
+            StartFault::Long(which) => write!(f, "{which}: too long"),
+            StartFault::Memory => f.write_str("memory"),
+        }
+    }
+}
+
+impl Error for StartFault {}

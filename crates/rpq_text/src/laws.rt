@@ -5,6 +5,7 @@ ghost use Rattle.rpq_text.specs.Examples.{LineExamples};
 ghost use Rattle.rpq_text.specs.FaultExamples.{QueryFaultExamples, ExpressionFaultExamples};
 ghost use Rattle.rpq_text.specs.FaultExamples.{JoinsFaultExamples, AskFaultExamples};
 ghost use Rattle.rpq_text.specs.FaultExamples.{LineFaultExamples};
+ghost use Rattle.rpq_text.specs.FaultTexts.{StartLinesTellFaults};
 ghost use Rattle.rpq_text.specs.Laws.{EveryHistoryHasAText, OneVerdictText, WithoutPathsOneText};
 ghost use Rattle.rpq_text.specs.Laws.{LimitsAreThese};
 ghost use Rattle.rpq_text.specs.Orders.{ChangesAreInOrder, LatestIsFound, LeastAreShortest};
@@ -53,6 +54,11 @@ pub fn fault_line_examples()
     ensures joins { JoinsFaultExamples }
     ensures asks { AskFaultExamples }
     ensures streams { LineFaultExamples }
+{}
+
+/// The line of a run that doesn't begin is the text of its fault behind `rpq: `.
+pub fn start_lines_tell_faults()
+    ensures { StartLinesTellFaults }
 {}
 
 /// The lines of runs that don't begin and of streams by their ends, and in which order those of a

@@ -23,6 +23,6 @@ pub use error_lines::{
 pub use laws::{
     changes_are_in_order, error_line_examples, every_history_has_a_text, fault_line_examples,
     latest_is_found, least_are_shortest, limits_are_these, line_examples, one_verdict_text,
-    status_examples, verdict_example, without_paths_one_text,
+    start_lines_tell_faults, status_examples, verdict_example, without_paths_one_text,
 };
 pub use verdict_lines::verdict_front;
