@@ -12,6 +12,7 @@ pub mod KeptTrees
 pub mod Logs
 pub mod Indexed
 pub mod Unchanged
+mod Reasons
 pub mod Holding
 pub mod Chains
 pub mod Gathering

@@ -5,6 +5,7 @@
 //! ([`Forest::kept`]), and by which path ([`Forest::path`]). The contract for the layer above: what
 //! is kept is the best, for every number of workers ([`kept_is_best`]); what a change doesn't touch
 //! keeps its place and its stamp; and the list of the ends that come or go with a change is exact.
+//! A tree is reported as touched for a reason alone ([`touched_for_a_reason`]).
 //! A change costs what it touches: a raise goes to the trees that have a node where the edge
 //! leaves, a removal to those that have one where it leaves or where it ends, whichever are fewer,
 //! and an expiry to those with a node whose time has come. Source: the Delta index of Pacaci,
@@ -22,5 +23,5 @@ mod settling;
 mod steps;
 
 pub use forest::Forest;
-pub use laws::{each_has_an_end, ends_are_one, kept_is_best};
+pub use laws::{each_has_an_end, ends_are_one, kept_is_best, touched_for_a_reason};
 pub use source_tree::{Change, EndChange, Outcome, Reached};

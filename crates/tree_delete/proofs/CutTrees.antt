@@ -8,7 +8,7 @@ use Rattle.std.proofs.lemmas.List.Elements.{Contains-get_or, All-from_recursion,
 use Rattle.std.proofs.lemmas.List.Sorted.{IsPermutation-remove, Contains-permutation, sum_by-IsPermutation}
 use Rattle.std.proofs.lemmas.List.Sums.{sum_by-cons}
 use Rattle.edge_store.specs.declared.edge.EdgeId.{EdgeId}
-use Rattle.edge_store.specs.Edges.{Edges, outs_of, same_edge}
+use Rattle.edge_store.specs.Edges.{Edges, ins_of, outs_of, same_edge}
 use Rattle.edge_store.specs.Edges as store
 use Rattle.delta_tree.specs.declared.node.NodeId.{NodeId}
 use Rattle.delta_tree.specs.declared.node.Try.{Try}
@@ -26,7 +26,9 @@ use Rattle.tree_insert.proofs.SameEdges.{edge_cases}
 use Rattle.tree_insert.proofs.Paths.{path_there, supported_of_ways}
 use Rattle.tree_insert.proofs.Optimal.{optimal_of_served, reached_of_optimal}
 use Rattle.tree_delete.specs.Entries.{HasEntries, count_ins}
-use Rattle.tree_delete.specs.Laws.{NoCutNoStep, RemovalElsewhereKeepsOptimal, RemovalsAreRemovals}
+use Rattle.tree_delete.specs.Laws.{FewEdgesFewSteps, HasFewEdges, NoCutNoStep}
+use Rattle.tree_delete.specs.Laws.{RemovalElsewhereKeepsOptimal, RemovalsAreRemovals}
+use Rattle.tree_delete.specs.Laws.{StepsAreWithinCut}
 use Rattle.tree_delete.specs.Removal.{CountsCut, CountsFound, IsRemoved, KeepsApart}
 
 -- ---- lists of places
@@ -369,3 +371,51 @@ no_cut_no_step store old edge start steps counts none = by counts.nodes counts.b
         steps ≤ start
     by [] below few = omega (arith, few)
     by (id ∷ nodes) below few = absurd (none id (All-head (IsBelow old edge) id nodes below))
+
+-- distinct members are at most as many as all
+few_within : (some all : List NodeId) → AllPairs ◌≢◌ some → All (Contains all) some →
+    length some ≤ length all
+few_within some all apart there =
+    let ones = sum_within (λ (id : NodeId). 1) some all apart there in
+    omega (arith, ones, sum_of_ones some, sum_of_ones all)
+  where
+    sum_of_ones : (ids : List NodeId) → sum_by (λ (id : NodeId). 1) ids ≡ length ids
+    sum_of_ones [] = refl
+    sum_of_ones (id ∷ ids) =
+        omega (arith, sum_by-cons (λ (one : NodeId). 1) id ids, sum_of_ones ids)
+
+pub steps_are_within_cut : StepsAreWithinCut
+steps_are_within_cut store old edge start steps cut counts all =
+    let there : All (Contains cut) counts.nodes =
+    All-weaker (IsBelow old edge) (Contains cut) all counts.nodes counts.below in
+    omega (
+      arith,
+      counts.few,
+      few_within counts.nodes cut counts.apart there,
+      sum_within (λ (id : NodeId). length (ins_of store id.vertex)) counts.nodes cut counts.apart
+          there,
+      sum_within (λ (id : NodeId). length (outs_of store id.vertex)) counts.nodes cut counts.apart
+          there,
+    )
+
+-- a sum over places of which each has at most this number
+sum_at_most : (f : NodeId → ℕ) (most : ℕ) (ids : List NodeId) → All (λ id. f id ≤ most) ids →
+    sum_by f ids ≤ length ids * most
+sum_at_most f most [] each = omega arith
+sum_at_most f most (id ∷ ids) each = omega (
+  arith,
+  sum_by-cons f id ids,
+  All-head (λ (one : NodeId). f one ≤ most) id ids each,
+  sum_at_most f most ids (All-tail (λ (one : NodeId). f one ≤ most) id ids each),
+)
+
+pub few_edges_few_steps : FewEdgesFewSteps
+few_edges_few_steps store old edge start steps ins outs cut counts all few =
+    let ins_few = sum_at_most (λ (id : NodeId). length (ins_of store id.vertex)) ins cut
+    (All-weaker (HasFewEdges store ins outs)
+    (λ (id : NodeId). length (ins_of store id.vertex) ≤ ins) (λ id both. both.0) cut few) in
+    let outs_few = sum_at_most (λ (id : NodeId). length (outs_of store id.vertex)) outs cut
+    (All-weaker (HasFewEdges store ins outs)
+    (λ (id : NodeId). length (outs_of store id.vertex) ≤ outs) (λ id both. both.1) cut few) in
+    let within = steps_are_within_cut store old edge start steps cut counts all in
+    omega (arith, ins_few, outs_few, within)

@@ -8,7 +8,7 @@
 //! of the tree where these are fewer, and a search from these puts back what other paths reach. So a
 //! removal costs what it cuts, however many other nodes there are: at most a step for each node that
 //! is cut and for each edge that ends at it, two for each edge that leaves it, and none where the
-//! edge stood on no path. [`tree_remove_with`] reports
+//! edge stood on no path ([`steps_are_within_cut`], [`no_cut_no_step`]). [`tree_remove_with`] reports
 //! the places of the nodes that were cut, with their values before and after, and no call is needed
 //! where no node hangs by the edge ([`removal_elsewhere_keeps_optimal`]).
 #![tactic(auto)]
@@ -21,4 +21,6 @@ mod from_nodes;
 mod laws;
 
 pub use calls::{tree_remove, tree_remove_with};
-pub use laws::{no_cut_no_step, removal_elsewhere_keeps_optimal, removals_are_removals};
+pub use laws::{
+    no_cut_no_step, removal_elsewhere_keeps_optimal, removals_are_removals, steps_are_within_cut,
+};
