@@ -1,5 +1,5 @@
 -- What is saved of a history stands in its place.
-use Rattle.std.proofs.Common.{◌≡◌, ℕ, ◌+◌, ◌<◌, Bool, true, false, List, [], ◌∷◌, ◌++◌, Some, refl, sym, ap, subst, ◌∙◌, ◌⊎◌, inl, inr, ⊎_elim}
+use Rattle.std.proofs.Common.{◌≡◌, ℕ, ◌<◌, Bool, true, false, List, [], ◌∷◌, ◌++◌, Some, sym, ap, subst, ◌∙◌, ◌⊎◌, inl, inr, ⊎_elim}
 use Rattle.std.specs.Prelude.{Contains, slice_get, if◌then◌else◌}
 use Rattle.std.proofs.lemmas.Option.{slice_get_within, get_or_from_slice_get, slice_get-get_or}
 use Rattle.std.proofs.lemmas.List.Elements.{All-contains, Contains-append_left, Contains-append_cases}
@@ -10,21 +10,20 @@ use Rattle.rpq_base.specs.declared.data.Edge.{Edge}
 use Rattle.rpq_base.specs.declared.data.Act.{Act}
 use Rattle.rpq_base.specs.declared.data.Act.TheVariants.{Delete, Tick}
 use Rattle.rpq_base.specs.declared.data.Entry.{Entry}
-use Rattle.rpq_base.specs.declared.data.Pair.{Pair}
-use Rattle.rpq_base.specs.declared.data.Event.{Event}
 use Rattle.rpq_model.specs.Window.{WindowValue, Placed, Inserts, clock, edges_at}
 use Rattle.rpq_model.specs.WindowLaws.{is_tuple_seen, OneEntryMore}
-use Rattle.rpq_model.specs.Query.{Query, path_query}
-use Rattle.rpq_model.specs.Answers.{AreAnswers}
-use Rattle.rpq_model.specs.QueryEvents.{AreEventsUnder}
+use Rattle.rpq_model.specs.Query.{Query}
 use Rattle.rpq_model.proofs.LiveEdges.{one_inserted, inserts_no_delete, inserts_no_tick}
 use Rattle.rpq_model.proofs.Places.{to_place, from_place, live_by_places, later_sees_less}
 use Rattle.rpq_model.proofs.OneMore.{one_entry_more}
+use Rattle.alike_histories.specs.Alike.{SeeAlike, AllSeeAlike}
+use Rattle.alike_histories.proofs.Alike.{alike_with_more}
+use Rattle.alike_histories.proofs.Outcomes.{alike_have_answers, alike_have_ends, alike_have_events}
+use Rattle.saved_window.specs.Alike.{SavedKeepsTheStore}
 use Rattle.saved_window.specs.Saved.{kept_tuples, clock_tick, has_time, saved, first_stream}
 use Rattle.saved_window.specs.Continues.{SavedContinues}
 use Rattle.saved_window.proofs.Clocks.{clock_saved}
 use Rattle.saved_window.proofs.Kept.{map_members, mapped_member, kept_is_live, live_is_kept}
-use Rattle.saved_window.proofs.SameEdges.{SeeAlike, all_more_alike, answers_alike, ends_alike, turned, one_more_alike}
 
 -- ---- members of what is saved
 
@@ -150,58 +149,17 @@ alike_saved same history queries query some among = record {
           seen = seen;
         })
 
+pub saved_keeps_the_store : SameIsEqual → SavedKeepsTheStore
+saved_keeps_the_store same queries slides history query among =
+    alike_saved same history queries query (All-contains (λ (each : Query). 0 < each.window.slide) queries query slides among) among
+
 -- ---- the same answers, ends and events
-
-answers_are_alike : (query : Query) (history other : List Entry) (pairs : List Pair) → SeeAlike query.window history other →
-    AreAnswers (path_query query) history pairs → AreAnswers (path_query query) other pairs
-answers_are_alike query history other pairs alike are = record {
-  sorted = are.sorted;
-  exact = λ pair.
-      let both = answers_alike (path_query query) history other alike pair in (
-        (λ member. both.0 ((are.exact pair).0 member)),
-        (λ answer. (are.exact pair).1 (both.1 answer)),
-      );
-}
-
-events_alike : (queries : List Query) (number : ℕ) (before after other_before other_after : List Entry) (events : List Event) →
-    ((query : Query) → Contains queries query → SeeAlike query.window before other_before × SeeAlike query.window after other_after) →
-    AreEventsUnder number queries before after events → AreEventsUnder number queries other_before other_after events
-events_alike [] number before after other_before other_after events alike are = are
-events_alike (query ∷ queries) number before after other_before other_after events alike are =
-    let own = are.2 in
-    let both = alike query ((cons_members query queries query).1 (inl refl)) in (
-      are.0,
-      are.1,
-      (
-        own.0,
-        own.1,
-        answers_are_alike query before other_before own.0 both.0 own.2,
-        answers_are_alike query after other_after own.1 both.1 own.3,
-        own.4,
-      ),
-      events_alike queries (number + 1) before after other_before other_after are.1
-          (λ each among. alike each ((cons_members query queries each).1 (inr among))) are.3,
-      are.4,
-    )
 
 pub saved_continues : SameIsEqual → SavedContinues
 saved_continues same queries slides history = record {
-  answers = λ query among later pair. answers_alike (path_query query) (history ++ later) (others ++ later) (alike query among later) pair;
-  ends = λ query among later pair until. (
-    ends_alike more (path_query query) (history ++ later) (others ++ later) (alike query among later) pair until,
-    ends_alike more (path_query query) (others ++ later) (history ++ later)
-        (turned query.window (history ++ later) (others ++ later) (alike query among later)) pair until,
-  );
-  events = λ later entry events. (
-    events_alike queries 0 (history ++ later) ((history ++ later) ++ entry ∷ []) (others ++ later) ((others ++ later) ++ entry ∷ []) events
-        (λ query among.
-        let is = alike query among later in
-        (is, one_more_alike more query.window (history ++ later) (others ++ later) entry is)),
-    events_alike queries 0 (others ++ later) ((others ++ later) ++ entry ∷ []) (history ++ later) ((history ++ later) ++ entry ∷ []) events
-        (λ query among.
-        let is = turned query.window (history ++ later) (others ++ later) (alike query among later) in
-        (is, one_more_alike more query.window (others ++ later) (history ++ later) entry is)),
-  );
+  answers = λ query among later pair. alike_have_answers query (history ++ later) (others ++ later) (alike later query among) pair;
+  ends = λ query among later pair until. alike_have_ends more query (history ++ later) (others ++ later) (alike later query among) pair until;
+  events = λ later entry events. alike_have_events more queries (history ++ later) (others ++ later) (alike later) entry events;
 }
   where
     others : List Entry
@@ -210,7 +168,5 @@ saved_continues same queries slides history = record {
     more : OneEntryMore
     more = one_entry_more same
 
-    alike : (query : Query) → Contains queries query → (later : List Entry) → SeeAlike query.window (history ++ later) (others ++ later)
-    alike query among later =
-        all_more_alike more later query.window history others
-        (alike_saved same history queries query (All-contains (λ (each : Query). 0 < each.window.slide) queries query slides among) among)
+    alike : (later : List Entry) → AllSeeAlike queries (history ++ later) (others ++ later)
+    alike later = alike_with_more more queries history others later (saved_keeps_the_store same queries slides history)

@@ -12,4 +12,6 @@ saved_example query is = record {
   no_query = refl;
   no_tick = rw is refl;
   no_entry = refl;
+  more = rw is refl;
+  saved_more = rw is refl;
 }

@@ -3,7 +3,7 @@ mod Continues
 mod Example
 mod Few
 mod Kept
-mod Plain
+mod More
+pub mod Plain
 mod Reaching
-mod SameEdges
 mod Texts

@@ -7,7 +7,7 @@ use Rattle.rpq_base.specs.TupleValue.{TupleValue}
 use Rattle.rpq_base.specs.declared.data.Entry.{Entry}
 use Rattle.rpq_model.specs.Window.{clock}
 use Rattle.rpq_model.specs.Query.{Query}
-use Rattle.saved_window.specs.Saved.{is_kept, kept_tuples, clock_tick, has_time, saved}
+use Rattle.saved_window.specs.Saved.{is_kept, kept_tuples, clock_tick, has_time, saved, first_stream}
 
 chosen_plain : (test : Bool) (tuple : TupleValue) (kept : List TupleValue) → IsPlainTuple tuple → All IsPlainTuple kept →
     All IsPlainTuple (if test then tuple ∷ kept else kept)
@@ -32,3 +32,13 @@ saved_plain (entry ∷ later) queries plain =
     let now = clock (entry ∷ later) in
     let kept = kept_tuples queries now (entry ∷ later) in
     with_clock_plain (has_time now kept) now kept (kept_plain (entry ∷ later) queries now plain)
+
+-- and so are the entries of the first stream with it
+first_stream_plain : (tuples : List TupleValue) → All IsPlainTuple tuples → All IsPlain (first_stream tuples)
+first_stream_plain [] plain = All-nil IsPlain
+first_stream_plain (tuple ∷ tuples) plain =
+    All-cons IsPlain (record { stream = 1; tuple = tuple }) (first_stream tuples) (All-head IsPlainTuple tuple tuples plain)
+    (first_stream_plain tuples (All-tail IsPlainTuple tuple tuples plain))
+
+pub saved_entries_plain : (history : List Entry) (queries : List Query) → All IsPlain history → All IsPlain (first_stream (saved queries history))
+saved_entries_plain history queries plain = first_stream_plain (saved queries history) (saved_plain history queries plain)

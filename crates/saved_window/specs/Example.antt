@@ -7,7 +7,7 @@ use Rattle.rpq_base.specs.declared.data.Act.{Act}
 use Rattle.rpq_base.specs.declared.data.Act.TheVariants.{Insert, Delete, Tick}
 use Rattle.rpq_base.specs.declared.data.Entry.{Entry}
 use Rattle.rpq_model.specs.Query.{Query}
-use Rattle.saved_window.specs.Saved.{saved}
+use Rattle.saved_window.specs.Saved.{saved, first_stream}
 use Rattle.saved_window.specs.SavedText.{saved_text}
 
 -- an edge with the label "r"
@@ -40,9 +40,19 @@ one_insert = at 7 (Insert (edge (codes "a") (codes "b")) None)
 abbrev pub some_saved : List TupleValue
 some_saved = at 13 (Insert (edge (codes "d") (codes "e")) (Some 30)) ∷ at 20 Tick ∷ []
 
+-- two entries more: another edge, and the end of the one that was still seen
+abbrev pub two_more : List Entry
+two_more =
+    entry (at 21 (Insert (edge (codes "e") (codes "f")) None))
+    ∷ entry (at 22 (Delete (edge (codes "d") (codes "e")))) ∷ []
+
+-- the other edge, and the clock
+abbrev pub saved_then : List TupleValue
+saved_then = at 21 (Insert (edge (codes "e") (codes "f")) None) ∷ at 22 Tick ∷ []
+
 -- what is saved for a query whose window has size 10 and slide 5, and the text of it; for no query
--- the clock alone is saved; where a saved tuple has the time of the clock, no tick is; and of no
--- entry nothing
+-- the clock alone is saved; where a saved tuple has the time of the clock, no tick is; of no entry
+-- nothing; and with two entries more behind the history, or behind what was saved of it, the same
 pub record IsSavedSo (query : Query) : Type 0 where
   pub tuples : saved (query ∷ []) some_history ≡ some_saved
   pub text : saved_text some_saved
@@ -50,6 +60,8 @@ pub record IsSavedSo (query : Query) : Type 0 where
   pub no_query : saved [] some_history ≡ at 20 Tick ∷ []
   pub no_tick : saved (query ∷ []) (entry one_insert ∷ []) ≡ one_insert ∷ []
   pub no_entry : saved (query ∷ []) [] ≡ []
+  pub more : saved (query ∷ []) (some_history ++ two_more) ≡ saved_then
+  pub saved_more : saved (query ∷ []) (first_stream some_saved ++ two_more) ≡ saved_then
 
 abbrev pub SavedExample : Type 0
 SavedExample =

@@ -4,3 +4,4 @@ pub mod Continues
 pub mod Example
 pub mod Then
 pub mod SavedText
+pub mod Alike

@@ -7,7 +7,8 @@
 //!
 //! The contract for the layers above is that nobody can tell the saved tuples from the history:
 //! whatever entries follow, each query has the same answers with the same ends, and each further
-//! entry brings the same events ([`saved_continues`]). There are at most as many tuples as the
+//! entry brings the same events ([`saved_continues`]). What is saved later is the same too, so a
+//! history may be saved at any time, and again ([`saved_of_more`]). There are at most as many tuples as the
 //! history has entries, their text is read back as these tuples ([`saved_text_is_read`]), and a
 //! [`Then`] is a source as any other.
 //!
@@ -20,7 +21,9 @@ mod saving;
 mod text;
 mod then;
 
-pub use laws::{saved_continues, saved_example, saved_text_is_read};
+pub use laws::{
+    saved_continues, saved_example, saved_keeps_the_store, saved_of_more, saved_text_is_read,
+};
 pub use saving::saved;
 pub use text::{push_saved, saved_text};
 pub use then::{NoPrefix, OnePrefix, Prefix, Then};
