@@ -3,7 +3,7 @@ _rpq() {
     local current=${COMP_WORDS[COMP_CWORD]} previous=${COMP_WORDS[COMP_CWORD - 1]}
     local option given=" ${COMP_WORDS[*]} " left=()
     local options=(--workers --history --asks --replies --check --generate --two-way --paths --joins
-        --save --from)
+        --save --from --endless)
     case $previous in
         --workers | --history | --generate) return ;;
     esac

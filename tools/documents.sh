@@ -19,6 +19,8 @@
 #   its names, that a name is taken as it is, that a file that is written is emptied first, what
 #   stands on the output where a signal ends the program, and that ten runs, each going on with the
 #   window of the one before, write what one run writes.
+# - That a run without end passes 2,000,000 tuples, and writes and saves what one that keeps all
+#   does, with each option.
 # - That 64 streams are read beside all options, that a run over 70,001 vertices has each answer,
 #   also where one tuple brings 70,001 of them, that a live run takes no processor time while no
 #   line comes, that each of its readers is woken, and that a run goes on when memory runs out for
@@ -421,6 +423,53 @@ for number in 1 33 64; do
 done
 [ "$(sed -n 1p replies)" = "session 1" ] && grep -q '^@640 wait 640$' replies && [ -s saved ]
 count $? "64 streams and all options: no reply at the end, or no saved window"
+
+# A run without end: it passes the cap of other runs; rebuilt on the way, it writes what a run that
+# keeps all writes, saves the same window, also where it began with one, and names drift; and with
+# edges both ways, with paths and with joins it writes the same, too.
+mkdir "$place/endless"
+cd "$place/endless" || exit 1
+printf 'query near window 2000 slide 100 arbitrary: a/b\n' > queries
+printf 'query far window 5000 slide 1 arbitrary: (a|c)+\n' >> queries
+echo 'join both near ?x ?y far ?x ?y' > joins
+awk 'BEGIN {
+    srand(7)
+    for (line = 0; line < 200000; line++) {
+        from = "n" int(line / 500) "x" int(rand() * 900)
+        to = "n" int(line / 500) "x" int(rand() * 900)
+        kind = rand()
+        time = kind < 0.03 ? int(line - rand() * 4000) : line
+        if (time < 0) time = 0
+        label = substr("abc", 1 + int(rand() * 3), 1)
+        if (kind > 0.99) print line
+        else if (kind > 0.96) print line, last, "-"
+        else if (kind > 0.9) print time, from, label, to, "until", line + 1 + int(rand() * 3000)
+        else print time, from, label, to
+        last = from " " label " " to
+    }
+}' > stream
+# whether both runs, with these words, write the same
+is_the_same_endless() {
+    rpq --history 300000 "$@" queries stream | sha256sum > kept &&
+        rpq --endless "$@" queries stream | sha256sum > forgotten && cmp -s kept forgotten
+}
+is_the_same_endless --save saved && mv saved saved_of_kept &&
+    rpq --endless --save saved_of_endless queries stream > /dev/null &&
+    cmp -s saved_of_kept saved_of_endless
+count $? "without end: another text, or another saved window"
+is_the_same_endless --from saved_of_kept
+count $? "without end, behind a saved window: another text"
+for words in --two-way --paths "--joins joins"; do
+    # shellcheck disable=SC2086
+    is_the_same_endless $words
+    count $? "without end, with $words: another text"
+done
+awk 'BEGIN { for (line = 1; line <= 2100000; line++) print line % 7 ? line : line " x a y" }' |
+    rpq --endless queries /dev/stdin | grep '^@' | tail -n 1 > last
+[ "$(cat last)" = "@2100000 1 2100000 x a y +" ]
+count $? "without end: 2,100,000 tuples aren't passed"
+cd "$place" || exit 1
+rm -rf "$place/endless"
 
 # More vertices, trees and nodes of one tree than 16 bits count. The last tuple brings a pair of its
 # source with each vertex of the chain behind it, all in one block.

@@ -100,6 +100,7 @@ def words_of(chance, backwards):
     plain = "--two-way" in words and chance.random() < 0.9
     words += ["--workers", str(chance.choice([1, 2, 64, 65]))] if chance.random() < 0.3 else []
     words += ["--history", str(chance.choice([1, 3, 1000]))] if chance.random() < 0.2 else []
+    words += ["--endless"] if chance.random() < (0.05 if "--history" in words else 0.3) else []
     if plain:
         return words + ["q", "s"] + (["t"] if chance.random() < 0.4 else [])
     words += ["--asks", "a", "--replies", "r"] if chance.random() < 0.6 else []

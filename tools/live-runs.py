@@ -371,6 +371,8 @@ def run(program, case, folder, seed):
     words = ["--workers", str(case["workers"])]
     if case["limit"] is not None:
         words += ["--history", str(case["limit"])]
+    elif seed % 3 == 0:
+        words.append("--endless")
     if case["sessions"]:
         words += ["--asks", "asks.txt", "--replies", "replies.txt"]
         with open(folder + "/asks.txt", "w") as out:

@@ -32,8 +32,8 @@ pub fn feed_entries<R: Threads + Sync, G: Gate>(
     entries: &[Entry],
     workers: Workers,
 ) -> Result<EventLists, Memory>
-    requires stands { (history : List EntryTaken) × StandsFor engine.old (walked two_way history)
-        × (length history + length entries.now ≤ 2 ^ 29) }
+    requires stands { (history : List EntryTaken) × StandsFor engine.old (walked two_way history) }
+    requires short { engine.old.position + 2 * length entries.now ≤ 2 ^ 30 }
     ensures feeds { IfOk result (λ fed. FeedsEntries two_way engine.old entries.now engine.new
         (lists_of engine.new.names fed)) }
     ensures have_names { IfOk result (λ fed. HaveNames engine.new.names fed) }

@@ -1,4 +1,4 @@
 pub mod TellingMore
 pub mod MoreSteps
-mod Rebuilding
+mod Rebuilt
 mod Taking

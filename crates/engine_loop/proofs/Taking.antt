@@ -1,15 +1,15 @@
 -- What a sink took, front after front.
-use Rattle.std.proofs.Common.{◌≡◌, ℕ, ◌+◌, ◌<◌, ◌≤◌, true, false, List, [], ◌∷◌, ◌++◌, length, take}
+use Rattle.std.proofs.Common.{◌≡◌, ℕ, ◌+◌, ◌<◌, ◌≤◌, ◌^◌, true, false, List, [], ◌∷◌, ◌++◌, length, take}
 use Rattle.std.proofs.Common.{map, Option, Some, None, Result, Ok, Err, length-append, append_assoc}
-use Rattle.std.proofs.Common.{refl, sym, ap, subst, ◌∙◌, arith}
+use Rattle.std.proofs.Common.{refl, sym, ap, ap₂, subst, ◌∙◌, arith}
 use Rattle.std.specs.List.{All}
 use Rattle.std.specs.Result.{result_err, IsErrAnd}
 use Rattle.std.proofs.lemmas.List.{append-nil, take_at}
 use Rattle.std.proofs.lemmas.List.Elements.{All-nil, All-cons, All-head, All-tail}
 use Rattle.entry_steps.proofs.StepLists.{steps_as_many}
 use Rattle.entry_steps.specs.Evaluator.{EvaluatorValue, StandsAfter, KeepsSetup, Brings, Tells}
-use Rattle.entry_steps.specs.Evaluator.{compiled_of, queries_of, steps_told}
-use Rattle.entry_steps.specs.Laws.{EveryEntryHasAStep}
+use Rattle.entry_steps.specs.Evaluator.{StandsInFor, compiled_of, queries_of, steps_told}
+use Rattle.entry_steps.specs.Laws.{EntriesStandIn, EveryEntryHasAStep}
 use Rattle.entry_steps.specs.Steps.{OptionsValue, StepValue, CanRun, AreStepsFrom, events_of}
 use Rattle.entry_steps.specs.declared.unnamed_steps.UnnamedSteps.{UnnamedSteps}
 use Rattle.history_model.specs.declared.line.Why.{Why}
@@ -241,20 +241,27 @@ pub answered_before : (evaluator : EvaluatorValue) (before after front : List En
 answered_before evaluator before after front all place =
     ap (take evaluator.position) all ∙ take_at before front evaluator.position (sym place)
 
-module _ {S K : Type 0} (given front : S → List Entry) (feeds : S → EvaluatorValue → Type 0)
-    (taken : K → ℕ) (old new : S) (evaluator : EvaluatorValue) (sink : K)
-    (along : IsAlong given feeds taken old evaluator sink)
+module _ {S K : Type 0} (given kept front : S → List Entry)
+    (feeds : S → EvaluatorValue → Type 0) (taken : K → ℕ) (old new : S)
+    (evaluator : EvaluatorValue) (sink : K)
+    (along : IsAlong given kept front feeds taken old evaluator sink)
+    (keeps : kept new ≡ kept old ++ front old)
     (comes : ComesNext evaluator (given old) (given new) (front new)) where
   pub same_answered : answered evaluator (given new) ≡ given old
   same_answered = answered_before evaluator (given old) (given new) (front new) comes.all
       along.stands.fed.counted
 
   -- the evaluator and the sink are behind by the front
-  pub is_behind : feeds new evaluator → IsBehind given front feeds taken new evaluator sink
+  pub is_behind : feeds new evaluator →
+      IsBehind given kept front feeds taken new evaluator sink
   is_behind fed = record {
     is_fed = fed;
     runs = along.runs;
     stands = subst (StandsAfter evaluator) (sym same_answered) along.stands;
+    stands_in = subst (λ (all : List Entry). StandsInFor evaluator all
+        (answered evaluator (given new))) (sym keeps)
+        (subst (λ (before : List Entry). StandsInFor evaluator (kept old ++ front old) before)
+        (sym same_answered) along.stands_in);
     comes = subst (λ (before : List Entry). ComesNext evaluator before (given new) (front new))
         (sym same_answered) comes;
     as_many = along.as_many ∙ sym along.stands.fed.counted;
@@ -269,29 +276,35 @@ module _ {S K : Type 0} (given front : S → List Entry) (feeds : S → Evaluato
   )
 
 -- nothing came, and the evaluator and the sink are along still
-pub along_still : {S K : Type 0} (given : S → List Entry) (feeds : S → EvaluatorValue → Type 0)
-    (taken : K → ℕ) (old new : S) (evaluator : EvaluatorValue) (sink : K) →
-    IsAlong given feeds taken old evaluator sink → feeds new evaluator → given new ≡ given old →
-    IsAlong given feeds taken new evaluator sink
-along_still given feeds taken old new evaluator sink along fed same = record {
+pub along_still : {S K : Type 0} (given kept front : S → List Entry)
+    (feeds : S → EvaluatorValue → Type 0) (taken : K → ℕ) (old new : S)
+    (evaluator : EvaluatorValue) (sink : K) →
+    IsAlong given kept front feeds taken old evaluator sink → feeds new evaluator →
+    kept new ≡ kept old ++ front old → given new ≡ given old → front new ≡ [] →
+    IsAlong given kept front feeds taken new evaluator sink
+along_still given kept front feeds taken old new evaluator sink along fed keeps same none = record {
   is_fed = fed;
   runs = along.runs;
   stands = subst (StandsAfter evaluator) (sym same) along.stands;
+  stands_in = subst (λ (all : List Entry). StandsInFor evaluator all (given new))
+      (sym (ap (λ (more : List Entry). kept new ++ more) none
+      ∙ (append-nil (kept new) ∙ keeps)))
+      (subst (StandsInFor evaluator (kept old ++ front old)) (sym same) along.stands_in);
   as_many = along.as_many ∙ ap length (sym same);
 }
 
 -- ---- a front that is answered
 
-module _ {S K : Type 0} (given front : S → List Entry) (feeds : S → EvaluatorValue → Type 0)
-    (taken : K → ℕ)
+module _ {S K : Type 0} (given kept front : S → List Entry)
+    (feeds : S → EvaluatorValue → Type 0) (taken : K → ℕ)
     (takes : List Query → List Entry → List StepValue → Option Why → K → K → Type 0)
     (law : GoesOn taken takes) (source : S) (old : EvaluatorValue) (sink : K)
-    (was : IsBehind given front feeds taken source old sink) where
+    (was : IsBehind given kept front feeds taken source old sink) where
   abbrev before : List Entry
   before = answered old (given source)
 
   -- the front isn't too long to be taken
-  pub front_is_short : taken sink + length (front source) ≤ 536870912
+  pub front_is_short : taken sink + length (front source) ≤ 2 ^ 61
   front_is_short = omega (
     arith,
     was.as_many,
@@ -347,12 +360,19 @@ module _ {S K : Type 0} (given front : S → List Entry) (feeds : S → Evaluato
     took_many = takes_many taken takes law old before (given source) sink last did
         (was.as_many ∙ was.stands.fed.counted)
 
-    pub along_then : (after : S) (final : EvaluatorValue) → KeepsSetup old final →
-        StandsAfter final (given source) → given after ≡ given source → feeds after final →
-        IsAlong given feeds taken after final last
-    along_then after final keeps stands same fed = record {
+    pub along_then : EntriesStandIn → (after : S) (final : EvaluatorValue) →
+        KeepsSetup old final → StandsAfter final (given source) → given after ≡ given source →
+        kept after ≡ kept source → front after ≡ front source → feeds after final →
+        IsAlong given kept front feeds taken after final last
+    along_then stand_in after final keeps stands same same_kept same_front fed = record {
       is_fed = fed;
       runs = runs_still old final keeps was.runs;
       stands = subst (StandsAfter final) (sym same) stands;
+      stands_in = subst (λ (all : List Entry). StandsInFor final all (given after))
+          (sym (ap₂ (λ (first more : List Entry). first ++ more) same_kept same_front))
+          (subst (StandsInFor final (kept source ++ front source))
+          (sym was.comes.all ∙ sym same)
+          (stand_in.by_setup old final (kept source ++ front source) (before ++ front source)
+          keeps (stand_in.with_more old (kept source) before (front source) was.stands_in)));
       as_many = took_many ∙ sym (ap (λ (h : List Entry). length h) same);
     }

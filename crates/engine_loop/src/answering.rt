@@ -8,9 +8,10 @@ ghost use Rattle.rpq_base.specs.Plain.{IsPlain};
 ghost use Rattle.rpq_base.specs.declared.data.Entry.{Entry as EntryTaken};
 
 use crate::finding::find_told;
+use crate::one_rebuild::OneRebuild;
 use crate::sink::StepSink;
 use crate::source::EntrySource;
-use entry_steps::{Evaluator, UnnamedSteps, every_entry_has_a_step};
+use entry_steps::{Evaluator, UnnamedSteps, entries_stand_in, every_entry_has_a_step};
 use history_model::Why;
 use rpq_base::Entry;
 use run_context::{Context, Gate};
@@ -24,21 +25,23 @@ pub fn answer_front<R: Threads + Sync, G: Gate, S: EntrySource, K: StepSink>(
     source: &mut S,
     evaluator: &mut Evaluator,
     sink: &mut K,
-    rebuilt: &mut bool,
+    spare: &mut OneRebuild,
 ) -> Result<(), Why>
-    requires { IsBehind S.given S.front S.feeds K.taken source.old evaluator.old sink.old }
+    requires { IsBehind S.given S.kept S.front S.feeds K.taken
+        source.old evaluator.old sink.old }
     ensures home { S.home source.new ≡ S.home source.old }
     ensures given { S.given source.new ≡ S.given source.old }
     ensures takes { TakesMore K.takes evaluator.old (answered evaluator.old (S.given source.old))
         (S.given source.old) (result_err result) sink.old sink.new }
     ensures along { OnOk result
-        (IsAlong S.given S.feeds K.taken source.new evaluator.new sink.new) }
+        (IsAlong S.given S.kept S.front S.feeds K.taken source.new evaluator.new sink.new) }
     ensures keeps { KeepsSetup evaluator.old evaluator.new }
     ensures feeds { OnErr result ((last : EvaluatorValue) × S.feeds source.new last) }
 {
     every_entry_has_a_step(); // these are called for their clauses
     K::goes_on();
-    let Ok(told) = find_told(context, source, evaluator, rebuilt) else {
+    entries_stand_in();
+    let Ok(told) = find_told(context, source, evaluator, spare) else {
         return Err(Why::Memory);
     };
     hand_over(context.alloc, evaluator, source.front(), told, sink)?;
@@ -59,7 +62,7 @@ fn hand_over<K: StepSink>(
 ) -> Result<(), Why>
     requires tells { (before : List EntryTaken) × Tells before evaluator.now entries.now told }
     requires plain { All IsPlain entries.now }
-    requires short { K.taken sink.old + length entries.now ≤ 2 ^ 29 }
+    requires short { K.taken sink.old + length entries.now ≤ 2 ^ 61 }
     ensures { (before : List EntryTaken) → Tells before evaluator.now entries.now told →
         TakesMore K.takes evaluator.now before (before ++ entries.now) (result_err result)
         sink.old sink.new }

@@ -10,10 +10,15 @@
 //! took all that was given. So no body of this crate holds an entry back or asks before the sink
 //! took what there was.
 //!
-//! Where memory runs out for the first time while the engine is fed, it is rebuilt over the entries
-//! that it had answered, which the source gives once more, and is fed the new ones again. What is
-//! told beside the events stays where it is, since it follows only once these are found. Any other
-//! want of memory ends the loop.
+//! A source has kept entries that stand in for all that the engine has answered, which are these
+//! themselves where it can give them once more. Where memory runs out for the first time while the
+//! engine is fed, it is rebuilt over what is kept, and is fed the new entries again. What is told
+//! beside the events stays where it is, since it follows only once these are found. Any other want
+//! of memory ends the loop.
+//!
+//! Behind each front a source may give up what no query sees any more of the entries that it keeps
+//! for itself, so that a run without end stays within its memory; the engine is then rebuilt over
+//! what is left, at the position that it has.
 //!
 //! [`tell_events`] is for sinks that tell objects of events.
 #![tactic(auto)]
@@ -21,6 +26,8 @@
 mod answering;
 mod definitions;
 mod finding;
+mod one_rebuild;
+mod rebuilding;
 mod running;
 mod sink;
 mod source;
@@ -29,5 +36,5 @@ mod telling;
 pub use definitions::windows_move;
 pub use running::answer_all;
 pub use sink::StepSink;
-pub use source::EntrySource;
+pub use source::{AfterShrink, EntrySource};
 pub use telling::tell_events;

@@ -6,9 +6,11 @@ ghost use Rattle.entry_steps.specs.Evaluator.{EvaluatorValue, KeepsSetup, querie
 ghost use Rattle.engine_loop.specs.Loop.{IsAlong, TakesMore};
 
 use crate::answering::answer_front;
+use crate::one_rebuild::OneRebuild;
+use crate::rebuilding::shrink;
 use crate::sink::StepSink;
 use crate::source::EntrySource;
-use entry_steps::{Evaluator, every_entry_has_a_step};
+use entry_steps::{Evaluator, entries_stand_in, every_entry_has_a_step};
 use history_model::Why;
 use run_context::{Context, Gate};
 use std::thread::Threads;
@@ -21,55 +23,61 @@ pub fn answer_all<R: Threads + Sync, G: Gate, S: EntrySource, K: StepSink>(
     evaluator: &mut Evaluator,
     sink: &mut K,
 ) -> Result<(), Why>
-    requires { IsAlong S.given S.feeds K.taken source.old evaluator.old sink.old }
+    requires { IsAlong S.given S.kept S.front S.feeds K.taken
+        source.old evaluator.old sink.old }
     ensures home { S.home source.new ≡ S.home source.old }
     ensures takes { TakesMore K.takes evaluator.old (S.given source.old) (S.given source.new)
         (result_err result) sink.old sink.new }
     ensures along { OnOk result
-        (IsAlong S.given S.feeds K.taken source.new evaluator.new sink.new) }
+        (IsAlong S.given S.kept S.front S.feeds K.taken source.new evaluator.new sink.new) }
     ensures keeps { KeepsSetup evaluator.old evaluator.new }
     ensures over { OnOk result (S.is_over source.new) }
     ensures feeds { OnErr result ((last : EvaluatorValue) × S.feeds source.new last) }
 {
     K::goes_on(); // called for its clause
-    let mut rebuilt = false;
+    let mut spare = OneRebuild::new();
     loop {
-        if !turn(context, source, evaluator, sink, &mut rebuilt)? {
+        if !turn(context, source, evaluator, sink, &mut spare)? {
             return Ok(());
         }
     }
 }
 
-/// Waits for the next front, answers its entries, and hands their steps to the sink. It answers
-/// whether there was one, or why it can't go on.
+/// Waits for the next front, answers its entries, and hands their steps to the sink; then what no
+/// query sees any more is given up. It answers whether there was a front, or why it can't go on.
 fn turn<R: Threads + Sync, G: Gate, S: EntrySource, K: StepSink>(
     context: &Context<'_, R, G>,
     source: &mut S,
     evaluator: &mut Evaluator,
     sink: &mut K,
-    rebuilt: &mut bool,
+    spare: &mut OneRebuild,
 ) -> Result<bool, Why>
-    requires { IsAlong S.given S.feeds K.taken source.old evaluator.old sink.old }
+    requires { IsAlong S.given S.kept S.front S.feeds K.taken
+        source.old evaluator.old sink.old }
     ensures home { S.home source.new ≡ S.home source.old }
     ensures takes { TakesMore K.takes evaluator.old (S.given source.old) (S.given source.new)
         (result_err result) sink.old sink.new }
     ensures along { OnOk result
-        (IsAlong S.given S.feeds K.taken source.new evaluator.new sink.new) }
+        (IsAlong S.given S.kept S.front S.feeds K.taken source.new evaluator.new sink.new) }
     ensures keeps { KeepsSetup evaluator.old evaluator.new }
     ensures further { result ≡ Ok true →
         (length (S.given source.old) < length (S.given source.new))
-        × (length (S.given source.new) ≤ 2 ^ 29) }
+        × (length (S.given source.new) ≤ 2 ^ 61) }
     ensures over { result ≡ Ok false → S.is_over source.new }
     ensures feeds { OnErr result ((last : EvaluatorValue) × S.feeds source.new last) }
 {
     every_entry_has_a_step(); // these are called for their clauses
     K::goes_on();
+    entries_stand_in();
     let Ok(more) = source.next(evaluator, sink) else {
         return Err(Why::Memory);
     };
     if !more {
         return Ok(false);
     }
-    answer_front(context, source, evaluator, sink, rebuilt)?;
+    answer_front(context, source, evaluator, sink, spare)?;
+    let Ok(()) = shrink(context, source, evaluator) else {
+        return Err(Why::Memory);
+    };
     Ok(true)
 }

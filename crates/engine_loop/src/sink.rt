@@ -36,7 +36,7 @@ pub trait StepSink {
         requires numbers { All (λ step. All (λ event. event.query < length queries.now)
             step.events) steps.now }
         requires as_many { length steps.now ≡ length entries.now }
-        requires short { taken self.old + length entries.now ≤ 2 ^ 29 }
+        requires short { taken self.old + length entries.now ≤ 2 ^ 61 }
         ensures { takes (map (λ each. each.def) queries.now) entries.now steps.now
             (result_err result) self.old self.new };
 

@@ -1,17 +1,24 @@
 -- An engine that is fed, and then what is told of its events.
-use Rattle.std.proofs.Common.{◌≡◌, ℕ, ◌≤◌, true, false, List, length, map, sym, subst, Option}
-use Rattle.std.proofs.Common.{Result, Ok, Err, ◌++◌}
+use Rattle.std.proofs.Common.{◌≡◌, ℕ, ◌≤◌, Bool, true, false, List, length, map, sym, subst, Option}
+use Rattle.std.proofs.Common.{Result, Ok, Err, ◌+◌, ◌<◌, length-append, arith}
+use Rattle.std.specs.List.{All}
 use Rattle.std.specs.Prelude.{IfOk}
 use Rattle.rpq_base.specs.declared.data.Entry.{Entry}
+use Rattle.rpq_base.specs.declared.data.Event.{Event}
 use Rattle.join_bindings.specs.State.{JoinsValue}
+use Rattle.engine_feed.specs.EventLists.{lists_of, HaveNames}
+use Rattle.engine_feed.specs.Feeding.{FeedsEntries}
 use Rattle.engine_feed.specs.declared.event_lists.EventLists.{EventLists}
+use Rattle.answer_view.specs.View.{ViewValue, IsViewOf}
+use Rattle.path_engine.specs.Alike.{StandsForAlike}
 use Rattle.path_engine.specs.Engine.{EngineValue, StandsFor}
+use Rattle.path_engine.specs.Views.{IsViewAt}
 use Rattle.path_witness.specs.Marks.{MarksValue}
 use Rattle.query_file.specs.Compiled.{CompiledValue}
-use Rattle.two_way.specs.TwoWay.{walked}
+use Rattle.two_way.specs.TwoWay.{walked, AreAllWalkedEventsFrom}
 use Rattle.entry_steps.specs.Evaluator.{EvaluatorValue, queries_of, IsFedOver, TellsUpTo}
 use Rattle.entry_steps.specs.Evaluator.{StandsAfter, AreNumbered, Finds, IsAhead, Tells, OnlyFeeds}
-use Rattle.entry_steps.specs.Evaluator.{found_in}
+use Rattle.entry_steps.specs.Evaluator.{StandsInFor, IsViewAfter, found_in}
 use Rattle.entry_steps.specs.Joining.{HaveJoins}
 use Rattle.entry_steps.specs.Showing.{AreFound, HaveMarks}
 use Rattle.entry_steps.specs.Steps.{OptionsValue, AreEvaluable}
@@ -102,6 +109,72 @@ tells_steps evaluator before later told marks joins ahead beside = record {
   };
   told_is = record { have_names = ahead.finds.have_names; many = beside.many };
 }
+
+-- an engine that was fed entries found their events
+pub finds_by : (old engine : EngineValue) (options : OptionsValue) (marks : Option MarksValue)
+    (joins : Option JoinsValue) (position workers : ℕ) (entries : List Entry) (found : EventLists)
+    (history : List Entry) → engine.queries ≡ old.queries →
+    FeedsEntries options.two_way old entries engine (lists_of engine.names found) →
+    HaveNames engine.names found →
+    IsFedOver (record {
+      engine = old;
+      options = options;
+      marks = marks;
+      joins = joins;
+      position = position;
+      workers = workers;
+    }) history →
+    Finds history (record {
+      engine = engine;
+      options = options;
+      marks = marks;
+      joins = joins;
+      position = position + length entries;
+      workers = workers;
+    }) entries found
+finds_by old engine options marks joins position workers entries found history same feeds names fed =
+    let lists = lists_of engine.names found in
+    record {
+      fed = record {
+        stands = feeds.stands history fed.stands;
+        counted = omega (arith, fed.counted, length-append history entries);
+      };
+      events = subst (λ (compiled : List CompiledValue). AreAllWalkedEventsFrom options.two_way
+          (map (λ (each : CompiledValue). each.def) compiled) history entries lists) (sym same)
+          (feeds.events history fed.stands);
+      numbers = subst (λ (compiled : List CompiledValue). All (λ (own : List Event).
+          All (λ (event : Event). event.query < length compiled) own) lists) (sym same)
+          feeds.numbers;
+      have_names = names;
+    }
+
+-- an engine that was fed what is kept in the place of a history stands for the history
+pub stands_in_place : StandsForAlike → (evaluator : EvaluatorValue) (kept history : List Entry)
+    (position : ℕ) → IsFedOver evaluator kept → StandsInFor evaluator kept history →
+    position ≡ length history → IsFedOver (record evaluator { position = position }) history
+stands_in_place law evaluator kept history position fed alike counts = record {
+  stands = law evaluator.engine (walked evaluator.options.two_way kept)
+      (walked evaluator.options.two_way history) alike fed.stands;
+  counted = counts;
+}
+
+-- a view at the position of an evaluator is one after its history
+pub view_after : (evaluator : EvaluatorValue) (history : List Entry) (view : ViewValue) →
+    StandsAfter evaluator history →
+    IsViewAt evaluator.position (queries_of evaluator) (walked evaluator.options.two_way history)
+    view → IsViewAfter evaluator history view
+view_after evaluator history view stands is =
+    subst (λ (n : ℕ). IsViewAt n (queries_of evaluator) (walked evaluator.options.two_way history)
+    view) stands.fed.counted is
+
+-- and where edges are taken forwards alone, it is that of the queries over the history
+pub view_forwards : (evaluator : EvaluatorValue) (history : List Entry) (view : ViewValue) →
+    evaluator.options.two_way ≡ false → IsViewAfter evaluator history view →
+    IsViewOf (queries_of evaluator) history view
+view_forwards evaluator history view forwards is =
+    let own = subst (λ (two_way : Bool). IsViewAt (length history) (queries_of evaluator)
+    (walked two_way history) view) forwards is in
+    record { position = own.says; rows = own.rows }
 
 -- an engine that showed a view, which changes nothing of what it stands for
 pub stands_viewed : (evaluator : EvaluatorValue) (engine : EngineValue) (history : List Entry) →

@@ -37,7 +37,7 @@ use Rattle.path_witness.specs.BestPaths.{IsBestFor}
 use Rattle.path_witness.specs.Marks.{MarksValue}
 use Rattle.path_witness.specs.Shows.{Shown, Shows}
 use Rattle.entry_steps.specs.Steps.{OptionsValue, StepValue, IsShown, AreShown, AreStepsFrom}
-use Rattle.entry_steps.specs.Steps.{AreEvaluable, additions, events_of, lines_of}
+use Rattle.entry_steps.specs.Steps.{additions, events_of, lines_of}
 use Rattle.entry_steps.specs.Joining.{HaveJoins, MayTakeEach, TakesEach}
 use Rattle.entry_steps.specs.Showing.{TakesAll, IsOver, IsGained, CanShow, MayShow, AreShownBy}
 use Rattle.entry_steps.specs.Showing.{AreFound, AreStepsOf, HaveMarks}
@@ -277,17 +277,14 @@ found_may_take law options engine marks joins before later lists found =
     may_take_each law options.two_way (definitions engine) options.joins later before lists joins
     found.events found.joined
 
--- marks that are there have numbers left for the entries, since the engine counts them as well
-pub few_taken : (options : OptionsValue) (engine : EngineValue) (marks : Option MarksValue)
-    (joins : Option JoinsValue) (before later : List Entry) (lists : List (List Event)) →
-    AreFound options engine marks joins before later lists → engine.position < 2 ^ 64 →
+-- marks that are there have numbers left for the entries, since a position counts them as well
+pub few_taken : (paths : Bool) (queries : List Query) (marks : Option MarksValue)
+    (before later : List Entry) (position : ℕ) → HaveMarks paths queries before marks →
+    position ≡ length (before ++ later) → position < 2 ^ 64 →
     IfSome marks (λ (own : MarksValue). own.taken + length later < 2 ^ 64)
-few_taken options engine None joins before later lists found below = tt
-few_taken options engine (Some own) joins before later lists found below =
-    let forwards = found.forwards found.marked.0 in
-    let all : engine.position ≡ length (before ++ later) = found.stands.counted
-    ∙ ap (λ (two_way : Bool). length (walked two_way (before ++ later))) forwards in
-    omega (arith, found.marked.2.counted, all, length-append before later, below)
+few_taken paths queries None before later position marked counted below = tt
+few_taken paths queries (Some own) before later position marked counted below =
+    omega (arith, marked.2.counted, counted, length-append before later, below)
 
 pub steps_follow : EventsLeadOn → HaveJoinEvents → (options : OptionsValue) (engine : EngineValue)
     (old new : Option MarksValue) (joins_old joins_new : Option JoinsValue)

@@ -3,11 +3,14 @@ use Rattle.std.specs.Prelude.{◌≡◌, ℕ, ◌<◌, List, [], ◌++◌, lengt
 use Rattle.rpq_base.specs.declared.data.Entry.{Entry}
 use Rattle.rpq_base.specs.declared.data.Event.{Event}
 use Rattle.rpq_model.specs.Query.{Query}
+use Rattle.alike_histories.specs.Alike.{AllSeeAlike}
+use Rattle.answer_view.specs.View.{ViewValue}
 use Rattle.two_way.specs.TwoWay.{walked, AreAllWalkedEventsFrom}
 use Rattle.join_bindings.specs.State.{JoinsValue}
 use Rattle.engine_feed.specs.declared.event_lists.EventLists.{EventLists}
 use Rattle.engine_feed.specs.EventLists.{lists_of, HaveNames}
 use Rattle.path_engine.specs.Engine.{EngineValue, StandsFor, definitions}
+use Rattle.path_engine.specs.Views.{IsViewAt}
 use Rattle.path_witness.specs.Marks.{MarksValue}
 use Rattle.query_file.specs.Compiled.{CompiledValue}
 use Rattle.entry_steps.specs.Joining.{HaveJoins}
@@ -17,8 +20,8 @@ use Rattle.entry_steps.specs.Telling.{steps_with}
 use Rattle.entry_steps.specs.declared.unnamed_steps.UnnamedSteps.{UnnamedSteps}
 
 -- an engine; how its queries are evaluated, and what is told of them; the marks of live entries and
--- the joins with the answers of their queries, where they are wanted; how many entries the engine
--- was fed; and how many workers it has
+-- the joins with the answers of their queries, where they are wanted; how many entries the history
+-- has for which the engine stands; and how many workers it has
 pub record EvaluatorValue : Type 0 where
   pub engine : EngineValue
   pub options : OptionsValue
@@ -35,11 +38,17 @@ compiled_of evaluator = evaluator.engine.queries
 abbrev pub queries_of : EvaluatorValue → List Query
 queries_of evaluator = definitions evaluator.engine
 
--- the engine stands for what its queries are evaluated over, of this history, and was fed as many
--- entries
+-- the engine stands for what its queries are evaluated over, of this history, whose length is the
+-- position
 pub record IsFedOver (evaluator : EvaluatorValue) (history : List Entry) : Type 0 where
   pub stands : StandsFor evaluator.engine (walked evaluator.options.two_way history)
   pub counted : evaluator.position ≡ length history
+
+-- what the evaluator's queries are evaluated over looks the same to them, whether it is of the
+-- entries that are kept or of the history, in whose place they are then
+abbrev pub StandsInFor : EvaluatorValue → List Entry → List Entry → Type 0
+StandsInFor evaluator kept history = AllSeeAlike (queries_of evaluator)
+    (walked evaluator.options.two_way kept) (walked evaluator.options.two_way history)
 
 -- what is told beside the events is told up to this history: the marks that are wanted stand for
 -- it, and the joins have the answers over what the queries are evaluated over, of it
@@ -108,11 +117,17 @@ pub record KeepsSetup (old new : EvaluatorValue) : Type 0 where
   pub options : new.options ≡ old.options
   pub workers : new.workers ≡ old.workers
 
--- only the engine changes, and how far it was fed
+-- only the engine changes, and the position
 pub record OnlyFeeds (old new : EvaluatorValue) : Type 0 where
   pub setup : KeepsSetup old new
   pub marks : new.marks ≡ old.marks
   pub joins : new.joins ≡ old.joins
+
+-- the view has the length of the history as its position, and the answers over what the queries are
+-- evaluated over, of this history
+abbrev pub IsViewAfter : EvaluatorValue → List Entry → ViewValue → Type 0
+IsViewAfter evaluator history view = IsViewAt (length history) (queries_of evaluator)
+    (walked evaluator.options.two_way history) view
 
 -- an evaluator of these queries with these options and workers, after which no entry came
 pub record IsNew (queries : List CompiledValue) (options : OptionsValue) (workers : ℕ)

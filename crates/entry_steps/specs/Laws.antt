@@ -1,6 +1,6 @@
 -- What the definitions are meant to say, as laws.
 use Rattle.std.specs.Prelude.{◌≡◌, ℕ, ◌<◌, ◌↔◌, Bool, false, List, [], ◌∷◌, ◌++◌, length, map}
-use Rattle.std.specs.Prelude.{take, Some, slice_get}
+use Rattle.std.specs.Prelude.{take, Some, slice_get, All}
 use Rattle.std.specs.List.{flat_map}
 use Rattle.join_bindings.specs.declared.event.JoinEvent.{JoinEvent}
 use Rattle.join_bindings.specs.Histories.{AreJoinEventsOn, IsBindingOver, IsJoinHeld}
@@ -10,12 +10,15 @@ use Rattle.join_file.specs.Sound.{IsSound}
 use Rattle.rpq_base.specs.declared.data.Entry.{Entry}
 use Rattle.rpq_base.specs.declared.data.Pair.{Pair}
 use Rattle.rpq_base.specs.declared.data.Event.{Event}
+use Rattle.rpq_base.specs.Plain.{IsPlain}
+use Rattle.alike_histories.specs.Alike.{AllSeeAlike}
 use Rattle.rpq_model.specs.Events.{IsHeld}
 use Rattle.rpq_model.specs.Answers.{IsAnswer}
 use Rattle.rpq_model.specs.Query.{Query, path_query}
 use Rattle.two_way.specs.TwoWay.{walked, AreAllWalkedEvents}
 use Rattle.entry_steps.specs.Steps.{OptionsValue, StepValue, IsStep, AreSteps, CanRun, events_of}
 use Rattle.entry_steps.specs.Steps.{lines_of}
+use Rattle.entry_steps.specs.Evaluator.{EvaluatorValue, KeepsSetup, StandsInFor, queries_of}
 
 -- each entry that follows a history brings a step, where queries and joins can be evaluated
 abbrev pub EveryEntryHasAStep : Type 0
@@ -65,3 +68,20 @@ FrontsHoldBindings =
     AreJoinEventsOn queries joins [] history changes → (count : ℕ) (names : List (List ℕ)) →
     IsJoinHeld number (flat_map (λ list. list) (take count changes)) names
     ↔ IsBindingOver queries (take count history) join names
+
+-- what stands in for a history: the history itself; what stands in for entries that do; with any
+-- later entries, those that stood in before them; whatever evaluator of the same setup is asked; and
+-- of entries whose labels point forwards, those that the queries see alike with the history
+pub record EntriesStandIn : Type 0 where
+  pub itself : (evaluator : EvaluatorValue) (history : List Entry) →
+      StandsInFor evaluator history history
+  pub joined : (evaluator : EvaluatorValue) (kept between history : List Entry) →
+      StandsInFor evaluator kept between → StandsInFor evaluator between history →
+      StandsInFor evaluator kept history
+  pub with_more : (evaluator : EvaluatorValue) (kept history later : List Entry) →
+      StandsInFor evaluator kept history → StandsInFor evaluator (kept ++ later) (history ++ later)
+  pub by_setup : (old new : EvaluatorValue) (kept history : List Entry) → KeepsSetup old new →
+      StandsInFor old kept history → StandsInFor new kept history
+  pub plain : (evaluator : EvaluatorValue) (kept history : List Entry) →
+      All IsPlain kept → All IsPlain history → AllSeeAlike (queries_of evaluator) kept history →
+      StandsInFor evaluator kept history

@@ -1,25 +1,26 @@
 //! An engine, and beside it what is told of its events.
 
-ghost use Rattle.std.specs.Prelude.{◌≡◌, ◌≤◌, ◌+◌, ◌^◌, true, false, List, [], length, map};
+ghost use Rattle.std.specs.Prelude.{◌≡◌, ◌<◌, ◌≤◌, ◌+◌, ◌^◌, true, false, List, [], length, map};
 ghost use Rattle.std.specs.Prelude.{IfOk, OnOk, OnErr};
-ghost use Rattle.answer_view.specs.View.{IsViewOf};
 ghost use Rattle.rpq_base.specs.declared.data.Entry.{Entry as EntryTaken};
 ghost use Rattle.two_way.specs.TwoWay.{walked};
-ghost use Rattle.entry_steps.specs.Evaluator.{IsNew, IsFedOver, StandsAfter, Finds, IsAhead};
-ghost use Rattle.entry_steps.specs.Evaluator.{Tells, KeepsSetup, OnlyFeeds, IsToldBy};
+ghost use Rattle.entry_steps.specs.Evaluator.{IsNew, IsFedOver, StandsAfter, StandsInFor, Finds};
+ghost use Rattle.entry_steps.specs.Evaluator.{IsAhead, Tells, KeepsSetup, OnlyFeeds, IsToldBy};
+ghost use Rattle.entry_steps.specs.Evaluator.{IsViewAfter};
 ghost use Rattle.entry_steps.specs.Evaluator.{compiled_of, queries_of, steps_told};
 ghost use Rattle.entry_steps.specs.Joining.{HaveJoins};
 ghost use Rattle.entry_steps.specs.Showing.{HaveMarks};
 ghost use Rattle.entry_steps.specs.Steps.{AreEvaluable, HaveSoundJoins};
 
 use crate::options::Options;
+use crate::room::room_for;
 use crate::step::Step;
 use crate::steps::{steps_of, tell_of};
 use crate::unnamed_steps::UnnamedSteps;
 use answer_view::View;
 use engine_feed::{EventLists, feed_entries};
 use join_bindings::Joins;
-use path_engine::Engine;
+use path_engine::{Engine, stands_for_alike};
 use path_witness::Marks;
 use query_file::Compiled;
 use rpq_base::{Entry, Memory, Workers};
@@ -40,13 +41,15 @@ const AT_ONCE: usize = 256;
 pub struct Evaluator {
     engine: Engine,
     /// How the queries are evaluated, and what is told of them. Where they may take edges
-    /// backwards, the engine is fed each entry with its inverse, and its own position counts both.
+    /// backwards, the engine is fed each entry with its inverse.
     options: Options,
     /// The live entries of each edge that last longest, where paths are told.
     marks: Option<Marks>,
     /// The joins with the answers of their queries, where there are any.
     joins: Option<Joins>,
-    /// How many entries the engine was fed.
+    /// How many entries the history has for which the engine stands. The engine's own position
+    /// counts what it was fed since it was last rebuilt, which may be other entries, and their
+    /// inverses too.
     position: u64,
     /// How many workers the engine has.
     workers: Workers,
@@ -124,7 +127,7 @@ impl Evaluator {
         if self.options.paths { 1 } else { AT_ONCE }
     }
 
-    /// How many entries the engine was fed.
+    /// How many entries the history has for which the engine stands.
     pub fn position(&self) -> u64
         ensures { result ≡ self.now.position }
     {
@@ -143,19 +146,21 @@ impl Evaluator {
     /// [`Evaluator::tell`] is called.
     ///
     /// The only error is [`Memory`], after which the engine may stand for anything: it has to start
-    /// anew, and be fed all entries again. It costs what the entries cost the engine.
+    /// anew, and be fed all entries again. It is the answer, too, where the engine was fed as many
+    /// entries as it takes until it is rebuilt. It costs what the entries cost the engine.
     pub fn find_events<R: Threads + Sync, G: Gate>(
         &mut self,
         context: &Context<'_, R, G>,
         entries: &[Entry],
     ) -> Result<EventLists, Memory>
         requires fed { (history : List EntryTaken) × IsFedOver self.old history }
-        requires short { self.old.position + length entries.now ≤ 2 ^ 29 }
+        requires short { self.old.position + length entries.now < 2 ^ 64 }
         ensures finds { IfOk result (λ found. (history : List EntryTaken)
             → IsFedOver self.old history → Finds history self.new entries.now found) }
         ensures position { OnErr result (self.new.position ≡ self.old.position) }
         ensures keeps { OnlyFeeds self.old self.new }
     {
+        room_for(self.engine.position(), entries.len())?;
         let two_way = self.options.two_way;
         let found = feed_entries(&mut self.engine, context, two_way, entries, self.workers)?;
         self.position += entries.len() as u64;
@@ -174,6 +179,21 @@ impl Evaluator {
         self.engine.rebuild(context, &[], self.workers)?;
         self.position = 0;
         Ok(())
+    }
+
+    /// Says that the engine stands at this position, which is that of a history in whose place it
+    /// was fed other entries. No query can tell one from the other, so the engine stands for the
+    /// history.
+    pub fn stand_in(&mut self, position: u64)
+        requires { (kept history : List EntryTaken) × IsFedOver self.old kept
+            × StandsInFor self.old kept history × (position ≡ length history) }
+        ensures fed { (kept history : List EntryTaken) → IsFedOver self.old kept
+            → StandsInFor self.old kept history → position ≡ length history
+            → IsFedOver self.new history }
+        ensures keeps { OnlyFeeds self.old self.new }
+    {
+        stands_for_alike(); // called for its clause
+        self.position = position;
     }
 
     /// What the entries bring that the engine was fed last, of which it found these events: marks
@@ -197,6 +217,7 @@ impl Evaluator {
             → IsAhead before self.old entries.now found → Tells before self.new entries.now told) }
         ensures keeps { KeepsSetup self.old self.new }
     {
+        let _position = self.position; // a number, so one more is left for each of the entries
         let beside = tell_of(
             alloc,
             &self.engine,
@@ -224,14 +245,13 @@ impl Evaluator {
     pub fn view(&mut self) -> Result<Arc<View>, Memory>
         requires { (history : List EntryTaken) × StandsAfter self.old history }
         ensures view { (history : List EntryTaken) → StandsAfter self.old history →
-            IfOk result (λ view. IsViewOf (queries_of self.old)
-            (walked self.old.options.two_way history) view.value) }
+            IfOk result (λ view. IsViewAfter self.old history view.value) }
         ensures stands { (history : List EntryTaken) → StandsAfter self.old history →
             StandsAfter self.new history }
         ensures keeps { KeepsSetup self.old self.new }
         ensures position { self.new.position ≡ self.old.position }
     {
-        self.engine.view()
+        self.engine.view(self.position)
     }
 }
 

@@ -1,9 +1,10 @@
 //! Laws of the definitions. The functions do nothing: their contracts are the laws.
 
-ghost use Rattle.entry_steps.specs.Laws.{EveryEntryHasAStep, FrontsHoldAnswers};
+ghost use Rattle.entry_steps.specs.Laws.{EntriesStandIn, EveryEntryHasAStep, FrontsHoldAnswers};
 ghost use Rattle.entry_steps.specs.Laws.{FrontsHoldBindings, StepsHaveJoinEvents};
 ghost use Rattle.entry_steps.specs.Laws.{StepsHaveTheEvents};
 
+use alike_histories::{alike_both_ways, alike_is_equivalence, alike_with_more};
 use containment_laws::accepted_queries_have_events;
 use join_bindings::{accepted_queries_have_join_events, joins_hold_bindings};
 use path_witness::answers_are_shown;
@@ -43,4 +44,15 @@ pub fn fronts_hold_bindings()
     ensures { FrontsHoldBindings }
 {
     joins_hold_bindings();
+}
+
+/// What stands in for a history, which an engine can be fed in its place: the history itself, what
+/// stands in for what does, either with later entries behind it, and entries whose labels point
+/// forwards that the queries see alike with it.
+pub fn entries_stand_in()
+    ensures { EntriesStandIn }
+{
+    alike_is_equivalence();
+    alike_with_more();
+    alike_both_ways();
 }

@@ -38,6 +38,8 @@ pub fn tell_of(
     found: &EventLists,
 ) -> Result<Vec<PathsAndJoins>, Memory>
     requires names { HaveNames engine.now.names found.now }
+    requires room { IfSome marks.old
+        (λ (own : MarksValue). own.taken + length entries.now < 2 ^ 64) }
     requires found { (options : OptionsValue) × (before : List EntryTaken)
         × AreFound options engine.now marks.old joins.old before entries.now
         (lists_of engine.now.names found.now) }
@@ -85,6 +87,8 @@ fn take_found(
     entries: &[Entry],
     found: &[Vec<Event>],
 ) -> Result<Vec<PathsAndJoins>, Memory>
+    requires room { IfSome marks.old
+        (λ (own : MarksValue). own.taken + length entries.now < 2 ^ 64) }
     requires found { (options : OptionsValue) × (before : List EntryTaken)
         × AreFound options engine.now marks.old joins.old before entries.now (lists_in found.now) }
     ensures { IfOk result (λ beside. (options : OptionsValue) (before : List EntryTaken)
@@ -94,7 +98,6 @@ fn take_found(
 {
     events_lead_on(); // these are called for their clauses
     accepted_queries_have_join_events();
-    let _position = engine.position(); // a number, so one more is left for each of the entries
     take_entries(marks, entries)?;
     make_beside(alloc, engine, marks, joins, found)
 }

@@ -1,7 +1,7 @@
 -- The history of the first generated tuples, and how it grows.
 use Rattle.std.proofs.Common.{◌≡◌, ℕ, ◌+◌, ◌-◌, ◌<◌, ◌≤◌, min, true, List, ◌++◌, length, take, drop}
 use Rattle.std.proofs.Common.{length-drop, sym, ap, ◌∙◌, arith}
-use Rattle.std.proofs.lemmas.List.{take-append-drop, length-take}
+use Rattle.std.proofs.lemmas.List.{take-append-drop, take-take, length-take}
 use Rattle.std.proofs.lemmas.List.FromFn.{take-map-range_with_len}
 use Rattle.std.proofs.lemmas.List.Elements.{All-drop}
 use Rattle.std.proofs.Math.Seq.{take-add}
@@ -37,11 +37,11 @@ they_come_next law evaluator count more most further few within one =
       short = omega (arith, law.many more, few);
     }
 
--- entries behind so many are given once more
+-- entries behind so many are given once more, of the first of them
 pub they_repeat : HistoryIsOfFirstStream → (count from to most : ℕ) (entries : List Entry) →
     to ≤ count → from < to → 0 < most →
     entries ≡ take (min most (to - from)) (drop from (generated_history count)) →
-    Repeats (generated_history count) from to entries
+    Repeats (take to (generated_history count)) from entries
 they_repeat law count from to most entries within some any is =
     let given = generated_history count in
     let end = min most (to - from) in
@@ -56,8 +56,26 @@ they_repeat law count from to most entries within some any is =
       some,
     ) in
     record {
-      follow = ap (λ (n : ℕ). take (from + n) given) many
-          ∙ (take-add from end given ∙ ap (λ (more : List Entry). take from given ++ more) (sym is));
+      follow = take-take (from + length entries) to given (omega (arith, many, some))
+          ∙ (ap (λ (n : ℕ). take (from + n) given) many
+          ∙ (take-add from end given
+          ∙ (ap (λ (more : List Entry). take from given ++ more) (sym is)
+          ∙ ap (λ (first : List Entry). first ++ entries)
+          (sym (take-take from to given (omega (arith, some)))))));
       some = omega (arith, many, any, some);
-      within = omega (arith, many, some);
     }
+
+-- the first so many of them are as many
+pub kept_many : HistoryIsOfFirstStream → (before count : ℕ) → before ≤ count →
+    before ≡ length (take before (generated_history count))
+kept_many law before count within =
+    omega (arith, length-take before (generated_history count), law.many count, within)
+
+-- once there are more, all that there were are kept: those that were, and the front behind them
+pub kept_next : (before count after more : ℕ) → after ≡ count → count ≤ more →
+    take after (generated_history more)
+    ≡ take before (generated_history count) ++ drop before (generated_history count)
+kept_next before count after more same within =
+    ap (λ (n : ℕ). take n (generated_history more)) same
+    ∙ (take-map-range_with_len entry_at 1 more count within
+    ∙ sym (take-append-drop before (generated_history count)))

@@ -3,16 +3,17 @@ use Rattle.std.proofs.Common.{◌≡◌, ℕ, ◌≤◌, min, Bool, List, [], �
 use Rattle.std.proofs.Common.{sym, ap, subst, ◌∙◌, arith, Option, Some, None, Result, Ok, Err}
 use Rattle.std.specs.Prelude.{⊤, OnOk, OnErr, IfOk, IsSome}
 use Rattle.std.specs.Result.{result_ok}
+use Rattle.std.specs.List.{AllZip}
 use Rattle.std.specs.Global.{Vec}
 use Rattle.answer_rows.specs.Answers.{Answer}
-use Rattle.answer_view.specs.View.{ViewValue, IsViewOf}
+use Rattle.answer_view.specs.View.{ViewValue, AreRowsOf}
 use Rattle.engine_loop.specs.Loop.{TakesMore}
 use Rattle.entry_steps.proofs.StepLists.{steps_have_events}
 use Rattle.entry_steps.specs.Evaluator.{EvaluatorValue, queries_of as queries_in}
 use Rattle.entry_steps.specs.Steps.{AreSteps, AreStepsFrom, events_of}
 use Rattle.history_model.specs.declared.line.Why.{Why}
 use Rattle.rpq_base.specs.declared.data.Entry.{Entry}
-use Rattle.rpq_model.specs.Query.{Query}
+use Rattle.rpq_model.specs.Query.{Query, path_query}
 use Rattle.standing.specs.Circles.{Parts, as_seen}
 use Rattle.standing.specs.Objects.{ObjectValue}
 use Rattle.standing.specs.Stood.{HaveStood}
@@ -25,6 +26,12 @@ use Rattle.generated_run.specs.Summary.{all_of, additions, retractions, summary_
 use Rattle.generated_run.specs.Totals.{TotalsValue, no_totals, HasCounted}
 use Rattle.generated_run.specs.declared.counts.EventCounts.{EventCounts}
 use Rattle.generated_run.specs.declared.generation.Generation.{Generation}
+
+-- the view has the rows of these queries' answers, which may take edges backwards or not
+abbrev pub AreRowsFor : Bool → List Query → List Entry → ViewValue → Type 0
+AreRowsFor two_way queries history view =
+    AllZip (λ (query : Query) (own : List Answer).
+    AreRowsOf (path_query query) (walked two_way history) own) queries view.rows
 
 -- objects that weren't told of anything
 untold : {O : Type 0} (seen : O → ObjectValue) (circle : Parts O) → circle.left ≡ [] →
@@ -84,7 +91,7 @@ module _ {O : Type 0} (seen : O → ObjectValue) (task : Generation) (evaluator 
 
   -- and the summary that the code writes is its own
   pub summary_so : why ≡ None → (view : ViewValue) (text : List ℕ) →
-      IsViewOf (queries_in evaluator) (walked evaluator.options.two_way after) view →
+      AreRowsFor evaluator.options.two_way (queries_in evaluator) after view →
       text ≡ summary_text new.totals.entries new.totals.added new.totals.retracted
       (queries_in evaluator) (map (λ (own : List Answer). length own) view.rows)
       (said_by (as_seen seen new.circle)) →
@@ -101,15 +108,15 @@ module _ {O : Type 0} (seen : O → ObjectValue) (task : Generation) (evaluator 
       let added : new.totals.added ≡ additions events = omega (arith, counted.added) in
       let retracted : new.totals.retracted ≡ retractions events =
       omega (arith, counted.retracted) in
-      let sees : IsViewOf (queries_of task) (walked task.two_way after) view =
-      subst (λ (taken : Bool). IsViewOf (queries_of task) (walked taken after) view) two_way
-      (subst (λ (qs : List Query). IsViewOf qs (walked evaluator.options.two_way after) view)
-      queries shows) in
+      let sees : AreRowsFor task.two_way (queries_of task) after view =
+      subst (λ (taken : Bool). AreRowsFor taken (queries_of task) after view) two_way
+      (subst (λ (qs : List Query). AreRowsFor evaluator.options.two_way qs after view) queries
+      shows) in
       record {
         events = events_of did.steps;
         are_events = events_are;
         answers = view.rows;
-        are_answers = sees.rows;
+        are_answers = sees;
         is = is
             ∙ (ap (λ (qs : List Query). summary_text new.totals.entries new.totals.added
             new.totals.retracted qs counts said) queries

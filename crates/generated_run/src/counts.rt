@@ -70,7 +70,7 @@ fn tell_steps<O: Standing>(
     totals: &mut Totals,
     steps: &[Step<'_>],
 ) -> Result<(), Memory>
-    requires { totals.old.entries + length steps.now ≤ 2 ^ 30 }
+    requires { totals.old.entries + length steps.now ≤ 2 ^ 61 }
     ensures told { OnOk result (TellsOn (all_of (events_of steps.now)) ⊤
         (as_seen O.seen circle.old) (as_seen O.seen circle.new)) }
     ensures part { OnErr result (TellsOn (all_of (events_of steps.now)) ⊥

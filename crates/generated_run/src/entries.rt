@@ -3,7 +3,7 @@
 ghost use Rattle.std.specs.Prelude.{◌≡◌, ◌+◌, ◌-◌, ◌<◌, ◌≤◌, min, OnOk, OnErr};
 ghost use Rattle.tuple_generator.specs.Generator.{generated_history};
 
-use engine_loop::{EntrySource, StepSink};
+use engine_loop::{AfterShrink, EntrySource, StepSink};
 use entry_steps::Evaluator;
 use rpq_base::{Entry, Memory, copy_all};
 use std::alloc::Global;
@@ -103,13 +103,15 @@ impl GeneratedEntries {
 }
 
 impl EntrySource for GeneratedEntries {
-    ghost use Rattle.std.specs.Prelude.{drop};
+    ghost use Rattle.std.specs.Prelude.{take, drop};
 
     type Home = u64;
 
     ghost home = { λ made. made.wanted };
 
     ghost given = { λ made. generated_history made.count };
+
+    ghost kept = { λ made. take made.before (generated_history made.count) };
 
     ghost front = { λ made. drop made.before (generated_history made.count) };
 
@@ -130,9 +132,14 @@ impl EntrySource for GeneratedEntries {
         &self.entries[self.before..]
     }
 
-    fn again(&mut self, from: u64, to: u64) -> Result<Vec<Entry>, Memory> {
+    fn kept_count(&self) -> u64 {
         history_is_of_first_stream(); // called for its clause
-        let end = from + AT_ONCE.min(to - from);
+        self.before as u64
+    }
+
+    fn again(&mut self, from: u64) -> Result<Vec<Entry>, Memory> {
+        history_is_of_first_stream(); // called for its clause
+        let end = from + AT_ONCE.min(self.before as u64 - from);
         copy_all(self.alloc, &self.entries[from as usize..end as usize])
     }
 
@@ -144,5 +151,10 @@ impl EntrySource for GeneratedEntries {
     ) -> Result<(), Memory> {
         history_is_of_first_stream(); // called for its clause
         Ok(())
+    }
+
+    /// All entries are there until the end.
+    fn shrink(&mut self, _evaluator: &Evaluator) -> Result<AfterShrink, Memory> {
+        Ok(AfterShrink::GoOn)
     }
 }

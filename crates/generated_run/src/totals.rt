@@ -47,7 +47,7 @@ impl Totals {
 
     /// Counts an entry with its events.
     pub fn count(&mut self, events: &EntryEvents<'_>)
-        requires { self.old.entries < 2 ^ 32 }
+        requires { self.old.entries < 2 ^ 61 }
         ensures { HasCounted 1 events.now self.old self.new }
     {
         let added = additions(events);

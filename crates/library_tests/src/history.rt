@@ -1,7 +1,7 @@
 //! Tests of a history that threads share.
 
 ghost use Rattle.std.specs.Prelude.{◌≡◌, ◌↔◌, ◌⊎◌, ℕ, ◌+◌, ◌<◌, ◌≤◌, ◌^◌, true, Some, length};
-ghost use Rattle.std.specs.Prelude.{slice_index_or};
+ghost use Rattle.std.specs.Prelude.{slice_index_or, take, drop};
 ghost use Rattle.std.specs.Prelude.{IsTrue, IfOk, OnErr};
 ghost use Rattle.turn_lock.specs.Passes.{newcomers};
 ghost use Rattle.history_model.specs.declared.line.Why.{Why as Reason};
@@ -18,14 +18,14 @@ use std::alloc::Global;
 use std::process::Abort;
 use std::sync::{Arc, Wait};
 use std::thread::{Threads, for_each_mut};
-use stream_history::{AppendFault, History, Journal, Looked, Pass, PublishFault};
+use stream_history::{AppendFault, Front, History, Journal, Looked, Pass, PublishFault};
 
 /// More looks than a test needs until all streams have ended.
 const LOOKS: u32 = 10_000_000;
 
 /// A history of so many streams and readers that takes so many entries, its passes, and its
 /// queries.
-fn shared_history(
+pub(crate) fn shared_history(
     rt: &impl Abort,
     alloc: Global,
     streams: u32,
@@ -34,7 +34,9 @@ fn shared_history(
 ) -> (History, Vec<Pass>, Arc<Vec<QueryDef>>)
     requires streams { (1 ≤ streams) × (streams ≤ 64) }
     requires readers { readers ≤ 64 }
-    requires cap { (1 ≤ cap) × (cap ≤ 2 ^ 30) }
+    requires cap { (1 ≤ cap) × (cap ≤ 2 ^ 61) }
+    ensures cap { result.0.terms.cap ≡ cap }
+    ensures readers { result.0.readers ≡ readers }
     ensures streams { result.0.terms.streams ≡ streams }
     ensures count { result.0.turns.passes ≡ 1 + streams + readers }
     ensures passes { result.1.items
@@ -52,7 +54,12 @@ fn shared_history(
 }
 
 /// Appends a tuple that lets time pass.
-fn write<R: Wait>(rt: &R, history: &History, pass: &mut Pass, time: u32) -> Result<u64, AppendFault>
+pub(crate) fn write<R: Wait>(
+    rt: &R,
+    history: &History,
+    pass: &mut Pass,
+    time: u32,
+) -> Result<u64, AppendFault>
     requires { IsOpenPass history.now pass.old }
     ensures open { IsOpenPass history.now pass.new }
     ensures number { pass.new.number ≡ pass.old.number }
@@ -149,6 +156,28 @@ fn sleep_from<R: Wait>(rt: &R, history: &History, looked: Looked, wanted: u64) -
     true
 }
 
+/// The entries from the first on, of a history that keeps all of them.
+fn after<R: Wait>(
+    rt: &R,
+    alloc: Global,
+    history: &History,
+    pass: &mut Pass,
+) -> Result<Front, Memory>
+    requires { IsFeedingPass history.now pass.old }
+    ensures pass { HasSeen history.now pass.old pass.new }
+    ensures entries { IfOk result (λ front.
+        front.entries.items ≡ take 256 (drop 0 (entries pass.new.seen))) }
+    ensures length { IfOk result (λ front. front.length ≡ length (entries pass.new.seen)) }
+    ensures all_ended { IfOk result (λ front.
+        IsTrue front.all_ended ↔ AllEnded history.now.terms.streams pass.new.seen) }
+    ensures heard { IfOk result (λ front. front.heard ≡ pass.new.seen) }
+{
+    match history.after(rt, alloc, pass, 0)? {
+        Some(front) => Ok(front),
+        None => Err(Memory),
+    }
+}
+
 /// How many entries the engine gets from the first on, how many there are, and whether all streams
 /// have ended.
 fn get<R: Wait>(
@@ -160,7 +189,7 @@ fn get<R: Wait>(
     requires { IsFeedingPass history.now pass.old }
     ensures { IsFeedingPass history.now pass.new }
 {
-    let front = history.after(rt, alloc, pass, 0).ok()?;
+    let front = after(rt, alloc, history, pass).ok()?;
     Some((front.entries.len(), front.length, front.all_ended))
 }
 
@@ -179,7 +208,7 @@ fn publish<R: Wait>(
     ensures published { IfOk result (λ position. published pass.new.mine ≡ position) }
     ensures refused { OnErr result (published pass.new.mine ≡ published pass.old.mine) }
 {
-    let front = history.after(rt, alloc, pass, 0)?;
+    let front = after(rt, alloc, history, pass)?;
     let view = plain_view(alloc, queries, &front.entries)?;
     let position = view.position();
     match history.publish(rt, pass, view) {
@@ -372,7 +401,7 @@ fn sleep_at<R: Wait>(rt: &R, alloc: Global, history: &History, pass: &mut Pass, 
     ensures feeds { IsFeedingPass history.now pass.new }
     ensures mine { pass.new.mine ≡ pass.old.mine }
 {
-    let Ok(front) = history.after(rt, alloc, pass, 0) else {
+    let Ok(front) = after(rt, alloc, history, pass) else {
         return false;
     };
     let is_all = front.length == count;
@@ -499,7 +528,7 @@ fn journal_of<R: Threads + Wait + Abort + Sync>(
 /// How many entries are of the stream, each at the time that counts those before.
 fn in_order(journal: &Journal, stream: u32) -> u64 {
     let mut next = 0;
-    for entry in journal.entries() {
+    for entry in journal.entries_from(journal.base()) {
         if entry.stream == stream && entry.tuple.time == next {
             next += 1;
         }
@@ -586,7 +615,7 @@ fn hears_an_entry<R: Wait>(
     ensures engine { IsFeedingPass history.now engine.new }
     ensures stream { IsOpenPass history.now stream.new }
 {
-    let Ok(front) = history.after(rt, alloc, engine, 0) else {
+    let Ok(front) = after(rt, alloc, history, engine) else {
         return false;
     };
     let appended = write(rt, history, stream, 1) == Ok(1);

@@ -93,9 +93,11 @@ fn view_of(alloc: Global, journal: &Journal) -> Result<Arc<View>, Memory>
     ensures { IfOk result (λ view.
         IsViewOf journal.now.terms.queries (entries journal.now.lines) view.value) }
 {
-    // Its contract says that the journal keeps its limits.
-    let _length = journal.length();
-    plain_view(alloc, journal.queries(), journal.entries())
+    // A journal that keeps all its entries has no more.
+    if journal.base() != 0 || journal.length() > 1 << 30 {
+        return Err(Memory);
+    }
+    plain_view(alloc, journal.queries(), journal.entries_from(0))
 }
 
 /// Publishes the view over the entries.
@@ -119,7 +121,8 @@ fn shut(journal: &mut Journal)
 /// Whether the history tells that it has one entry, which was published.
 fn tells_one_entry(journal: &Journal) -> bool {
     let one = (journal.length() == 1) & (journal.published() == 1);
-    one & (journal.entries().len() == 1) & (journal.view().position() == 1)
+    let there = journal.entries_from(journal.base()).len();
+    one & (there == 1) & (journal.view().position() == 1)
 }
 
 /// Whether a history refuses what it should, and tells of its streams what it should.

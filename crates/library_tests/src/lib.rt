@@ -10,7 +10,11 @@ mod history;
 #[cfg(test)]
 mod journal;
 #[cfg(test)]
+mod list;
+#[cfg(test)]
 mod names;
+#[cfg(test)]
+mod room;
 #[cfg(test)]
 mod tree;
 #[cfg(test)]

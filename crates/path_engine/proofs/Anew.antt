@@ -16,15 +16,18 @@ pub record IsFed (queries : List CompiledValue) (entries : List Entry) (engine :
   pub done : List Entry
   pub parts : done ++ rest ≡ entries
   pub stands : StandsFor engine done
+  pub counted : engine.position ≡ length done
 
 -- before the first front
 pub none_fed : (entries : List Entry) (engine : EngineValue) (rest : List Entry) →
-    StandsFor engine [] → rest ≡ entries → IsFed engine.queries entries engine rest
-none_fed entries engine rest stands is = record {
+    StandsFor engine [] → engine.position ≡ 0 → rest ≡ entries →
+    IsFed engine.queries entries engine rest
+none_fed entries engine rest stands starts is = record {
   queries_kept = refl;
   done = [];
   parts = is;
   stands = stands;
+  counted = starts;
 }
 
 -- the next front isn't too long
@@ -34,7 +37,7 @@ pub front_fits : (queries : List CompiledValue) (entries : List Entry) (engine :
 front_fits queries entries engine rest front later is begins short =
     omega (
       arith,
-      is.stands.counted,
+      is.counted,
       ap (λ (all : List Entry). length all) is.parts,
       length-append is.done rest,
       ap (λ (all : List Entry). length all) begins,
@@ -53,15 +56,28 @@ more_fed queries entries old new rest front later answers is begins feeds same =
   parts = append_assoc is.done front later
       ∙ (ap (λ (all : List Entry). is.done ++ all) (sym begins) ∙ is.parts);
   stands = feeds.stands is.done is.stands;
+  counted = omega (arith, feeds.position, is.counted, length-append is.done front);
 }
 
 -- after the last front
+all_done : (queries : List CompiledValue) (entries : List Entry) (engine : EngineValue)
+    (rest : List Entry) (is : IsFed queries entries engine rest) → length rest ≡ 0 →
+    is.done ≡ entries
+all_done queries entries engine rest is none =
+    let nothing : rest ≡ [] = nil_from_length rest none in
+    sym (append-nil is.done)
+    ∙ (ap (λ (all : List Entry). is.done ++ all) (sym {A = List Entry} nothing) ∙ is.parts)
+
 pub all_fed : (queries : List CompiledValue) (entries : List Entry) (engine : EngineValue)
     (rest : List Entry) → IsFed queries entries engine rest → length rest ≡ 0 →
     StandsFor engine entries
 all_fed queries entries engine rest is none =
-    let nothing : rest ≡ [] = nil_from_length rest none in
-    subst (StandsFor engine)
-    (sym (append-nil is.done)
-    ∙ (ap (λ (all : List Entry). is.done ++ all) (sym {A = List Entry} nothing) ∙ is.parts))
-    is.stands
+    subst (StandsFor engine) (all_done queries entries engine rest is none) is.stands
+
+-- as many as there are
+pub all_counted : (queries : List CompiledValue) (entries : List Entry) (engine : EngineValue)
+    (rest : List Entry) → IsFed queries entries engine rest → length rest ≡ 0 →
+    engine.position ≡ length entries
+all_counted queries entries engine rest is none =
+    is.counted
+    ∙ ap (λ (all : List Entry). length all) (all_done queries entries engine rest is none)

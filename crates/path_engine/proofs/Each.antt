@@ -21,55 +21,55 @@ use Rattle.path_engine.specs.Front.{HaveAnswered}
 use Rattle.path_engine.specs.Keeping.{AreForestsFor}
 use Rattle.query_index.specs.Keeping.{KeepsForest}
 
--- each query has its index over the history
-abbrev pub AreIndexes : List Entry → List (List ℕ) → List CompiledValue → List IndexValue → Type 0
-AreIndexes history names queries indexes =
-    AllZip (λ query index. IsIndexFor query history names index) queries indexes
+-- each query has its index over the history, which was fed so many entries
+abbrev pub AreIndexes : List Entry → ℕ → List (List ℕ) → List CompiledValue → List IndexValue → Type 0
+AreIndexes history fed names queries indexes =
+    AllZip (λ query index. IsIndexFor query history fed names index) queries indexes
 
 abbrev pub HaveHistories : List (List ℕ) → List CompiledValue → List IndexValue → Type 0
 HaveHistories names queries indexes =
     AllZip (λ query index. HasHistory query names index) queries indexes
 
-pub have_histories : (history : List Entry) (names : List (List ℕ))
-    (queries : List CompiledValue) (indexes : List IndexValue) → length history ≤ 2 ^ 30 →
-    AreIndexes history names queries indexes → HaveHistories names queries indexes
-have_histories history names [] [] short are = tt
-have_histories history names [] (index ∷ indexes) short are = absurd are
-have_histories history names (query ∷ queries) [] short are = absurd are
-have_histories history names (query ∷ queries) (index ∷ indexes) short are = (
-  record { history = history; short = short; is = are.0 },
-  have_histories history names queries indexes short are.1,
+pub have_histories : (history : List Entry) (fed : ℕ) (names : List (List ℕ))
+    (queries : List CompiledValue) (indexes : List IndexValue) → fed ≤ 2 ^ 30 →
+    AreIndexes history fed names queries indexes → HaveHistories names queries indexes
+have_histories history fed names [] [] short are = tt
+have_histories history fed names [] (index ∷ indexes) short are = absurd are
+have_histories history fed names (query ∷ queries) [] short are = absurd are
+have_histories history fed names (query ∷ queries) (index ∷ indexes) short are = (
+  record { history = history; fed = fed; short = short; is = are.0 },
+  have_histories history fed names queries indexes short are.1,
 )
 
 -- more names get numbers
-pub more_named : MoreNamesKeepIndexes → (history : List Entry) (names more : List (List ℕ))
+pub more_named : MoreNamesKeepIndexes → (history : List Entry) (fed : ℕ) (names more : List (List ℕ))
     (queries : List CompiledValue) (indexes : List IndexValue) → KeepsNumbers names more →
-    AreIndexes history names queries indexes → AreIndexes history more queries indexes
-more_named law history names more [] [] keeps are = tt
-more_named law history names more [] (index ∷ indexes) keeps are = absurd are
-more_named law history names more (query ∷ queries) [] keeps are = absurd are
-more_named law history names more (query ∷ queries) (index ∷ indexes) keeps are = (
-  law query history names more index keeps are.0,
-  more_named law history names more queries indexes keeps are.1,
+    AreIndexes history fed names queries indexes → AreIndexes history fed more queries indexes
+more_named law history fed names more [] [] keeps are = tt
+more_named law history fed names more [] (index ∷ indexes) keeps are = absurd are
+more_named law history fed names more (query ∷ queries) [] keeps are = absurd are
+more_named law history fed names more (query ∷ queries) (index ∷ indexes) keeps are = (
+  law query history fed names more index keeps are.0,
+  more_named law history fed names more queries indexes keeps are.1,
 )
 
 -- ---- what was answered
 
-pub each_stands : (names : List (List ℕ)) (entry : Entry) (history : List Entry) (number : ℕ)
+pub each_stands : (names : List (List ℕ)) (entry : Entry) (history : List Entry) (fed number : ℕ)
     (queries : List CompiledValue) (olds news : List IndexValue) (events : List NumberedEvent) →
-    AreIndexes history names queries olds →
+    AreIndexes history fed names queries olds →
     HaveAnswered names entry number queries olds news events →
-    AreIndexes (history ++ entry ∷ []) names queries news
-each_stands names entry history number [] [] [] events are answered = tt
-each_stands names entry history number [] [] (new ∷ news) events are answered = absurd answered
-each_stands names entry history number [] (old ∷ olds) news events are answered = absurd are
-each_stands names entry history number (query ∷ queries) [] news events are answered = absurd are
-each_stands names entry history number (query ∷ queries) (old ∷ olds) [] events are answered =
+    AreIndexes (history ++ entry ∷ []) (fed + 1) names queries news
+each_stands names entry history fed number [] [] [] events are answered = tt
+each_stands names entry history fed number [] [] (new ∷ news) events are answered = absurd answered
+each_stands names entry history fed number [] (old ∷ olds) news events are answered = absurd are
+each_stands names entry history fed number (query ∷ queries) [] news events are answered = absurd are
+each_stands names entry history fed number (query ∷ queries) (old ∷ olds) [] events are answered =
     absurd answered
-each_stands names entry history number (query ∷ queries) (old ∷ olds) (new ∷ news) events are
+each_stands names entry history fed number (query ∷ queries) (old ∷ olds) (new ∷ news) events are
     answered = (
-      answered.2.stands history are.0,
-      each_stands names entry history (number + 1) queries olds news answered.1 are.1 answered.3,
+      answered.2.stands history fed are.0,
+      each_stands names entry history fed (number + 1) queries olds news answered.1 are.1 answered.3,
     )
 
 -- by names, events of two lists are those of the one and of the other
@@ -79,25 +79,25 @@ named_both : (names : List (List ℕ)) (events own others : List NumberedEvent) 
 named_both names events own others are =
     ap (map (named names)) are ∙ map-append (named names) own others
 
-pub each_events : (names : List (List ℕ)) (entry : Entry) (history : List Entry) (number : ℕ)
+pub each_events : (names : List (List ℕ)) (entry : Entry) (history : List Entry) (fed number : ℕ)
     (queries : List CompiledValue) (olds news : List IndexValue) (events : List NumberedEvent) →
-    AreIndexes history names queries olds →
+    AreIndexes history fed names queries olds →
     HaveAnswered names entry number queries olds news events →
     AreEventsUnder number (map (λ (each : CompiledValue). each.def) queries) history
     (history ++ entry ∷ []) (map (named names) events)
-each_events names entry history number [] [] [] events are answered =
+each_events names entry history fed number [] [] [] events are answered =
     ap (map (named names)) {x = events} {y = []} answered
-each_events names entry history number [] [] (new ∷ news) events are answered = absurd answered
-each_events names entry history number [] (old ∷ olds) news events are answered = absurd are
-each_events names entry history number (query ∷ queries) [] news events are answered = absurd are
-each_events names entry history number (query ∷ queries) (old ∷ olds) [] events are answered =
+each_events names entry history fed number [] [] (new ∷ news) events are answered = absurd answered
+each_events names entry history fed number [] (old ∷ olds) news events are answered = absurd are
+each_events names entry history fed number (query ∷ queries) [] news events are answered = absurd are
+each_events names entry history fed number (query ∷ queries) (old ∷ olds) [] events are answered =
     absurd answered
-each_events names entry history number (query ∷ queries) (old ∷ olds) (new ∷ news) events are
+each_events names entry history fed number (query ∷ queries) (old ∷ olds) (new ∷ news) events are
     answered = (
       map (named names) answered.0,
       map (named names) answered.1,
-      answered.2.events history are.0,
-      each_events names entry history (number + 1) queries olds news answered.1 are.1 answered.3,
+      answered.2.events history fed are.0,
+      each_events names entry history fed (number + 1) queries olds news answered.1 are.1 answered.3,
       named_both names events answered.0 answered.1 answered.4,
     )
 
@@ -118,21 +118,21 @@ each_keeps names entry number (query ∷ queries) (old ∷ olds) (new ∷ news) 
   each_keeps names entry (number + 1) queries olds news answered.1 answered.3,
 )
 
-pub each_forests : (names : List (List ℕ)) (entry : Entry) (history : List Entry) (number : ℕ)
+pub each_forests : (names : List (List ℕ)) (entry : Entry) (history : List Entry) (fed number : ℕ)
     (queries : List CompiledValue) (olds news : List IndexValue) (events : List NumberedEvent) →
-    AreIndexes history names queries olds →
+    AreIndexes history fed names queries olds →
     HaveAnswered names entry number queries olds news events →
     AreForestsFor queries (history ++ entry ∷ []) names (map forest_of news)
-each_forests names entry history number [] [] [] events are answered = tt
-each_forests names entry history number [] [] (new ∷ news) events are answered = absurd answered
-each_forests names entry history number [] (old ∷ olds) news events are answered = absurd are
-each_forests names entry history number (query ∷ queries) [] news events are answered = absurd are
-each_forests names entry history number (query ∷ queries) (old ∷ olds) [] events are answered =
+each_forests names entry history fed number [] [] [] events are answered = tt
+each_forests names entry history fed number [] [] (new ∷ news) events are answered = absurd answered
+each_forests names entry history fed number [] (old ∷ olds) news events are answered = absurd are
+each_forests names entry history fed number (query ∷ queries) [] news events are answered = absurd are
+each_forests names entry history fed number (query ∷ queries) (old ∷ olds) [] events are answered =
     absurd answered
-each_forests names entry history number (query ∷ queries) (old ∷ olds) (new ∷ news) events are
+each_forests names entry history fed number (query ∷ queries) (old ∷ olds) (new ∷ news) events are
     answered = (
-      (answered.2.forest history are.0, (answered.2.stands history are.0).indexed),
-      each_forests names entry history (number + 1) queries olds news answered.1 are.1 answered.3,
+      (answered.2.forest history fed are.0, (answered.2.stands history fed are.0).indexed),
+      each_forests names entry history fed (number + 1) queries olds news answered.1 are.1 answered.3,
     )
 
 pub each_numbers : (names : List (List ℕ)) (entry : Entry) (number : ℕ)

@@ -11,12 +11,13 @@ use Rattle.rpq_model.specs.QueryEvents.{AreEventsUnder}
 use Rattle.rpq_model.proofs.EachEntry.{each_as_many}
 use Rattle.delta_forest.specs.Forest.{ForestValue}
 use Rattle.answer_rows.specs.Answers.{Answer}
-use Rattle.answer_view.specs.View.{AreRowsOf, IsViewOf, ViewValue}
+use Rattle.answer_view.specs.View.{AreRowsOf, ViewValue}
 use Rattle.query_file.specs.Compiled.{CompiledValue}
 use Rattle.query_index.specs.Keeping.{KeepsForest}
 use Rattle.path_engine.specs.Engine.{EngineValue, StandsFor, definitions, forests}
 use Rattle.path_engine.specs.Feeding.{Feeds, FeedsFront}
 use Rattle.path_engine.specs.Keeping.{BringsNoName}
+use Rattle.path_engine.specs.Views.{IsViewAt}
 use Rattle.path_engine.specs.declared.fault.FeedFault.{FeedFault}
 use Rattle.path_engine.specs.declared.fault.FeedFault.TheVariants.{Spent}
 use Rattle.path_engine.proofs.Each.{AreIndexes, zip_map}
@@ -64,15 +65,15 @@ fed_one old new entry lists own known stands is feeds =
     }
 
 -- the rows of each query make the view
-pub view_of : (engine : EngineValue) (history : List Entry) (rows : List (List Answer))
-    (view : ViewValue) → StandsFor engine history →
-    view ≡ record { position = engine.position; rows = rows } →
+pub view_of : (engine : EngineValue) (history : List Entry) (position : ℕ)
+    (rows : List (List Answer)) (view : ViewValue) →
+    view ≡ record { position = position; rows = rows } →
     AllZip (λ (query : CompiledValue) (own : List Answer).
     AreRowsOf (path_query query.def) history own) engine.queries rows →
-    IsViewOf (definitions engine) history view
-view_of engine history rows view stands is all =
-    subst (IsViewOf (definitions engine) history) (sym is) (record {
-      position = stands.counted;
+    IsViewAt position (definitions engine) history view
+view_of engine history position rows view is all =
+    subst (IsViewAt position (definitions engine) history) (sym is) (record {
+      says = refl;
       rows = zip_map (λ (query : CompiledValue). query.def)
           (λ (query : Query) (own : List Answer). AreRowsOf (path_query query) history own)
           engine.queries rows all;
@@ -80,11 +81,12 @@ view_of engine history rows view stands is all =
 
 -- an engine that was made
 pub starts : (engine : EngineValue) → engine.position ≡ 0 → engine.spent ≡ false →
-    engine.names ≡ [] → AreIndexes [] [] engine.queries engine.indexes → StandsFor engine []
+    engine.names ≡ [] → AreIndexes [] 0 [] engine.queries engine.indexes → StandsFor engine []
 starts engine position unspent names indexes = record {
   unspent = unspent;
-  counted = position;
   few_names = omega (arith, ap (λ (all : List (List ℕ)). length all) names);
-  indexes = subst (λ (all : List (List ℕ)). AreIndexes [] all engine.queries engine.indexes)
-      (sym {A = List (List ℕ)} names) indexes;
+  indexes = subst (λ (fed : ℕ). AreIndexes [] fed engine.names engine.queries engine.indexes)
+      (sym position)
+      (subst (λ (all : List (List ℕ)). AreIndexes [] 0 all engine.queries engine.indexes)
+      (sym {A = List (List ℕ)} names) indexes);
 }

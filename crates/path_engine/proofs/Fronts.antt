@@ -176,21 +176,33 @@ one_more names (first ∷ entries) entry number query old middle new (one ∷ ow
   one_more names entries entry number query answered.0 middle new owns own answered.2 has,
 )
 
+-- what was fed after no entry, and after one and then more
+fed_none : (fed : ℕ) → fed ≡ fed + 0
+fed_none fed = omega arith
+
+fed_more : (fed more : ℕ) → fed + 1 + more ≡ fed + suc more
+fed_more fed more = omega arith
+
 -- the index is that of the history with the entries behind
 pub all_stands : (names : List (List ℕ)) (entries : List Entry) (number : ℕ)
-    (query : CompiledValue) (old new : IndexValue) (owns : List (List NumberedEvent)) (history : List Entry) →
-    HasAnsweredAll names entries number query old new owns →
-    IsIndexFor query history names old → IsIndexFor query (history ++ entries) names new
-all_stands names [] number query old new [] history answered is =
-    subst (λ (h : List Entry). IsIndexFor query h names new) (sym (append-nil history))
-    (subst (IsIndexFor query history names) (sym {A = IndexValue} answered) is)
-all_stands names [] number query old new (own ∷ owns) history answered is = absurd answered
-all_stands names (entry ∷ entries) number query old new [] history answered is = absurd answered
-all_stands names (entry ∷ entries) number query old new (own ∷ owns) history answered is =
-    subst (λ (h : List Entry). IsIndexFor query h names new)
+    (query : CompiledValue) (old new : IndexValue) (owns : List (List NumberedEvent))
+    (history : List Entry) (fed : ℕ) → HasAnsweredAll names entries number query old new owns →
+    IsIndexFor query history fed names old →
+    IsIndexFor query (history ++ entries) (fed + length entries) names new
+all_stands names [] number query old new [] history fed answered is =
+    subst (λ (h : List Entry). IsIndexFor query h (fed + 0) names new) (sym (append-nil history))
+    (subst (λ (count : ℕ). IsIndexFor query history count names new) (fed_none fed)
+    (subst (IsIndexFor query history fed names) (sym {A = IndexValue} answered) is))
+all_stands names [] number query old new (own ∷ owns) history fed answered is = absurd answered
+all_stands names (entry ∷ entries) number query old new [] history fed answered is = absurd answered
+all_stands names (entry ∷ entries) number query old new (own ∷ owns) history fed answered is =
+    subst (λ (h : List Entry). IsIndexFor query h (fed + suc (length entries)) names new)
     (append_assoc history (entry ∷ []) entries)
-    (all_stands names entries number query answered.0 new owns (history ++ entry ∷ []) answered.2
-    (answered.1.stands history is))
+    (subst (λ (count : ℕ).
+    IsIndexFor query ((history ++ entry ∷ []) ++ entries) count names new)
+    (fed_more fed (length entries))
+    (all_stands names entries number query answered.0 new owns (history ++ entry ∷ []) (fed + 1)
+    answered.2 (answered.1.stands history fed is)))
 
 -- before the entry at this place the index is that of a history
 pub history_at : (names : List (List ℕ)) (entries : List Entry) (place number : ℕ)
@@ -200,14 +212,10 @@ pub history_at : (names : List (List ℕ)) (entries : List Entry) (place number 
     HasHistory query names new
 history_at names entries place number query old new owns has inside answered = record {
   history = has.history ++ take place entries;
-  short = omega (
-    arith,
-    has.short,
-    inside,
-    length-append has.history (take place entries),
-    length-take-le place entries (omega (arith, inside)),
-  );
-  is = all_stands names (take place entries) number query old new owns has.history answered has.is;
+  fed = has.fed + length (take place entries);
+  short = omega (arith, has.short, inside, length-take-le place entries (omega (arith, inside)));
+  is = all_stands names (take place entries) number query old new owns has.history has.fed answered
+      has.is;
 }
 
 -- ---- a query beside others
@@ -444,53 +452,57 @@ gathered names entries (query ∷ queries) (old ∷ olds) (new ∷ news) events 
 
 -- ---- what was answered
 
-pub front_stands : (names : List (List ℕ)) (entries : List Entry) (history : List Entry)
+pub front_stands : (names : List (List ℕ)) (entries : List Entry) (history : List Entry) (fed : ℕ)
     (queries : List CompiledValue) (olds news : List IndexValue) (events : List (List NumberedEvent)) →
-    AreIndexes history names queries olds →
+    AreIndexes history fed names queries olds →
     HaveAnsweredAll names entries 0 queries olds news events →
-    AreIndexes (history ++ entries) names queries news
-front_stands names [] history queries olds news [] are answered =
-    subst (λ (h : List Entry). AreIndexes h names queries news) (sym (append-nil history))
-    (subst (AreIndexes history names queries) (sym {A = List IndexValue} answered) are)
-front_stands names [] history queries olds news (own ∷ events) are answered = absurd answered
-front_stands names (entry ∷ entries) history queries olds news [] are answered = absurd answered
-front_stands names (entry ∷ entries) history queries olds news (own ∷ events) are answered =
-    subst (λ (h : List Entry). AreIndexes h names queries news)
+    AreIndexes (history ++ entries) (fed + length entries) names queries news
+front_stands names [] history fed queries olds news [] are answered =
+    subst (λ (h : List Entry). AreIndexes h (fed + 0) names queries news) (sym (append-nil history))
+    (subst (λ (count : ℕ). AreIndexes history count names queries news) (fed_none fed)
+    (subst (AreIndexes history fed names queries) (sym {A = List IndexValue} answered) are))
+front_stands names [] history fed queries olds news (own ∷ events) are answered = absurd answered
+front_stands names (entry ∷ entries) history fed queries olds news [] are answered = absurd answered
+front_stands names (entry ∷ entries) history fed queries olds news (own ∷ events) are answered =
+    subst (λ (h : List Entry). AreIndexes h (fed + suc (length entries)) names queries news)
     (append_assoc history (entry ∷ []) entries)
-    (front_stands names entries (history ++ entry ∷ []) queries answered.0 news events
-    (each_stands names entry history 0 queries olds answered.0 own are answered.1) answered.2)
+    (subst (λ (count : ℕ).
+    AreIndexes ((history ++ entry ∷ []) ++ entries) count names queries news)
+    (fed_more fed (length entries))
+    (front_stands names entries (history ++ entry ∷ []) (fed + 1) queries answered.0 news events
+    (each_stands names entry history fed 0 queries olds answered.0 own are answered.1) answered.2))
 
-pub front_events : (names : List (List ℕ)) (entries : List Entry) (history : List Entry)
+pub front_events : (names : List (List ℕ)) (entries : List Entry) (history : List Entry) (fed : ℕ)
     (queries : List CompiledValue) (olds news : List IndexValue) (events : List (List NumberedEvent)) →
-    AreIndexes history names queries olds →
+    AreIndexes history fed names queries olds →
     HaveAnsweredAll names entries 0 queries olds news events →
     AreAllEventsFrom (map (λ (each : CompiledValue). each.def) queries) history entries
     (map (map (named names)) events)
-front_events names [] history queries olds news [] are answered = tt
-front_events names [] history queries olds news (own ∷ events) are answered = absurd answered
-front_events names (entry ∷ entries) history queries olds news [] are answered = absurd answered
-front_events names (entry ∷ entries) history queries olds news (own ∷ events) are answered = (
-  each_events names entry history 0 queries olds answered.0 own are answered.1,
-  front_events names entries (history ++ entry ∷ []) queries answered.0 news events
-      (each_stands names entry history 0 queries olds answered.0 own are answered.1) answered.2,
+front_events names [] history fed queries olds news [] are answered = tt
+front_events names [] history fed queries olds news (own ∷ events) are answered = absurd answered
+front_events names (entry ∷ entries) history fed queries olds news [] are answered = absurd answered
+front_events names (entry ∷ entries) history fed queries olds news (own ∷ events) are answered = (
+  each_events names entry history fed 0 queries olds answered.0 own are answered.1,
+  front_events names entries (history ++ entry ∷ []) (fed + 1) queries answered.0 news events
+      (each_stands names entry history fed 0 queries olds answered.0 own are answered.1) answered.2,
 )
 
 -- with each entry the forests keep what they have, and then they are those of the history with it
-pub front_keeps : (names : List (List ℕ)) (entries : List Entry) (history : List Entry)
+pub front_keeps : (names : List (List ℕ)) (entries : List Entry) (history : List Entry) (fed : ℕ)
     (queries : List CompiledValue) (olds news : List IndexValue) (events : List (List NumberedEvent)) →
-    AreIndexes history names queries olds →
+    AreIndexes history fed names queries olds →
     HaveAnsweredAll names entries 0 queries olds news events →
     KeepForestsThrough entries queries names history (map forest_of olds) (map forest_of news)
-front_keeps names [] history queries olds news [] are answered =
+front_keeps names [] history fed queries olds news [] are answered =
     ap (map forest_of) {x = news} {y = olds} answered
-front_keeps names [] history queries olds news (own ∷ events) are answered = absurd answered
-front_keeps names (entry ∷ entries) history queries olds news [] are answered = absurd answered
-front_keeps names (entry ∷ entries) history queries olds news (own ∷ events) are answered = (
+front_keeps names [] history fed queries olds news (own ∷ events) are answered = absurd answered
+front_keeps names (entry ∷ entries) history fed queries olds news [] are answered = absurd answered
+front_keeps names (entry ∷ entries) history fed queries olds news (own ∷ events) are answered = (
   map forest_of answered.0,
   each_keeps names entry 0 queries olds answered.0 own answered.1,
-  each_forests names entry history 0 queries olds answered.0 own are answered.1,
-  front_keeps names entries (history ++ entry ∷ []) queries answered.0 news events
-      (each_stands names entry history 0 queries olds answered.0 own are answered.1) answered.2,
+  each_forests names entry history fed 0 queries olds answered.0 own are answered.1,
+  front_keeps names entries (history ++ entry ∷ []) (fed + 1) queries answered.0 news events
+      (each_stands names entry history fed 0 queries olds answered.0 own are answered.1) answered.2,
 )
 
 all_more : {A : Type 0} (P : A → Type 0) (x : A) (xs : List A) → P x → All P xs → All P (x ∷ xs)
@@ -569,29 +581,28 @@ all_ends_more names more queries (entry ∷ entries) (own ∷ ends) keeps are = 
 
 -- ---- the engine
 
--- the indexes over some short history, by the numbers of more names
+-- the indexes over some history, by the numbers of more names
 pub histories_for : MoreNamesKeepIndexes → (engine : EngineValue) (history : List Entry)
     (names : List (List ℕ)) (more : ℕ) → StandsFor engine history →
     engine.position + more ≤ 2 ^ 30 → KeepsNumbers engine.names names →
     AllZip (λ (query : CompiledValue) (index : IndexValue). HasHistoryFor more query names index)
     engine.queries engine.indexes
 histories_for law engine history names more stands short kept =
-    are_for history names more engine.queries engine.indexes
-    (omega (arith, stands.counted, short))
-    (more_named law history engine.names names engine.queries engine.indexes kept
+    are_for history engine.position names more engine.queries engine.indexes short
+    (more_named law history engine.position engine.names names engine.queries engine.indexes kept
     stands.indexes)
   where
-    are_for : (history : List Entry) (names : List (List ℕ)) (more : ℕ)
-        (queries : List CompiledValue) (indexes : List IndexValue) → length history + more ≤ 2 ^ 30 →
-        AreIndexes history names queries indexes →
+    are_for : (history : List Entry) (fed : ℕ) (names : List (List ℕ)) (more : ℕ)
+        (queries : List CompiledValue) (indexes : List IndexValue) → fed + more ≤ 2 ^ 30 →
+        AreIndexes history fed names queries indexes →
         AllZip (λ (query : CompiledValue) (index : IndexValue). HasHistoryFor more query names index)
         queries indexes
-    are_for history names more [] [] short are = tt
-    are_for history names more [] (index ∷ indexes) short are = absurd are
-    are_for history names more (query ∷ queries) [] short are = absurd are
-    are_for history names more (query ∷ queries) (index ∷ indexes) short are = (
-      record { history = history; short = short; is = are.0 },
-      are_for history names more queries indexes short are.1,
+    are_for history fed names more [] [] short are = tt
+    are_for history fed names more [] (index ∷ indexes) short are = absurd are
+    are_for history fed names more (query ∷ queries) [] short are = absurd are
+    are_for history fed names more (query ∷ queries) (index ∷ indexes) short are = (
+      record { history = history; fed = fed; short = short; is = are.0 },
+      are_for history fed names more queries indexes short are.1,
     )
 
 module _ (law : MoreNamesKeepIndexes) (old new : EngineValue) (entries : List Entry)
@@ -602,33 +613,36 @@ module _ (law : MoreNamesKeepIndexes) (old new : EngineValue) (entries : List En
     (answered : HaveAnsweredAll new.names entries 0 old.queries old.indexes new.indexes events)
   where
     over : (history : List Entry) → StandsFor old history →
-        AreIndexes history new.names old.queries old.indexes
+        AreIndexes history old.position new.names old.queries old.indexes
     over history stands =
-        more_named law history old.names new.names old.queries old.indexes kept stands.indexes
+        more_named law history old.position old.names new.names old.queries old.indexes kept
+        stands.indexes
 
     pub front_fed_stands : (history : List Entry) → StandsFor old history →
         StandsFor new (history ++ entries)
     front_fed_stands history stands = record {
       unspent = unspent;
-      counted = omega (arith, position, stands.counted, length-append history entries);
-      few_names = omega (arith, grown, stands.few_names, length-append history entries);
-      indexes = subst (λ (each : List CompiledValue).
-          AreIndexes (history ++ entries) new.names each new.indexes) (sym queries)
-          (front_stands new.names entries history old.queries old.indexes new.indexes events
-          (over history stands) answered);
+      few_names = omega (arith, grown, stands.few_names, position);
+      indexes = subst (λ (fed : ℕ).
+          AreIndexes (history ++ entries) fed new.names new.queries new.indexes) (sym position)
+          (subst (λ (each : List CompiledValue).
+          AreIndexes (history ++ entries) (old.position + length entries) new.names each new.indexes)
+          (sym queries)
+          (front_stands new.names entries history old.position old.queries old.indexes new.indexes
+          events (over history stands) answered));
     }
 
     front_fed_events : (history : List Entry) → StandsFor old history →
         AreAllEventsFrom (definitions old) history entries (map (map (named new.names)) events)
     front_fed_events history stands =
-        front_events new.names entries history old.queries old.indexes new.indexes events
-        (over history stands) answered
+        front_events new.names entries history old.position old.queries old.indexes new.indexes
+        events (over history stands) answered
 
     front_fed_keeps : (history : List Entry) → StandsFor old history →
         KeepForestsThrough entries old.queries new.names history (forests old) (forests new)
     front_fed_keeps history stands =
-        front_keeps new.names entries history old.queries old.indexes new.indexes events
-        (over history stands) answered
+        front_keeps new.names entries history old.position old.queries old.indexes new.indexes
+        events (over history stands) answered
 
     front_fed_numbers :
         All (λ (own : List Event). All (λ (e : Event). e.query < length old.queries) own)

@@ -6,4 +6,5 @@ mod Feeding
 mod Fronts
 mod Dealing
 mod Anew
+mod Alike
 mod Staying

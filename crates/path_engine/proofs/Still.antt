@@ -48,7 +48,7 @@ forests_set (first ∷ rest) (suc place) old new old_is inside same =
 -- nothing was done yet
 pub all_still : (queries : List CompiledValue) (names : List (List ℕ)) (indexes : List IndexValue) →
     StandStill queries names indexes indexes
-all_still queries names indexes = record { forests = refl; stand = λ history are. are }
+all_still queries names indexes = record { forests = refl; stand = λ history fed are. are }
 
 module _ (queries : List CompiledValue) (names : List (List ℕ)) (olds current : List IndexValue)
     (place : ℕ) (query : CompiledValue) (old new : IndexValue) (inside : place < length queries)
@@ -59,10 +59,11 @@ module _ (queries : List CompiledValue) (names : List (List ℕ)) (olds current 
       StandStill queries names olds (set current place new)
   still_more so_far = record {
     forests = forests_set current place old new old_is within still.forest ∙ so_far.forests;
-    stand = λ history are.
-        zip_set (λ (each : CompiledValue) (index : IndexValue). IsIndexFor each history names index)
-        queries current place query old new (so_far.stand history are) query_is old_is inside
-        (still.stands history);
+    stand = λ history fed are.
+        zip_set
+        (λ (each : CompiledValue) (index : IndexValue). IsIndexFor each history fed names index)
+        queries current place query old new (so_far.stand history fed are) query_is old_is inside
+        (still.stands history fed);
   }
 
   pub histories_more : HaveHistories names queries current →
@@ -80,9 +81,8 @@ pub engine_still : (engine : EngineValue) (news : List IndexValue) →
     StandsFor engine history → StandsFor (record engine { indexes = news }) history
 engine_still engine news still history stands = record {
   unspent = stands.unspent;
-  counted = stands.counted;
   few_names = stands.few_names;
-  indexes = still.stand history stands.indexes;
+  indexes = still.stand history engine.position stands.indexes;
 }
 
 -- there are as many

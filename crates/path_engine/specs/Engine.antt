@@ -8,8 +8,9 @@ use Rattle.query_file.specs.Compiled.{CompiledValue}
 use Rattle.query_index.specs.Index.{IsIndexFor}
 use Rattle.query_index.specs.IndexValue.{IndexValue}
 
--- the queries of an engine; how many entries it answered; whether memory ran out, after which it
--- answers none until it is rebuilt; the names that have numbers; and for each query its index
+-- the queries of an engine; how many entries it was fed since it was made or rebuilt; whether
+-- memory ran out, after which it answers none until it is rebuilt; the names that have numbers; and
+-- for each query its index
 pub record EngineValue : Type 0 where
   pub queries : List CompiledValue
   pub position : ℕ
@@ -25,11 +26,11 @@ definitions engine = map (λ each. each.def) engine.queries
 abbrev pub forests : EngineValue → List ForestValue
 forests engine = map (λ (each : IndexValue). each.forest) engine.indexes
 
--- the engine stands for the history: it isn't spent, it answered each of the entries, at most two
--- names got a number with each, and it holds each query's index over them
+-- the engine stands for the history: it isn't spent, at most two names got a number with each entry
+-- that it was fed, and it holds each query's index over the history
 pub record StandsFor (engine : EngineValue) (history : List Entry) : Type 0 where
   pub unspent : engine.spent ≡ false
-  pub counted : engine.position ≡ length history
-  pub few_names : length engine.names ≤ 2 * length history
-  pub indexes : AllZip (λ query index. IsIndexFor query history engine.names index)
+  pub few_names : length engine.names ≤ 2 * engine.position
+  pub indexes : AllZip
+      (λ query index. IsIndexFor query history engine.position engine.names index)
       engine.queries engine.indexes

@@ -10,7 +10,7 @@ use Rattle.path_engine.specs.Keeping.{BringsNoName, KeepForestsThrough, KeepsPla
 -- the engine answered the entry by these events: of each history that it stood for these are the
 -- events of the entry, and now it stands for the history with the entry behind; it keeps what it
 -- has of names and trees, and numbers no name in vain; each event has the number of a query, and
--- one entry more was answered
+-- one entry more was fed
 pub record Feeds (old : EngineValue) (entry : Entry) (new : EngineValue) (answer : List Event)
     : Type 0 where
   pub stands : (history : List Entry) → StandsFor old history →
@@ -26,7 +26,7 @@ pub record Feeds (old : EngineValue) (entry : Entry) (new : EngineValue) (answer
 -- history that it stood for these are the events of each entry over the history with the entries
 -- before it, now it stands for the history with all entries behind, and with each entry it keeps
 -- what it has of trees; it keeps the numbers of names, and numbers none where no entry brings one;
--- each event has the number of a query, and as many entries more were answered
+-- each event has the number of a query, and as many entries more were fed
 pub record FeedsFront (old : EngineValue) (entries : List Entry) (new : EngineValue)
     (answers : List (List Event)) : Type 0 where
   pub stands : (history : List Entry) → StandsFor old history → StandsFor new (history ++ entries)

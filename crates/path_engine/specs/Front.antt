@@ -13,12 +13,13 @@ use Rattle.query_index.specs.Index.{IsIndexFor}
 use Rattle.query_index.specs.IndexValue.{IndexValue}
 use Rattle.path_engine.specs.declared.front.Share.{Share}
 
--- the index is that of the query over some history that is short with so many entries more
+-- the index is that of the query over some history, and was fed few entries with so many more
 pub record HasHistoryFor (more : ℕ) (query : CompiledValue) (names : List (List ℕ))
     (index : IndexValue) : Type 0 where
   pub history : List Entry
-  pub short : length history + more ≤ 2 ^ 30
-  pub is : IsIndexFor query history names index
+  pub fed : ℕ
+  pub short : fed + more ≤ 2 ^ 30
+  pub is : IsIndexFor query history fed names index
 
 -- the entry was answered for each of these queries, the first of which has this number
 abbrev pub HaveAnswered : List (List ℕ) → Entry → ℕ → List CompiledValue → List IndexValue →

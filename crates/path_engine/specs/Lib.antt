@@ -9,3 +9,5 @@ pub mod Parts
 pub mod Sound
 pub mod Showing
 pub mod FaultTexts
+pub mod Views
+pub mod Alike

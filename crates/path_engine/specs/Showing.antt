@@ -11,6 +11,6 @@ pub record StandStill (queries : List CompiledValue) (names : List (List ℕ))
     (olds news : List IndexValue) : Type 0 where
   pub forests : map (λ (index : IndexValue). index.forest) news
       ≡ map (λ (index : IndexValue). index.forest) olds
-  pub stand : (history : List Entry) →
-      AllZip (λ query index. IsIndexFor query history names index) queries olds →
-      AllZip (λ query index. IsIndexFor query history names index) queries news
+  pub stand : (history : List Entry) (fed : ℕ) →
+      AllZip (λ query index. IsIndexFor query history fed names index) queries olds →
+      AllZip (λ query index. IsIndexFor query history fed names index) queries news

@@ -6,13 +6,14 @@ ghost use Rattle.std.specs.Prelude.{slice_get};
 ghost use Rattle.std.specs.List.{AllZip};
 ghost use Rattle.rpq_base.specs.declared.data.Entry.{Entry as EntryTaken};
 ghost use Rattle.rpq_model.specs.Query.{path_query};
-ghost use Rattle.answer_view.specs.View.{AreRowsOf, IsViewOf};
+ghost use Rattle.answer_view.specs.View.{AreRowsOf};
 ghost use Rattle.end_events.specs.Named.{named_lists, HaveAllNames};
 ghost use Rattle.query_file.specs.Compiled.{CompiledValue};
 ghost use Rattle.query_index.specs.Index.{IsForestFor};
 ghost use Rattle.query_index.specs.Paths.{ShowsPair};
 ghost use Rattle.path_engine.specs.Engine.{StandsFor, definitions, forests};
 ghost use Rattle.path_engine.specs.Feeding.{Feeds, FeedsFront, Spends};
+ghost use Rattle.path_engine.specs.Views.{IsViewAt};
 ghost use Rattle.path_engine.specs.declared.fault.FeedFault.{FeedFault as WhyNot};
 
 use crate::ends::ends_for_all;
@@ -40,15 +41,15 @@ use std::thread::Threads;
 
 /// Some queries over a history that grows by one entry at a time. Queries are numbered from 0.
 ///
-/// Contracts see its queries, the number of entries that it answered, whether it is spent, and what
-/// it keeps of the history, of which only `StandsFor` speaks. Where memory runs out, it is spent,
-/// and answers no entry until it is rebuilt.
+/// Contracts see its queries, the number of entries that it was fed since it was made or rebuilt,
+/// whether it is spent, and what it keeps of the history, of which only `StandsFor` speaks. Where
+/// memory runs out, it is spent, and answers no entry until it is rebuilt.
 pub struct Engine {
     alloc: Global,
     queries: Vec<Compiled>,
     /// The labels of the queries, with their numbers.
     labels: LabelTable,
-    /// The number of entries that were answered.
+    /// The number of entries that were fed since the engine was made or rebuilt.
     position: u64,
     /// Whether an entry was begun and not answered to its end.
     spent: bool,
@@ -283,6 +284,7 @@ impl Engine {
     ) -> Result<(), Memory>
         requires short { length entries.now ≤ 2 ^ 30 }
         ensures stands { OnOk result (StandsFor self.new entries.now) }
+        ensures position { OnOk result (self.new.position ≡ length entries.now) }
         ensures queries { self.new.queries ≡ self.old.queries }
         ensures memory { OnErr result (Spends self.old self.new) }
     {
@@ -305,6 +307,7 @@ impl Engine {
     ) -> Result<(), Memory>
         requires short { length entries.now ≤ 2 ^ 30 }
         ensures stands { OnOk result (StandsFor self.new entries.now) }
+        ensures position { OnOk result (self.new.position ≡ length entries.now) }
         ensures queries { self.new.queries ≡ self.old.queries }
     {
         self.start_anew()?;
@@ -314,6 +317,7 @@ impl Engine {
     /// Gives back what the engine held, and makes it stand for the empty history.
     fn start_anew(&mut self) -> Result<(), Memory>
         ensures stands { OnOk result (StandsFor self.new []) }
+        ensures position { OnOk result (self.new.position ≡ 0) }
         ensures queries { self.new.queries ≡ self.old.queries }
     {
         self.spent = true; // until there are new indexes
@@ -326,7 +330,7 @@ impl Engine {
         Ok(())
     }
 
-    /// Spends the engine, which counts this many entries as answered then.
+    /// Spends the engine, which counts this many entries as fed then.
     fn spend_at(&mut self, position: u64)
         requires short { position ≤ 2 ^ 30 }
         ensures spent { self.new.spent ≡ true }
@@ -359,25 +363,26 @@ impl Engine {
         self.spent
     }
 
-    /// The number of entries that were answered.
+    /// The number of entries that were fed since the engine was made or rebuilt.
     pub fn position(&self) -> u64
         ensures { result ≡ self.now.position }
     {
         self.position
     }
 
-    /// The answers of each query with their ends. The only error is [`Memory`], and the engine goes
-    /// on after it.
+    /// The answers of each query with their ends, as those at this position: it is the caller who
+    /// knows how long the history is for which the engine stands. The only error is [`Memory`], and
+    /// the engine goes on after it.
     ///
     /// The view shares its rows with the views before it. For each vertex whose tree was touched
     /// since the last one it goes through that tree, and puts the targets there in the order of
     /// their names. The first view goes through all trees, and one after an error may do so. An
     /// engine that shows views before its first name alone keeps no rows, and pays nothing for
     /// them.
-    pub fn view(&mut self) -> Result<Arc<View>, Memory>
+    pub fn view(&mut self, position: u64) -> Result<Arc<View>, Memory>
         requires unspent { self.old.spent ≡ false }
         ensures view { (history : List EntryTaken) → StandsFor self.old history →
-            IfOk result (λ view. IsViewOf (definitions self.old) history view.value) }
+            IfOk result (λ view. IsViewAt position (definitions self.old) history view.value) }
         ensures stands { (history : List EntryTaken) → StandsFor self.old history →
             StandsFor self.new history }
         ensures queries { self.new.queries ≡ self.old.queries }
@@ -387,7 +392,6 @@ impl Engine {
         ensures forests { forests self.new ≡ forests self.old }
     {
         let alloc = self.alloc;
-        let position = self.position;
         let rows = self.rows()?;
         View::new(alloc, position, rows)
     }

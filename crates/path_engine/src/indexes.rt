@@ -12,7 +12,7 @@ use std::alloc::Global;
 /// The indexes of the queries over the empty history.
 pub(crate) fn indexes_of(alloc: Global, queries: &[Compiled]) -> Result<Vec<QueryIndex>, Memory>
     ensures { IfOk result (λ indexes.
-        AllZip (λ query index. IsIndexFor query [] [] index) queries.now indexes.items) }
+        AllZip (λ query index. IsIndexFor query [] 0 [] index) queries.now indexes.items) }
 {
     let mut indexes = Vec::with_capacity(alloc, queries.len())?;
     for query in queries {

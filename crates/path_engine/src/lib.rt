@@ -10,6 +10,10 @@
 //! [`Engine::rebuild`] evaluates the entries of a history from nothing, whatever the engine stood
 //! for before.
 //!
+//! Of the history itself an engine keeps nothing but what its queries see. So it stands for every
+//! history that they see alike ([`stands_for_alike`]), and counts no more than the entries that it
+//! was fed: at which position of a history it stands its caller knows.
+//!
 //! Each query has an index of its own (`query_index`): an engine holds one for each query, gives
 //! each the entries one after another, and puts together what they answer.
 //!
@@ -38,4 +42,4 @@ mod showing;
 
 pub use engine::Engine;
 pub use fault::FeedFault;
-pub use laws::nodes_stay;
+pub use laws::{nodes_stay, stands_for_alike};

@@ -23,8 +23,10 @@ pub(crate) fn feed_all<R: Threads + Sync, G: Gate>(
     workers: Workers,
 ) -> Result<(), Memory>
     requires starts { StandsFor engine.old [] }
+    requires position { engine.old.position ≡ 0 }
     requires short { length entries.now ≤ 2 ^ 30 }
     ensures stands { OnOk result (StandsFor engine.new entries.now) }
+    ensures position { OnOk result (engine.new.position ≡ length entries.now) }
     ensures queries { engine.new.queries ≡ engine.old.queries }
 {
     for front in entries.chunks(FRONT) {

@@ -1,6 +1,6 @@
 //! The answers of each query with their ends, as rows.
 
-ghost use Rattle.std.specs.Prelude.{◌≡◌, List, length, IfOk};
+ghost use Rattle.std.specs.Prelude.{◌≡◌, ℕ, List, length, IfOk};
 ghost use Rattle.std.specs.List.{AllZip};
 ghost use Rattle.rpq_base.specs.declared.data.Entry.{Entry as EntryTaken};
 ghost use Rattle.rpq_model.specs.Query.{path_query};
@@ -29,8 +29,8 @@ pub(crate) fn rows_of_each(
     requires indexes { AllZip (λ query index. HasHistory query names.now index)
         queries.now indexes.old }
     ensures kept { StandStill queries.now names.now indexes.old indexes.new }
-    ensures rows { IfOk result (λ rows. (history : List EntryTaken) →
-        AllZip (λ query index. IsIndexFor query history names.now index)
+    ensures rows { IfOk result (λ rows. (history : List EntryTaken) (fed : ℕ) →
+        AllZip (λ query index. IsIndexFor query history fed names.now index)
         queries.now indexes.old →
         AllZip (λ query own. AreRowsOf (path_query query.def) history own)
         queries.now rows.items) }

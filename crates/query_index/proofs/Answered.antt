@@ -1,5 +1,5 @@
 -- An entry, answered for one query.
-use Rattle.std.proofs.Common.{◌≡◌, ℕ, ◌<◌, max, Bool, true, false, List, [], ◌∷◌, ◌++◌, map, length, Option, Some, None}
+use Rattle.std.proofs.Common.{◌≡◌, ℕ, ◌+◌, ◌<◌, max, Bool, true, false, List, [], ◌∷◌, ◌++◌, map, length, Option, Some, None}
 use Rattle.std.proofs.Common.{refl, sym, ap, subst, ◌∙◌}
 use Rattle.std.specs.Prelude.{◌↔◌, IfOk, Result, Ok, Err, Vec}
 use Rattle.std.specs.Global.{Global}
@@ -65,7 +65,7 @@ module _ (laws : Laws) (names : List (List ℕ)) (entry : Entry) (query : Compil
   abbrev middle : ForestValue
   middle = stepped.middle
 
-  module _ (history : List Entry) (was : IsIndexFor query history names old) where
+  module _ (history : List Entry) (fed : ℕ) (was : IsIndexFor query history fed names old) where
     abbrev tick : Entry
     tick = tick_for entry
 
@@ -84,7 +84,7 @@ module _ (laws : Laws) (names : List (List ℕ)) (entry : Entry) (query : Compil
           (sym (stepped.expired.dfa ∙ was.automaton)) (compiled.automaton.accepts word);
       edges = middle.store;
       holds = (laws.follow.step query.def.window history tick names middle.dfa middle.store
-          (expired_by laws.follow query history names entry old new first second some was stepped
+          (expired_by laws.follow query history fed names entry old new first second some was stepped
           tick same_clock)).other (record {
             insert = λ edge inserts. let both : None ≡ Some edge = inserts in absurd cc;
             delete = λ edge deletes id has. let both : Tick ≡ Delete edge = deletes in absurd cc;
@@ -93,25 +93,26 @@ module _ (laws : Laws) (names : List (List ℕ)) (entry : Entry) (query : Compil
     }
 
     index_before : IsIndexOf query.def history names old.forest.dfa (kept old.forest)
-    index_before = is_index laws.best query history names old some compiled was
+    index_before = is_index laws.best query history fed names old some compiled was
 
     index_then : IsIndexOf query.def (history ++ entry ∷ []) names new.forest.dfa (kept new.forest)
     index_then =
-        index_after laws.follow query history names entry old new first second some was stepped
+        index_after laws.follow query history fed names entry old new first second some was stepped
         laws.best compiled
 
     new_names : HaveNames names new.forest
     new_names =
         have_names laws.keeps query.def (history ++ entry ∷ []) names new.forest index_then
 
-    pub after : IsIndexFor query (history ++ entry ∷ []) names new
+    pub after : IsIndexFor query (history ++ entry ∷ []) (fed + 1) names new
     after =
-        follows laws.follow query history names entry old new first second some was stepped
+        follows laws.follow query history fed names entry old new first second some was stepped
         new_names
 
     pub forest_after : IsForestFor query (history ++ entry ∷ []) names new.forest
     forest_after =
-        forest_for laws.best laws.keeps query (history ++ entry ∷ []) names new some compiled after
+        forest_for laws.best laws.keeps query (history ++ entry ∷ []) (fed + 1) names new some compiled
+        after
 
     old_names : HaveNames names old.forest
     old_names = was.rows.named
@@ -183,19 +184,20 @@ module _ (laws : Laws) (names : List (List ℕ)) (entry : Entry) (query : Compil
       AreEventsBetween number query.def.mode names start last (map (named names) events)) →
       All (HasNames names) events → HasAnswered names entry number query old new events
   answered number events has are have = record {
-    stands = λ history was. after history was;
-    forest = λ history was. forest_after history was;
-    events = λ history was.
-        events_are history was number (map (named names) events)
-        (are (start history was) (between history was) (last history was)
-        (first_changes history was) (second_changes history was));
+    stands = λ history fed was. after history fed was;
+    forest = λ history fed was. forest_after history fed was;
+    events = λ history fed was.
+        events_are history fed was number (map (named names) events)
+        (are (start history fed was) (between history fed was) (last history fed was)
+        (first_changes history fed was) (second_changes history fed was));
     keeps = keeps_forest laws.best names new.clock entry.tuple.time old.forest middle new.forest
-        first second has.is.indexed (after has.history has.is).indexed stepped.expired
+        first second has.is.indexed (after has.history has.fed has.is).indexed stepped.expired
         entry.tuple.act stepped.change stepped.suits stepped.changed;
-    numbers = numbers_are number query.def.mode names (start has.history has.is) (last has.history has.is)
-        (map (named names) events)
-        (are (start has.history has.is) (between has.history has.is) (last has.history has.is)
-        (first_changes has.history has.is) (second_changes has.history has.is));
+    numbers = numbers_are number query.def.mode names (start has.history has.fed has.is)
+        (last has.history has.fed has.is) (map (named names) events)
+        (are (start has.history has.fed has.is) (between has.history has.fed has.is)
+        (last has.history has.fed has.is) (first_changes has.history has.fed has.is)
+        (second_changes has.history has.fed has.is));
     have_names = have;
   }
 

@@ -267,31 +267,31 @@ not_counted Simple root vertex not_so =
 module _ (best : KeptIsBest) (tells : IndexTellsAnswers) (show : PathsShowAnswers)
     (query : CompiledValue) (names : List (List ℕ)) (index : IndexValue)
     (some : 0 < query.def.window.slide) (compiled : IsCompiled query) (pair : Pair) where
-  told : (history : List Entry) → IsIndexFor query history names index →
+  told : (history : List Entry) (fed : ℕ) → IsIndexFor query history fed names index →
       TellsAnswers query.def history names index.forest.dfa (kept index.forest)
-  told history is =
+  told history fed is =
       tells query.def history names index.forest.dfa (kept index.forest)
-      (is_index best query history names index some compiled is)
+      (is_index best query history fed names index some compiled is)
 
   -- a vertex without a number is in no answer
   pub none_unnumbered : ((root vertex : ℕ) → AreNumbersOf names pair.from pair.to root vertex → ⊥) →
-      (history : List Entry) → IsIndexFor query history names index →
+      (history : List Entry) (fed : ℕ) → IsIndexFor query history fed names index →
       IsAnswer (path_query query.def) history pair → ⊥
-  none_unnumbered none history is answer =
-      let found = (told history is).numbered pair answer in
+  none_unnumbered none history fed is answer =
+      let found = (told history fed is).numbered pair answer in
       none found.0 found.1 found.2
 
   module _ (root vertex : ℕ) (numbers : AreNumbersOf names pair.from pair.to root vertex) where
-    pair_told : (history : List Entry) → IsIndexFor query history names index →
+    pair_told : (history : List Entry) (fed : ℕ) → IsIndexFor query history fed names index →
         TellsOfPair query.def history pair index.forest.dfa (kept index.forest root vertex)
-    pair_told history is = (told history is).pairs pair root vertex numbers
+    pair_told history fed is = (told history fed is).pairs pair root vertex numbers
 
     pub none_counted : counts query.def.mode root vertex ≡ false →
-        (history : List Entry) → IsIndexFor query history names index →
+        (history : List Entry) (fed : ℕ) → IsIndexFor query history fed names index →
         IsAnswer (path_query query.def) history pair → ⊥
-    none_counted not_so history is answer =
+    none_counted not_so history fed is answer =
         let both = not_counted query.def.mode root vertex not_so in
-        (((pair_told history is).answer.0 answer).0 both.0)
+        (((pair_told history fed is).answer.0 answer).0 both.0)
         (one_name names pair.from pair.to root numbers.0
         (numbers.1 ∙ ap (λ (each : ℕ). Some each) (sym both.1)))
 
@@ -302,18 +302,18 @@ module _ (best : KeptIsBest) (tells : IndexTellsAnswers) (show : PathsShowAnswer
 
     pub shows : counts query.def.mode root vertex ≡ true →
         (found : Option (Vec Edge Global)) → ShowsEnd names index.forest root vertex found →
-        (history : List Entry) → IsIndexFor query history names index →
+        (history : List Entry) (fed : ℕ) → IsIndexFor query history fed names index →
         ShowsPair query.def history pair found
-    shows counted None end history is =
+    shows counted None end history fed is =
         λ answer.
-        let final = ((pair_told history is).answer.0 answer).1 in
+        let final = ((pair_told history fed is).answer.0 answer).1 in
         end final.0 final.1
-    shows counted (Some path) end history is =
+    shows counted (Some path) end history fed is =
         show query.def history names index.forest.dfa index.forest.store pair root vertex
         end.state end.best.until path.items end.ids some
-        (is_index best query history names index some compiled is).words is.holds numbers
+        (is_index best query history fed names index some compiled is).words is.holds numbers
         end.numbers
         (path_by index.forest root vertex end.state end.best.until end.ids end.best.kept_is
         end.is_path)
         end.best.final
-        (((pair_told history is).until end.best.until).1 (may counted, end.best.end))
+        (((pair_told history fed is).until end.best.until).1 (may counted, end.best.end))

@@ -15,7 +15,7 @@ pub index_starts : StoresFollow → (query : CompiledValue) (index : IndexValue)
     index.clock.clock ≡ 0 → index.forest.dfa ≡ query.dfa → IsEmpty index.forest.store →
     index.forest.trees ≡ [] → IsIndexed index.forest → index.forest.broken ≡ false →
     index.forest.calls ≡ 0 → index.shown ≡ [] → index.stale ≡ Every →
-    IsIndexFor query [] [] index
+    IsIndexFor query [] 0 [] index
 index_starts follow query index size slide start automaton empty bare indexed unbroken calls shown
     stale = record {
       size = size;
@@ -30,7 +30,7 @@ index_starts follow query index size slide start automaton empty bare indexed un
     }
 
 pub more_named : StoresFollow → MoreNamesKeepIndexes
-more_named follow query history names more index keeps is = record {
+more_named follow query history fed names more index keeps is = record {
   size = is.size;
   slide = is.slide;
   time = is.time;

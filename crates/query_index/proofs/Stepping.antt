@@ -1,6 +1,6 @@
 -- An index follows its history: by the changes that an entry makes.
 use Rattle.std.proofs.Common.{◌≡◌, ℕ, ◌+◌, ◌<◌, ◌≤◌, max, false, List, [], ◌∷◌, ◌++◌, Option, Some, None}
-use Rattle.std.proofs.Common.{refl, sym, ap, subst, ◌∙◌, inl, inr, ⊎_elim, arith, length-append}
+use Rattle.std.proofs.Common.{refl, sym, ap, subst, ◌∙◌, inl, inr, ⊎_elim, arith}
 use Rattle.std.specs.Prelude.{◌↔◌}
 use Rattle.std.proofs.lemmas.Option.{same_Some}
 use Rattle.rpq_base.specs.declared.data.Edge.{Edge}
@@ -52,22 +52,22 @@ index_of best query history names forest some compiled automaton holds indexed =
 }
 
 -- what an engine holds for a query is an index of it
-pub is_index : KeptIsBest → (query : CompiledValue) (history : List Entry)
+pub is_index : KeptIsBest → (query : CompiledValue) (history : List Entry) (fed : ℕ)
     (names : List (List ℕ)) (index : IndexValue) → 0 < query.def.window.slide → IsCompiled query →
-    IsIndexFor query history names index →
+    IsIndexFor query history fed names index →
     IsIndexOf query.def history names index.forest.dfa (kept index.forest)
-is_index best query history names index some compiled is =
+is_index best query history fed names index some compiled is =
     index_of best query history names index.forest some compiled is.automaton is.holds is.indexed
 
 -- and its forest keeps the bests of the store
-pub forest_for : KeptIsBest → IndexKeepsBests → (query : CompiledValue) (history : List Entry)
+pub forest_for : KeptIsBest → IndexKeepsBests → (query : CompiledValue) (history : List Entry) (fed : ℕ)
     (names : List (List ℕ)) (index : IndexValue) → 0 < query.def.window.slide → IsCompiled query →
-    IsIndexFor query history names index → IsForestFor query history names index.forest
-forest_for best keeps query history names index some compiled is = record {
+    IsIndexFor query history fed names index → IsForestFor query history names index.forest
+forest_for best keeps query history fed names index some compiled is = record {
   automaton = is.automaton;
   bests = λ store store_is.
       keeps query.def history names index.forest.dfa (kept index.forest) store
-      (is_index best query history names index some compiled is) store_is;
+      (is_index best query history fed names index some compiled is) store_is;
 }
 
 -- a forest after a change that there may be
@@ -92,9 +92,9 @@ well (Some change) old new log indexed unbroken applied = record {
   calls = omega (arith, applied.calls);
 }
 
-module _ (follow : StoresFollow) (query : CompiledValue) (history : List Entry)
+module _ (follow : StoresFollow) (query : CompiledValue) (history : List Entry) (fed : ℕ)
     (names : List (List ℕ)) (entry : Entry) (old new : IndexValue) (first second : List EndChange)
-    (some : 0 < query.def.window.slide) (was : IsIndexFor query history names old)
+    (some : 0 < query.def.window.slide) (was : IsIndexFor query history fed names old)
     (stepped : HasStepped names entry old new first second) where
   abbrev window : WindowValue
   window = query.def.window
@@ -242,7 +242,7 @@ module _ (follow : StoresFollow) (query : CompiledValue) (history : List Entry)
       holds_after well_after.indexed
 
   -- and what the engine holds is that of this history, where what the forest keeps has names
-  pub follows : HaveNames names new.forest → IsIndexFor query (history ++ entry ∷ []) names new
+  pub follows : HaveNames names new.forest → IsIndexFor query (history ++ entry ∷ []) (fed + 1) names new
   follows named = record {
     size = size_is;
     slide = slide_is;
@@ -251,13 +251,7 @@ module _ (follow : StoresFollow) (query : CompiledValue) (history : List Entry)
     holds = holds_after;
     indexed = well_after.indexed;
     unbroken = well_after.unbroken;
-    few = omega (
-      arith,
-      well_after.calls,
-      stepped.expired.calls,
-      was.few,
-      length-append history (entry ∷ []),
-    );
+    few = omega (arith, well_after.calls, stepped.expired.calls, was.few);
     rows = rows_after query.def.mode names old new (well_after.dfa ∙ stepped.expired.dfa) named
         stepped.shown stepped.fresh was.rows;
   }

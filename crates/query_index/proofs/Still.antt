@@ -14,7 +14,7 @@ pub stands_still : (query : CompiledValue) (names : List (List ℕ)) (old new : 
     StandsStill query names old new
 stands_still query names old new clock forest rows = record {
   forest = forest;
-  stands = λ history is. record {
+  stands = λ history fed is. record {
     size = ap (λ (each : ClockValue). each.size) clock ∙ is.size;
     slide = ap (λ (each : ClockValue). each.slide) clock ∙ is.slide;
     time = ap (λ (each : ClockValue). each.clock) clock ∙ is.time;
@@ -32,6 +32,7 @@ pub history_still : (query : CompiledValue) (names : List (List ℕ)) (old new :
     StandsStill query names old new → HasHistory query names old → HasHistory query names new
 history_still query names old new still has = record {
   history = has.history;
+  fed = has.fed;
   short = has.short;
-  is = still.stands has.history has.is;
+  is = still.stands has.history has.fed has.is;
 }

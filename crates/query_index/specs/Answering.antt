@@ -1,5 +1,5 @@
 -- How an entry is answered for one query.
-use Rattle.std.specs.Prelude.{◌≡◌, ℕ, ◌^◌, ◌≤◌, List, [], ◌∷◌, ◌++◌, length, map, All}
+use Rattle.std.specs.Prelude.{◌≡◌, ℕ, ◌+◌, ◌^◌, ◌≤◌, List, [], ◌∷◌, ◌++◌, map, All}
 use Rattle.std.specs.Prelude.{Option, Some, None}
 use Rattle.rpq_base.specs.declared.data.Act.{Act}
 use Rattle.rpq_base.specs.declared.data.Act.TheVariants.{Insert, Delete, Tick}
@@ -26,23 +26,24 @@ IsEdgeFor names dfa (Delete edge) (Some id) = HasNumbers names dfa edge id
 IsEdgeFor names dfa (Delete edge) None = (id : EdgeId) → HasNumbers names dfa edge id → ⊥
 IsEdgeFor names dfa Tick id = Unit {0}
 
--- the index is that of the query over some short history
+-- the index is that of the query over some history, and was fed few entries
 pub record HasHistory (query : CompiledValue) (names : List (List ℕ)) (index : IndexValue)
     : Type 0 where
   pub history : List Entry
-  pub short : length history ≤ 2 ^ 30
-  pub is : IsIndexFor query history names index
+  pub fed : ℕ
+  pub short : fed ≤ 2 ^ 30
+  pub is : IsIndexFor query history fed names index
 
 -- the entry was answered for the query with this number: over each history of which the index was
--- that of the query, it is so over the history with the entry, and so is its forest; and these are
--- the events, by the numbers of names
+-- that of the query, it is so over the history with the entry, fed one more, and so is its forest;
+-- and these are the events, by the numbers of names
 pub record HasAnswered (names : List (List ℕ)) (entry : Entry) (number : ℕ)
     (query : CompiledValue) (old new : IndexValue) (own : List NumberedEvent) : Type 0 where
-  pub stands : (history : List Entry) → IsIndexFor query history names old →
-      IsIndexFor query (history ++ entry ∷ []) names new
-  pub forest : (history : List Entry) → IsIndexFor query history names old →
+  pub stands : (history : List Entry) (fed : ℕ) → IsIndexFor query history fed names old →
+      IsIndexFor query (history ++ entry ∷ []) (fed + 1) names new
+  pub forest : (history : List Entry) (fed : ℕ) → IsIndexFor query history fed names old →
       IsForestFor query (history ++ entry ∷ []) names new.forest
-  pub events : (history : List Entry) → IsIndexFor query history names old →
+  pub events : (history : List Entry) (fed : ℕ) → IsIndexFor query history fed names old →
       AreEvents (path_query query.def) number history (history ++ entry ∷ [])
       (map (named names) own)
   pub keeps : KeepsForest entry.tuple.act names old.forest new.forest

@@ -13,9 +13,9 @@ use Rattle.query_index.specs.IndexValue.{IndexValue}
 -- an index of a query over a history is one too once more names have numbers
 abbrev pub MoreNamesKeepIndexes : Type 0
 MoreNamesKeepIndexes =
-    (query : CompiledValue) (history : List Entry) (names more : List (List ℕ))
-    (index : IndexValue) → KeepsNumbers names more → IsIndexFor query history names index →
-    IsIndexFor query history more index
+    (query : CompiledValue) (history : List Entry) (fed : ℕ) (names more : List (List ℕ))
+    (index : IndexValue) → KeepsNumbers names more → IsIndexFor query history fed names index →
+    IsIndexFor query history fed more index
 
 -- a forest without trees is that of a query over a history only where no vertex is reached by the
 -- edges of the history's store

@@ -21,8 +21,8 @@ use Rattle.query_index.specs.Index.{IsIndexFor}
 pub record StandsStill (query : CompiledValue) (names : List (List ℕ)) (old new : IndexValue)
     : Type 0 where
   pub forest : new.forest ≡ old.forest
-  pub stands : (history : List Entry) → IsIndexFor query history names old →
-      IsIndexFor query history names new
+  pub stands : (history : List Entry) (fed : ℕ) → IsIndexFor query history fed names old →
+      IsIndexFor query history fed names new
 
 -- ---- stale roots; no public contract cites what follows
 

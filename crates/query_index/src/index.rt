@@ -47,7 +47,7 @@ impl QueryIndex {
     /// The index of the query over the empty history, to which no name has a number yet. It takes
     /// memory from the allocator, also later. The only error is [`Memory`].
     pub fn new(alloc: Global, query: &Compiled) -> Result<QueryIndex, Memory>
-        ensures { IfOk result (IsIndexFor query.now [] []) }
+        ensures { IfOk result (IsIndexFor query.now [] 0 []) }
     {
         let window = query.def.window;
         let clock = WindowClock::new(window.size, window.slide);
@@ -65,8 +65,8 @@ impl QueryIndex {
     /// The forest of the index, which is one of this query.
     pub fn forest(&self, query: &Compiled) -> &Forest
         ensures forest { result.now ≡ self.now.forest }
-        ensures is { (history : List EntryTaken) (names : List (List ℕ)) →
-            IsIndexFor query.now history names self.now →
+        ensures is { (history : List EntryTaken) (fed : ℕ) (names : List (List ℕ)) →
+            IsIndexFor query.now history fed names self.now →
             IsForestFor query.now history names result.now }
     {
         // these are called for their clauses

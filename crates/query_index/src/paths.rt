@@ -37,8 +37,8 @@ impl QueryIndex {
         to: &Name,
     ) -> Result<Option<Vec<Edge>>, Memory>
         requires { HasHistory query.now names.now self.now }
-        ensures { IfOk result (λ found. (history : List EntryTaken) →
-            IsIndexFor query.now history names.now self.now →
+        ensures { IfOk result (λ found. (history : List EntryTaken) (fed : ℕ) →
+            IsIndexFor query.now history fed names.now self.now →
             ShowsPair query.now.def history (record { from = from.now; to = to.now }) found) }
     {
         let mode = mode_of(query);

@@ -1,7 +1,7 @@
 //! The answers of a query with their ends, as rows. Its index keeps the rows, and those of stale
 //! roots alone are made anew.
 
-ghost use Rattle.std.specs.Prelude.{◌≡◌, ◌<◌, List, length, Contains, IfOk, OnOk, false};
+ghost use Rattle.std.specs.Prelude.{◌≡◌, ◌<◌, ℕ, List, length, Contains, IfOk, OnOk, false};
 ghost use Rattle.rpq_base.specs.declared.data.Entry.{Entry as EntryTaken};
 ghost use Rattle.rpq_model.specs.Query.{path_query};
 ghost use Rattle.answer_view.specs.View.{AreRowsOf};
@@ -43,8 +43,8 @@ impl QueryIndex {
         requires named { named ≡ length names.now }
         requires index { HasHistory query.now names.now self.old }
         ensures kept { StandsStill query.now names.now self.old self.new }
-        ensures rows { IfOk result (λ rows. (history : List EntryTaken) →
-            IsIndexFor query.now history names.now self.old →
+        ensures rows { IfOk result (λ rows. (history : List EntryTaken) (fed : ℕ) →
+            IsIndexFor query.now history fed names.now self.old →
             AreRowsOf (path_query query.now.def) history rows) }
     {
         let mode = mode_of(query);

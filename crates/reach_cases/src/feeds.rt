@@ -40,6 +40,7 @@ fn put_feed<R: Threads + Sync>(
 ) -> anyhow::Result<()>
     requires { StandsFor engine.old [] }
 {
+    ensure!(engine.position() < 1 << 20, "too many tuples before");
     ensure!(entries.len() <= MAX_TUPLES, "too many tuples");
     let context = Context {
         rt,

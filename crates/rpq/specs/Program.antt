@@ -12,6 +12,7 @@ use Rattle.rpq_words.specs.declared.settings.RunMode.{RunMode}
 use Rattle.rpq_words.specs.declared.settings.RunMode.TheVariants.{Check, Generate, Streams}
 use Rattle.rpq_words.specs.declared.settings.Settings.{Settings}
 use Rattle.rpq_words.specs.Settings.{settings, texts}
+use Rattle.rpq_words.specs.Views.{mode_of}
 use Rattle.rpq_text.specs.declared.ends.StartFault.{StartFault}
 use Rattle.rpq_text.specs.Statuses.{done_status, memory_status}
 use Rattle.run_start.specs.Start.{IsDecided, UsesFiles}
@@ -36,7 +37,7 @@ is_generated (Streams run) = false
 -- whether words of these settings, if they have any, ask for generated tuples
 abbrev pub makes_tuples : Option Settings → Bool
 makes_tuples None = false
-makes_tuples (Some given) = is_generated given.mode
+makes_tuples (Some given) = is_generated (mode_of given)
 
 -- one object, which counts the events of all queries and heard none yet
 abbrev pub IsOneTally : List ObjectValue → Type 0

@@ -10,7 +10,7 @@ use rpq_base::Memory;
 use rpq_io::{Context, Files, Gate};
 use rpq_run::run;
 use rpq_text::StartFault;
-use rpq_words::RunMode;
+use rpq_words::ModeRef;
 use run_start::settings_of;
 use standing::{Standing, Tally};
 use std::alloc::Global;
@@ -68,7 +68,7 @@ fn asks_for_tuples(alloc: Global, words: &[String]) -> Option<bool>
     ensures { IfSome result (λ is_wanted. is_wanted ≡ makes_tuples (settings (texts words.now))) }
 {
     match settings_of(alloc, words) {
-        Ok(chosen) => Some(matches!(chosen.mode, RunMode::Generate(_, _))),
+        Ok(chosen) => Some(matches!(chosen.mode(), ModeRef::Generate(_, _))),
         Err(StartFault::Words) => Some(false),
         Err(_) => None,
     }

@@ -1,7 +1,7 @@
 //! Words of command lines.
 
 use case_lines::{Fields, Output, words_of};
-use rpq_words::{FileWord, Input, RunMode, Settings, StreamSettings, WordsFault, read_words};
+use rpq_words::{FileWord, Input, ModeRef, Settings, StreamSettings, WordsFault, read_words};
 use std::alloc::Global;
 
 /// The settings of a command line, or why its words aren't taken.
@@ -24,16 +24,16 @@ fn put_settings(out: &mut Output, chosen: &Settings) -> anyhow::Result<()> {
     out.put(" ")?;
     put_word(out, &chosen.queries)?;
     out.put(" ")?;
-    put_streams(out, &chosen.mode)
+    put_streams(out, chosen.mode())
 }
 
 /// Puts the numbers and what was said yes or no to.
 fn put_choices(out: &mut Output, chosen: &Settings) -> anyhow::Result<()> {
     out.put_shown(&chosen.workers.number())?;
     out.put(" ")?;
-    out.put_shown(&chosen.history)?;
+    out.put_shown(&chosen.history_cap())?;
     out.put(" ")?;
-    put_mode(out, &chosen.mode)?;
+    put_mode(out, chosen.mode())?;
     out.put(" ")?;
     out.put_sign(chosen.is_two_way())?;
     out.put(" ")?;
@@ -41,12 +41,12 @@ fn put_choices(out: &mut Output, chosen: &Settings) -> anyhow::Result<()> {
 }
 
 /// Puts whether the queries are checked, and how many tuples are generated, or `-`.
-fn put_mode(out: &mut Output, mode: &RunMode) -> anyhow::Result<()> {
-    out.put_sign(matches!(mode, RunMode::Check(_)))?;
+fn put_mode(out: &mut Output, mode: ModeRef<'_>) -> anyhow::Result<()> {
+    out.put_sign(matches!(mode, ModeRef::Check(_)))?;
     out.put(" ")?;
     match mode {
-        RunMode::Generate(_directions, count) => out.put_shown(count),
-        RunMode::Check(_) | RunMode::Streams(_) => out.put("-"),
+        ModeRef::Generate(_directions, count) => out.put_shown(&count),
+        ModeRef::Check(_) | ModeRef::Streams(_) => out.put("-"),
     }
 }
 
@@ -69,11 +69,11 @@ fn put_file(out: &mut Output, word: Option<&FileWord>) -> anyhow::Result<()> {
 }
 
 /// Puts the words of the streams, or `-` where none is read.
-fn put_streams(out: &mut Output, mode: &RunMode) -> anyhow::Result<()> {
+fn put_streams(out: &mut Output, mode: ModeRef<'_>) -> anyhow::Result<()> {
     match mode {
-        RunMode::Check(_) | RunMode::Generate(_, _) => out.put("-"),
-        RunMode::Streams(StreamSettings::BothWays(names)) => put_words(out, names.as_slice()),
-        RunMode::Streams(StreamSettings::Forwards(run)) => match &run.input {
+        ModeRef::Check(_) | ModeRef::Generate(_, _) => out.put("-"),
+        ModeRef::Streams(StreamSettings::BothWays(names)) => put_words(out, names.as_slice()),
+        ModeRef::Streams(StreamSettings::Forwards(run)) => match &run.input {
             Input::Fresh(names) => put_words(out, names.as_slice()),
             Input::Resumed {
                 from: _from,

@@ -9,9 +9,10 @@
 //! - `positions EXPR`: its position automaton, or the fault.
 //! - `automaton EXPR`: the deterministic automaton: its labels, its rows with `-` for no step,
 //!   and `+` for each final state; or the fault.
-//! - `command WORDS`: the settings of a command line, the words with `;` between them: workers,
-//!   history, `+` for a check, tuples to generate, `+` for edges taken backwards, `+` for paths,
-//!   joins, asks, replies, the window to save, the saved window, queries, streams; or the fault.
+//! - `command WORDS`: the settings of a command line, the words with `;` between them: workers, the
+//!   cap of the history (2^61 for a run without end), `+` for a check, tuples to generate, `+` for
+//!   edges taken backwards, `+` for paths, joins, asks, replies, the window to save, the saved
+//!   window, queries, streams; or the fault.
 //! - `contained EXPR`: `yes` where its language has the property of containment, else `no` and the
 //!   least three words that show it; or the fault.
 //! - `file TEXT`: the queries of a queries file, `|` behind each: its name, the size and the slide

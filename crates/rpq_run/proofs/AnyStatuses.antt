@@ -14,15 +14,15 @@ use Rattle.rpq_io.specs.Counts.{CountsFault}
 use Rattle.rpq_model.specs.Query.{Query}
 use Rattle.query_file.specs.Laws.{OneOutcome, OneOutcomeOf, OneTwoWayOutcome}
 use Rattle.rpq_words.specs.declared.settings.Settings.{Settings}
-use Rattle.rpq_words.specs.Views.{paths_of, streams_of, two_way_of}
+use Rattle.rpq_words.specs.Views.{cap_of, paths_of, streams_of, two_way_of}
 use Rattle.ask_text.specs.Replies.{replies}
 use Rattle.stream_tuples.specs.declared.ends.StreamEnd.{StreamEnd}
 use Rattle.stream_tuples.specs.declared.ends.StreamEnd.TheVariants.{Whole, Line, LongLine}
 use Rattle.stream_tuples.specs.declared.ends.StreamEnd.TheVariants.{LongStream, Read, Full}
 use Rattle.stream_tuples.specs.declared.ends.StreamEnd.TheVariants.{Closed, Memory}
 use Rattle.stream_tuples.specs.History.{AreTuplesOfEnd, IsNumberOf, IsPrefix, own_tuples}
-use Rattle.stream_tuples.specs.Limits.{byte_limit}
-use Rattle.stream_tuples.specs.StreamText.{StreamTuples, stream_tuples, tuples_from, tuples_with}
+use Rattle.stream_tuples.specs.Limits.{byte_limit_of}
+use Rattle.stream_tuples.specs.StreamText.{StreamTuples, tuples_with}
 use Rattle.rpq_text.specs.declared.ends.SinkName.{SinkName}
 use Rattle.rpq_text.specs.declared.ends.SinkName.TheVariants.{Events, Replies, Save}
 use Rattle.rpq_text.specs.Statuses.{AreSomeSinks, all_sinks}
@@ -32,6 +32,7 @@ use Rattle.saved_window.specs.Saved.{saved}
 use Rattle.saved_window.specs.SavedText.{saved_text}
 use Rattle.saved_window.specs.Then.{left_of_both, faults_of_both}
 use Rattle.run_start.specs.Files.{HasQueries, ForQueries, stream_contents}
+use Rattle.run_start.specs.Texts.{tuples_within}
 use Rattle.rpq_run.specs.AnyStatus.{AnyStatus, IsFrontOf, IsUncut}
 use Rattle.rpq_run.specs.Failed.{failed_sinks}
 use Rattle.rpq_run.specs.Headline.{Told, IsTold, stream_texts}
@@ -104,21 +105,23 @@ failed_by P before after (inr none) counts changed = absurd (changed (counts.qui
 
 -- ---- fronts of a stream
 
--- of which no read failed
-front_taken : (text : List ℕ) (left : Option (List ℕ)) (tuples : List Tuple) (end : StreamEnd)
-    → (end ≡ Read → ⊥) → AreTuplesOfEnd byte_limit text left tuples end
-    → IsPrefix tuples (stream_tuples text).tuples
-front_taken text left tuples end read tied = by end read tied
+-- of which no read failed, where the history has at most so many entries
+front_taken : (cap : ℕ) (text : List ℕ) (left : Option (List ℕ)) (tuples : List Tuple)
+    (end : StreamEnd) → (end ≡ Read → ⊥)
+    → AreTuplesOfEnd (byte_limit_of cap) text left tuples end
+    → IsPrefix tuples (tuples_within cap text).tuples
+front_taken cap text left tuples end read tied = by end read tied
   where
-    all_taken : (last : StreamEnd) → tuples_from 1 byte_limit text ≡ tuples_with tuples last
-        → IsPrefix tuples (stream_tuples text).tuples
+    all_taken : (last : StreamEnd) → tuples_within cap text ≡ tuples_with tuples last
+        → IsPrefix tuples (tuples_within cap text).tuples
     all_taken last is = record {
       rest = [];
       cut = ap (λ (ts : StreamTuples). ts.tuples) is ∙ sym (append-nil tuples);
     }
 
-    by : (e : StreamEnd) → (e ≡ Read → ⊥) → AreTuplesOfEnd byte_limit text left tuples e
-        → IsPrefix tuples (stream_tuples text).tuples
+    by : (e : StreamEnd) → (e ≡ Read → ⊥)
+        → AreTuplesOfEnd (byte_limit_of cap) text left tuples e
+        → IsPrefix tuples (tuples_within cap text).tuples
     by Whole read tied = all_taken Whole tied.0
     by (Line number fault) read tied = all_taken (Line number fault) tied
     by (LongLine number) read tied = all_taken (LongLine number) tied
@@ -339,20 +342,22 @@ module _ {S K : Type 0} (means : Meanings S K) (given : Settings)
   -- the tuples of a stream of which no read failed
   in_order_in : (place : ℕ) (text : List ℕ) → slice_get (stream_texts told) place ≡ Some text
       → slice_get outcome.ends place ≢ Some Read
-      → IsPrefix (own_tuples (place + 1) outcome.history) (stream_tuples text).tuples
+      → IsPrefix (own_tuples (place + 1) outcome.history) (tuples_within told.limit text).tuples
   in_order_in place text at read =
       let file : slice_get (stream_contents given holds) place ≡ Some (Some text) =
       ap (λ (fs : List (Option (List ℕ))). slice_get fs place)
       (contents_are given holds told is.from is.streams)
       ∙ (slice_get-map (λ (bytes : List ℕ). Some bytes) (stream_texts told) place
       ∙ ap (option_map (λ (bytes : List ℕ). Some bytes)) at) in
-      let stream = stream_at (left_of_both means.left) (faults_of_both means.faults) given.history
+      let stream = stream_at (left_of_both means.left) (faults_of_both means.faults) (cap_of given)
       (stream_contents given holds) (stream_sources outcome.from outcome.sources) outcome.history
       outcome.ends runs.history.each_stream place (Some text) file in
-      front_taken text (left_of_both means.left stream.source)
+      subst (λ cap.
+      IsPrefix (own_tuples (place + 1) outcome.history) (tuples_within cap text).tuples) is.limit
+      (front_taken (cap_of given) text (left_of_both means.left stream.source)
       (own_tuples (place + 1) outcome.history) stream.end
       (λ failed. read (stream.end_is ∙ ap (λ (end : StreamEnd). Some end) failed))
-      stream.stream.tied
+      stream.stream.tied)
 
   as_many : length (streams_of given) ≡ length told.streams
   as_many = sym (length-map (streams_of given) holds)
@@ -397,6 +402,7 @@ module _ {S K : Type 0} (means : Meanings S K) (given : Settings)
         no_other = subst (λ n. All (λ (e : Entry). IsNumberOf n e.stream) outcome.history) as_many
             runs.history.no_other;
         few = omega (arith, runs.history.few, is.limit);
+        whole = λ capped. runs.history.whole (is.endless ∙ capped);
         short = runs.short;
         memory = runs.causes.memory;
         text = wrote.text;

@@ -34,6 +34,7 @@ check_outcome status =
     record {
       status = status;
       history = [];
+      base = 0;
       ends = [];
       sources = [];
       from = None;
@@ -43,12 +44,13 @@ check_outcome status =
     }
 
 -- it has no member in any list
-nothing_taken : {S K : Type 0} (status : ℕ) (history : List Entry) (ends : List StreamEnd)
-    (sources : List S) (sessions : List (List AnsweredValue)) → history ≡ [] → ends ≡ []
-    → sources ≡ []
+nothing_taken : {S K : Type 0} (status : ℕ) (history : List Entry) (base : ℕ)
+    (ends : List StreamEnd) (sources : List S) (sessions : List (List AnsweredValue))
+    → history ≡ [] → base ≡ 0 → ends ≡ [] → sources ≡ []
     → sessions ≡ [] → check_outcome {S = S} {K = K} status ≡ record {
       status = status;
       history = history;
+      base = base;
       ends = ends;
       sources = sources;
       from = None;
@@ -56,10 +58,11 @@ nothing_taken : {S K : Type 0} (status : ℕ) (history : List Entry) (ends : Lis
       replies = None;
       save = None;
     }
-nothing_taken status history ends sources sessions no_history no_end no_source no_session =
-    λ i. record {
+nothing_taken status history base ends sources sessions no_history none_gone no_end no_source
+    no_session = λ i. record {
       status = status;
       history = sym {A = List Entry} no_history i;
+      base = sym none_gone i;
       ends = sym {A = List StreamEnd} no_end i;
       sources = sym no_source i;
       from = None;
@@ -129,6 +132,7 @@ check_runs means two_way file queries sinks result status all kept has are told 
   understood = is_queries_file two_way file (definitions_of queries) has;
   nothing = record {
     no_history = refl;
+    none_gone = refl;
     no_stream = refl;
     no_session = refl;
     no_replies = refl;
@@ -170,9 +174,9 @@ check_runs means two_way file queries sinks result status all kept has are told 
 -- the same with what it answers in its lists
 pub runs_check : {S K T E : Type 0} (means : Meanings S K) (two_way : Bool)
     (file : Option (List ℕ)) (queries : List CompiledValue) (sinks : Sinks K)
-    (result : Result T E) (status : ℕ) (all : Objects) (history : List Entry)
+    (result : Result T E) (status : ℕ) (all : Objects) (history : List Entry) (base : ℕ)
     (ends : List StreamEnd) (sources : List S) (sessions : List (List AnsweredValue)) → history ≡ []
-    → ends ≡ [] → sources ≡ []
+    → base ≡ 0 → ends ≡ [] → sources ≡ []
     → sessions ≡ [] → LeavesObjects all
     → IfSome file (λ bytes. HasQueries two_way bytes
     (definitions_of queries))
@@ -186,6 +190,7 @@ pub runs_check : {S K T E : Type 0} (means : Meanings S K) (two_way : Bool)
     → RunsCheck means two_way file sinks all (record {
       status = status;
       history = history;
+      base = base;
       ends = ends;
       sources = sources;
       from = None;
@@ -193,9 +198,10 @@ pub runs_check : {S K T E : Type 0} (means : Meanings S K) (two_way : Bool)
       replies = None;
       save = None;
     })
-runs_check {S} {K} means two_way file queries sinks result status all history ends sources sessions
-    no_history no_end no_source no_session kept has compiled told status_is lines =
+runs_check {S} {K} means two_way file queries sinks result status all history base ends sources
+    sessions no_history none_gone no_end no_source no_session kept has compiled told status_is lines =
     subst (λ (outcome : Outcome S K). RunsCheck means two_way file sinks all outcome)
-    (nothing_taken status history ends sources sessions no_history no_end no_source no_session)
+    (nothing_taken status history base ends sources sessions no_history none_gone no_end no_source
+    no_session)
     (check_runs means two_way file queries sinks result status all kept has compiled told
     status_is lines)

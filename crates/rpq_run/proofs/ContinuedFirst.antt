@@ -8,7 +8,8 @@ use Rattle.std.proofs.lemmas.Option.{slice_get-map}
 use Rattle.join_file.specs.Joins.{JoinValue}
 use Rattle.rpq_base.specs.declared.data.Entry.{Entry}
 use Rattle.rpq_model.specs.Query.{Query}
-use Rattle.rpq_words.specs.Views.{streams_of, two_way_of}
+use Rattle.rpq_words.specs.Views.{cap_of, streams_of, two_way_of}
+use Rattle.stream_tuples.specs.Limits.{byte_limit_of}
 use Rattle.tuple_text.specs.Parts.{LineByParts}
 use Rattle.tuple_text.specs.Written.{IsStreamTuple}
 use Rattle.stream_tuples.specs.declared.ends.StreamEnd.{StreamEnd}
@@ -162,10 +163,10 @@ has_saved {S} {K} means run window one by_parts is no_write no_memory saved_is =
         ap (λ (files : List (Option (List ℕ))). slice_get files place)
         (contents_are run.given run.holds run.told is.told.from is.told.streams)
         ∙ (slice_get-map (λ (bytes : List ℕ). Some bytes) texts place ∙ ap (option_map (λ (bytes : List ℕ). Some bytes)) at) in
-        let stream = stream_at (left_of_both means.left) (faults_of_both means.faults) run.given.history
+        let stream = stream_at (left_of_both means.left) (faults_of_both means.faults) (cap_of run.given)
         (stream_contents run.given run.holds) (stream_sources run.outcome.from run.outcome.sources) history run.outcome.ends
         is.runs.history.each_stream place (Some text) file in
-        taken_in_stream by_parts text (left_of_both means.left stream.source) (own_tuples (place + 1) history) stream.end
+        taken_in_stream by_parts (byte_limit_of (cap_of run.given)) text (left_of_both means.left stream.source) (own_tuples (place + 1) history) stream.end
         stream.stream.tied
 
     as_many : length (streams_of run.given) ≡ length texts

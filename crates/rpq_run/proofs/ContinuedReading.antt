@@ -20,9 +20,9 @@ use Rattle.stream_tuples.specs.declared.ends.StreamEnd.{StreamEnd}
 use Rattle.stream_tuples.specs.declared.ends.StreamEnd.TheVariants.{Whole, Line, LongLine, LongStream}
 use Rattle.stream_tuples.specs.declared.ends.StreamEnd.TheVariants.{Read, Full, Closed, Memory}
 use Rattle.stream_tuples.specs.History.{AreTuplesOfEnd}
-use Rattle.stream_tuples.specs.Limits.{line_limit, byte_limit}
+use Rattle.stream_tuples.specs.Limits.{line_limit}
 use Rattle.stream_tuples.specs.StreamText.{StreamTuples, tuples_with, tuples_before, numbered, line_gives}
-use Rattle.stream_tuples.specs.StreamText.{tuples_of_lines, cut_end, tuples_from, stream_tuples}
+use Rattle.stream_tuples.specs.StreamText.{tuples_of_lines, cut_end, tuples_from}
 use Rattle.stream_tuples.proofs.StreamTexts.{first_gives, no_lines, within, beyond, cut_is, tuples_after}
 use Rattle.saved_window.specs.SavedText.{saved_text, SavedTextIsRead}
 use Rattle.rpq_run.specs.Continued.{IsNote}
@@ -158,39 +158,41 @@ all_lines (note ∷ notes) are =
 
 -- ---- saved tuples, and a stream behind them
 
--- the stream is whole, and all that is read are the saved tuples and then its own
-pub record IsReadBehind (tuples : List Tuple) (stream : List ℕ) (all : List Tuple) : Type 0 where
-  pub whole : (stream_tuples stream).end ≡ Whole
-  pub all_is : all ≡ tuples ++ (stream_tuples stream).tuples
+-- the stream is whole, and all that is read are the saved tuples and then its own; it has fewer
+-- bytes than this
+pub record IsReadBehind (limit : ℕ) (tuples : List Tuple) (stream : List ℕ) (all : List Tuple)
+    : Type 0 where
+  pub whole : (tuples_from 1 limit stream).end ≡ Whole
+  pub all_is : all ≡ tuples ++ (tuples_from 1 limit stream).tuples
 
 -- behind the lines that give nothing
-past_notes : LineByParts → (notes : List (List ℕ)) (text : List ℕ) (all : List Tuple) → All IsNote notes →
-    stream_tuples (text_of notes ++ text) ≡ tuples_with all Whole → stream_tuples text ≡ tuples_with all Whole
-past_notes by_parts notes text all are is =
-    let short = whole_is_short (text_of notes ++ text) 1 byte_limit all is in
-    let fits : length (text_of notes) ≤ byte_limit = omega (arith, short, length-append (text_of notes) text) in
-    let left = byte_limit - length (text_of notes) in
-    let less : left ≤ byte_limit = omega arith in
-    let after = tuples_after notes [] (all_lines notes are) (λ more end. notes_give by_parts notes more 1 end are) byte_limit text fits in
-    whole_moved text (length notes + 1) 1 left byte_limit all less (sym after ∙ is)
+past_notes : LineByParts → (limit : ℕ) (notes : List (List ℕ)) (text : List ℕ) (all : List Tuple) → All IsNote notes →
+    tuples_from 1 limit (text_of notes ++ text) ≡ tuples_with all Whole → tuples_from 1 limit text ≡ tuples_with all Whole
+past_notes by_parts limit notes text all are is =
+    let short = whole_is_short (text_of notes ++ text) 1 limit all is in
+    let fits : length (text_of notes) ≤ limit = omega (arith, short, length-append (text_of notes) text) in
+    let left = limit - length (text_of notes) in
+    let less : left ≤ limit = omega arith in
+    let after = tuples_after notes [] (all_lines notes are) (λ more end. notes_give by_parts notes more 1 end are) limit text fits in
+    whole_moved text (length notes + 1) 1 left limit all less (sym after ∙ is)
 
-pub read_behind : SavedTextIsRead → LineByParts → (notes : List (List ℕ)) (tuples : List Tuple) (stream : List ℕ) (all : List Tuple) →
-    All IsNote notes → All IsStreamTuple tuples →
-    stream_tuples ((text_of notes ++ saved_text tuples) ++ stream) ≡ tuples_with all Whole → IsReadBehind tuples stream all
-read_behind is_read by_parts notes tuples stream all are in_stream is =
+pub read_behind : SavedTextIsRead → LineByParts → (limit : ℕ) (notes : List (List ℕ)) (tuples : List Tuple) (stream : List ℕ)
+    (all : List Tuple) → All IsNote notes → All IsStreamTuple tuples →
+    tuples_from 1 limit ((text_of notes ++ saved_text tuples) ++ stream) ≡ tuples_with all Whole → IsReadBehind limit tuples stream all
+read_behind is_read by_parts limit notes tuples stream all are in_stream is =
     let both = saved_text tuples ++ stream in
-    let here = past_notes by_parts notes both all are
-    (ap stream_tuples (sym (append_assoc (text_of notes) (saved_text tuples) stream)) ∙ is) in
-    let short = whole_is_short both 1 byte_limit all here in
-    let fits : length (saved_text tuples) ≤ byte_limit = omega (arith, short, length-append (saved_text tuples) stream) in
-    let left = byte_limit - length (saved_text tuples) in
-    let less : left ≤ byte_limit = omega arith in
+    let here = past_notes by_parts limit notes both all are
+    (ap (tuples_from 1 limit) (sym (append_assoc (text_of notes) (saved_text tuples) stream)) ∙ is) in
+    let short = whole_is_short both 1 limit all here in
+    let fits : length (saved_text tuples) ≤ limit = omega (arith, short, length-append (saved_text tuples) stream) in
+    let left = limit - length (saved_text tuples) in
+    let less : left ≤ limit = omega arith in
     let rest = tuples_from (length tuples + 1) left stream in
-    let cut : tuples_before tuples rest ≡ tuples_with all Whole = sym ((is_read tuples in_stream).in_front stream fits) ∙ here in
+    let cut : tuples_before tuples rest ≡ tuples_with all Whole = sym ((is_read tuples in_stream).in_front limit stream fits) ∙ here in
     let ended : rest.end ≡ Whole = ap (λ (ts : StreamTuples). ts.end) cut in
     let whole : rest ≡ tuples_with rest.tuples Whole = ap (λ (e : StreamEnd). tuples_with rest.tuples e) ended in
-    let alone : stream_tuples stream ≡ tuples_with rest.tuples Whole =
-    whole_moved stream (length tuples + 1) 1 left byte_limit rest.tuples less whole in
+    let alone : tuples_from 1 limit stream ≡ tuples_with rest.tuples Whole =
+    whole_moved stream (length tuples + 1) 1 left limit rest.tuples less whole in
     record {
       whole = ap (λ (ts : StreamTuples). ts.end) alone;
       all_is = sym (ap (λ (ts : StreamTuples). ts.tuples) cut)
@@ -260,17 +262,17 @@ front_in_stream (tuple ∷ front) rest all =
     (front_in_stream front rest (All-tail IsStreamTuple tuple (front ++ rest) all))
 
 -- and so is each that is taken of it, however the stream ended
-pub taken_in_stream : LineByParts → (text : List ℕ) (left : Option (List ℕ)) (tuples : List Tuple) (end : StreamEnd) →
-    AreTuplesOfEnd byte_limit text left tuples end → All IsStreamTuple tuples
-taken_in_stream by_parts text left tuples end tied = by end tied
+pub taken_in_stream : LineByParts → (limit : ℕ) (text : List ℕ) (left : Option (List ℕ)) (tuples : List Tuple) (end : StreamEnd) →
+    AreTuplesOfEnd limit text left tuples end → All IsStreamTuple tuples
+taken_in_stream by_parts limit text left tuples end tied = by end tied
   where
-    all : All IsStreamTuple (stream_tuples text).tuples
-    all = text_in_stream by_parts text 1 byte_limit
+    all : All IsStreamTuple (tuples_from 1 limit text).tuples
+    all = text_in_stream by_parts text 1 limit
 
-    whole : (ended : StreamEnd) → stream_tuples text ≡ tuples_with tuples ended → All IsStreamTuple tuples
+    whole : (ended : StreamEnd) → tuples_from 1 limit text ≡ tuples_with tuples ended → All IsStreamTuple tuples
     whole ended is = subst (λ (ts : StreamTuples). All IsStreamTuple ts.tuples) is all
 
-    by : (ended : StreamEnd) → AreTuplesOfEnd byte_limit text left tuples ended → All IsStreamTuple tuples
+    by : (ended : StreamEnd) → AreTuplesOfEnd limit text left tuples ended → All IsStreamTuple tuples
     by Whole is = whole Whole is.0
     by (Line number fault) is = whole (Line number fault) is
     by (LongLine number) is = whole (LongLine number) is

@@ -8,7 +8,7 @@ use Rattle.rpq_words.specs.declared.settings.RunMode.TheVariants.{Check, Generat
 use Rattle.rpq_words.specs.declared.settings.Settings.{Settings}
 use Rattle.rpq_words.specs.declared.settings.StreamSettings.TheVariants.{Forwards, BothWays}
 use Rattle.rpq_words.specs.Options.{◌>>=◌}
-use Rattle.rpq_words.specs.Views.{forwards_in, from_in, from_of, names_in, save_of, streams_in}
+use Rattle.rpq_words.specs.Views.{forwards_in, from_in, from_of, mode_of, names_in, save_of, streams_in}
 use Rattle.rpq_words.specs.Views.{streams_of, two_way_in, two_way_of}
 
 -- a run that saves takes edges forwards alone
@@ -19,7 +19,7 @@ saves_forwards (Streams (BothWays streams)) is = absurd (cc is)
 saves_forwards (Streams (Forwards run)) is = refl
 
 pub save_is_forwards : (given : Settings) → is_some (save_of given) ≡ true → two_way_of given ≡ false
-save_is_forwards given is = saves_forwards given.mode is
+save_is_forwards given is = saves_forwards (mode_of given) is
 
 -- one that begins with a saved window takes edges forwards alone, and has one stream
 pub record IsResumed (two_way : Bool) (streams : List (List ℕ)) : Type 0 where
@@ -47,7 +47,7 @@ pub from_is_resumed : (given : Settings) (holds : List ℕ → Option (List ℕ)
     option_map holds (from_of given) ≡ Some (Some bytes) → IsResumed (two_way_of given) (streams_of given)
 from_is_resumed given holds bytes is =
     let named = some_name holds (from_of given) bytes is in
-    mode_resumed given.mode named.0 named.1
+    mode_resumed (mode_of given) named.0 named.1
 
 -- the one stream's bytes, where they are told
 pub one_told : (holds : List ℕ → Option (List ℕ)) (name : List ℕ) (texts : List (List ℕ)) →

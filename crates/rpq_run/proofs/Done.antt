@@ -15,21 +15,22 @@ use Rattle.rpq_words.specs.declared.settings.RunMode.{RunMode}
 use Rattle.rpq_words.specs.declared.settings.RunMode.TheVariants.{Check, Generate, Streams}
 use Rattle.rpq_words.specs.Modes.{AreSettings, count_of}
 use Rattle.rpq_words.specs.declared.settings.Settings.{Settings}
-use Rattle.rpq_words.specs.Views.{is_both_ways, streams_of}
+use Rattle.rpq_words.specs.Views.{cap_of, is_both_ways, mode_of, streams_of}
 use Rattle.history_model.specs.declared.line.Why.TheVariants.{Write, Memory as MemoryOfAll}
 use Rattle.stream_tuples.specs.declared.ends.StreamEnd.{StreamEnd}
 use Rattle.stream_tuples.specs.declared.ends.StreamEnd.TheVariants.{Whole, Line, LongLine, LongStream}
 use Rattle.stream_tuples.specs.declared.ends.StreamEnd.TheVariants.{Read, Full, Closed, Memory}
 use Rattle.stream_tuples.specs.History.{IsNumberOf, IsPrefix, IsProperPrefix, own_tuples}
 use Rattle.stream_tuples.specs.History.{AreTuplesOfEnd, IsStreamOf, AreStreamsOf}
-use Rattle.stream_tuples.specs.Limits.{byte_limit}
-use Rattle.stream_tuples.specs.StreamText.{StreamTuples, tuples_with, tuples_from}
+use Rattle.stream_tuples.specs.Limits.{byte_limit_of}
+use Rattle.stream_tuples.specs.StreamText.{StreamTuples, tuples_with}
 use Rattle.rpq_text.specs.declared.ends.SinkName.{SinkName}
 use Rattle.rpq_text.specs.declared.ends.SinkName.TheVariants.{Events, Replies, Save}
 use Rattle.rpq_text.specs.Statuses.{first_status, status_of_end, IsStatusOf}
 use Rattle.saved_window.specs.Then.{left_of_both, faults_of_both, faults_of_first}
 use Rattle.run_start.specs.Files.{from_content, stream_contents}
 use Rattle.run_start.specs.Ready.{AreReadWhole}
+use Rattle.run_start.specs.Texts.{tuples_within}
 use Rattle.run_start.proofs.Modes.{some_streams}
 use Rattle.rpq_run.specs.Causes.{HasCauses}
 use Rattle.rpq_run.specs.Done.{IsWholeStream, tuple_count, CanBeDone, NothingRose, NothingFails}
@@ -70,79 +71,79 @@ all_by P xs each = λ place default inside.
 
 -- ---- a stream without a fault
 
--- the tuples of such a stream aren't too many
-from_whole : (file : Option (List ℕ)) (tuples : List Tuple) (end : StreamEnd)
-    → IfSome file (λ text. tuples_from 1 byte_limit text ≡ tuples_with tuples end)
-    → IsWholeStream file → (end ≡ Whole) × (length tuples ≤ tuple_count file)
-from_whole None tuples end is whole = absurd whole
-from_whole (Some text) tuples end is whole = (
+-- the tuples of such a stream aren't too many; the history has at most so many entries
+from_whole : (cap : ℕ) (file : Option (List ℕ)) (tuples : List Tuple) (end : StreamEnd)
+    → IfSome file (λ text. tuples_within cap text ≡ tuples_with tuples end)
+    → IsWholeStream cap file → (end ≡ Whole) × (length tuples ≤ tuple_count cap file)
+from_whole cap None tuples end is whole = absurd whole
+from_whole cap (Some text) tuples end is whole = (
   sym (ap (λ (ts : StreamTuples). ts.end) is) ∙ whole,
   omega (arith, ap (λ (ts : StreamTuples). length ts.tuples) is),
 )
 
-by_prefix : (file : Option (List ℕ)) (tuples : List Tuple)
-    → IfSome file (λ text. IsPrefix tuples (tuples_from 1 byte_limit text).tuples)
-    → IsWholeStream file → length tuples ≤ tuple_count file
-by_prefix None tuples is whole = absurd whole
-by_prefix (Some text) tuples is whole =
+by_prefix : (cap : ℕ) (file : Option (List ℕ)) (tuples : List Tuple)
+    → IfSome file (λ text. IsPrefix tuples (tuples_within cap text).tuples)
+    → IsWholeStream cap file → length tuples ≤ tuple_count cap file
+by_prefix cap None tuples is whole = absurd whole
+by_prefix cap (Some text) tuples is whole =
     omega (arith, ap (λ (ts : List Tuple). length ts) is.cut, length-append tuples is.rest)
 
-by_proper : (file : Option (List ℕ)) (tuples : List Tuple)
-    → IfSome file (λ text. IsProperPrefix tuples (tuples_from 1 byte_limit text).tuples)
-    → IsWholeStream file → length tuples < tuple_count file
-by_proper None tuples is whole = absurd whole
-by_proper (Some text) tuples is whole = some is.rest is.proper is.cut
+by_proper : (cap : ℕ) (file : Option (List ℕ)) (tuples : List Tuple)
+    → IfSome file (λ text. IsProperPrefix tuples (tuples_within cap text).tuples)
+    → IsWholeStream cap file → length tuples < tuple_count cap file
+by_proper cap None tuples is whole = absurd whole
+by_proper cap (Some text) tuples is whole = some is.rest is.proper is.cut
   where
-    some : (rest : List Tuple) → rest ≢ [] → (tuples_from 1 byte_limit text).tuples ≡ tuples ++ rest
-        → length tuples < tuple_count (Some text)
+    some : (rest : List Tuple) → rest ≢ [] → (tuples_within cap text).tuples ≡ tuples ++ rest
+        → length tuples < tuple_count cap (Some text)
     some [] proper cut = absurd (proper refl)
     some (tuple ∷ rest) proper cut =
         omega (arith, ap (λ (ts : List Tuple). length ts) cut, length-append tuples (tuple ∷ rest))
 
 -- what its end ties, without what is left of its source
-not_whole : (file left : Option (List ℕ)) (tuples : List Tuple)
-    → IfSome file (λ text. AreTuplesOfEnd byte_limit text left tuples Whole)
-    → IfSome file (λ text. tuples_from 1 byte_limit text ≡ tuples_with tuples Whole)
-not_whole None left tuples is = tt
-not_whole (Some text) left tuples is = is.0
+not_whole : (cap : ℕ) (file left : Option (List ℕ)) (tuples : List Tuple)
+    → IfSome file (λ text. AreTuplesOfEnd (byte_limit_of cap) text left tuples Whole)
+    → IfSome file (λ text. tuples_within cap text ≡ tuples_with tuples Whole)
+not_whole cap None left tuples is = tt
+not_whole cap (Some text) left tuples is = is.0
 
 -- such a stream of which no read failed gave at most the tuples of its file, and fewer where it
 -- wasn't taken whole because the history was full
-at_most : (file left : Option (List ℕ)) (tuples : List Tuple) (end : StreamEnd) → IsWholeStream file
-    → (end ≡ Read → ⊥) → IfSome file (λ text. AreTuplesOfEnd byte_limit text left tuples end)
-    → length tuples ≤ tuple_count file
-at_most file left tuples Whole whole read tied =
-    (from_whole file tuples Whole (not_whole file left tuples tied) whole).1
-at_most file left tuples (Line number fault) whole read tied =
-    (from_whole file tuples (Line number fault) tied whole).1
-at_most file left tuples (LongLine number) whole read tied =
-    (from_whole file tuples (LongLine number) tied whole).1
-at_most file left tuples LongStream whole read tied = (from_whole file tuples LongStream tied whole).1
-at_most file left tuples Read whole read tied = absurd (read refl)
-at_most file left tuples Full whole read tied =
-    let fewer = by_proper file tuples tied whole in
+at_most : (cap : ℕ) (file left : Option (List ℕ)) (tuples : List Tuple) (end : StreamEnd) → IsWholeStream cap file
+    → (end ≡ Read → ⊥) → IfSome file (λ text. AreTuplesOfEnd (byte_limit_of cap) text left tuples end)
+    → length tuples ≤ tuple_count cap file
+at_most cap file left tuples Whole whole read tied =
+    (from_whole cap file tuples Whole (not_whole cap file left tuples tied) whole).1
+at_most cap file left tuples (Line number fault) whole read tied =
+    (from_whole cap file tuples (Line number fault) tied whole).1
+at_most cap file left tuples (LongLine number) whole read tied =
+    (from_whole cap file tuples (LongLine number) tied whole).1
+at_most cap file left tuples LongStream whole read tied = (from_whole cap file tuples LongStream tied whole).1
+at_most cap file left tuples Read whole read tied = absurd (read refl)
+at_most cap file left tuples Full whole read tied =
+    let fewer = by_proper cap file tuples tied whole in
     omega (arith, fewer)
-at_most file left tuples (Closed why) whole read tied =
-    let fewer = by_proper file tuples tied whole in
+at_most cap file left tuples (Closed why) whole read tied =
+    let fewer = by_proper cap file tuples tied whole in
     omega (arith, fewer)
-at_most file left tuples Memory whole read tied = by_prefix file tuples tied whole
+at_most cap file left tuples Memory whole read tied = by_prefix cap file tuples tied whole
 
 -- how such a stream ends where no write of the events failed and the history wasn't full
-ends_well : (file left : Option (List ℕ)) (tuples : List Tuple) (end : StreamEnd) → IsWholeStream file
+ends_well : (cap : ℕ) (file left : Option (List ℕ)) (tuples : List Tuple) (end : StreamEnd) → IsWholeStream cap file
     → (end ≡ Read → ⊥) → (end ≡ Full → ⊥) → (end ≡ Closed Write → ⊥)
-    → IfSome file (λ text. AreTuplesOfEnd byte_limit text left tuples end) → IsFine end
-ends_well file left tuples Whole whole read full closed tied = inl refl
-ends_well file left tuples (Line number fault) whole read full closed tied =
-    absurd (cc ((from_whole file tuples (Line number fault) tied whole).0))
-ends_well file left tuples (LongLine number) whole read full closed tied =
-    absurd (cc ((from_whole file tuples (LongLine number) tied whole).0))
-ends_well file left tuples LongStream whole read full closed tied =
-    absurd (cc ((from_whole file tuples LongStream tied whole).0))
-ends_well file left tuples Read whole read full closed tied = absurd (read refl)
-ends_well file left tuples Full whole read full closed tied = absurd (full refl)
-ends_well file left tuples (Closed Write) whole read full closed tied = absurd (closed refl)
-ends_well file left tuples (Closed MemoryOfAll) whole read full closed tied = inr refl
-ends_well file left tuples Memory whole read full closed tied = inr refl
+    → IfSome file (λ text. AreTuplesOfEnd (byte_limit_of cap) text left tuples end) → IsFine end
+ends_well cap file left tuples Whole whole read full closed tied = inl refl
+ends_well cap file left tuples (Line number fault) whole read full closed tied =
+    absurd (cc ((from_whole cap file tuples (Line number fault) tied whole).0))
+ends_well cap file left tuples (LongLine number) whole read full closed tied =
+    absurd (cc ((from_whole cap file tuples (LongLine number) tied whole).0))
+ends_well cap file left tuples LongStream whole read full closed tied =
+    absurd (cc ((from_whole cap file tuples LongStream tied whole).0))
+ends_well cap file left tuples Read whole read full closed tied = absurd (read refl)
+ends_well cap file left tuples Full whole read full closed tied = absurd (full refl)
+ends_well cap file left tuples (Closed Write) whole read full closed tied = absurd (closed refl)
+ends_well cap file left tuples (Closed MemoryOfAll) whole read full closed tied = inr refl
+ends_well cap file left tuples Memory whole read full closed tied = inr refl
 
 -- ---- all streams
 
@@ -171,36 +172,36 @@ module _ {S : Type 0} (left : S → Option (List ℕ)) (faults : S → ℕ) (lim
       }
 
   -- the streams without a fault, of which no read failed, gave at most their tuples
-  few_of : All IsWholeStream files → All (λ source. ¬ Rose 0 (faults source)) sources → AreFew 1 files history
+  few_of : All (IsWholeStream limit) files → All (λ source. ¬ Rose 0 (faults source)) sources → AreFew limit 1 files history
   few_of whole reads place file is =
       let at = stream_at place file is in
       let quiet = all_at (λ source. ¬ Rose 0 (faults source)) sources place at.source reads at.source_is in
       let one : place + 1 ≡ 1 + place = omega arith in
-      subst (λ n. length (own_tuples n history) ≤ tuple_count file) one
-      (at_most file (left at.source) (own_tuples (place + 1) history) at.end
-      (all_at IsWholeStream files place file whole is) (λ e. quiet (at.stream.read.rose e)) at.stream.tied)
+      subst (λ n. length (own_tuples n history) ≤ tuple_count limit file) one
+      (at_most limit file (left at.source) (own_tuples (place + 1) history) at.end
+      (all_at (IsWholeStream limit) files place file whole is) (λ e. quiet (at.stream.read.rose e)) at.stream.tied)
 
   -- and none of them found the history full that could hold them all
   not_full : (count : ℕ) → count ≡ length files → All (λ (e : Entry). IsNumberOf count e.stream) history
-      → All IsWholeStream files → All (λ source. ¬ Rose 0 (faults source)) sources
-      → sum (map tuple_count files) ≤ limit → (place : ℕ) (file : Option (List ℕ))
+      → All (IsWholeStream limit) files → All (λ source. ¬ Rose 0 (faults source)) sources
+      → sum (map (tuple_count limit) files) ≤ limit → (place : ℕ) (file : Option (List ℕ))
       → slice_get files place ≡ Some file → length history ≡ limit
-      → IfSome file (λ text. IsProperPrefix (own_tuples (place + 1) history) (tuples_from 1 byte_limit text).tuples)
+      → IfSome file (λ text. IsProperPrefix (own_tuples (place + 1) history) (tuples_within limit text).tuples)
       → ⊥
   not_full count as_many numbers whole reads few place file is full tied =
       let one : place + 1 ≡ 1 + place = omega arith in
-      let fewer : length (own_tuples (1 + place) history) < tuple_count file =
-      subst (λ n. length (own_tuples n history) < tuple_count file) one
-      (by_proper file (own_tuples (place + 1) history) tied (all_at IsWholeStream files place file whole is)) in
-      let all = fewer_in_all 1 files history place file (few_of whole reads) is fewer in
+      let fewer : length (own_tuples (1 + place) history) < tuple_count limit file =
+      subst (λ n. length (own_tuples n history) < tuple_count limit file) one
+      (by_proper limit file (own_tuples (place + 1) history) tied (all_at (IsWholeStream limit) files place file whole is)) in
+      let all = fewer_in_all limit 1 files history place file (few_of whole reads) is fewer in
       let counted = all_counted (length files) history
       (subst (λ n. All (λ (e : Entry). IsNumberOf n e.stream) history) as_many numbers) in
       omega (arith, all, counted, full, few)
 
   -- so each ended well
   pub all_end_well : (count : ℕ) → count ≡ length files → All (λ (e : Entry). IsNumberOf count e.stream) history
-      → All IsWholeStream files → All (λ source. ¬ Rose 0 (faults source)) sources
-      → sum (map tuple_count files) ≤ limit → (Contains ends (Closed Write) → ⊥) → All IsFine ends
+      → All (IsWholeStream limit) files → All (λ source. ¬ Rose 0 (faults source)) sources
+      → sum (map (tuple_count limit) files) ≤ limit → (Contains ends (Closed Write) → ⊥) → All IsFine ends
   all_end_well count as_many numbers whole reads few closed =
       all_by IsFine ends (λ place end end_is.
       let inside = slice_get_within ends place end end_is in
@@ -208,11 +209,11 @@ module _ {S : Type 0} (left : S → Option (List ℕ)) (faults : S → ℕ) (lim
       let source = found sources place (omega (arith, inside, are.as_many_ends, are.as_many_sources)) in
       let stream = are.each place file.0 source.0 end file.1 source.1 end_is in
       let quiet = all_at (λ s. ¬ Rose 0 (faults s)) sources place source.0 reads source.1 in
-      ends_well file.0 (left source.0) (own_tuples (place + 1) history) end
-      (all_at IsWholeStream files place file.0 whole file.1) (λ e. quiet (stream.read.rose e))
+      ends_well limit file.0 (left source.0) (own_tuples (place + 1) history) end
+      (all_at (IsWholeStream limit) files place file.0 whole file.1) (λ e. quiet (stream.read.rose e))
       (λ e. not_full count as_many numbers whole reads few place file.0 file.1 (stream.full e)
       (subst (λ (x : StreamEnd). IfSome file.0 (λ text.
-      AreTuplesOfEnd byte_limit text (left source.0) (own_tuples (place + 1) history) x)) e stream.tied))
+      AreTuplesOfEnd (byte_limit_of limit) text (left source.0) (own_tuples (place + 1) history) x)) e stream.tied))
       (λ e. closed (contains_at ends place end (Closed Write) end_is e)) stream.tied)
     where
       contains_at : (xs : List StreamEnd) (place : ℕ) (x y : StreamEnd) → slice_get xs place ≡ Some x → x ≡ y
@@ -346,7 +347,7 @@ pub streams_done : {S K : Type 0} (means : Meanings S K) (given : Settings)
 streams_done means given holds openings sinks objects outcome runs can none =
     let failed = none_failed means runs.failed runs.short sinks outcome runs.causes none.writes none.replies none.save in
     done_or_short outcome.ends runs.failed outcome.status failed runs.causes.status_is
-    (all_end_well (left_of_both means.left) (faults_of_both means.faults) given.history (stream_contents given holds)
+    (all_end_well (left_of_both means.left) (faults_of_both means.faults) (cap_of given) (stream_contents given holds)
     (stream_sources outcome.from outcome.sources) outcome.history outcome.ends runs.history.each_stream
     (length (streams_of given)) (sym (as_many_streams given holds)) runs.history.no_other can.whole
     (sources_quiet means.faults outcome.from outcome.sources none.from none.reads) can.few
@@ -356,8 +357,8 @@ streams_done means given holds openings sinks objects outcome runs can none =
 pub generated_done : {S K : Type 0} (means : Meanings S K) (given : Settings) (two_way : Bool)
     (count : ℕ) (file : Option (List ℕ)) (openings : Openings) (sinks : Sinks K)
     (objects : Objects) (outcome : Outcome S K)
-    → RunsGenerated means two_way given.history count file sinks objects outcome
-    → count ≤ given.history
+    → RunsGenerated means two_way (cap_of given) count file sinks objects outcome
+    → count ≤ cap_of given
     → NothingRose means given openings sinks outcome → (outcome.status ≡ 0) ⊎ (outcome.status ≡ 8)
 generated_done means given two_way count file openings sinks objects outcome runs fits none =
     let failed = none_failed means runs.failed no_shortage sinks outcome runs.causes none.writes none.replies none.save in
@@ -435,7 +436,7 @@ module _ {S K : Type 0} (means : Meanings S K) (words : Option Settings) (given 
       let as_many = runs.history.each_stream.as_many_sources in
       let none = sources_none means.faults outcome.from outcome.sources
       (omega (arith, as_many, as_many_streams given holds, some))
-      (reads_quietly (left_of_both means.left) (faults_of_both means.faults) given.history (stream_contents given holds)
+      (reads_quietly (left_of_both means.left) (faults_of_both means.faults) (cap_of given) (stream_contents given holds)
       (stream_sources outcome.from outcome.sources) outcome.history outcome.ends runs.history.each_stream runs.failed
       outcome.status runs.causes.status_is done) in
       all_quiet runs.failed runs.short runs.causes none.0 none.1
@@ -443,9 +444,9 @@ module _ {S K : Type 0} (means : Meanings S K) (words : Option Settings) (given 
   -- nothing failed in a run that is done
   pub runs_quiet : (objects : Objects) → Runs means given holds sinks objects outcome
       → NothingFails means words holds openings sinks outcome
-  runs_quiet objects = by given.mode refl
+  runs_quiet objects = by (mode_of given) refl
     where
-      by : (mode : RunMode) → given.mode ≡ mode → RunsIn mode means given holds sinks objects
+      by : (mode : RunMode) → mode_of given ≡ mode → RunsIn mode means given holds sinks objects
           outcome
           → NothingFails means words holds openings sinks outcome
       by (Check directions) is runs = all_quiet runs.failed no_shortage runs.causes
@@ -460,10 +461,10 @@ pub runs_done : {S K : Type 0} (means : Meanings S K) (given : Settings)
     (outcome : Outcome S K) → Runs means given holds sinks objects outcome → CanBeDone given holds
     → NothingRose means given openings sinks outcome → (outcome.status ≡ 0) ⊎ (outcome.status ≡ 8)
 runs_done means given holds openings sinks objects outcome runs can none =
-    by given.mode runs can.made
+    by (mode_of given) runs can.made
   where
     by : (mode : RunMode) → RunsIn mode means given holds sinks objects outcome
-        → IfSome (count_of mode) (λ count. count ≤ given.history)
+        → IfSome (count_of mode) (λ count. count ≤ cap_of given)
         → (outcome.status ≡ 0) ⊎ (outcome.status ≡ 8)
     by (Check directions) checks fits = check_done means given (is_both_ways directions)
         (holds given.queries) openings sinks objects outcome checks none

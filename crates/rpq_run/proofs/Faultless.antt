@@ -21,13 +21,16 @@ use Rattle.rpq_words.specs.declared.settings.StreamSettings.TheVariants.{BothWay
 use Rattle.rpq_words.specs.declared.settings.Settings.{Settings}
 use Rattle.rpq_words.specs.Examples.{SettingsExamples, plain}
 use Rattle.rpq_words.specs.Modes.{count_of}
-use Rattle.rpq_words.specs.Views.{asks_of, joins_of, two_way_of}
+use Rattle.rpq_words.specs.Views.{asks_of, cap_of, joins_of, mode_of, two_way_of}
 use Rattle.run_start.specs.Files.{HasQueries, ForQueries, AreFaultlessAsks, AreFaultlessJoins}
 use Rattle.run_start.specs.Files.{IsFaultless, stream_contents}
+use Rattle.run_start.specs.Texts.{tuples_within}
 use Rattle.saved_window.specs.SavedText.{SavedTextIsRead, saved_text}
 use Rattle.saved_window.specs.Then.{join_known}
 use Rattle.stream_tuples.specs.declared.ends.StreamEnd.TheVariants.{Whole}
-use Rattle.stream_tuples.specs.StreamText.{StreamTuples, stream_tuples}
+use Rattle.stream_tuples.specs.Limits.{byte_limit}
+use Rattle.stream_tuples.specs.StreamText.{StreamTuples, tuples_from}
+use Rattle.stream_tuples.proofs.ByteLimits.{kept_limit}
 use Rattle.entry_steps.specs.Laws.{StepsHaveJoinEvents, StepsHaveTheEvents}
 use Rattle.rpq_run.specs.Done.{CanBeDone, IsWholeStream, NothingRose, tuple_count}
 use Rattle.rpq_run.specs.Faultless.{AreFaultless, SmallRunCanBeDone}
@@ -115,46 +118,56 @@ module _ {S K : Type 0} (means : Meanings S K) (given : Settings)
 
 -- ---- the streams
 
-whole_contents : (texts : List (List ℕ)) → All (λ text. (stream_tuples text).end ≡ Whole) texts
-    → All IsWholeStream (map (λ (bytes : List ℕ). Some bytes) texts)
-whole_contents [] whole = All-nil IsWholeStream
-whole_contents (text ∷ texts) whole =
-    let IsWhole : List ℕ → Type 0 = λ text. (stream_tuples text).end ≡ Whole in
-    All-cons IsWholeStream (Some text) (map (λ (bytes : List ℕ). Some bytes) texts)
-    (All-head IsWhole text texts whole) (whole_contents texts (All-tail IsWhole text texts whole))
+whole_contents : (cap : ℕ) (texts : List (List ℕ))
+    → All (λ text. (tuples_within cap text).end ≡ Whole) texts
+    → All (IsWholeStream cap) (map (λ (bytes : List ℕ). Some bytes) texts)
+whole_contents cap [] whole = All-nil (IsWholeStream cap)
+whole_contents cap (text ∷ texts) whole =
+    let IsWhole : List ℕ → Type 0 = λ text. (tuples_within cap text).end ≡ Whole in
+    All-cons (IsWholeStream cap) (Some text) (map (λ (bytes : List ℕ). Some bytes) texts)
+    (All-head IsWhole text texts whole)
+    (whole_contents cap texts (All-tail IsWhole text texts whole))
 
-counted : (texts : List (List ℕ)) → map tuple_count (map (λ (bytes : List ℕ). Some bytes) texts)
-    ≡ map (λ text. length (stream_tuples text).tuples) texts
-counted [] = refl
-counted (text ∷ texts) =
-    ap (λ (rest : List ℕ). length (stream_tuples text).tuples ∷ rest) (counted texts)
+counted : (cap : ℕ) (texts : List (List ℕ))
+    → map (tuple_count cap) (map (λ (bytes : List ℕ). Some bytes) texts)
+    ≡ map (λ text. length (tuples_within cap text).tuples) texts
+counted cap [] = refl
+counted cap (text ∷ texts) =
+    ap (λ (rest : List ℕ). length (tuples_within cap text).tuples ∷ rest) (counted cap texts)
+
+-- what is said of the streams by the cap that is told is so by the one of the settings
+abbrev IsFineWithin : Told → ℕ → Type 0
+IsFineWithin told cap = All (λ text. (tuples_within cap text).end ≡ Whole) (stream_texts told)
+    × (sum (map (λ text. length (tuples_within cap text).tuples) (stream_texts told)) ≤ cap)
 
 -- ---- all of it
 
 -- a run over streams can be done whose files have no fault
 pub can_be_done : {S K : Type 0} (means : Meanings S K) (given : Settings)
     (holds : List ℕ → Option (List ℕ)) (sinks : Sinks K) (told : Told) (run : StreamSettings)
-    → OneOutcome → OneTwoWayOutcome → given.mode ≡ Streams run
+    → OneOutcome → OneTwoWayOutcome → mode_of given ≡ Streams run
     → IsTold means given holds sinks told → AreFaultless told → CanBeDone given holds
 can_be_done means given holds sinks told run one_way two_way mode is fine =
     let one = either_way one_way two_way (two_way_of given) in
     let has = subst (λ (both_ways : Bool). HasQueries both_ways told.queries fine.queries)
     (sym {A = Bool} is.two_way) fine.accepted in
     let contents = contents_are given holds told is.from is.streams in
+    let cap = cap_of given in
+    let streams = subst (IsFineWithin told) (sym is.limit) (fine.whole, fine.few) in
     record {
       understood = understood_in means given holds sinks told one is fine.queries has;
       joins = joins_in means given holds sinks told one is fine.queries has fine.joins fine.joined;
       asks = asks_in means given holds sinks told one is fine.queries has fine.sessions fine.asked;
-      whole = subst (λ (files : List (Option (List ℕ))). All IsWholeStream files)
-          (sym {A = List (Option (List ℕ))} contents) (whole_contents (stream_texts told) fine.whole);
+      whole = subst (λ (files : List (Option (List ℕ))). All (IsWholeStream cap) files)
+          (sym {A = List (Option (List ℕ))} contents)
+          (whole_contents cap (stream_texts told) streams.0);
       few = omega (
         arith,
-        ap (λ (files : List (Option (List ℕ))). sum (map tuple_count files)) contents,
-        ap (λ (counts : List ℕ). sum counts) (counted (stream_texts told)),
-        fine.few,
-        is.limit,
+        ap (λ (files : List (Option (List ℕ))). sum (map (tuple_count cap) files)) contents,
+        ap (λ (counts : List ℕ). sum counts) (counted cap (stream_texts told)),
+        streams.1,
       );
-      made = subst (λ (m : RunMode). IfSome (count_of m) (λ count. count ≤ given.history))
+      made = subst (λ (m : RunMode). IfSome (count_of m) (λ count. count ≤ cap))
           (sym {A = RunMode} mode) tt;
     }
 
@@ -163,7 +176,7 @@ pub faultless_done : {S K : Type 0} (means : Meanings S K) (given : Settings)
     (holds : List ℕ → Option (List ℕ)) (sinks : Sinks K) (objects : Objects)
     (outcome : Outcome S K) (told : Told) (openings : Openings) (run : StreamSettings)
     → OneOutcome → OneTwoWayOutcome → StepsHaveTheEvents → StepsHaveJoinEvents
-    → given.mode ≡ Streams run → RunsStreams means given holds sinks objects outcome
+    → mode_of given ≡ Streams run → RunsStreams means given holds sinks objects outcome
     → IsTold means given holds sinks told → AreFaultless told
     → NothingRose means given openings sinks outcome → outcome.status ≢ 8
     → Headline means told sinks objects outcome
@@ -183,18 +196,20 @@ pub small_run : OneTwoWayOutcome → TwoWayExamples → SettingsExamples → Sav
 small_run one examples words read = λ holds tuples queries stream may few short.
     let given = plain (Streams (BothWays (codes "t" ∷ []))) in
     let text = saved_text tuples in
-    let back : stream_tuples text ≡ record { tuples = tuples; end = Whole } =
-    (read tuples may).alone short in
+    let cap = cap_of given in
+    let back : tuples_within cap text ≡ record { tuples = tuples; end = Whole } =
+    ap (λ limit. tuples_from 1 limit text) (kept_limit cap (omega arith))
+    ∙ (read tuples may).alone byte_limit short in
     let bytes = inverse_line ++ codes "\n" in
     let bytes_are : length bytes ≡ 46 = refl in
     let of_query : IsSomeAnd (holds (codes "q")) (IsFaultless true) =
     subst (λ (file : Option (List ℕ)). IsSomeAnd file (IsFaultless true)) (sym queries)
     (no_query_fault true one bytes (inverse_query ∷ [])
     (omega (arith, bytes_are), examples.given)) in
-    let of_stream : IsWholeStream (holds (codes "t")) =
-    subst IsWholeStream (sym stream) (ap (λ (ts : StreamTuples). ts.end) back) in
-    let count : tuple_count (holds (codes "t")) ≡ length tuples =
-    ap tuple_count stream ∙ ap (λ (ts : StreamTuples). length ts.tuples) back in
+    let of_stream : IsWholeStream cap (holds (codes "t")) =
+    subst (IsWholeStream cap) (sym stream) (ap (λ (ts : StreamTuples). ts.end) back) in
+    let count : tuple_count cap (holds (codes "t")) ≡ length tuples =
+    ap (tuple_count cap) stream ∙ ap (λ (ts : StreamTuples). length ts.tuples) back in
     let none : sum [] ≡ 0 = refl in
     let contents : stream_contents given holds ≡ holds (codes "t") ∷ [] =
     ap (λ (file : Option (List ℕ)). file ∷ []) (unread (holds (codes "t"))) in
@@ -203,13 +218,14 @@ small_run one examples words read = λ holds tuples queries stream may few short
       understood = of_query;
       joins = tt;
       asks = tt;
-      whole = subst (λ (files : List (Option (List ℕ))). All IsWholeStream files)
+      whole = subst (λ (files : List (Option (List ℕ))). All (IsWholeStream cap) files)
           (sym {A = List (Option (List ℕ))} contents)
-          (All-cons IsWholeStream (holds (codes "t")) [] of_stream (All-nil IsWholeStream));
+          (All-cons (IsWholeStream cap) (holds (codes "t")) [] of_stream
+          (All-nil (IsWholeStream cap)));
       few = omega (
         arith,
-        ap (λ (files : List (Option (List ℕ))). sum (map tuple_count files)) contents,
-        sum_front (tuple_count (holds (codes "t"))) [],
+        ap (λ (files : List (Option (List ℕ))). sum (map (tuple_count cap) files)) contents,
+        sum_front (tuple_count cap (holds (codes "t"))) [],
         none,
         count,
         few,

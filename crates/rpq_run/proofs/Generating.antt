@@ -10,6 +10,7 @@ use Rattle.rpq_io.proofs.Bytes.{append_known-nil}
 use Rattle.rpq_io.proofs.Counting.{counts_as}
 use Rattle.rpq_io.specs.Writes.{WritesProperPrefix}
 use Rattle.ask_text.specs.Answered.{AnsweredValue}
+use Rattle.rpq_base.specs.declared.data.Entry.{Entry}
 use Rattle.history_model.specs.declared.line.Why.TheVariants.{Write}
 use Rattle.stream_tuples.specs.declared.ends.StreamEnd.{StreamEnd}
 use Rattle.stream_tuples.specs.declared.ends.StreamEnd.TheVariants.{Whole, Full, Closed, Memory}
@@ -75,12 +76,13 @@ not_within count limit above = elim (leb_tells count limit) [
 
 -- ---- the run
 
--- what the run answers, by what it gave and how its stream ended
-abbrev pub generated_outcome : {S K O : Type 0} → ℕ → GenerationResult O → List StreamEnd → List S
+-- what the run answers, by its history and how its stream ended
+abbrev pub generated_outcome : {S K : Type 0} → ℕ → List Entry → ℕ → List StreamEnd → List S
     → List (List AnsweredValue) → Outcome S K
-generated_outcome status run ends sources sessions = record {
+generated_outcome status history base ends sources sessions = record {
   status = status;
-  history = run.history.items;
+  history = history;
+  base = base;
   ends = ends;
   sources = sources;
   from = None;
@@ -89,14 +91,16 @@ generated_outcome status run ends sources sessions = record {
   save = None;
 }
 
--- it has no source and no session
-nothing_asked : {S K O : Type 0} (status : ℕ) (run : GenerationResult O)
+-- it has no source and no session, and all its history is there
+nothing_asked : {S K : Type 0} (status : ℕ) (history history' : List Entry) (base : ℕ)
     (ends ends' : List StreamEnd)
-    (sources : List S) (sessions : List (List AnsweredValue)) → ends ≡ ends' → sources ≡ [] → sessions ≡ []
-    → generated_outcome {S = S} {K = K} status run ends [] []
-    ≡ generated_outcome status run ends' sources sessions
-nothing_asked status run ends ends' sources sessions same no_source no_session = λ i.
-    generated_outcome status run (same i) (sym no_source i) (sym {A = List (List AnsweredValue)} no_session i)
+    (sources : List S) (sessions : List (List AnsweredValue)) → history' ≡ history → base ≡ 0 → ends ≡ ends'
+    → sources ≡ [] → sessions ≡ []
+    → generated_outcome {S = S} {K = K} status history 0 ends [] []
+    ≡ generated_outcome status history' base ends' sources sessions
+nothing_asked status history history' base ends ends' sources sessions one none_gone same no_source no_session = λ i.
+    generated_outcome status (sym one i) (sym none_gone i) (same i) (sym no_source i)
+    (sym {A = List (List AnsweredValue)} no_session i)
 
 module _ {S K T E O : Type 0} (means : Meanings S K)
     (file : Option (List ℕ)) (task : Generation) (sinks : Sinks K) (seen : O → ObjectValue)
@@ -117,7 +121,7 @@ module _ {S K T E O : Type 0} (means : Meanings S K)
   end_in = end_of (is_some run.summary) fits
 
   abbrev pub outcome_in : Outcome S K
-  outcome_in = generated_outcome status run (end_in ∷ []) [] []
+  outcome_in = generated_outcome status run.history.items 0 (end_in ∷ []) [] []
 
   -- the objects before and after
   abbrev pub objects_in : Objects
@@ -138,6 +142,7 @@ module _ {S K T E O : Type 0} (means : Meanings S K)
     made = made.made;
     within = (made.wanted, made.within);
     history = made.history;
+    none_gone = refl;
     end = end_in;
     one_stream = refl;
     one_of = one_of (is_some run.summary) fits;
@@ -287,17 +292,19 @@ module _ {S K T E O : Type 0} (means : Meanings S K)
   }
 
   -- the same with what it answers and the objects in their lists
-  pub runs_generated : (ends : List StreamEnd) (sources : List S) (sessions : List (List AnsweredValue))
-      (before stayed left : List O) → end_in ∷ [] ≡ ends → sources ≡ [] → sessions ≡ []
+  pub runs_generated : (history : List Entry) (base : ℕ) (ends : List StreamEnd) (sources : List S)
+      (sessions : List (List AnsweredValue)) (before stayed left : List O) → history ≡ run.history.items
+      → base ≡ 0 → end_in ∷ [] ≡ ends → sources ≡ [] → sessions ≡ []
       → circle.members ≡ before → run.circle.members ≡ stayed → run.circle.left ≡ left
       → IsStatusOf (end_in ∷ []) (failed_sinks (is_err wrote) false false) status
       → TellsLines means.written means.failures (run_lines (end_in ∷ []) (failed_sinks (is_err wrote) false false) status)
       sinks.errors_old sinks.errors_new
       → RunsGenerated means task.two_way task.limit task.count file sinks (objects seen before stayed left)
-      (generated_outcome status run ends sources sessions)
-  runs_generated ends sources sessions before stayed left ends_are no_source no_session befores stays leaves
-      status_is lines =
+      (generated_outcome status history base ends sources sessions)
+  runs_generated history base ends sources sessions before stayed left same none_gone ends_are no_source no_session
+      befores stays leaves status_is lines =
       subst₂ (λ (all : Objects) (outcome : Outcome S K). RunsGenerated means task.two_way task.limit task.count file sinks all outcome)
       (objects_are seen circle.members before run.circle.members stayed run.circle.left left befores stays leaves)
-      (nothing_asked status run (end_in ∷ []) ends sources sessions ends_are no_source no_session)
+      (nothing_asked status run.history.items history base (end_in ∷ []) ends sources sessions same none_gone ends_are
+      no_source no_session)
       (generated_runs status_is lines)

@@ -19,15 +19,16 @@ use Rattle.history_model.specs.declared.line.Why.TheVariants.{Write, Memory}
 use Rattle.query_file.specs.declared.fault.QueryFault.{QueryFault}
 use Rattle.query_file.specs.Laws.{OneOutcome, OneOutcomeOf, OneTwoWayOutcome}
 use Rattle.rpq_words.specs.declared.settings.Settings.{Settings}
-use Rattle.rpq_words.specs.Views.{asks_of, from_of, joins_of, paths_of, streams_of, two_way_of}
+use Rattle.rpq_words.specs.Views.{asks_of, cap_of, from_of, joins_of, paths_of, streams_of}
+use Rattle.rpq_words.specs.Views.{two_way_of}
 use Rattle.ask_text.specs.declared.ask.Ask.{Ask}
 use Rattle.ask_text.specs.declared.fault.AskFault.{AskFault}
 use Rattle.ask_text.specs.Replies.{replies}
 use Rattle.stream_tuples.specs.declared.ends.StreamEnd.{StreamEnd}
 use Rattle.stream_tuples.specs.declared.ends.StreamEnd.TheVariants.{Whole}
 use Rattle.stream_tuples.specs.History.{IsNumberOf, AreTuplesOfEnd, own_tuples}
-use Rattle.stream_tuples.specs.Limits.{byte_limit}
-use Rattle.stream_tuples.specs.StreamText.{StreamTuples, stream_tuples}
+use Rattle.stream_tuples.specs.Limits.{byte_limit_of}
+use Rattle.stream_tuples.specs.StreamText.{StreamTuples}
 use Rattle.rpq_text.specs.declared.ends.SinkName.{SinkName}
 use Rattle.rpq_text.specs.declared.ends.SinkName.TheVariants.{Events, Replies, Save}
 use Rattle.rpq_text.specs.ErrorLines.{end_line, end_lines, memory_line, run_lines}
@@ -39,6 +40,7 @@ use Rattle.saved_window.specs.SavedText.{saved_text}
 use Rattle.saved_window.specs.Then.{left_of_both, faults_of_both}
 use Rattle.run_start.specs.Files.{HasJoins, HasQueries, HasSessions, ForQueries, ForJoins}
 use Rattle.run_start.specs.Files.{ForJoined, ForSessions, ForAsked, stream_contents, with_first}
+use Rattle.run_start.specs.Texts.{tuples_within}
 use Rattle.rpq_threads.specs.Runs.{AreSessionsOf, asks_answered}
 use Rattle.rpq_threads.specs.Told.{BeginsBlock, TellsObjects}
 use Rattle.standing.specs.Circles.{CircleValue}
@@ -233,15 +235,14 @@ replies_are written text failed short none other (Some sink) writes =
     from_nothing (written sink) text (subst (λ (t : List ℕ).
     written sink ≡ append_known (nothing_told (written sink)) t) whole.of_kind whole.written)
 
--- the tuples of a stream
-tuples_are : (text : List ℕ) (left : Option (List ℕ)) (number : ℕ) (history : List Entry)
-    (end : StreamEnd)
-    → end ≡ Whole → AreTuplesOfEnd byte_limit text left (own_tuples number history) end
-    → own_tuples number history ≡ (stream_tuples text).tuples
-tuples_are text left number history end whole tied =
-    let at_whole =
-    subst (λ (e : StreamEnd). AreTuplesOfEnd byte_limit text left (own_tuples number history) e)
-    whole tied in
+-- the tuples of a stream, where the history has at most so many entries
+tuples_are : (cap : ℕ) (text : List ℕ) (left : Option (List ℕ)) (number : ℕ)
+    (history : List Entry) (end : StreamEnd) → end ≡ Whole
+    → AreTuplesOfEnd (byte_limit_of cap) text left (own_tuples number history) end
+    → own_tuples number history ≡ (tuples_within cap text).tuples
+tuples_are cap text left number history end whole tied =
+    let at_whole = subst (λ (e : StreamEnd).
+    AreTuplesOfEnd (byte_limit_of cap) text left (own_tuples number history) e) whole tied in
     sym (ap (λ (ts : StreamTuples). ts.tuples) at_whole.0)
 
 -- what is read as each stream, where all is told
@@ -423,6 +424,7 @@ headline_of means given holds sinks objects outcome told one law lines runs done
       no_other = subst (λ n. All (λ (e : Entry). IsNumberOf n e.stream) outcome.history) as_many
           runs.history.no_other;
       few = omega (arith, runs.history.few, is.limit);
+      whole = λ capped. runs.history.whole (is.endless ∙ capped);
       from_there = runs.history.from ∙ there_as_told holds (from_of given) told.from is.from;
       steps = all.steps;
       are_steps = all.are_steps;
@@ -500,21 +502,23 @@ headline_of means given holds sinks objects outcome told one law lines runs done
         ∙ length-map told.streams (λ (bytes : List ℕ). Some bytes))
 
     in_order : (place : ℕ) (text : List ℕ) → slice_get (stream_texts told) place ≡ Some text
-        → own_tuples (place + 1) outcome.history ≡ (stream_tuples text).tuples
+        → own_tuples (place + 1) outcome.history ≡ (tuples_within told.limit text).tuples
     in_order place text at =
         let file : slice_get (stream_contents given holds) place ≡ Some (Some text) =
         ap (λ (fs : List (Option (List ℕ))). slice_get fs place)
         (contents_are given holds told is.from is.streams)
         ∙ (slice_get-map (λ (bytes : List ℕ). Some bytes) (stream_texts told) place
         ∙ ap (option_map (λ (bytes : List ℕ). Some bytes)) at) in
-        let stream = stream_at (left_of_both means.left) (faults_of_both means.faults) given.history
+        let stream = stream_at (left_of_both means.left) (faults_of_both means.faults) (cap_of given)
         (stream_contents given holds) (stream_sources outcome.from outcome.sources) outcome.history
         outcome.ends runs.history.each_stream place (Some text) file in
-        tuples_are text (left_of_both means.left stream.source) (place + 1) outcome.history
-        stream.end
+        subst (λ cap. own_tuples (place + 1) outcome.history ≡ (tuples_within cap text).tuples)
+        is.limit
+        (tuples_are (cap_of given) text (left_of_both means.left stream.source) (place + 1)
+        outcome.history stream.end
         (whole_end outcome.ends runs.failed place stream.end
         (first_of_done outcome.ends runs.failed outcome.status runs.causes.status_is done)
-        stream.end_is) stream.stream.tied
+        stream.end_is) stream.stream.tied)
 
 -- and as it is told
 pub headline_holds : {S K : Type 0} (means : Meanings S K) (given : Settings)

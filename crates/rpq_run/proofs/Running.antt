@@ -15,7 +15,7 @@ use Rattle.join_file.specs.FileLaws.{JoinsAreSound}
 use Rattle.join_file.specs.Joins.{JoinValue}
 use Rattle.join_file.specs.Sound.{IsSound}
 use Rattle.rpq_words.specs.declared.settings.Settings.{Settings}
-use Rattle.rpq_words.specs.Views.{asks_of, from_of, joins_of, streams_of, two_way_of}
+use Rattle.rpq_words.specs.Views.{asks_of, cap_of, from_of, joins_of, streams_of, two_way_of}
 use Rattle.history_model.specs.declared.line.Why.{Why}
 use Rattle.history_model.specs.declared.line.Why.TheVariants.{Write, Memory}
 use Rattle.stream_tuples.specs.History.{IsNumberOf, AreStreamsOf}
@@ -190,6 +190,7 @@ abbrev pub outcome_of : {T S K O : Type 0} → ℕ → ThreadsOutcome T O → Op
 outcome_of status threads from sources own = record {
   status = status;
   history = threads.history.items;
+  base = threads.history.base;
   ends = threads.ends.items;
   sources = sources;
   from = from;
@@ -215,6 +216,7 @@ pub answers_are : {T O F S K V : Type 0} {W : V → Type 0} (threads : ThreadsOu
 answers_are threads own report parts = λ i. record {
   status = report.status;
   history = (sym parts.history i).items;
+  base = (sym parts.history i).base;
   ends = (sym parts.ends i).items;
   sources = report.sources.items;
   from = report.from;
@@ -304,10 +306,10 @@ module _ {S K O : Type 0} (means : Meanings S K) (given : Settings)
         from = there_by_count from (from_of given) (from_is ∙ asked.behind);
         each_stream = subst
             (λ (ss : List (TwoSources S)). AreStreamsOf left (faults_of_both means.faults)
-            given.history (stream_contents given holds) ss threads.history.items threads.ends.items)
+            (cap_of given) (stream_contents given holds) ss threads.history.items threads.ends.items)
             (sym {A = List (TwoSources S)} parts)
             (subst (λ (fs : List (Option (List ℕ))). AreStreamsOf left (faults_of_both means.faults)
-            given.history fs threads.sources.items threads.history.items threads.ends.items)
+            (cap_of given) fs threads.sources.items threads.history.items threads.ends.items)
             (sym {A = List (Option (List ℕ))} asked.contents)
             (subst (λ limit. AreStreamsOf left (faults_of_both means.faults) limit
             (map (λ (reader : ReaderState (TwoSources S)). left reader.source) task.readers.items)
@@ -316,6 +318,7 @@ module _ {S K O : Type 0} (means : Meanings S K) (given : Settings)
         no_other = subst (λ n. All (λ (e : Entry). IsNumberOf n e.stream) threads.history.items)
             as_many held.numbers;
         few = omega (arith, held.few, asked.limit);
+        whole = λ capped. held.whole (omega (arith, asked.limit, (asked.capped capped).1));
       }
 
   -- the events

@@ -17,9 +17,11 @@ use Rattle.rpq_words.specs.declared.settings.RunMode.{RunMode}
 use Rattle.rpq_words.specs.declared.settings.RunMode.TheVariants.{Generate, Streams}
 use Rattle.rpq_words.specs.declared.settings.Directions.{Directions}
 use Rattle.rpq_words.specs.Modes.{AreSettings, IsMode, IsWithin}
+use Rattle.rpq_words.proofs.Modes.{is_cap}
 use Rattle.rpq_words.specs.declared.settings.Settings.{Settings}
 use Rattle.rpq_words.specs.Views.{is_both_ways}
-use Rattle.rpq_words.specs.Views.{asks_of, from_of, paths_of, streams_of, two_way_in, two_way_of}
+use Rattle.rpq_words.specs.Views.{asks_of, cap_of, from_of, mode_of, paths_of, streams_of}
+use Rattle.rpq_words.specs.Views.{two_way_in, two_way_of}
 use Rattle.saved_window.specs.Then.{TwoSources, count_of, left_of_both, faults_of_both}
 use Rattle.rpq_text.specs.Definitions.{definitions_of}
 use Rattle.entry_steps.specs.Steps.{OptionsValue}
@@ -31,7 +33,7 @@ use Rattle.run_start.specs.declared.ready.Work.{Work}
 use Rattle.run_start.specs.declared.ready.Work.TheVariants.{Read as Reading}
 use Rattle.run_start.specs.declared.streams.Readers.{Readers}
 use Rattle.run_start.proofs.Modes.{forwards_alone, one_stream, some_streams, unasked}
-use Rattle.rpq_threads.specs.Runs.{IsTask}
+use Rattle.rpq_threads.specs.Runs.{IsLimit, IsTask}
 use Rattle.rpq_threads.specs.declared.task.Task.{Task}
 use Rattle.rpq_run.specs.Asked.{IsAsked, IsGenerationOf, IsTaskOf}
 use Rattle.rpq_run.specs.Options.{options_of}
@@ -51,7 +53,7 @@ for_given words given P are holds = subst (λ (w : Option Settings). IfSome w P)
 -- the run that the mode of its settings asks for
 pub runs_in : {S K : Type 0} (means : Meanings S K) (given : Settings)
     (holds : List ℕ → Option (List ℕ)) (sinks : Sinks K) (objects : Objects)
-    (outcome : Outcome S K) (mode : RunMode) → given.mode ≡ mode
+    (outcome : Outcome S K) (mode : RunMode) → mode_of given ≡ mode
     → RunsIn mode means given holds sinks objects outcome
     → Runs means given holds sinks objects outcome
 runs_in means given holds sinks objects outcome mode is runs =
@@ -60,7 +62,7 @@ runs_in means given holds sinks objects outcome mode is runs =
 
 -- the queries of a file, as the mode says that they take edges
 pub queries_in : (given : Settings) (file : Option (List ℕ)) (queries : List Query) (mode : RunMode)
-    → given.mode ≡ mode → IfSome file (λ bytes. HasQueries (two_way_of given) bytes queries)
+    → mode_of given ≡ mode → IfSome file (λ bytes. HasQueries (two_way_of given) bytes queries)
     → IfSome file (λ bytes. HasQueries (two_way_in mode) bytes queries)
 queries_in given file queries mode is has =
     subst (λ (m : RunMode). IfSome file (λ bytes. HasQueries (two_way_in m) bytes queries)) is has
@@ -71,7 +73,7 @@ pub generated_in : {S K : Type 0} (means : Meanings S K) (given : Settings)
     (outcome : Outcome S K) (directions : Directions) (count : ℕ) (queries : List CompiledValue)
     (generation : Generation)
     → IsGenerationOf given queries (is_both_ways directions) count generation
-    → given.mode ≡ Generate directions count
+    → mode_of given ≡ Generate directions count
     → IfSome (holds given.queries) (λ bytes.
     HasQueries (two_way_of given) bytes (definitions_of queries))
     → ((file : Option (List ℕ)) → IfSome file (λ bytes.
@@ -91,12 +93,12 @@ generated_in means given holds sinks objects outcome directions count queries ge
     let limited = subst (λ n. RunsGenerated means generation.two_way n count file sinks objects
     outcome) of.limit_is counted in
     runs_in means given holds sinks objects outcome (Generate directions count) is
-    (subst (λ (b : Bool). RunsGenerated means b given.history count file sinks objects outcome)
+    (subst (λ (b : Bool). RunsGenerated means b (cap_of given) count file sinks objects outcome)
     of.two_way_is limited)
 
 -- what a mode says of how many tuples are generated
 few_generated : (given : Settings) (directions : Directions) (count : ℕ) → AreSettings given
-    → given.mode ≡ Generate directions count → count ≤ 1000000
+    → mode_of given ≡ Generate directions count → count ≤ 1000000
 few_generated given directions count settings is =
     let within : IsMode (Generate directions count) = subst IsMode is settings.mode in
     within.1
@@ -105,7 +107,7 @@ few_generated given directions count settings is =
 pub is_generation : (given : Settings) (directions : Directions) (count : ℕ)
     (queries : List CompiledValue) (generation : Generation)
     → IsGenerationOf given queries (is_both_ways directions) count generation
-    → AreUnderstood queries → AreSettings given → given.mode ≡ Generate directions count
+    → AreUnderstood queries → AreSettings given → mode_of given ≡ Generate directions count
     → IsGeneration generation
 is_generation given directions count queries generation of all settings is =
     let few = few_generated given directions count settings is in
@@ -213,7 +215,8 @@ module _ {S K : Type 0} (left : S → Option (List ℕ)) (faults : S → ℕ)
       ready_queries.asked_for.joined
 
   -- what a run begins with is a task for its threads
-  pub task_is : (AreNew left faults opened → AreNewReaders left faults readers)
+  pub task_is : (AreNew (cap_of given) left faults opened
+      → AreNewReaders (cap_of given) left faults readers)
       → IsTask (left_of_both left) (faults_of_both faults) task
   task_is fresh =
       let all = ready_queries.understood in
@@ -228,9 +231,9 @@ module _ {S K : Type 0} (left : S → Option (List ℕ)) (faults : S → ℕ)
           omega (arith, many, streams_within.0),
           omega (arith, many, streams_within.1),
         );
-        fresh = subst (AreNewReaders left faults)
+        fresh = subst₂ (λ cap rs. AreNewReaders cap left faults rs) (sym of.limit_is)
             (sym {A = List (ReaderState (TwoSources S))} of.readers_are)
-            (fresh (subst (AreNew left faults) are ready_reads.asked_for.fresh));
+            (fresh (subst (AreNew (cap_of given) left faults) are ready_reads.asked_for.fresh));
         few = omega (
           arith,
           ready_queries.asked_for.few,
@@ -249,7 +252,7 @@ module _ {S K : Type 0} (left : S → Option (List ℕ)) (faults : S → ℕ)
         );
         sound = subst (λ (js : List JoinValue). All (IsSound (length task.queries.items)) js)
             (sym {A = List JoinValue} joins_are) ready_queries.asked_for.sound;
-        limit = subst (λ n. IsWithin 2000000 n) (sym of.limit_is) settings.history;
+        limit = subst IsLimit (sym of.limit_is) (is_cap given settings);
       }
 
   -- where a saved window is read first, there is one reader
@@ -268,6 +271,7 @@ module _ {S K : Type 0} (left : S → Option (List ℕ)) (faults : S → ℕ)
     asked = asked_in;
     options = options_in;
     limit = of.limit_is;
+    capped = settings.cap;
     sinks = ready_queries.asked_for.sinks;
   }
 

@@ -84,14 +84,14 @@ all_counted count (entry ∷ later) all =
     let rest = all_counted count later (All-tail (λ (e : Entry). IsNumberOf count e.stream) entry later all) in
     omega (arith, rest, total_one 1 count entry later first.first (omega (arith, first.last)))
 
--- no stream has more entries than its file has tuples
-abbrev pub AreFew : ℕ → List (Option (List ℕ)) → List Entry → Type 0
-AreFew number files history = (place : ℕ) (file : Option (List ℕ)) → slice_get files place ≡ Some file
-    → length (own_tuples (number + place) history) ≤ tuple_count file
+-- no stream has more entries than its file has tuples, in a history that may have so many
+abbrev pub AreFew : ℕ → ℕ → List (Option (List ℕ)) → List Entry → Type 0
+AreFew cap number files history = (place : ℕ) (file : Option (List ℕ)) → slice_get files place ≡ Some file
+    → length (own_tuples (number + place) history) ≤ tuple_count cap file
 
-later_few : (number : ℕ) (file : Option (List ℕ)) (files : List (Option (List ℕ))) (history : List Entry)
-    → AreFew number (file ∷ files) history → AreFew (number + 1) files history
-later_few number file files history few place other is =
+later_few : (cap number : ℕ) (file : Option (List ℕ)) (files : List (Option (List ℕ))) (history : List Entry)
+    → AreFew cap number (file ∷ files) history → AreFew cap (number + 1) files history
+later_few cap number file files history few place other is =
     let same : number + (suc place) ≡ (number + 1) + place = omega arith in
     let at = few (suc place) other is in
     omega (arith, at, ap (λ n. length (own_tuples n history)) same)
@@ -103,42 +103,42 @@ zero_more : (n : ℕ) → n + 0 ≡ n
 zero_more n = omega arith
 
 -- so all together have no more
-pub few_in_all : (number : ℕ) (files : List (Option (List ℕ))) (history : List Entry)
-    → AreFew number files history → own_total number (length files) history ≤ sum (map tuple_count files)
-few_in_all number [] history few = omega arith
-few_in_all number (file ∷ files) history few =
+pub few_in_all : (cap number : ℕ) (files : List (Option (List ℕ))) (history : List Entry)
+    → AreFew cap number files history → own_total number (length files) history ≤ sum (map (tuple_count cap) files)
+few_in_all cap number [] history few = omega arith
+few_in_all cap number (file ∷ files) history few =
     let first = few 0 file refl in
     omega (
       arith,
       first,
       ap (λ n. length (own_tuples n history)) (zero_more number),
-      few_in_all (number + 1) files history (later_few number file files history few),
-      sum_front (tuple_count file) (map tuple_count files),
+      few_in_all cap (number + 1) files history (later_few cap number file files history few),
+      sum_front (tuple_count cap file) (map (tuple_count cap) files),
     )
 
 -- and fewer, where one has fewer
-pub fewer_in_all : (number : ℕ) (files : List (Option (List ℕ))) (history : List Entry) (place : ℕ)
-    (file : Option (List ℕ)) → AreFew number files history → slice_get files place ≡ Some file
-    → length (own_tuples (number + place) history) < tuple_count file
-    → own_total number (length files) history < sum (map tuple_count files)
-fewer_in_all number [] history place file few is fewer = absurd (cc is)
-fewer_in_all number (first ∷ files) history zero file few is fewer =
+pub fewer_in_all : (cap number : ℕ) (files : List (Option (List ℕ))) (history : List Entry) (place : ℕ)
+    (file : Option (List ℕ)) → AreFew cap number files history → slice_get files place ≡ Some file
+    → length (own_tuples (number + place) history) < tuple_count cap file
+    → own_total number (length files) history < sum (map (tuple_count cap) files)
+fewer_in_all cap number [] history place file few is fewer = absurd (cc is)
+fewer_in_all cap number (first ∷ files) history zero file few is fewer =
     let same : first ≡ file = cc is in
     omega (
       arith,
       fewer,
-      ap tuple_count same,
+      ap (tuple_count cap) same,
       ap (λ n. length (own_tuples n history)) (zero_more number),
-      few_in_all (number + 1) files history (later_few number first files history few),
-      sum_front (tuple_count first) (map tuple_count files),
+      few_in_all cap (number + 1) files history (later_few cap number first files history few),
+      sum_front (tuple_count cap first) (map (tuple_count cap) files),
     )
-fewer_in_all number (first ∷ files) history (suc place) file few is fewer =
+fewer_in_all cap number (first ∷ files) history (suc place) file few is fewer =
     let same : number + (suc place) ≡ (number + 1) + place = omega arith in
     omega (
       arith,
       few 0 first refl,
       ap (λ n. length (own_tuples n history)) (zero_more number),
-      fewer_in_all (number + 1) files history place file (later_few number first files history few) is
+      fewer_in_all cap (number + 1) files history place file (later_few cap number first files history few) is
           (omega (arith, fewer, ap (λ n. length (own_tuples n history)) same)),
-      sum_front (tuple_count first) (map tuple_count files),
+      sum_front (tuple_count cap first) (map (tuple_count cap) files),
     )

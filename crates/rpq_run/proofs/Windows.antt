@@ -1,22 +1,32 @@
 -- What stands on the sink of a saved window, and the sources of a run that began with one.
-use Rattle.std.proofs.Common.{◌≡◌, ◌≢◌, ℕ, suc, true, false, List, [], ◌∷◌, ◌++◌, length, Option}
+use Rattle.std.proofs.Common.{◌≡◌, ◌≢◌, ℕ, suc, Bool, true, false, List, [], ◌∷◌, ◌++◌, length, Option}
 use Rattle.std.proofs.Common.{Some, None, Result, Ok, Err, refl, ap, sym, subst, ◌∙◌, arith, inl, inr, ◌⊎◌}
 use Rattle.std.proofs.Common.{append-nil, append_assoc, ◌+◌, ◌<◌, ◌≤◌, drop, get_or}
 use Rattle.std.proofs.Common.{length-append}
 use Rattle.std.proofs.lemmas.List.{drop_more, length-map, map-append}
-use Rattle.std.specs.Prelude.{IfSome, IsOk, is_some}
+use Rattle.std.specs.Prelude.{All, IfSome, IsOk, is_some, not}
+use Rattle.std.specs.Global.{Vec}
 use Rattle.std.specs.Io.KnownBytes.{append_known}
 use Rattle.text_parts.specs.Lines.{line_feed}
+use Rattle.kept_list.specs.KeptList.{KeptListValue}
+use Rattle.rpq_base.specs.Plain.{IsPlain}
 use Rattle.rpq_base.specs.TupleValue.{TupleValue}
+use Rattle.rpq_base.specs.declared.data.Entry.{Entry}
+use Rattle.rpq_model.specs.Query.{Query}
+use Rattle.rpq_threads.specs.Window.{IsWindowFor}
+use Rattle.saved_window.specs.Saved.{saved}
 use Rattle.rpq_io.specs.Files.{IsNewSink}
 use Rattle.rpq_io.proofs.Bytes.{append_known-append}
 use Rattle.tuple_text.specs.Written.{written}
+use Rattle.history_model.specs.declared.line.Why.{Why}
+use Rattle.stream_tuples.specs.declared.ends.StreamEnd.{StreamEnd}
 use Rattle.stream_tuples.specs.History.{IsPrefix, IsProperPrefix}
 use Rattle.saved_window.specs.SavedText.{saved_text}
 use Rattle.saved_window.specs.Then.{TwoSources, count_of}
 use Rattle.run_start.specs.Files.{with_first}
 use Rattle.rpq_run.specs.declared.fault.TextFault.{TextFault}
 use Rattle.rpq_run.specs.declared.fault.TextFault.TheVariants.{Write, Memory}
+use Rattle.rpq_run.specs.Ending.{SavesIfThere, entries_left, is_left_out}
 use Rattle.rpq_run.specs.Failed.{is_failed, lacks_memory}
 use Rattle.rpq_run.specs.Parts.{WritesIfThere, WritesPart}
 use Rattle.rpq_run.specs.RunsStreams.{GotText}
@@ -101,6 +111,46 @@ window_unwritten written failures text sink unsaved failed short reason none fre
   part = λ has. absurd (none has);
   prefix = weaker (written sink) (λ bytes is. is_front text [] text bytes refl is) fresh.empty;
 }
+
+-- what is left of a history for its window, where the run wasn't cut off: the window of it is that
+-- of the history, and its labels point forwards
+pub saves_as_left : (queries : List Query) (window : Option (Vec Entry)) (history : KeptListValue Entry)
+    (why : Option Why) → IsWindowFor queries history.items history.base why window → why ≡ None
+    → saved queries (entries_left window history) ≡ saved queries history.items
+saves_as_left queries None history why left quiet =
+    ap (λ (gone : ℕ). saved queries (drop gone history.items)) left
+saves_as_left queries (Some kept) history why left quiet =
+    ap (saved queries) (sym (append-nil kept.items))
+    ∙ ((left quiet).saves [] ∙ ap (saved queries) (append-nil history.items))
+
+pub plain_as_left : (queries : List Query) (window : Option (Vec Entry)) (history : KeptListValue Entry)
+    (why : Option Why) → IsWindowFor queries history.items history.base why window
+    → All IsPlain history.items → why ≡ None → All IsPlain (entries_left window history)
+plain_as_left queries None history why left plain quiet =
+    subst (λ (gone : ℕ). All IsPlain (drop gone history.items)) (sym left) plain
+plain_as_left queries (Some kept) history why left plain quiet = (left quiet).plain
+
+-- where a window is wanted, the run wasn't cut off
+pub wanted_quiet : (why : Option Why) (short : Bool) (ends : List StreamEnd)
+    (replied : Result (Unit {0}) TextFault) → not (is_left_out why short ends replied) ≡ true
+    → why ≡ None
+wanted_quiet None short ends replied wanted = refl
+wanted_quiet (Some why) short ends replied wanted = absurd (cc wanted)
+
+-- a text is saved as another one is, if they are the same where the engine wasn't shut: where it was,
+-- neither is
+pub saves_of_history : {K : Type 0} (written : K → Option (List ℕ)) (failures : K → ℕ) (why : Option Why)
+    (short : Bool) (ends : List StreamEnd) (replied : Result (Unit {0}) TextFault) (text other : List ℕ)
+    (old new : Option K) (result : Result (Unit {0}) TextFault) → (why ≡ None → text ≡ other)
+    → SavesIfThere written failures text (is_left_out why short ends replied) old new result
+    → SavesIfThere written failures other (is_left_out why short ends replied) old new result
+saves_of_history written failures None short ends replied text other old new result same saves =
+    subst (λ (t : List ℕ). SavesIfThere written failures t (is_left_out None short ends replied) old new result)
+    (same refl) saves
+saves_of_history written failures (Some why) short ends replied text other old new result same (inl wrote) =
+    absurd (cc wrote.0)
+saves_of_history written failures (Some why) short ends replied text other old new result same (inr none) =
+    inr none
 
 -- a sink that may be there is there after the writing where it was before
 pub same_sink : {K : Type 0} (written : K → Option (List ℕ)) (failures : K → ℕ) (text : List ℕ)

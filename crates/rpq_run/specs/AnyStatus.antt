@@ -8,12 +8,12 @@ use Rattle.rpq_model.specs.Query.{Query}
 use Rattle.rpq_text.specs.Statuses.{memory_status, write_status}
 use Rattle.rpq_text.specs.Text.{IsText}
 use Rattle.run_start.specs.Files.{HasQueries}
+use Rattle.run_start.specs.Texts.{tuples_within}
 use Rattle.rpq_threads.specs.Runs.{AreSessionsOf, asks_answered}
 use Rattle.saved_window.specs.Saved.{saved}
 use Rattle.saved_window.specs.SavedText.{saved_text}
 use Rattle.stream_tuples.specs.declared.ends.StreamEnd.TheVariants.{Read}
 use Rattle.stream_tuples.specs.History.{IsNumberOf, IsPrefix, own_tuples}
-use Rattle.stream_tuples.specs.StreamText.{stream_tuples}
 use Rattle.rpq_run.specs.Headline.{Told, AreAsked, AreJoined, options_told, stream_texts}
 use Rattle.rpq_run.specs.Outcome.{Meanings, Sinks, Outcome}
 use Rattle.rpq_run.specs.Shortage.{Shortage, has_memory_end, is_short}
@@ -32,13 +32,14 @@ pub record IsFrontOf (failed uncut : Type 0) (short : Bool) (text front : List �
 
 -- There are queries, joins and sessions, those of their files. The history has of each stream of
 -- which no read failed the first tuples, in order, and nothing else, and isn't longer than it may
--- be. Behind what stood on the sink of the events a front of its text was written. Each session has
--- its first asks answered, each by the answers at a position of the history that never falls within
--- the session; and a front of these replies was written, where they are to be. Where a window is to
--- be saved, a front of that of the history was: nothing of it where a stream ended for want of
--- memory. All of this is whole unless the status is that of a failed write or of out of memory. The
--- status is that of out of memory exactly where memory ran out for a stream, for the engine, for a
--- session, or for one of the texts; a failed write of the window isn't told so
+-- be; all of it is in memory, unless the run goes on as long as its streams do. Behind what stood
+-- on the sink of the events a front of its text was written. Each session has its first asks
+-- answered, each by the answers at a position of the history that never falls within the session;
+-- and a front of these replies was written, where they are to be. Where a window is to be saved, a
+-- front of that of the history was: nothing of it where a stream ended for want of memory. All of
+-- this is whole unless the status is that of a failed write or of out of memory. The status is that
+-- of out of memory exactly where memory ran out for a stream, for the engine, for a session, or for
+-- one of the texts; a failed write of the window isn't told so
 pub record AnyStatus {S K : Type 0} (means : Meanings S K) (told : Told) (sinks : Sinks K)
     (outcome : Outcome S K) : Type 0 where
   pub queries : List Query
@@ -49,9 +50,10 @@ pub record AnyStatus {S K : Type 0} (means : Meanings S K) (told : Told) (sinks 
   pub asked : AreAsked queries told.asks sessions
   pub in_order : (place : ℕ) (text : List ℕ) → slice_get (stream_texts told) place ≡ Some text
       → slice_get outcome.ends place ≢ Some Read
-      → IsPrefix (own_tuples (place + 1) outcome.history) (stream_tuples text).tuples
+      → IsPrefix (own_tuples (place + 1) outcome.history) (tuples_within told.limit text).tuples
   pub no_other : All (λ entry. IsNumberOf (length told.streams) entry.stream) outcome.history
   pub few : length outcome.history ≤ told.limit
+  pub whole : told.endless ≡ false → outcome.base ≡ 0
   pub short : Shortage
   pub memory : (outcome.status ≡ memory_status) ↔ (is_short outcome.ends short ≡ true)
   pub text : List ℕ

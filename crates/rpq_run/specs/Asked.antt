@@ -1,12 +1,13 @@
 -- What a run that begins is to do. Only private contracts cite this file.
-use Rattle.std.specs.Prelude.{◌≡◌, ℕ, Bool, List, Option, IfSome}
+use Rattle.std.specs.Prelude.{◌≡◌, ℕ, Bool, false, List, Option, IfSome}
 use Rattle.rpq_io.specs.Reader.{ReaderState}
 use Rattle.query_file.specs.Compiled.{CompiledValue}
 use Rattle.join_file.specs.Joins.{JoinValue}
 use Rattle.ask_text.specs.declared.ask.Ask.{Ask}
 use Rattle.generated_run.specs.declared.generation.Generation.{Generation}
+use Rattle.rpq_words.specs.Modes.{IsWithin}
 use Rattle.rpq_words.specs.declared.settings.Settings.{Settings}
-use Rattle.rpq_words.specs.Views.{from_of, two_way_of}
+use Rattle.rpq_words.specs.Views.{cap_of, from_of, is_endless, two_way_of}
 use Rattle.rpq_text.specs.Definitions.{definitions_of}
 use Rattle.saved_window.specs.Then.{TwoSources, count_of}
 use Rattle.run_start.specs.Files.{ForJoins, ForSessions, HasQueries, stream_contents}
@@ -25,7 +26,7 @@ pub record IsTaskOf {S : Type 0} (given : Settings) (queries : List CompiledValu
   pub sessions_are : task.sessions.items ≡ sessions
   pub options_are : task.options ≡ options_of given joins
   pub workers_are : task.workers ≡ given.workers
-  pub limit_is : task.limit ≡ given.history
+  pub limit_is : task.limit ≡ cap_of given
 
 -- the generation of these settings, of so many tuples, with these queries, which may take edges
 -- backwards or not
@@ -34,13 +35,13 @@ pub record IsGenerationOf (given : Settings) (queries : List CompiledValue) (two
   pub queries_are : generation.queries.items ≡ queries
   pub two_way_is : generation.two_way ≡ two_way
   pub workers_are : generation.workers ≡ given.workers
-  pub limit_is : generation.limit ≡ given.history
+  pub limit_is : generation.limit ≡ cap_of given
   pub count_is : generation.count ≡ count
 
 -- the task is that of the settings, where the files hold this: the queries, the joins and the
 -- sessions of their files, readers of the streams, with a saved window in front where one is named,
--- and as many entries as the history may have; and the sinks are new, and those that the settings
--- name
+-- and as many entries as the history may have, which are few unless it goes on as long as the
+-- streams do; and the sinks are new, and those that the settings name
 pub record IsAsked {S K : Type 0} (left : S → Option (List ℕ)) (written : K → Option (List ℕ))
     (failures : K → ℕ) (given : Settings) (holds : List ℕ → Option (List ℕ)) (firsts : ℕ)
     (task : Task (TwoSources S)) (own : OwnSinks K) : Type 0 where
@@ -52,5 +53,6 @@ pub record IsAsked {S K : Type 0} (left : S → Option (List ℕ)) (written : K 
       (λ asked. task.sessions.items ≡ asked)
   pub options : ForJoins given holds (definitions_of task.queries.items)
       (λ joins. task.options ≡ options_of given joins)
-  pub limit : task.limit ≡ given.history
+  pub limit : task.limit ≡ cap_of given
+  pub capped : is_endless given ≡ false → IsWithin 2000000 (cap_of given)
   pub sinks : AreNewSinks written failures given own

@@ -13,12 +13,12 @@ use Rattle.rpq_words.specs.declared.settings.Settings.{Settings}
 use Rattle.tuple_text.specs.Parts.{GivesNothing}
 use Rattle.stream_tuples.specs.declared.ends.StreamEnd.TheVariants.{Whole}
 use Rattle.stream_tuples.specs.Limits.{line_limit}
-use Rattle.stream_tuples.specs.StreamText.{stream_tuples}
 use Rattle.saved_window.specs.Saved.{saved, first_stream}
 use Rattle.entry_steps.specs.Steps.{OptionsValue, StepValue, AreStepsFrom}
 use Rattle.rpq_text.specs.Statuses.{done_status, memory_status, write_status}
 use Rattle.rpq_text.specs.Text.{IsText, blocks_from}
 use Rattle.run_start.specs.Files.{HasQueries}
+use Rattle.run_start.specs.Texts.{tuples_within}
 use Rattle.rpq_run.specs.Headline.{Told, IsTold, AreJoined, options_told}
 use Rattle.rpq_run.specs.Outcome.{Meanings, Sinks, Objects, Outcome}
 use Rattle.rpq_run.specs.RunsStreams.{RunsStreams}
@@ -130,11 +130,11 @@ pub record Continues {S K : Type 0} (means : Meanings S K) (first second : Strea
   pub accepted : HasQueries false first.told.queries queries
   pub stream : List ℕ
   pub one_stream : second.told.streams ≡ stream ∷ []
-  pub whole : (stream_tuples stream).end ≡ Whole
+  pub whole : (tuples_within second.told.limit stream).end ≡ Whole
   pub before : List Entry
   pub before_is : before ≡ first_stream (saved queries first.outcome.history)
   pub new : List Entry
-  pub new_is : new ≡ first_stream (stream_tuples stream).tuples
+  pub new_is : new ≡ first_stream (tuples_within second.told.limit stream).tuples
   pub history : second.outcome.history ≡ before ++ new
   pub itself : StandsFor queries first.outcome.history first.outcome.history
   pub stands : (entries : List Entry) → StandsFor queries first.outcome.history entries

@@ -4,22 +4,23 @@ use Rattle.std.specs.Prelude.{unwrap_or, IfSome, IsSomeAnd}
 use Rattle.rpq_io.specs.Counts.{Rose}
 use Rattle.rpq_words.specs.Modes.{count_of}
 use Rattle.rpq_words.specs.declared.settings.Settings.{Settings}
-use Rattle.rpq_words.specs.Views.{asks_of, joins_of, two_way_of}
+use Rattle.rpq_words.specs.Views.{asks_of, cap_of, joins_of, mode_of, two_way_of}
 use Rattle.stream_tuples.specs.declared.ends.StreamEnd.TheVariants.{Whole}
-use Rattle.stream_tuples.specs.StreamText.{stream_tuples}
 use Rattle.run_start.specs.Files.{IsFaultless, AreFaultlessAsks, AreFaultlessJoins}
 use Rattle.run_start.specs.Files.{stream_contents}
 use Rattle.run_start.specs.Given.{file_names, sink_names}
 use Rattle.run_start.specs.Ready.{AreReadWhole}
+use Rattle.run_start.specs.Texts.{tuples_within}
 use Rattle.rpq_run.specs.Outcome.{Meanings, Sinks, Openings, Outcome}
 
--- the bytes of a stream are told, and it has no fault
-abbrev pub IsWholeStream : Option (List ℕ) → Type 0
-IsWholeStream file = IsSomeAnd file (λ text. (stream_tuples text).end ≡ Whole)
+-- the bytes of a stream are told, and it has no fault, in a history of at most so many entries
+abbrev pub IsWholeStream : ℕ → Option (List ℕ) → Type 0
+IsWholeStream cap file = IsSomeAnd file (λ text. (tuples_within cap text).end ≡ Whole)
 
--- how many tuples a stream has, where its bytes are told
-abbrev pub tuple_count : Option (List ℕ) → ℕ
-tuple_count file = unwrap_or (option_map (λ text. length (stream_tuples text).tuples) file) 0
+-- how many tuples a stream has there, where its bytes are told
+abbrev pub tuple_count : ℕ → Option (List ℕ) → ℕ
+tuple_count cap file =
+    unwrap_or (option_map (λ text. length (tuples_within cap text).tuples) file) 0
 
 -- the bytes of all files are told and have no fault, and the history can hold the streams' tuples,
 -- or those that are generated
@@ -29,9 +30,9 @@ pub record CanBeDone (given : Settings) (holds : List ℕ → Option (List ℕ))
       IsSomeAnd (holds name) (AreFaultlessJoins (two_way_of given) (holds given.queries)))
   pub asks : IfSome (asks_of given) (λ name.
       IsSomeAnd (holds name) (AreFaultlessAsks (two_way_of given) (holds given.queries)))
-  pub whole : All IsWholeStream (stream_contents given holds)
-  pub few : sum (map tuple_count (stream_contents given holds)) ≤ given.history
-  pub made : IfSome (count_of given.mode) (λ count. count ≤ given.history)
+  pub whole : All (IsWholeStream (cap_of given)) (stream_contents given holds)
+  pub few : sum (map (tuple_count (cap_of given)) (stream_contents given holds)) ≤ cap_of given
+  pub made : IfSome (count_of (mode_of given)) (λ count. count ≤ cap_of given)
 
 -- no count rose that shows a failure: of an opening of one of the files, of a read of a source, or
 -- of a write of the events, the replies or the saved window

@@ -1,6 +1,9 @@
 -- How a run over streams ends behind its threads. Only private contracts cite this file.
 use Rattle.std.specs.Prelude.{◌≡◌, ◌⊎◌, ◌||◌, ℕ, Bool, true, false, List, Option, is_some, Result}
-use Rattle.std.specs.Prelude.{Ok}
+use Rattle.std.specs.Prelude.{Ok, Some, None, drop}
+use Rattle.std.specs.Global.{Vec}
+use Rattle.kept_list.specs.KeptList.{KeptListValue}
+use Rattle.rpq_base.specs.declared.data.Entry.{Entry}
 use Rattle.history_model.specs.declared.line.Why.{Why}
 use Rattle.stream_tuples.specs.declared.ends.StreamEnd.{StreamEnd}
 use Rattle.rpq_text.specs.declared.ends.SinkName.{SinkName}
@@ -45,6 +48,12 @@ is_any short = (short.engine || (short.session || short.replies)) || short.save
 abbrev pub failed_of : Option Why → WrittenTexts → List SinkName
 failed_of why written =
     failed_sinks (is_write why) (is_failed written.replied) (is_failed written.saved)
+
+-- the entries in memory of which the window of a history is saved: those that the engine kept in the
+-- place of all, if it did
+abbrev pub entries_left : Option (Vec Entry) → KeptListValue Entry → List Entry
+entries_left (Some kept) history = kept.items
+entries_left None history = drop history.base history.items
 
 -- the report has what the threads gave, and the sinks
 pub record KeepsParts {T O F S K V : Type 0} {W : V → Type 0} (threads : ThreadsOutcome T O)

@@ -8,10 +8,10 @@ use Rattle.rpq_base.specs.TupleValue.{TupleValue}
 use Rattle.rpq_model.specs.Query.{Query}
 use Rattle.rpq_words.specs.Settings.{settings}
 use Rattle.run_start.specs.Files.{HasQueries}
+use Rattle.run_start.specs.Texts.{tuples_within}
 use Rattle.saved_window.specs.SavedText.{saved_text}
 use Rattle.stream_tuples.specs.declared.ends.StreamEnd.TheVariants.{Whole}
 use Rattle.stream_tuples.specs.Limits.{byte_limit}
-use Rattle.stream_tuples.specs.StreamText.{stream_tuples}
 use Rattle.tuple_text.specs.Written.{IsStreamTuple}
 use Rattle.rpq_run.specs.Done.{CanBeDone}
 use Rattle.rpq_run.specs.Headline.{Told, AreAsked, AreJoined, stream_texts}
@@ -25,8 +25,8 @@ pub record AreFaultless (told : Told) : Type 0 where
   pub joined : AreJoined queries told.joins joins
   pub sessions : List (List Ask)
   pub asked : AreAsked queries told.asks sessions
-  pub whole : All (λ text. (stream_tuples text).end ≡ Whole) (stream_texts told)
-  pub few : sum (map (λ text. length (stream_tuples text).tuples) (stream_texts told))
+  pub whole : All (λ text. (tuples_within told.limit text).end ≡ Whole) (stream_texts told)
+  pub few : sum (map (λ text. length (tuples_within told.limit text).tuples) (stream_texts told))
       ≤ told.limit
 
 -- A worked value: `rpq --two-way q t` can be done, where the file `q` has the line of one query,

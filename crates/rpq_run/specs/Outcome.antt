@@ -35,10 +35,12 @@ pub record Openings : Type 0 where
   pub unmade_old : List ℕ → ℕ
   pub unmade_new : List ℕ → ℕ
 
--- what a run answers but why it didn't begin
+-- what a run answers but why it didn't begin; so many of the first entries of the history have left
+-- the memory
 pub record Outcome (S K : Type 0) : Type 0 where
   pub status : ℕ
   pub history : List Entry
+  pub base : ℕ
   pub ends : List StreamEnd
   pub sources : List S
   pub from : Option S
@@ -79,6 +81,7 @@ abbrev pub outcome : {F S K V : Type 0} {W : V → Type 0} → Report F S K V W 
 outcome report = record {
   status = report.status;
   history = report.history.items;
+  base = report.history.base;
   ends = report.streams.items;
   sources = report.sources.items;
   from = report.from;

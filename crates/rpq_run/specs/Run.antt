@@ -3,7 +3,7 @@ use Rattle.std.specs.Prelude.{◌≡◌, ℕ, List, Option}
 use Rattle.rpq_words.specs.declared.settings.RunMode.{RunMode}
 use Rattle.rpq_words.specs.declared.settings.RunMode.TheVariants.{Check, Generate, Streams}
 use Rattle.rpq_words.specs.declared.settings.Settings.{Settings}
-use Rattle.rpq_words.specs.Views.{is_both_ways}
+use Rattle.rpq_words.specs.Views.{cap_of, is_both_ways, mode_of}
 use Rattle.rpq_text.specs.declared.ends.StartFault.{StartFault}
 use Rattle.rpq_text.specs.ErrorLines.{start_line}
 use Rattle.rpq_text.specs.Statuses.{status_of_start}
@@ -21,7 +21,7 @@ abbrev pub RunsIn : {S K : Type 0} → RunMode → Meanings S K → Settings →
 RunsIn (Check directions) means given holds sinks objects outcome =
     RunsCheck means (is_both_ways directions) (holds given.queries) sinks objects outcome
 RunsIn (Generate directions count) means given holds sinks objects outcome =
-    RunsGenerated means (is_both_ways directions) given.history count (holds given.queries)
+    RunsGenerated means (is_both_ways directions) (cap_of given) count (holds given.queries)
     sinks objects outcome
 RunsIn (Streams run) means given holds sinks objects outcome =
     RunsStreams means given holds sinks objects outcome
@@ -30,7 +30,7 @@ RunsIn (Streams run) means given holds sinks objects outcome =
 abbrev pub Runs : {S K : Type 0} → Meanings S K → Settings → (List ℕ → Option (List ℕ))
     → Sinks K → Objects → Outcome S K → Type 0
 Runs means given holds sinks objects outcome =
-    RunsIn given.mode means given holds sinks objects outcome
+    RunsIn (mode_of given) means given holds sinks objects outcome
 
 -- a run that doesn't begin for this cause; its status and its line on the errors are those of the
 -- cause, it took nothing and left the sink of the events and the objects as they were, and it

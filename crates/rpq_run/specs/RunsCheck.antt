@@ -12,6 +12,7 @@ use Rattle.rpq_run.specs.Written.{WritesWhere}
 -- nothing was taken of a stream, and nothing answered
 pub record TakesNothing {S K : Type 0} (outcome : Outcome S K) : Type 0 where
   pub no_history : outcome.history ≡ []
+  pub none_gone : outcome.base ≡ 0
   pub no_stream : outcome.ends ≡ []
   pub no_session : outcome.sessions ≡ []
   pub no_replies : outcome.replies ≡ None

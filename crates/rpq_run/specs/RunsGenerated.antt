@@ -17,12 +17,14 @@ use Rattle.rpq_run.specs.Outcome.{Meanings, Sinks, Objects, Outcome}
 use Rattle.rpq_run.specs.Shortage.{no_shortage}
 
 -- the history has the first generated tuples, in order, as stream 1: all that are wanted, or as
--- many as it may have, unless memory ran out. The stream's end says which
+-- many as it may have, unless memory ran out. None of them has left the memory. The stream's end
+-- says which
 pub record HoldsGenerated {S K : Type 0} (limit count : ℕ) (outcome : Outcome S K)
     : Type 0 where
   pub made : ℕ
   pub within : (made ≤ count) × (made ≤ limit)
   pub history : outcome.history ≡ generated_history made
+  pub none_gone : outcome.base ≡ 0
   pub end : StreamEnd
   pub one_stream : outcome.ends ≡ end ∷ []
   pub one_of : (end ≡ Whole) ⊎ ((end ≡ Full) ⊎ (end ≡ Memory))

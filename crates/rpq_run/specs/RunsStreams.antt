@@ -14,7 +14,8 @@ use Rattle.rpq_model.specs.Events.{IsHeld}
 use Rattle.rpq_model.specs.Query.{Query, path_query}
 use Rattle.two_way.specs.TwoWay.{walked, AreAllWalkedEvents}
 use Rattle.rpq_words.specs.declared.settings.Settings.{Settings}
-use Rattle.rpq_words.specs.Views.{from_of, replies_of, save_of, streams_of, two_way_of}
+use Rattle.rpq_words.specs.Views.{cap_of, from_of, is_endless, replies_of, save_of, streams_of}
+use Rattle.rpq_words.specs.Views.{two_way_of}
 use Rattle.history_model.specs.declared.line.Why.{Why}
 use Rattle.history_model.specs.declared.line.Why.TheVariants.{Write, Memory}
 use Rattle.ask_text.specs.Replies.{replies}
@@ -38,16 +39,18 @@ use Rattle.rpq_run.specs.Sources.{stream_sources}
 use Rattle.rpq_run.specs.Written.{WritesWhere}
 
 -- one history: each stream's tuples stand in it, in order, up to the stream's end, and nothing else
--- does; it isn't longer than the settings let it be. The tuples of a saved window, where one is
--- named, come first in the first stream
+-- does; it isn't longer than the settings let it be, and unless they let it go on as long as the
+-- streams do, no entry has left the memory. The tuples of a saved window, where one is named, come
+-- first in the first stream
 pub record HoldsStreams {S K : Type 0} (means : Meanings S K) (given : Settings)
     (holds : List ℕ → Option (List ℕ)) (outcome : Outcome S K) : Type 0 where
   pub from : is_some outcome.from ≡ is_some (from_of given)
   pub each_stream : AreStreamsOf (left_of_both means.left) (faults_of_both means.faults)
-      given.history (stream_contents given holds)
+      (cap_of given) (stream_contents given holds)
       (stream_sources outcome.from outcome.sources) outcome.history outcome.ends
   pub no_other : All (λ entry. IsNumberOf (length (streams_of given)) entry.stream) outcome.history
-  pub few : length outcome.history ≤ given.history
+  pub few : length outcome.history ≤ cap_of given
+  pub whole : is_endless given ≡ false → outcome.base ≡ 0
 
 -- going through the events of the first blocks of the history's text leaves exactly each query's
 -- answers over as many entries, and over their inverses where edges may be taken backwards

@@ -15,6 +15,7 @@ use crate::report::Report;
 use crate::streams::failed_sinks;
 use crate::word_texts::{end_with_words, put_piece};
 use containment_test::Verdict;
+use kept_list::KeptList;
 use query_file::Compiled;
 use rpq_io::{Failed, Files, Sink};
 use rpq_text::{first_status, name_of, verdict_front};
@@ -44,7 +45,7 @@ pub fn run_check<F: Files>(
     Report {
         status,
         start: None,
-        history: Vec::new(alloc),
+        history: KeptList::new(alloc),
         streams: Vec::new(alloc),
         sources: Vec::new(alloc),
         from: None,

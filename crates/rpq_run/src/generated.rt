@@ -14,6 +14,7 @@ use crate::objects::{circle_of, put_back};
 use crate::report::Report;
 use crate::streams::failed_sinks;
 use generated_run::{Generation, GenerationResult, generate};
+use kept_list::KeptList;
 use rpq_base::Memory;
 use rpq_io::{Context, Failed, Files, Gate, Sink, put_all};
 use rpq_text::run_status;
@@ -63,7 +64,7 @@ pub fn run_generated<R: Threads + RandomSource + Sync, G: Gate, F: Files>(
     Ok(Report {
         status,
         start: None,
-        history,
+        history: KeptList::of(history),
         streams: ends,
         sources: Vec::new(alloc),
         from: None,

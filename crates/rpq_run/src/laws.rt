@@ -4,6 +4,7 @@ ghost use Rattle.std.specs.Prelude.{◌≡◌, ◌≢◌, ℕ, List, Option};
 ghost use Rattle.rpq_words.specs.declared.settings.RunMode.TheVariants.{Streams};
 ghost use Rattle.rpq_words.specs.declared.settings.Settings.{Settings};
 ghost use Rattle.rpq_words.specs.declared.settings.StreamSettings.{StreamSettings};
+ghost use Rattle.rpq_words.specs.Views.{mode_of};
 ghost use Rattle.rpq_text.specs.Statuses.{done_status, memory_status};
 ghost use Rattle.rpq_run.specs.AnyStatus.{AnyStatus};
 ghost use Rattle.rpq_run.specs.Done.{NothingRose};
@@ -24,7 +25,8 @@ use saved_window::saved_text_is_read;
 /// pairs emitted and not retracted are the answers, and the bindings emitted and not retracted are
 /// those over the answers; each object that stayed heard all events that it wants; each reader is
 /// told the answers at positions that never fall; the window that is saved is that of the history;
-/// and nothing is written on the errors.
+/// nothing is written on the errors; and unless the run goes on as long as its streams do, the
+/// whole history is in memory.
 pub fn headline<F: Files>()
     ensures { (given : Settings) (holds : List ℕ → Option (List ℕ)) (sinks : Sinks F.Sink)
         (objects : Objects) (outcome : Outcome F.Source F.Sink) (told : Told)
@@ -65,7 +67,7 @@ pub fn any_status<F: Files>()
 pub fn faultless_is_done<F: Files>()
     ensures { (given : Settings) (holds : List ℕ → Option (List ℕ)) (sinks : Sinks F.Sink)
         (objects : Objects) (outcome : Outcome F.Source F.Sink) (told : Told)
-        (openings : Openings) (run : StreamSettings) → given.mode ≡ Streams run
+        (openings : Openings) (run : StreamSettings) → mode_of given ≡ Streams run
         → RunsStreams (meanings F.Source.left F.Source.faults F.Sink.written F.Sink.faults)
         given holds sinks objects outcome
         → IsTold (meanings F.Source.left F.Source.faults F.Sink.written F.Sink.faults)

@@ -1,6 +1,7 @@
 //! What a run answers.
 
 use ask_text::Answered;
+use kept_list::KeptList;
 use rpq_base::Entry;
 use rpq_io::Files;
 use rpq_text::StartFault;
@@ -29,8 +30,9 @@ pub struct Report<F: Files> {
     pub status: u8,
     /// Why the run didn't begin, if it didn't.
     pub start: Option<StartFault>,
-    /// The entries that were taken, in order.
-    pub history: Vec<Entry>,
+    /// The entries that were taken, in order. Where the run goes on as long as its streams do, the
+    /// first ones may have left the memory.
+    pub history: KeptList<Entry>,
     /// How each stream ended, in order; generated tuples are one stream. Where the run didn't
     /// begin, or is a check, there is none.
     pub streams: Vec<StreamEnd>,

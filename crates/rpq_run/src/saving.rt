@@ -50,7 +50,7 @@ pub fn save_window<K: Sink>(
     history: &[Entry],
     wanted: bool,
 ) -> Result<(), TextFault>
-    requires { All IsPlain history.now }
+    requires { wanted ≡ true → All IsPlain history.now }
     ensures written { wanted ≡ true → WritesIfThere K.written K.faults
         (saved_text (saved queries.now history.now)) sink.old sink.new result }
     ensures unwanted { wanted ≡ false → (result ≡ Ok tt) × (sink.new ≡ sink.old) }

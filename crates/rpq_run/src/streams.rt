@@ -14,8 +14,8 @@ ghost use Rattle.saved_window.specs.SavedText.{saved_text};
 ghost use Rattle.saved_window.specs.Then.{count_of, left_of_both, faults_of_both};
 ghost use Rattle.rpq_threads.specs.Runs.{IsTask};
 ghost use Rattle.rpq_run.specs.Asked.{IsAsked};
-ghost use Rattle.rpq_run.specs.Ending.{KeepsParts, SavesIfThere, failed_of, is_any, is_left_out};
-ghost use Rattle.rpq_run.specs.Ending.{shortage_of};
+ghost use Rattle.rpq_run.specs.Ending.{KeepsParts, SavesIfThere, entries_left, failed_of, is_any};
+ghost use Rattle.rpq_run.specs.Ending.{is_left_out, shortage_of};
 ghost use Rattle.rpq_run.specs.Failed.{failed_sinks, is_failed, is_memory, is_write, lacks_memory};
 ghost use Rattle.rpq_run.specs.Outcome.{meanings, objects, outcome, sinks};
 ghost use Rattle.rpq_run.specs.Parts.{WritesIfThere};
@@ -36,7 +36,7 @@ use entry_steps::{fronts_hold_answers, fronts_hold_bindings};
 use history_model::Why;
 use join_file::joins_are_sound;
 use query_file::copied_definitions;
-use rpq_base::Memory;
+use rpq_base::{Entry, Memory};
 use rpq_io::{Context, Files, Gate, Sink, Source};
 use rpq_model::QueryDef;
 use rpq_text::{SinkName, run_status};
@@ -109,20 +109,38 @@ fn write_own<K: Sink, S: Source, O: Standing>(
     definitions: &[QueryDef],
 ) -> WrittenTexts
     requires few { length outcome.now.sessions.items ≤ session_limit }
-    requires plain { All IsPlain outcome.now.history.items }
+    requires plain { outcome.now.why ≡ None
+        → All IsPlain (entries_left outcome.now.window outcome.now.history) }
     ensures replied { WritesIfThere K.written K.faults
         (replies (texts_of (map (λ own. own.items) outcome.now.sessions.items)))
         own.old.replies own.new.replies result.replied }
     ensures saved { SavesIfThere K.written K.faults
-        (saved_text (saved definitions.now outcome.now.history.items))
+        (saved_text (saved definitions.now
+        (entries_left outcome.now.window outcome.now.history)))
         (is_left_out outcome.now.why outcome.now.short_of_memory outcome.now.ends.items
         result.replied)
         own.old.save own.new.save result.saved }
 {
     let replied = write_replies(alloc, &mut own.replies, &outcome.sessions);
     let wanted = can_save(outcome.why, outcome.short_of_memory, &outcome.ends, replied);
-    let saved = save_window(alloc, &mut own.save, definitions, &outcome.history, wanted);
+    let saved = save_window(
+        alloc,
+        &mut own.save,
+        definitions,
+        entries_left(outcome),
+        wanted,
+    );
     WrittenTexts { replied, saved }
+}
+
+/// The entries in memory of which the window is saved.
+fn entries_left<S, O>(outcome: &RunOutcome<S, O>) -> &[Entry]
+    ensures { result.now ≡ entries_left outcome.now.window outcome.now.history }
+{
+    match &outcome.window {
+        Some(entries) => entries.as_slice(),
+        None => outcome.history.as_slice(),
+    }
 }
 
 /// The report of a run that ended so. Puts the objects back, and tells on the errors what went
@@ -154,6 +172,7 @@ fn end_run<F: Files, P: Prefix>(
 {
     let RunOutcome {
         history,
+        window: _window,
         ends,
         sources,
         sessions,

@@ -25,6 +25,7 @@ use ask_text::Session;
 use entry_steps::Options;
 use generated_run::Generation;
 use join_file::JoinDef;
+use kept_list::KeptList;
 use query_file::Compiled;
 use rpq_base::Memory;
 use rpq_io::{Context, Files, Gate, LineReader, Source};
@@ -64,6 +65,10 @@ use std::thread::Threads;
 /// Where a saved window is named, it is read before the file of the one stream, as the first part
 /// of that stream. Where one is to be saved, what a later run needs of the history is written
 /// behind the replies.
+///
+/// With `--endless` the run goes on as long as its streams do, in memory that goes by what the
+/// queries still see: then the first entries of the history may have left the memory. What the
+/// clauses say of the history they say of all its entries.
 ///
 /// The objects that stayed are in `standing` afterwards, in their order, and those that left in the
 /// report.
@@ -199,7 +204,7 @@ fn generation_of(
         queries,
         two_way: directions.is_both_ways(),
         workers: chosen.workers,
-        limit: chosen.history,
+        limit: chosen.history_cap(),
         count,
     }
 }
@@ -225,7 +230,7 @@ fn task_of<S: Source>(
         queries,
         options,
         workers: chosen.workers,
-        limit: chosen.history,
+        limit: chosen.history_cap(),
         readers,
         sessions,
     }
@@ -240,7 +245,7 @@ fn report_of_refusal<F: Files>(
 ) -> Report<F>
     ensures start { result.start ≡ Some fault }
     ensures status { result.status ≡ status_of_start fault }
-    ensures history { result.history.items ≡ [] }
+    ensures history { (result.history.items ≡ []) × (result.history.base ≡ 0) }
     ensures streams { result.streams.items ≡ [] }
     ensures sources { result.sources.items ≡ sources.items }
     ensures sessions { result.sessions.items ≡ [] }
@@ -254,7 +259,7 @@ fn report_of_refusal<F: Files>(
     Report {
         status: fault.status(),
         start: Some(fault),
-        history: Vec::new(alloc),
+        history: KeptList::new(alloc),
         streams: Vec::new(alloc),
         sources,
         from: None,

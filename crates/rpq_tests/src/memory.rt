@@ -89,7 +89,7 @@ fn looked_at<F: Files>(alloc: Global, report: Report<F>) -> RunSummary {
     mem::swap(&mut left, &mut report.left);
     RunSummary {
         status: report.status,
-        entries: report.history.len(),
+        entries: report.history.length() as usize,
         left,
     }
 }

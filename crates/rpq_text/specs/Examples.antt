@@ -84,8 +84,8 @@ pub record LineExamples : Type 0 where
       ≡ codes "p arbitrary states 3 no () a b/\"c|d\"\n"
   pub words : start_line Words ≡ codes "rpq: words\nusage: rpq [--workers N] [--history N] "
       ++ codes "[--asks FILE --replies FILE] [--check] [--generate N] "
-      ++ codes "[--two-way] [--paths] [--joins FILE] [--save FILE] [--from FILE] QUERIES "
-      ++ codes "[STREAM...]\n"
+      ++ codes "[--two-way] [--paths] [--joins FILE] [--save FILE] [--from FILE] [--endless] "
+      ++ codes "QUERIES [STREAM...]\n"
   pub twice : start_line (JoinsFaulty (record { line = 2; kind = Twice (codes "j") }))
       ≡ codes "rpq: joins line 2: name twice\n"
   pub joins : start_line (Open Joins) ≡ codes "rpq: read failed: joins\n"

@@ -1,5 +1,6 @@
 -- The entries of a history that come next, and what the calls of its pass make of them.
-use Rattle.std.proofs.Common.{◌≡◌, ℕ, zero, suc, ◌+◌, ◌-◌, ◌<◌, ◌≤◌, min, Bool, true, false, List}
+use Rattle.std.proofs.Common.{◌≡◌, ℕ, zero, suc, ◌+◌, ◌-◌, ◌<◌, ◌≤◌, ◌^◌, min, Bool, true, false}
+use Rattle.std.proofs.Common.{List}
 use Rattle.std.proofs.Common.{[], ◌∷◌, ◌++◌}
 use Rattle.std.proofs.Common.{length, map, take, drop, length-append, length-drop, append_assoc}
 use Rattle.std.proofs.Common.{refl, sym, ap, subst, ◌∙◌, arith}
@@ -7,16 +8,20 @@ use Rattle.std.proofs.lemmas.List.{length-take, length-take-le, take-append-le, 
 use Rattle.std.proofs.lemmas.List.{drop_at, take-take}
 use Rattle.std.proofs.lemmas.List.Elements.{All-take, All-drop, All-same}
 use Rattle.std.proofs.Math.Seq.{take-add}
-use Rattle.answer_view.specs.View.{ViewValue, IsViewOf}
-use Rattle.engine_loop.specs.Sources.{ComesNext, GetsOn, ShowsOnly, Repeats}
-use Rattle.entry_steps.specs.Evaluator.{EvaluatorValue, StandsAfter, KeepsSetup, queries_of}
+use Rattle.std.specs.List.{AllZip}
+use Rattle.std.specs.Prelude.{Option, Some, IfSome}
+use Rattle.answer_rows.specs.Answers.{Answer}
+use Rattle.answer_view.specs.View.{ViewValue, IsViewOf, AreRowsOf}
+use Rattle.engine_loop.specs.Sources.{ComesNext, GetsOn, IsAsFar, ShowsOnly, Repeats}
+use Rattle.entry_steps.specs.Evaluator.{EvaluatorValue, StandsAfter, KeepsSetup, IsViewAfter}
+use Rattle.entry_steps.specs.Evaluator.{queries_of}
 use Rattle.entry_steps.specs.Steps.{OptionsValue}
 use Rattle.history_model.specs.Lines.{entries, published, publish_line, IsShut}
 use Rattle.history_model.specs.declared.line.Line.{Line}
 use Rattle.query_file.specs.Compiled.{CompiledValue}
 use Rattle.rpq_base.specs.Plain.{IsPlain}
 use Rattle.rpq_base.specs.declared.data.Entry.{Entry}
-use Rattle.rpq_model.specs.Query.{Query}
+use Rattle.rpq_model.specs.Query.{Query, path_query}
 use Rattle.stream_threads.proofs.Numbering.{Each}
 use Rattle.stream_threads.proofs.Seen.{entries_grow, same_front, take_part, part_fits, none_after}
 use Rattle.stream_threads.proofs.Seen.{starts_then, added_starts}
@@ -45,6 +50,11 @@ drop_twice {A} (suc n) m [] = ap (λ (k : ℕ). drop k []) {x = suc n + m} {y = 
 drop_twice {A} (suc n) m (x ∷ xs) =
     ap (λ (k : ℕ). drop k (x ∷ xs)) {x = suc n + m} {y = suc (n + m)} (omega arith)
     ∙ drop_twice n m xs
+
+-- what is so of what was found
+pub of_found : {A : Type 0} (found : Option A) (one : A) (P : A → Type 0) → found ≡ Some one →
+    IfSome found P → P one
+of_found {A} found one P is so = subst (λ (each : Option A). IfSome each P) is so
 
 -- ---- some of what comes next
 
@@ -107,7 +117,7 @@ module _ (seen : List Entry) (count : ℕ) (rest : List Entry) (come : ComeBehin
 
 -- what the history gave behind so many entries comes behind them
 module _ (history : HistoryValue) (before after : Each) (count : ℕ)
-    (there : count ≤ length (entries before.seen)) (few : history.terms.cap ≤ 536870912)
+    (there : count ≤ length (entries before.seen)) (few : history.terms.cap ≤ 2 ^ 61)
     (seen : HasSeen history before after) (more : List Entry)
     (is : more ≡ take 256 (drop count (entries after.seen))) where
   still_there : count ≤ length (entries after.seen)
@@ -176,6 +186,7 @@ module _ (history : HistoryValue) (before after : Each) (seen : HasSeen history 
     few = was.few;
     place = was.place;
     told = λ some. ap published seen.mine ∙ was.told some;
+    plain = seen.plain;
     rest_comes = come;
   }
 
@@ -203,7 +214,24 @@ feeds_given history pass count n rest evaluator within was = record {
   few = was.few;
   place = omega (arith, was.place);
   told = was.told;
+  plain = was.plain;
   rest_comes = others_come (entries pass.seen) count rest was.rest_comes n within;
+}
+
+-- an evaluator of the same setup and position is fed as well
+pub feeds_as_far : (history : HistoryValue) (pass : Each) (count : ℕ) (rest : List Entry)
+    (evaluator other : EvaluatorValue) → IsAsFar evaluator other →
+    FeedsFrom history pass count rest evaluator → FeedsFrom history pass count rest other
+feeds_as_far history pass count rest evaluator other far was = record {
+  feeds = was.feeds;
+  queries = ap (map (λ (each : CompiledValue). each.def)) far.setup.queries ∙ was.queries;
+  unread = λ is. was.unread
+      (sym (ap (λ (options : OptionsValue). options.two_way) far.setup.options) ∙ is);
+  few = was.few;
+  place = omega (arith, far.place, was.place);
+  told = λ some. was.told some ∙ sym far.place;
+  plain = was.plain;
+  rest_comes = was.rest_comes;
 }
 
 -- ---- entries are given once more
@@ -217,25 +245,24 @@ own_front (suc k) (suc m) [] = refl
 own_front (suc k) (suc m) (x ∷ xs) = ap (λ l. x ∷ l) (own_front k m xs)
 
 module _ (history : HistoryValue) (before after : Each) (seen : HasSeen history before after)
-    (count from to : ℕ) (there : count ≤ length (entries before.seen)) (within : to ≤ count)
-    (some : from < to) (front more : List Entry)
-    (is : front ≡ take 256 (drop from (entries after.seen)))
-    (cut : more ≡ take (to - from) front) where
+    (count from : ℕ) (there : count ≤ length (entries before.seen)) (some : from < count)
+    (front more : List Entry) (is : front ≡ take 256 (drop from (entries after.seen)))
+    (cut : more ≡ take (count - from) front) where
   abbrev all : List Entry
   all = entries after.seen
 
-  is_cut : more ≡ take (to - from) (take 256 (drop from all))
-  is_cut = ◌∙◌ {A = List Entry} cut (ap (take (to - from)) is)
+  is_cut : more ≡ take (count - from) (take 256 (drop from all))
+  is_cut = ◌∙◌ {A = List Entry} cut (ap (take (count - from)) is)
 
   part : more ≡ take (length more) (drop from all)
   part = subst (λ (l : List Entry). l ≡ take (length l) (drop from all)) (sym is_cut)
-      (own_front (to - from) 256 (drop from all))
+      (own_front (count - from) 256 (drop from all))
 
-  as_many : length more ≡ min (to - from) (min 256 (length all - from))
+  as_many : length more ≡ min (count - from) (min 256 (length all - from))
   as_many =
       ap length is_cut
-      ∙ (length-take (to - from) (take 256 (drop from all))
-      ∙ ap (λ (n : ℕ). min (to - from) n)
+      ∙ (length-take (count - from) (take 256 (drop from all))
+      ∙ ap (λ (n : ℕ). min (count - from) n)
       (length-take 256 (drop from all) ∙ ap (λ (n : ℕ). min 256 n) (length-drop from all)))
 
   grown : count ≤ length all
@@ -244,16 +271,15 @@ module _ (history : HistoryValue) (before after : Each) (seen : HasSeen history 
   same_given : take count all ≡ take count (entries before.seen)
   same_given = same_front after.seen before.seen seen.seen count there
 
-  pub they_repeat : Repeats (take count (entries before.seen)) from to more
+  pub they_repeat : Repeats (take count (entries before.seen)) from more
   they_repeat =
-      subst (λ (first : List Entry). Repeats first from to more) same_given
+      subst (λ (first : List Entry). Repeats first from more) same_given
       (record {
-        follow = take-take (from + length more) count all (omega (arith, as_many, within, some))
+        follow = take-take (from + length more) count all (omega (arith, as_many, some))
             ∙ (take_part from (length more) all more part
             ∙ ap (λ (begin : List Entry). begin ++ more)
-            (sym (take-take from count all (omega (arith, within, some)))));
-        some = omega (arith, as_many, grown, within, some);
-        within = omega (arith, as_many, some);
+            (sym (take-take from count all (omega (arith, some)))));
+        some = omega (arith, as_many, grown, some);
       })
 
 -- ---- the answers are published
@@ -279,13 +305,16 @@ module _ (history : HistoryValue) (pass : Each) (count : ℕ) (rest : List Entry
 
   -- its view is one of the history
   module _ (some : 0 < history.readers) (view : ViewValue)
-      (sees : IsViewOf (queries_of now)
-      (walked now.options.two_way (take count (entries pass.seen))) view) where
+      (sees : IsViewAfter now (take count (entries pass.seen)) view) where
     shows : IsViewOf (queries_of now) (take count (entries pass.seen)) view
-    shows = subst (λ (two_way : Bool). IsViewOf (queries_of now)
-        (walked two_way (take count (entries pass.seen))) view)
-        (ap (λ (options : OptionsValue). options.two_way) on.setup.options
-        ∙ not_where_some before.options.two_way history.readers was.unread some) sees
+    shows = record {
+      position = sees.says;
+      rows = subst (λ (two_way : Bool). AllZip (λ (query : Query) (rows : List Answer).
+          AreRowsOf (path_query query) (walked two_way (take count (entries pass.seen))) rows)
+          (queries_of now) view.rows)
+          (ap (λ (options : OptionsValue). options.two_way) on.setup.options
+          ∙ not_where_some before.options.two_way history.readers was.unread some) sees.rows;
+    }
 
     pub view_place : view.position ≡ count
     view_place =
@@ -323,6 +352,7 @@ module _ (history : HistoryValue) (pass : Each) (count : ℕ) (rest : List Entry
       few = was.few;
       place = omega (arith, place, place_now);
       told = λ some. absurd (omega (arith, none, some));
+      plain = was.plain;
       rest_comes = was.rest_comes;
     }
 
@@ -345,6 +375,7 @@ module _ (history : HistoryValue) (pass : Each) (count : ℕ) (rest : List Entry
             told = λ some. ap published added.mine
                 ∙ (published_push pass.mine (publish_line number)
                 ∙ (is ∙ (sym place_now ∙ sym place)));
+            plain = added.plain;
             rest_comes = still_come pass after starts count rest was.rest_comes;
           }
 

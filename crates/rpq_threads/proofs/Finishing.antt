@@ -25,12 +25,13 @@ use Rattle.history_model.specs.Legal.{IsLegal}
 use Rattle.history_model.specs.LegalLaws.{LegalIsSound, FrontsAreLegal, IsFront}
 use Rattle.history_model.specs.World.{Terms}
 use Rattle.stream_history.specs.History.{HistoryValue, author, IsPassOf}
+use Rattle.stream_history.specs.Journal.{KeepsAll}
 use Rattle.stream_history.proofs.Own.{own_call}
 use Rattle.stream_tuples.specs.declared.ends.StreamEnd.{StreamEnd}
 use Rattle.stream_tuples.specs.declared.ends.StreamEnd.TheVariants.{Closed}
 use Rattle.stream_tuples.specs.History.{IsNumberOf, own_tuples, AreTuplesOfEnd, IsStreamOf}
 use Rattle.stream_tuples.specs.History.{AreStreamsOf}
-use Rattle.stream_tuples.specs.Limits.{byte_limit}
+use Rattle.stream_tuples.specs.Limits.{byte_limit_of}
 use Rattle.ask_text.specs.declared.ask.Ask.{Ask}
 use Rattle.ask_text.specs.Answered.{AnsweredValue}
 use Rattle.ask_text.specs.Ranges.{ended_at}
@@ -57,6 +58,7 @@ use Rattle.rpq_threads.specs.Runs.{WritesText, IsAnsweredOf, Rises, AreSessionsO
 use Rattle.rpq_threads.specs.Runs.{asks_answered, HasAnswered, Holds}
 use Rattle.rpq_threads.specs.Told.{TellsObjects}
 use Rattle.rpq_threads.specs.Fed.{HasFed}
+use Rattle.rpq_threads.specs.Window.{IsLeftOf, IsWindowFor, ServesAs}
 use Rattle.rpq_threads.specs.Served.{Given, Gave, IsServed}
 use Rattle.rpq_threads.proofs.Starting.{terms_of}
 
@@ -178,6 +180,14 @@ none_asked queries history last other asked (one ∷ more) none are = absurd are
 
 -- ---- what the passes knew is so of the history
 
+-- what the engine left is what is left of the whole history
+window_for : (terms : Terms) (history all : List Entry) (gone : ℕ) (why : Option Why)
+    (window : Option (Vec Entry)) → (why ≡ None → all ≡ history) → (KeepsAll terms → gone ≡ 0) →
+    IsLeftOf terms history why window → IsWindowFor terms.queries all gone why window
+window_for terms history all gone why None same whole left = whole left
+window_for terms history all gone why (Some window) same whole left = λ none.
+    subst (λ (h : List Entry). ServesAs terms.queries h window.items) (sym (same none)) (left none)
+
 module _ (law : LegalIsSound) (fronts : FrontsAreLegal) (terms : Terms) (lines : List Line)
     (legal : IsLegal terms.streams terms.cap lines) where
   own_mine : (number : ℕ) (pass : Each) → Knows author terms lines pass → pass.number ≡ number →
@@ -197,8 +207,8 @@ module _ (law : LegalIsSound) (fronts : FrontsAreLegal) (terms : Terms) (lines :
 
   module _ {K : Type 0} (written : K → Option (List ℕ)) (failures : K → ℕ) (options : OptionsValue)
       (history : HistoryValue) (same : history.terms ≡ terms) (before after : K)
-      (first last : CircleValue) (engine : Each) (why : Option Why)
-      (fed : HasFed written failures options history before after first last engine why)
+      (first last : CircleValue) (engine : Each) (why : Option Why) (window : Option (Vec Entry))
+      (fed : HasFed written failures options history before after first last engine why window)
       (knows : Knows author terms lines engine) where
     closes : (reason : Why) → IsShutFor lines reason → why ≡ Some reason
     closes reason shut =
@@ -254,6 +264,13 @@ module _ (law : LegalIsSound) (fronts : FrontsAreLegal) (terms : Terms) (lines :
         ∙ (ap published (own_mine 0 engine knows fed.number)
         ∙ (fed.told none some ∙ sym (ap (λ (all : List Entry). length all) (no_more none))))
 
+    -- what is left for a later run
+    pub leaves_window : (gone : ℕ) → (KeepsAll terms → gone ≡ 0) →
+        IsWindowFor terms.queries (entries lines) gone why window
+    leaves_window gone whole =
+        window_for terms (entries engine.seen) (entries lines) gone why window no_more whole
+        (subst (λ (t : Terms). IsLeftOf t (entries engine.seen) why window) same fed.left)
+
     -- ---- the streams
 
     stream_of : {S : Type 0} (left : S → Option (List ℕ)) (faults : S → ℕ) (number : ℕ)
@@ -265,8 +282,11 @@ module _ (law : LegalIsSound) (fronts : FrontsAreLegal) (terms : Terms) (lines :
         done.end
     stream_of left faults number source done did knew = record {
       tied = subst (λ (tuples : List Tuple). IfSome (left source) (λ text.
-          AreTuplesOfEnd byte_limit text (left done.source) tuples done.end))
-          (own_are number done.pass knew did.number) did.tied;
+          AreTuplesOfEnd (byte_limit_of terms.cap) text (left done.source) tuples done.end))
+          (own_are number done.pass knew did.number)
+          (subst (λ (t : Terms). IfSome (left source) (λ text.
+          AreTuplesOfEnd (byte_limit_of t.cap) text (left done.source)
+          (tuples_of done.pass.mine) done.end)) same did.tied);
       full = λ is. omega (
         arith,
         legal.capped,
@@ -421,7 +441,8 @@ module _ (law : LegalIsSound) (fronts : FrontsAreLegal) (terms : Terms) (lines :
   all_asks history from (x ∷ xs) [] did none = absurd did
   all_asks history from (x ∷ xs) (r ∷ rs) did none =
       let both = or_false r.memory (list_any (λ (each : SessionWork). each.memory) rs) none in
-      ap (λ (own : List Ask). own ∷ asks_answered (map (λ (each : SessionWork). each.answers.items) rs))
+      ap (λ (own : List Ask).
+      own ∷ asks_answered (map (λ (each : SessionWork). each.answers.items) rs))
       (did.0.all both.0)
       ∙ ap (λ (rest : List (List Ask)). x ∷ rest) (all_asks history (from + 1) xs rs did.1 both.1)
 
@@ -475,7 +496,7 @@ module _ (law : LegalIsSound) (fronts : FrontsAreLegal) (terms : Terms) (lines :
       as_many_ends = ap length did.ends_are ∙ (length-ends did.streamed ∙ many);
       each = λ place file source end f s e.
           streams_at written failures given.options history same given.events gave.events
-          given.circle gave.circle did.engine gave.why did.fed engine_knew left faults 1
+          given.circle gave.circle did.engine gave.why gave.window did.fed engine_knew left faults 1
           given.readers did.streamed (map (λ (r : SessionWork). r.pass) did.replied) did.did
           others_knew place file source end f
           (ap (λ (l : List S). slice_get l place) (sym did.sources_are) ∙ s)
@@ -486,7 +507,7 @@ module _ (law : LegalIsSound) (fronts : FrontsAreLegal) (terms : Terms) (lines :
     all_closed reason there =
         let ends = map (λ (d : StreamResult S). d.end) did.streamed in
         let all = closed_all written failures given.options history same given.events gave.events
-        given.circle gave.circle did.engine gave.why did.fed engine_knew left faults 1
+        given.circle gave.circle did.engine gave.why gave.window did.fed engine_knew left faults 1
         given.readers did.streamed (map (λ (r : SessionWork). r.pass) did.replied) did.did
         others_knew in
         let is : Contains ends (Closed reason) =
@@ -502,12 +523,17 @@ module _ (law : LegalIsSound) (fronts : FrontsAreLegal) (terms : Terms) (lines :
     pub all_text : WritesText written failures given.options terms.queries (entries lines)
         given.events gave.events gave.why
     all_text = writes written failures given.options history same given.events gave.events
-        given.circle gave.circle did.engine gave.why did.fed engine_knew
+        given.circle gave.circle did.engine gave.why gave.window did.fed engine_knew
 
     pub all_told : TellsObjects given.options terms.queries (entries lines) (written given.events)
         (written gave.events) given.circle.members gave.why gave.circle
     all_told = tells written failures given.options history same given.events gave.events
-        given.circle gave.circle did.engine gave.why did.fed engine_knew
+        given.circle gave.circle did.engine gave.why gave.window did.fed engine_knew
+
+    pub all_left : (gone : ℕ) → (KeepsAll terms → gone ≡ 0) →
+        IsWindowFor terms.queries (entries lines) gone gave.why gave.window
+    all_left = leaves_window written failures given.options history same given.events gave.events
+        given.circle gave.circle did.engine gave.why gave.window did.fed engine_knew
 
     all_sessions : AreSessionsOf terms.queries (entries lines) (published lines) given.sessions
         gave.answers
@@ -515,8 +541,8 @@ module _ (law : LegalIsSound) (fronts : FrontsAreLegal) (terms : Terms) (lines :
         subst (AreSessionsOf terms.queries (entries lines) (published lines) given.sessions)
         (sym did.answers_are)
         (sessions_are written failures given.options history same given.events gave.events
-        given.circle gave.circle did.engine gave.why did.fed engine_knew (1 + history.terms.streams)
-        given.sessions did.replied did.answered_all
+        given.circle gave.circle did.engine gave.why gave.window did.fed engine_knew
+        (1 + history.terms.streams) given.sessions did.replied did.answered_all
         (All-behind (Knows author terms lines) (map (λ (d : StreamResult S). d.pass) did.streamed)
         (map (λ (r : SessionWork). r.pass) did.replied) others_knew))
 
@@ -546,8 +572,8 @@ module _ (law : LegalIsSound) (fronts : FrontsAreLegal) (terms : Terms) (lines :
           last = published lines;
           within = sound.behind;
           at_end = λ none. all_published written failures given.options history same given.events
-              gave.events given.circle gave.circle did.engine gave.why did.fed engine_knew none
-              (omega (arith, many));
+              gave.events given.circle gave.circle did.engine gave.why gave.window did.fed
+              engine_knew none (omega (arith, many));
           sessions = all_sessions;
           all = all_answered;
         }
@@ -570,6 +596,7 @@ module _ (law : LegalIsSound) (fronts : FrontsAreLegal) {S K O : Type 0}
     ends = outcome.ends.items;
     answers = map (λ (own : Vec AnsweredValue). own.items) outcome.sessions.items;
     why = outcome.why;
+    window = outcome.window;
     short_of_memory = outcome.short_of_memory;
     events = after;
     circle = as_seen seen outcome.circle;
@@ -585,6 +612,7 @@ module _ (law : LegalIsSound) (fronts : FrontsAreLegal) {S K O : Type 0}
   }
 
   pub outcome_holds : outcome.history.items ≡ entries lines →
+      (KeepsAll (terms_of task) → outcome.history.base ≡ 0) →
       (options : OptionsValue) (readers : List (ReaderState S)) (sessions : List (List Ask)) →
       options ≡ task.options → readers ≡ task.readers.items → sessions ≡ task.sessions.items →
       IsServed left faults written failures history
@@ -600,6 +628,7 @@ module _ (law : LegalIsSound) (fronts : FrontsAreLegal) {S K O : Type 0}
         ends = outcome.ends.items;
         answers = map (λ (own : Vec AnsweredValue). own.items) outcome.sessions.items;
         why = outcome.why;
+        window = outcome.window;
         short_of_memory = outcome.short_of_memory;
         events = after;
         circle = as_seen seen outcome.circle;
@@ -607,8 +636,8 @@ module _ (law : LegalIsSound) (fronts : FrontsAreLegal) {S K O : Type 0}
       All (Knows author (terms_of task) lines) passes → length sessions ≡ history.readers →
       All IsPlain (entries lines) →
       Holds left faults written failures seen task before after circle outcome
-  outcome_holds are options readers sessions options_is readers_are sessions_are was knows asked
-      plain =
+  outcome_holds are whole options readers sessions options_is readers_are sessions_are was knows
+      asked plain =
       let queries = definitions_of task.queries.items in
       let answers = gave.answers in
       let files = map (λ (reader : ReaderState S). left reader.source) task.readers.items in
@@ -633,6 +662,11 @@ module _ (law : LegalIsSound) (fronts : FrontsAreLegal) {S K O : Type 0}
             same _ _ passes did knows);
         few = omega (arith, legal.capped, ap length are);
         plain = subst (λ (all : List Entry). All IsPlain all) from_entries plain;
+        whole = whole;
+        window = subst (λ (all : List Entry). IsWindowFor queries all outcome.history.base
+            outcome.why outcome.window) from_entries
+            (all_left law fronts (terms_of task) lines legal left faults written failures history
+            same _ _ passes did knows outcome.history.base whole);
         text = subst (λ (all : List Entry). WritesText written failures task.options queries all
             before after outcome.why) from_entries
             (all_text law fronts (terms_of task) lines legal left faults written failures history

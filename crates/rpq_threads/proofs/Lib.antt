@@ -4,6 +4,8 @@ mod Writing
 mod StepsGoOn
 mod AllWritten
 mod ComingNext
+mod Keeping
+mod KeptFronts
 mod Closing
 mod Starting
 mod Finishing

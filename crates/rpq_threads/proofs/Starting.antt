@@ -1,15 +1,18 @@
 -- What a run begins with.
-use Rattle.std.proofs.Common.{◌≡◌, ℕ, suc, ◌<◌, Bool, true, false, List, [], ◌∷◌, length, refl, sym, ap, subst, ◌∙◌}
-use Rattle.std.proofs.Common.{Option, get_or, arith}
+use Rattle.std.proofs.Common.{◌≡◌, ℕ, suc, ◌<◌, Bool, true, false, List, [], ◌∷◌, length, refl, sym}
+use Rattle.std.proofs.Common.{ap, subst, ◌∙◌}
+use Rattle.std.proofs.Common.{Option, get_or, arith, ◌≤◌, ◌^◌, ⊎_elim}
 use Rattle.std.specs.List.{All}
 use Rattle.std.proofs.lemmas.List.Elements.{All-map, All-same}
 use Rattle.containment_laws.specs.Accepted.{IsAccepted}
 use Rattle.query_file.specs.Compiled.{CompiledValue}
 use Rattle.rpq_base.specs.declared.data.Entry.{Entry}
-use Rattle.rpq_model.specs.Query.{Query}
+use Rattle.rpq_model.specs.Query.{Query, path_query}
 use Rattle.two_way.specs.TwoWay.{walked}
-use Rattle.answer_view.specs.View.{ViewValue, IsViewOf}
-use Rattle.entry_steps.specs.Evaluator.{EvaluatorValue, StandsAfter, compiled_of}
+use Rattle.std.specs.List.{AllZip}
+use Rattle.answer_rows.specs.Answers.{Answer}
+use Rattle.answer_view.specs.View.{ViewValue, IsViewOf, AreRowsOf}
+use Rattle.entry_steps.specs.Evaluator.{EvaluatorValue, StandsAfter, IsViewAfter, compiled_of}
 use Rattle.entry_steps.specs.Evaluator.{queries_of}
 use Rattle.rpq_text.specs.Definitions.{definitions_of}
 use Rattle.entry_steps.specs.Steps.{OptionsValue, CanRun, HaveSoundJoins}
@@ -22,7 +25,7 @@ use Rattle.ask_text.specs.Ranges.{IsInRange, IsSession}
 use Rattle.stream_threads.specs.Started.{new_pass}
 use Rattle.rpq_threads.specs.declared.task.Task.{Task}
 use Rattle.rpq_threads.specs.Fed.{IsFed}
-use Rattle.rpq_threads.specs.Runs.{IsTask}
+use Rattle.rpq_threads.specs.Runs.{IsTask, IsLimit}
 use Rattle.rpq_threads.specs.Served.{AreAbout}
 use Rattle.rpq_threads.proofs.Closing.{first_fed}
 
@@ -37,15 +40,17 @@ walked_none false = refl
 walked_none true = refl
 
 -- the view over no entries is the one with which a history begins
-pub first_shown : FirstView → (evaluator : EvaluatorValue) (queries : List Query) (view : ViewValue) →
-    queries_of evaluator ≡ queries →
-    IsViewOf (queries_of evaluator) (walked evaluator.options.two_way []) view →
-    view ≡ empty_view (length queries)
+pub first_shown : FirstView → (evaluator : EvaluatorValue) (queries : List Query)
+    (view : ViewValue) → queries_of evaluator ≡ queries →
+    IsViewAfter evaluator [] view → view ≡ empty_view (length queries)
 first_shown law evaluator queries view same shows =
-    (law queries view).0
-    (subst (λ (qs : List Query). IsViewOf qs [] view) same
-    (subst (λ (history : List Entry). IsViewOf (queries_of evaluator) history view)
-    (walked_none evaluator.options.two_way) shows))
+    let is : IsViewOf (queries_of evaluator) [] view = record {
+      position = shows.says;
+      rows = subst (λ (history : List Entry). AllZip (λ (query : Query) (rows : List Answer).
+          AreRowsOf (path_query query) history rows) (queries_of evaluator) view.rows)
+          (walked_none evaluator.options.two_way) shows.rows;
+    } in
+    (law queries view).0 (subst (λ (qs : List Query). IsViewOf qs [] view) same is)
 
 -- the query's window moves
 abbrev pub Moves : Query → Type 0
@@ -58,6 +63,14 @@ terms_of task = record {
   streams = length task.readers.items;
   cap = task.limit;
 }
+
+-- a limit is some entries at least
+pub at_least : (limit : ℕ) → IsLimit limit → 1 ≤ limit
+at_least limit is = ⊎_elim (λ within. omega (arith, within.0)) (λ same. omega (arith, same)) is
+
+-- no limit is beyond 2^61
+pub at_most : (limit : ℕ) → IsLimit limit → limit ≤ 2 ^ 61
+at_most limit is = ⊎_elim (λ within. omega (arith, within.1)) (λ same. omega (arith, same)) is
 
 module _ {S : Type 0} (left : S → Option (List ℕ)) (faults : S → ℕ) (task : Task S)
     (given : IsTask left faults task) (history : HistoryValue)
@@ -98,7 +111,7 @@ module _ {S : Type 0} (left : S → Option (List ℕ)) (faults : S → ℕ) (tas
       (λ is. readers ∙ ap (λ (sessions : List (List Ask)). length sessions)
       (given.unasked (sym two_way ∙ is)))
       (λ told. two_way ∙ given.forwards (sym paths ∙ told))
-      (omega (arith, ap (λ (t : Terms). t.cap) terms, given.limit.1)) stands
+      (omega (arith, ap (λ (t : Terms). t.cap) terms, at_most task.limit given.limit)) stands
 
   -- what is asked is about the queries of the history
   pub begun_asks : AreAbout history task.sessions.items

@@ -2,6 +2,8 @@ pub mod Understood
 pub mod Written
 pub mod Told
 pub mod Blocks
+pub mod Window
+pub mod Past
 pub mod Entries
 pub mod Fed
 pub mod Served

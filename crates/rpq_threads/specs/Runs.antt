@@ -1,5 +1,6 @@
 -- What the threads of a run are given, and what they give.
-use Rattle.std.specs.Prelude.{◌≡◌, ℕ, ◌≤◌, Bool, true, false, List, [], ◌∷◌, length, map, All}
+use Rattle.std.specs.Prelude.{◌≡◌, ℕ, ◌≤◌, ◌^◌, ◌⊎◌, Bool, true, false, List, [], ◌∷◌, length, map}
+use Rattle.std.specs.Prelude.{All}
 use Rattle.std.specs.Prelude.{Option, Some, None, Contains}
 use Rattle.std.specs.List.{AllZip}
 use Rattle.std.specs.Global.{Vec}
@@ -29,6 +30,12 @@ use Rattle.rpq_threads.specs.declared.task.RunOutcome.{RunOutcome}
 use Rattle.rpq_threads.specs.Understood.{AreUnderstood}
 use Rattle.rpq_threads.specs.Written.{Grew, GrewByPrefix, GrewByProperPrefix}
 use Rattle.rpq_threads.specs.Told.{TellsObjects}
+use Rattle.rpq_threads.specs.Window.{IsWindowFor}
+
+-- how many entries a history may have: from 1 to 2,000,000, or as many as 2^61, where it forgets
+-- them
+abbrev pub IsLimit : ℕ → Type 0
+IsLimit limit = IsWithin 2000000 limit ⊎ (limit ≡ 2 ^ 61)
 
 -- what is given to the threads of a run: queries, understood; new readers of from 1 to 64 streams;
 -- at most 64 sessions about the queries; how many entries the history may have; and at most 32
@@ -37,12 +44,12 @@ pub record IsTask {S : Type 0} (left : S → Option (List ℕ)) (faults : S → 
     : Type 0 where
   pub understood : AreUnderstood task.queries.items
   pub streams : IsWithin 64 (length task.readers.items)
-  pub fresh : All (IsNewReader left faults) task.readers.items
+  pub fresh : All (IsNewReader task.limit left faults) task.readers.items
   pub few : length task.sessions.items ≤ 64
   pub sessions : All (IsSession (length task.queries.items)) task.sessions.items
   pub unasked : task.options.two_way ≡ true → task.sessions.items ≡ []
   pub forwards : task.options.paths ≡ true → task.options.two_way ≡ false
-  pub limit : IsWithin 2000000 task.limit
+  pub limit : IsLimit task.limit
   pub few_joins : length task.options.joins ≤ 32
   pub sound : HaveSoundJoins (length task.queries.items) task.options
 
@@ -102,7 +109,8 @@ pub record HasAnswered (queries : List Query) (history : List Entry) (asked : Li
 
 -- what the threads of a run give, over what they were given: one history, in which each stream's
 -- tuples stand up to the stream's end, and nothing else does, and whose labels point forwards; its
--- text, written; the answers of the sessions; and the objects, which were told of its events
+-- text, written; the answers of the sessions; and the objects, which were told of its events. No
+-- entry of a limited history is gone, and what is left of another serves as it does
 pub record Holds {S K O : Type 0} (left : S → Option (List ℕ)) (faults : S → ℕ)
     (written : K → Option (List ℕ)) (failures : K → ℕ) (seen : O → ObjectValue) (task : Task S)
     (events_old events_new : K) (circle : Parts O) (outcome : RunOutcome S O) : Type 0 where
@@ -114,6 +122,9 @@ pub record Holds {S K O : Type 0} (left : S → Option (List ℕ)) (faults : S �
       outcome.history.items
   pub few : length outcome.history.items ≤ task.limit
   pub plain : All IsPlain outcome.history.items
+  pub whole : task.limit ≤ 2 ^ 30 → outcome.history.base ≡ 0
+  pub window : IsWindowFor (definitions_of task.queries.items) outcome.history.items
+      outcome.history.base outcome.why outcome.window
   pub text : WritesText written failures task.options (definitions_of task.queries.items)
       outcome.history.items events_old events_new outcome.why
   pub answers : HasAnswered (definitions_of task.queries.items) outcome.history.items

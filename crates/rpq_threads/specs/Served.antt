@@ -5,6 +5,7 @@ use Rattle.std.specs.Global.{Vec}
 use Rattle.std.specs.List.{list_any}
 use Rattle.std.specs.Vec.{vec_capacity}
 use Rattle.rpq_io.specs.Reader.{ReaderState}
+use Rattle.rpq_base.specs.declared.data.Entry.{Entry}
 use Rattle.rpq_model.specs.Query.{Query}
 use Rattle.rpq_text.specs.Definitions.{definitions_of}
 use Rattle.entry_steps.specs.Steps.{OptionsValue}
@@ -68,7 +69,7 @@ pub record IsJob {S : Type 0} (left : S → Option (List ℕ)) (faults : S → �
   pub count : history.turns.passes ≡ passes_for history.terms history.readers
   pub fed : IsFed history job.evaluator (new_pass history 0)
   pub streams : length job.readers.items ≡ history.terms.streams
-  pub fresh : All (IsNewReader left faults) job.readers.items
+  pub fresh : All (IsNewReader history.terms.cap left faults) job.readers.items
   pub readers : length job.sessions.items ≡ history.readers
   pub few : history.readers ≤ 64
   pub asks : AreAbout history job.sessions.items
@@ -110,6 +111,7 @@ pub record Gave (S K : Type 0) : Type 0 where
   pub ends : List StreamEnd
   pub answers : List (List AnsweredValue)
   pub why : Option Why
+  pub window : Option (Vec Entry)
   pub short_of_memory : Bool
   pub events : K
   pub circle : CircleValue
@@ -131,6 +133,7 @@ gave_by seen served = record {
   ends = served.gathered.ends.items;
   answers = map (λ (own : Vec AnsweredValue). own.items) served.gathered.answers.items;
   why = served.why;
+  window = served.window;
   short_of_memory = served.short_of_memory;
   events = served.events.now;
   circle = as_seen seen served.circle;
@@ -146,7 +149,7 @@ pub record IsServed {S K : Type 0} (left : S → Option (List ℕ)) (faults : S 
   pub did : HaveStreamed left faults history 1 given.readers streamed
   pub answered_all : HaveReplied history (1 + history.terms.streams) given.sessions replied
   pub fed : HasFed written failures given.options history given.events gave.events given.circle
-      gave.circle engine gave.why
+      gave.circle engine gave.why gave.window
   pub passes_are : passes
       ≡ engine ∷ (map (λ d. d.pass) streamed ++ map (λ r. r.pass) replied)
   pub sources_are : gave.sources ≡ map (λ d. d.source) streamed

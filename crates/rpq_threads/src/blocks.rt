@@ -93,7 +93,7 @@ fn write_front<K: Sink, O: Standing>(
     requires numbers { All (λ step. All (λ event. event.query < length queries.now) step.events)
         steps.now }
     requires as_many { length steps.now ≡ length entries.now }
-    requires short { position + length entries.now < 2 ^ 32 }
+    requires short { position + length entries.now < 2 ^ 62 }
     ensures blocks { WritesBlocks (definitions_of queries.now) position entries.now steps.now
         (result_err result) (K.written events.old) (K.written events.new)
         (as_seen O.seen circle.old) (as_seen O.seen circle.new) }
@@ -150,7 +150,7 @@ fn write_blocks<K: Sink, O: Standing>(
     requires numbers { All (λ step. All (λ event. event.query < length queries.now) step.events)
         steps.now }
     requires as_many { length steps.now ≡ length entries.now }
-    requires short { position + length entries.now < 2 ^ 32 }
+    requires short { position + length entries.now < 2 ^ 62 }
     ensures blocks { WritesBlocks (definitions_of queries.now) position entries.now steps.now
         (result_err result) (K.written events.old) (K.written events.new)
         (as_seen O.seen circle.old) (as_seen O.seen circle.new) }

@@ -10,8 +10,9 @@ ghost use Rattle.rpq_threads.specs.Fed.{IsAtStart, HasFed};
 use crate::blocks::{BlockText, Blocks};
 use crate::entries::HistoryEntries;
 use engine_loop::answer_all;
-use entry_steps::{Evaluator, every_entry_has_a_step};
+use entry_steps::{Evaluator, entries_stand_in, every_entry_has_a_step};
 use history_model::Why;
+use rpq_base::Entry;
 use rpq_io::{Gate, Sink};
 use standing::{Circle, Standing};
 use std::sync::Wait;
@@ -28,6 +29,8 @@ pub struct EngineWork<'a, K, O> {
     pub events: &'a mut K,
     pub circle: Circle<O>,
     pub why: Option<Why>,
+    /// What was kept in the place of the history, if the history didn't keep it.
+    pub window: Option<Vec<Entry>>,
 }
 
 /// Feeds the engine with all entries, writes their blocks, tells the objects of their events and
@@ -37,23 +40,31 @@ pub fn feed_all<'a, K: Sink, O: Standing, G: Gate, R: Threads + Wait + Sync>(
     shared: &RunParts<'_, R, G>,
     work: EngineWork<'a, K, O>,
 ) -> EngineWork<'a, K, O>
-    requires { IsAtStart shared.now.history.now work.evaluator work.pass
+    requires { IsAtStart shared.now.history.now shared.now.queries.now work.evaluator work.pass
         (as_seen O.seen work.circle) }
     ensures fed { HasFed K.written K.faults work.entry.evaluator.options shared.now.history.now
         work.entry.events.now result.events.now (as_seen O.seen work.entry.circle)
-        (as_seen O.seen result.circle) result.pass result.why }
+        (as_seen O.seen result.circle) result.pass result.why result.window }
     ensures same { result.events.ghost_name ≡ work.entry.events.ghost_name }
 {
-    every_entry_has_a_step(); // called for its clause
+    every_entry_has_a_step(); // these are called for their clauses
+    entries_stand_in();
     let EngineWork {
         pass,
         mut evaluator,
         events,
         circle,
         why: _,
+        window: _,
     } = work;
     let context = shared.context;
-    let mut source = HistoryEntries::new(context.rt, context.alloc, shared.history, pass);
+    let mut source = HistoryEntries::new(
+        context.rt,
+        context.alloc,
+        shared.history,
+        shared.queries,
+        pass,
+    );
     let mut blocks = Blocks {
         text: BlockText {
             alloc: context.alloc,
@@ -64,7 +75,7 @@ pub fn feed_all<'a, K: Sink, O: Standing, G: Gate, R: Threads + Wait + Sync>(
         circle,
     };
     let ended = answer_all(context, &mut source, &mut evaluator, &mut blocks);
-    let mut pass = source.into_pass();
+    let (mut pass, window) = source.into_parts();
     let why = shut_for(shared, &mut pass, ended);
     let Blocks {
         text: _,
@@ -78,6 +89,7 @@ pub fn feed_all<'a, K: Sink, O: Standing, G: Gate, R: Threads + Wait + Sync>(
         events,
         circle,
         why,
+        window,
     }
 }
 

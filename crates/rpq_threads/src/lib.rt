@@ -9,6 +9,10 @@
 //! events of the blocks that were written whole, and of no other (`specs/Told`); and each reply to
 //! a session is the one over the entries up to its position.
 //!
+//! A history with [`NO_LIMIT`] forgets the entries that were answered. Then the engine's thread
+//! keeps those that some query may still see ([`RunOutcome`]'s `window`), and the engine is rebuilt
+//! over them from time to time, so that names and edges that nobody sees leave the memory.
+//!
 //! The engine's loop is that of `engine_loop`. Here is where its entries come from, which are those
 //! of the history, and what takes the steps that they bring: it writes the block of each entry and
 //! tells the objects of its events behind it. The answers are published after each front, if there
@@ -19,10 +23,12 @@
 mod blocks;
 mod entries;
 mod feeding;
+mod past;
 mod room;
 mod run;
 mod serving;
 mod task;
+mod window;
 
 pub use run::run_threads;
-pub use task::{RunOutcome, Task};
+pub use task::{NO_LIMIT, RunOutcome, Task};

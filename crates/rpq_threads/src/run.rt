@@ -65,6 +65,7 @@ where
         gathered,
         short_of_memory,
         why,
+        window,
         events: back,
         circle,
     } = serve(&shared, job, events, circle);
@@ -78,6 +79,7 @@ where
     let journal = history.finish(passes);
     Ok(RunOutcome {
         history: journal.into_entries(),
+        window,
         ends,
         sources,
         sessions: answers,

@@ -12,6 +12,7 @@ use crate::room::{ResultRoom, ThreadResults, put_all};
 use ask_text::Session;
 use entry_steps::Evaluator;
 use history_model::Why;
+use rpq_base::Entry;
 use rpq_io::{Gate, LineReader, Sink, Source};
 use standing::{Circle, Standing};
 use std::sync::Wait;
@@ -38,6 +39,7 @@ pub struct JobResult<'a, S, K, O> {
     pub gathered: ThreadResults<S>,
     pub short_of_memory: bool,
     pub why: Option<Why>,
+    pub window: Option<Vec<Entry>>,
     pub events: &'a mut K,
     pub circle: Circle<O>,
 }
@@ -118,17 +120,18 @@ fn serve_within<
         events,
         circle,
         why: None,
+        window: None,
     };
     let (replied, engine) = beside_sessions(
         shared,
         works,
         move || -> EngineWork<'_, K, O>
-            requires { IsAtStart shared.now.history.now work.evaluator work.pass
-                (as_seen O.seen work.circle) }
+            requires { IsAtStart shared.now.history.now shared.now.queries.now work.evaluator
+                work.pass (as_seen O.seen work.circle) }
             ensures fed { HasFed K.written K.faults work.entry.evaluator.options
                 shared.entry.now.history.now work.entry.events.now result.events.now
                 (as_seen O.seen work.entry.circle) (as_seen O.seen result.circle) result.pass
-                result.why }
+                result.why result.window }
             ensures same { result.events.ghost_name ≡ work.entry.events.ghost_name }
         { feed_all(shared, work) },
     );
@@ -151,7 +154,7 @@ fn gather<'a, S: Source + Drop, K: Sink, O: Standing>(
     ensures answers { result.gathered.answers.items
         ≡ map (λ r. r.answers) replied.items }
     ensures memory { result.short_of_memory ≡ list_any (λ r. r.memory) replied.items }
-    ensures why { result.why ≡ engine.entry.why }
+    ensures why { (result.why ≡ engine.entry.why) × (result.window ≡ engine.entry.window) }
     ensures events { (result.events.now ≡ engine.entry.events.now)
         × (result.events.ghost_name ≡ engine.entry.events.ghost_name) }
     ensures circle { result.circle ≡ engine.entry.circle }
@@ -162,12 +165,14 @@ fn gather<'a, S: Source + Drop, K: Sink, O: Standing>(
         events,
         circle,
         why,
+        window,
     } = engine;
     let short_of_memory = put_all(pass, streamed, replied, &mut gathered);
     JobResult {
         gathered,
         short_of_memory,
         why,
+        window,
         events,
         circle,
     }

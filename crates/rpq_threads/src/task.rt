@@ -3,11 +3,16 @@
 use ask_text::{Answered, Session};
 use entry_steps::Options;
 use history_model::Why;
+use kept_list::KeptList;
 use query_file::Compiled;
 use rpq_base::{Entry, Workers};
 use rpq_io::{LineReader, Source};
 use standing::Circle;
 use stream_tuples::StreamEnd;
+
+/// The limit of a history that goes on as long as the streams do, and forgets what was answered:
+/// 2^61 entries.
+pub const NO_LIMIT: u64 = 1 << 61;
 
 /// What the threads of a run are given.
 #[derive(Drop)]
@@ -18,7 +23,8 @@ pub struct Task<S: Source> {
     pub options: Options,
     /// How many workers the engine has.
     pub workers: Workers,
-    /// How many entries the history may have.
+    /// How many entries the history may have: 1 to 2,000,000, or [`NO_LIMIT`] for a run that goes
+    /// on as long as its streams do.
     pub limit: u64,
     /// The streams, the first of which has the number 1.
     pub readers: Vec<LineReader<S>>,
@@ -29,8 +35,11 @@ pub struct Task<S: Source> {
 /// What the threads of a run give.
 #[derive(Drop)]
 pub struct RunOutcome<S, O> {
-    /// The entries, in the order in which they were taken.
-    pub history: Vec<Entry>,
+    /// The entries, in the order in which they were taken. Those that a history forgets are gone.
+    pub history: KeptList<Entry>,
+    /// What was kept in the place of a history that forgets: what a later run needs of it is what
+    /// it needs of these entries.
+    pub window: Option<Vec<Entry>>,
     /// How each stream ended.
     pub ends: Vec<StreamEnd>,
     /// The source of each stream.

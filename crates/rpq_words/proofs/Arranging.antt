@@ -1,12 +1,14 @@
 -- What was found has settings exactly where it doesn't clash.
-use Rattle.std.proofs.Common.{arith, ◌≡◌, refl, ℕ, Bool, true, false, List, [], ◌∷◌, length, inl, inr, ◌⊎◌}
+use Rattle.std.proofs.Common.{arith, ◌≡◌, ◌∙◌, ap, sym, subst, refl, ℕ, Bool, true, false, List, [], ◌∷◌, length, inl, inr, ◌⊎◌}
 use Rattle.std.specs.Prelude.{◌&&◌, ◌||◌, ◌==◌, not, nat_lt, bytes_eq, if◌then◌else◌}
 use Rattle.std.specs.Prelude.{Option, Some, None, is_some, option_map}
 use Rattle.std.proofs.lemmas.Bool.{ne_eqb}
 use Rattle.clap.specs.Walk.{Text, is_empty}
 use Rattle.rpq_words.specs.declared.parsed_words.ParsedWords.{ParsedWords}
 use Rattle.rpq_words.specs.declared.parsed_words.StreamWords.{StreamWords}
-use Rattle.rpq_words.specs.declared.settings.RunMode.TheVariants.{Streams}
+use Rattle.rpq_words.specs.declared.settings.Extent.TheVariants.{Capped}
+use Rattle.rpq_words.specs.declared.settings.RunMode.TheVariants.{Check, Generate, Streams}
+use Rattle.rpq_words.specs.declared.settings.StreamSettings.{StreamSettings}
 use Rattle.rpq_words.specs.declared.settings.StreamSettings.TheVariants.{Forwards}
 use Rattle.rpq_words.specs.declared.settings.OutputKind.{OutputKind}
 use Rattle.rpq_words.specs.declared.settings.OutputKind.TheVariants.{Pairs, Paths, Bindings}
@@ -15,7 +17,8 @@ use Rattle.rpq_words.specs.Clash.{clash, is_same_file}
 use Rattle.rpq_words.specs.Modes.{SettingsAreFound, words_of}
 use Rattle.rpq_words.specs.Options.{◌>>=◌, only_if}
 use Rattle.rpq_words.specs.declared.settings.Settings.{Settings}
-use Rattle.rpq_words.specs.Settings.{asked_from, forwards_from, input_from, mode_from}
+use Rattle.rpq_words.specs.Settings.{asked_from, directions_from, extent_from, forwards_from}
+use Rattle.rpq_words.specs.Settings.{has_stream_words, input_from, mode_from}
 use Rattle.rpq_words.specs.Settings.{names_from, saves_over, settings_from, shown_from, streams_from}
 use Rattle.rpq_words.specs.Views.{asks_in, has_paths, joins_in, replies_in}
 
@@ -31,7 +34,13 @@ passes_or_fails : (test : Bool) → (test ≡ true) ⊎ (test ≡ false)
 passes_or_fails true = inl refl
 passes_or_fails false = inr refl
 
-module _ (workers history : ℕ) (queries : Text) where
+abbrev IsArranged : ParsedWords → Type 0
+IsArranged found =
+    option_map words_of (settings_from found) ≡ only_if (λ all. not (clash all)) found
+
+-- ---- runs over a history that holds so many tuples at most, or as many as is usual
+
+module _ (workers : ℕ) (history : Option ℕ) (queries : Text) where
   -- what was found, by its parts
   abbrev found_by : Bool → Option ℕ → Bool → Option Text → Option Text → Bool → Option Text
       → Option Text → Option Text → List Text → ParsedWords
@@ -41,6 +50,7 @@ module _ (workers history : ℕ) (queries : Text) where
     check = check;
     generate = generate;
     two_way = two_way;
+    endless = false;
     queries = queries;
     words = record {
       paths = paths;
@@ -52,10 +62,6 @@ module _ (workers history : ℕ) (queries : Text) where
       streams = streams;
     };
   }
-
-  abbrev IsArranged : ParsedWords → Type 0
-  IsArranged found =
-      option_map words_of (settings_from found) ≡ only_if (λ all. not (clash all)) found
 
   -- a check and generated tuples
   both : (count : ℕ) (two_way : Bool) (asks replies : Option Text) (paths : Bool)
@@ -132,8 +138,7 @@ module _ (workers history : ℕ) (queries : Text) where
       >>= λ mode. Some (record {
         queries = queries;
         workers = workers;
-        history = history;
-        mode = mode;
+        extent = Capped history mode;
       })
 
   abbrev input_clashes : Option Text → Option Text → List Text → Bool
@@ -203,7 +208,85 @@ module _ (workers history : ℕ) (queries : Text) where
   arranged false None false asks replies paths joins from save streams =
       forwards asks replies paths joins from save streams
 
+capped : (found : ParsedWords) → found.endless ≡ false → IsArranged found
+capped found is =
+    subst (λ (b : Bool). IsArranged (record found { endless = b })) (sym is)
+    (arranged found.workers found.history found.queries found.check found.generate found.two_way
+    found.words.asks found.words.replies found.words.paths found.words.joins found.words.from
+    found.words.save found.words.streams)
+
+-- ---- runs as long as their streams
+
+none_behind : {A B : Type 0} (first : Option A) (next : A → Option B)
+    → ((x : A) → next x ≡ None) → (first >>= next) ≡ None
+none_behind None next none = refl
+none_behind (Some x) next none = none x
+
+none_if : {A B : Type 0} (test : Bool) (x : A) (next : A → Option B) → next x ≡ None
+    → ((if test then None else Some x) >>= next) ≡ None
+none_if true x next none = refl
+none_if false x next none = none
+
+-- where something clashes there are no settings
+clashes : (found : ParsedWords) → settings_from found ≡ None → clash found ≡ true
+    → IsArranged found
+clashes found none both = ap (option_map words_of) none
+    ∙ sym (ap (λ b. if not b then Some found else None) both)
+
+-- the words with the flag
+abbrev as_endless : ParsedWords → ParsedWords
+as_endless found = record found { endless = true }
+
+flagged : (clashing : Bool) (found : ParsedWords)
+    → option_map as_endless (if not clashing then Some found else None)
+    ≡ (if not clashing then Some (as_endless found) else None)
+flagged true found = refl
+flagged false found = refl
+
+module _ (workers : ℕ) (queries : Text) (two_way : Bool) (words : StreamWords) where
+  abbrev found_with : Bool → Option ℕ → Bool → Option ℕ → ParsedWords
+  found_with endless history check generate = record {
+    workers = workers;
+    history = history;
+    check = check;
+    generate = generate;
+    two_way = two_way;
+    endless = endless;
+    queries = queries;
+    words = words;
+  }
+
+  abbrev settings_by : Bool → Option StreamSettings → Option Settings
+  settings_by endless run = (run >>= λ chosen. Some (Streams chosen)) >>= λ mode.
+      extent_from endless None mode >>= λ extent.
+      Some (record { queries = queries; workers = workers; extent = extent })
+
+  -- over streams, with no number for the history, the flag changes nothing else
+  with_flag : (run : Option StreamSettings) → option_map words_of (settings_by true run)
+      ≡ option_map as_endless (option_map words_of (settings_by false run))
+  with_flag None = refl
+  with_flag (Some run) = refl
+
+  endlessly : (history : Option ℕ) (check : Bool) (generate : Option ℕ)
+      → IsArranged (found_with true history check generate)
+  unfolding settings_from mode_from clash
+  endlessly (Some most) check generate =
+      clashes (found_with true (Some most) check generate)
+      (none_behind (mode_from check generate two_way words) _ (λ mode. refl)) refl
+  endlessly None true (Some count) = refl
+  endlessly None true None = clashes (found_with true None true None)
+      (none_if (has_stream_words words) (Check (directions_from two_way)) _ refl) refl
+  endlessly None false (Some count) = clashes (found_with true None false (Some count))
+      (none_if (has_stream_words words) (Generate (directions_from two_way) count) _ refl) refl
+  endlessly None false None = with_flag (streams_from two_way words)
+      ∙ ap (option_map as_endless) (capped (found_with false None false None) refl)
+      ∙ flagged (clash (found_with false None false None)) (found_with false None false None)
+
 pub settings_are_found : SettingsAreFound
-settings_are_found found = arranged found.workers found.history found.queries found.check
-    found.generate found.two_way found.words.asks found.words.replies found.words.paths
-    found.words.joins found.words.from found.words.save found.words.streams
+settings_are_found found = by found.endless refl
+  where
+    by : (endless : Bool) → found.endless ≡ endless → IsArranged found
+    by false is = capped found is
+    by true is = subst (λ (b : Bool). IsArranged (record found { endless = b })) (sym is)
+        (endlessly found.workers found.queries found.two_way found.words found.history found.check
+        found.generate)

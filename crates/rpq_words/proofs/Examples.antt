@@ -3,7 +3,8 @@ use Rattle.std.specs.Prelude.{refl}
 use Rattle.clap.proofs.OnLiterals.{clap_on_literals}
 use Rattle.text_parts.specs.Numbers.{number_within}
 use Rattle.rpq_words.specs.Command.{found_in, is_taken, rpq_command}
-use Rattle.rpq_words.specs.Examples.{JoinsExamples, PathsExamples, SavedExamples}
+use Rattle.rpq_words.specs.Examples.{EndlessExamples, JoinsExamples, PathsExamples}
+use Rattle.rpq_words.specs.Examples.{SavedExamples}
 use Rattle.rpq_words.specs.Examples.{SettingsExamples, TwoWayExamples}
 use Rattle.rpq_words.specs.Found.{number_from_one, optional_number, words_found}
 use Rattle.rpq_words.specs.Settings.{asked_from, forwards_from, input_from, mode_from, names_from}
@@ -64,6 +65,21 @@ joins_examples = record {
   twice = refl;
 }
 
+endless_examples : EndlessExamples
+unfolding clap_on_literals number_within found_in is_taken rpq_command number_from_one
+    optional_number words_found asked_from forwards_from input_from mode_from names_from
+    settings settings_from settled shown_from streams_from
+endless_examples = record {
+  over_stream = refl;
+  all_files = refl;
+  backwards = refl;
+  with_history = refl;
+  checked = refl;
+  made = refl;
+  no_stream = refl;
+  twice = refl;
+}
+
 pub examples : SettingsExamples
 unfolding clap_on_literals number_within found_in is_taken rpq_command number_from_one
     optional_number words_found asked_from forwards_from input_from mode_from names_from
@@ -93,4 +109,5 @@ examples = record {
   both_ways = two_way_examples;
   paths = paths_examples;
   joins = joins_examples;
+  without_end = endless_examples;
 }

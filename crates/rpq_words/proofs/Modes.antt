@@ -1,7 +1,7 @@
 -- The settings of words are in their ranges.
-use Rattle.std.proofs.Common.{arith, ◌≡◌, ◌≢◌, ◌∙◌, ap, sym, refl, subst, ℕ, ◌≤◌}
+use Rattle.std.proofs.Common.{arith, ◌≡◌, ◌≢◌, ◌∙◌, ap, sym, refl, subst, inl, inr, ℕ, ◌≤◌}
 use Rattle.std.proofs.Common.{Bool, true, false, List, [], ◌∷◌, codes, length}
-use Rattle.std.specs.Prelude.{◌&&◌, ◌||◌, ◌==◌, bytes_eq, not, nat_le, nat_lt, if◌then◌else◌}
+use Rattle.std.specs.Prelude.{◌&&◌, ◌||◌, ◌==◌, not, nat_le, nat_lt, if◌then◌else◌}
 use Rattle.std.specs.Prelude.{is_some, IfSome}
 use Rattle.std.specs.Prelude.{Option, Some, None, option_map, unwrap_or}
 use Rattle.std.proofs.lemmas.Bool.{leb-true, ltb-false, iff_false}
@@ -10,21 +10,23 @@ use Rattle.clap.specs.Walk.{Row, Text, all_of, first_of, is_empty}
 use Rattle.clap.proofs.WalkLemmas.{both}
 use Rattle.text_parts.specs.Numbers.{is_digit_text, number_of, number_within}
 use Rattle.rpq_words.specs.declared.parsed_words.ParsedWords.{ParsedWords}
-use Rattle.rpq_words.specs.declared.settings.RunMode.{RunMode}
+use Rattle.rpq_words.specs.declared.settings.Extent.{Extent}
+use Rattle.rpq_words.specs.declared.settings.Extent.TheVariants.{Capped, Endless}
 use Rattle.rpq_words.specs.declared.settings.RunMode.TheVariants.{Check, Generate, Streams}
+use Rattle.rpq_words.specs.declared.settings.StreamSettings.{StreamSettings}
 use Rattle.rpq_words.specs.declared.settings.StreamSettings.TheVariants.{Forwards, BothWays}
-use Rattle.rpq_words.specs.declared.settings.ForwardSettings.{ForwardSettings}
 use Rattle.rpq_words.specs.declared.settings.Input.{Input}
 use Rattle.rpq_words.specs.declared.settings.Input.TheVariants.{Fresh, Resumed}
 use Rattle.rpq_words.specs.Clash.{clash, is_one_alone, is_same_file}
 use Rattle.rpq_words.specs.Command.{found_in, is_taken}
 use Rattle.rpq_words.specs.Found.{has_flag, number_from_one, optional_number, words_found}
-use Rattle.rpq_words.specs.Modes.{AreSettings, IsInput, IsMode, IsWithin, WordsAreSettings}
-use Rattle.rpq_words.specs.Modes.{words_of}
+use Rattle.rpq_words.specs.Modes.{AreSettings, IsCap, IsInput, IsMode, IsWithin}
+use Rattle.rpq_words.specs.Modes.{WordsAreSettings, history_in, words_of}
 use Rattle.rpq_words.specs.Options.{◌>>=◌, only_if}
 use Rattle.rpq_words.specs.declared.settings.Settings.{Settings}
 use Rattle.rpq_words.specs.Settings.{settings, settings_from, settled}
-use Rattle.rpq_words.specs.Views.{asks_in, from_in, joins_in, has_paths, names_in, replies_in}
+use Rattle.rpq_words.specs.Views.{asks_in, cap_in, cap_of, from_in, has_paths, is_endless_in}
+use Rattle.rpq_words.specs.Views.{joins_in, mode_in, names_in, replies_in}
 use Rattle.rpq_words.proofs.Arranging.{settings_are_found}
 
 -- ---- numbers in their ranges
@@ -86,15 +88,15 @@ optional_in_range most None (Some number) is = absurd cc
 -- each number that was found is in its range
 record IsInRange (found : ParsedWords) : Type 0 where
   workers_in : IsWithin 64 found.workers
-  history_in : IsWithin 2000000 found.history
+  history_in_range : IfSome found.history (IsWithin 2000000)
   generate_in : IfSome found.generate (IsWithin 1000000)
 
-module _ (make : ℕ → ℕ → Option ℕ → Text → ParsedWords) where
-  made_by : (workers history : Option ℕ) (generate : Option (Option ℕ)) (queries : Option Text)
+module _ (make : ℕ → Option ℕ → Option ℕ → Text → ParsedWords) where
+  made_by : (workers : Option ℕ) (history generate : Option (Option ℕ)) (queries : Option Text)
       (found : ParsedWords) →
       (workers >>= λ w. (history >>= λ h. (generate >>= λ g.
       (queries >>= λ q. Some (make w h g q))))) ≡ Some found →
-      (w : ℕ) × (h : ℕ) × (g : Option ℕ) × (q : Text) × (workers ≡ Some w) × (history ≡ Some h)
+      (w : ℕ) × (h : Option ℕ) × (g : Option ℕ) × (q : Text) × (workers ≡ Some w) × (history ≡ Some h)
       × (generate ≡ Some g) × (make w h g q ≡ found)
   made_by (Some w) (Some h) (Some g) (Some q) found is = (w, h, g, q, refl, refl, refl, cc)
   made_by None history generate queries found is = absurd cc
@@ -113,6 +115,7 @@ found_in_range rows found is =
       check = has_flag (codes "check") rows;
       generate = generate;
       two_way = has_flag (codes "two-way") rows;
+      endless = has_flag (codes "endless") rows;
       queries = queries;
       words = record {
         paths = has_flag (codes "paths") rows;
@@ -125,12 +128,13 @@ found_in_range rows found is =
       };
     })
     (first_of (codes "workers") rows >>= number_from_one 64)
-    (first_of (codes "history") rows >>= number_from_one 2000000)
+    (optional_number 2000000 (first_of (codes "history") rows))
     (optional_number 1000000 (first_of (codes "generate") rows))
     (first_of (codes "queries") rows) found is in
     subst IsInRange read.7 (record {
       workers_in = needed_in_range 64 (first_of (codes "workers") rows) read.0 read.4;
-      history_in = needed_in_range 2000000 (first_of (codes "history") rows) read.1 read.5;
+      history_in_range =
+          optional_in_range 2000000 (first_of (codes "history") rows) read.1 read.5;
       generate_in =
           optional_in_range 1000000 (first_of (codes "generate") rows) read.2 read.6;
     })
@@ -176,22 +180,33 @@ input_is : (save : Option Text) (input : Input)
 input_is save (Fresh streams) is = within_by streams _ is
 input_is save (Resumed from stream) is = another_file save from is
 
-mode_is : (given : Settings) (mode : RunMode) → given.mode ≡ mode → clash (words_of given) ≡ false
-    → IfSome (words_of given).generate (IsWithin 1000000) → IsMode mode
+streams_are : (given : Settings) (run : StreamSettings)
+    → clash (words_of (record given { extent = Endless run })) ≡ false → IsMode (Streams run)
 unfolding clash
-mode_is given (Check directions) is agrees made = tt
-mode_is given (Generate directions count) is agrees made =
-    subst (λ (m : RunMode). IfSome (words_of (record given { mode = m })).generate
-    (IsWithin 1000000))
-    is made
-mode_is given (Streams (BothWays streams)) is agrees made =
-    within_by streams _
-    (subst (λ (m : RunMode). clash (words_of (record given { mode = m })) ≡ false)
-    is agrees)
-mode_is given (Streams (Forwards run)) is agrees made = input_is run.save run.input
+streams_are given (BothWays streams) agrees = within_by streams _ agrees
+streams_are given (Forwards run) agrees = input_is run.save run.input
     (second_fails (has_paths run.shown && is_some (joins_in run.shown)) _
-    (second_fails (is_one_alone (asks_in run.asked) (replies_in run.asked)) _
-    (subst (λ (m : RunMode). clash (words_of (record given { mode = m })) ≡ false) is agrees)))
+    (second_fails (is_one_alone (asks_in run.asked) (replies_in run.asked)) _ agrees))
+
+mode_is : (given : Settings) (extent : Extent)
+    → clash (words_of (record given { extent = extent })) ≡ false
+    → IfSome (words_of (record given { extent = extent })).generate (IsWithin 1000000)
+    → IsMode (mode_in extent)
+unfolding clash
+mode_is given (Capped history (Check directions)) agrees made = tt
+mode_is given (Capped history (Generate directions count)) agrees made = made
+mode_is given (Capped history (Streams run)) agrees made = streams_are given run agrees
+mode_is given (Endless run) agrees made = streams_are given run agrees
+
+cap_is : (history : Option ℕ) → IfSome history (IsWithin 2000000)
+    → IsWithin 2000000 (unwrap_or history 1000000)
+cap_is None within = (omega arith, omega arith)
+cap_is (Some most) within = within
+
+capped_is : (extent : Extent) → IfSome (history_in extent) (IsWithin 2000000)
+    → is_endless_in extent ≡ false → IsWithin 2000000 (cap_in extent)
+capped_is (Capped history mode) within is = cap_is history within
+capped_is (Endless run) within is = absurd cc
 
 are_settings : (found : ParsedWords) (given : Settings) → settings_from found ≡ Some given
     → IsInRange found → AreSettings given
@@ -201,10 +216,19 @@ are_settings found given is ranges =
     let own = subst IsInRange kept.1 ranges in
     record {
       workers = own.workers_in;
-      history = own.history_in;
-      mode = mode_is given given.mode refl (ap clash (sym kept.1) ∙ fails (clash found) kept.0)
+      cap = capped_is given.extent own.history_in_range;
+      mode = mode_is given given.extent (ap clash (sym kept.1) ∙ fails (clash found) kept.0)
           own.generate_in;
     }
+
+-- how many tuples the history of settings may hold
+pub is_cap : (given : Settings) → AreSettings given → IsCap (cap_of given)
+is_cap given are = by given.extent are.cap
+  where
+    by : (extent : Extent) → (is_endless_in extent ≡ false → IsWithin 2000000 (cap_in extent))
+        → IsCap (cap_in extent)
+    by (Capped history mode) within = inl (within refl)
+    by (Endless run) within = inr refl
 
 pub settled_are : (rows : List Row) (given : Settings) → settled rows ≡ Some given →
     AreSettings given

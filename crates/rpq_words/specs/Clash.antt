@@ -1,5 +1,5 @@
 -- What can't stand together.
-use Rattle.std.specs.Prelude.{ℕ, Bool, true, false, not, ◌&&◌, ◌||◌, ◌==◌, nat_lt, List, length}
+use Rattle.std.specs.Prelude.{Bool, true, false, not, ◌&&◌, ◌||◌, ◌==◌, nat_lt, length}
 use Rattle.std.specs.Prelude.{bytes_eq, Option, Some, None, is_some}
 use Rattle.clap.specs.Walk.{Text, is_empty}
 use Rattle.rpq_words.specs.declared.parsed_words.ParsedWords.{ParsedWords}
@@ -45,16 +45,23 @@ streams_clash found =
     (not (reads_none found) && is_empty found.words.streams)
     || (nat_lt 64 (length found.words.streams) || from_clashes found.words)
 
+-- the run goes on as long as its streams do, but it is said how many tuples the history holds, or no
+-- stream is read
+abbrev pub endless_clashes : ParsedWords → Bool
+endless_clashes found = found.endless && (is_some found.history || reads_none found)
+
 -- what can't stand together does: one of the asks and the replies without the other; a check and
 -- generated tuples; one of these and asks, joins, a file to save to or to begin with, or a stream;
 -- edges taken backwards and asks, joins, or a file to save to or to begin with; paths and a check,
 -- generated tuples, edges taken backwards, or joins; neither a check nor generated tuples, and no
--- stream; more streams than are taken; or a file to begin with and not exactly one stream, or the
--- same file to save to
+-- stream; more streams than are taken; a file to begin with and not exactly one stream, or the same
+-- file to save to; or a run as long as its streams and a number of tuples that its history holds, a
+-- check, or generated tuples
 unfoldable pub clash : ParsedWords → Bool
 clash found =
-    is_one_alone found.words.asks found.words.replies
+    endless_clashes found
+    || (is_one_alone found.words.asks found.words.replies
     || ((found.check && is_some found.generate)
     || ((reads_none found && (names_file found.words || not (is_empty found.words.streams)))
     || ((found.two_way && names_file found.words)
-    || (paths_clash found || streams_clash found))))
+    || (paths_clash found || streams_clash found)))))

@@ -26,11 +26,11 @@ one_word name = record (new_rule name) { action = Some Set; required = true }
 abbrev pub any_words : Text → Rule
 any_words name = record (new_rule name) { action = Some Append }
 
--- eight options, three flags, the word for the queries file, and the words for the streams
+-- eight options, four flags, the word for the queries file, and the words for the streams
 abbrev pub rules : List Rule
 rules =
     option_or (codes "workers") (codes "4")
-    ∷ option_or (codes "history") (codes "1000000")
+    ∷ option_with_value (codes "history")
     ∷ option_with_value (codes "asks")
     ∷ option_with_value (codes "replies")
     ∷ flag (codes "check")
@@ -40,6 +40,7 @@ rules =
     ∷ option_with_value (codes "joins")
     ∷ option_with_value (codes "save")
     ∷ option_with_value (codes "from")
+    ∷ flag (codes "endless")
     ∷ one_word (codes "queries")
     ∷ any_words (codes "streams")
     ∷ []

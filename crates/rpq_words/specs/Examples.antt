@@ -1,9 +1,11 @@
 -- Some command lines with what they give.
 use Rattle.std.specs.Prelude.{◌≡◌, List, [], ◌∷◌, codes, Some, None}
 use Rattle.clap.specs.Walk.{Text}
+use Rattle.rpq_words.specs.declared.settings.Extent.TheVariants.{Capped, Endless}
 use Rattle.rpq_words.specs.declared.settings.RunMode.{RunMode}
 use Rattle.rpq_words.specs.declared.settings.RunMode.TheVariants.{Check, Generate, Streams}
 use Rattle.rpq_words.specs.declared.settings.Directions.TheVariants.{Forwards, BothWays}
+use Rattle.rpq_words.specs.declared.settings.StreamSettings.{StreamSettings}
 use Rattle.rpq_words.specs.declared.settings.StreamSettings.TheVariants.{Forwards as ForwardRun}
 use Rattle.rpq_words.specs.declared.settings.StreamSettings.TheVariants.{BothWays as TwoWayRun}
 use Rattle.rpq_words.specs.declared.settings.ForwardSettings.{ForwardSettings}
@@ -14,7 +16,7 @@ use Rattle.rpq_words.specs.Settings.{settings}
 
 -- these are the settings, where nothing else is said
 abbrev pub plain : RunMode → Settings
-plain mode = record { queries = codes "q"; workers = 4; history = 1000000; mode = mode }
+plain mode = record { queries = codes "q"; workers = 4; extent = Capped None mode }
 
 -- a run over these streams, where nothing else is said
 abbrev pub over : List Text → ForwardSettings
@@ -31,6 +33,10 @@ resumed = record {
 
 abbrev pub forwards : ForwardSettings → Settings
 forwards run = plain (Streams (ForwardRun run))
+
+-- the same as long as the streams go on
+abbrev pub endless : StreamSettings → Settings
+endless run = record { queries = codes "q"; workers = 4; extent = Endless run }
 
 -- A file to save to, and one to begin with; both, with asks and replies; and a file to save to with
 -- two streams. Refused: a file to begin with, and no stream or two; the same file for both; and one
@@ -105,13 +111,35 @@ pub record JoinsExamples : Type 0 where
   pub twice : settings (codes "rpq" ∷ codes "--joins=j" ∷ codes "--joins=k" ∷ codes "q"
       ∷ codes "t" ∷ []) ≡ None
 
+-- A run that goes on as long as its stream does; and one with asks and replies, a file to save to,
+-- and one to begin with; and one in which edges are taken backwards. Refused: with a number of tuples
+-- that the history holds, be it the usual one; in a check; over generated tuples; with no stream; and
+-- the flag given twice.
+pub record EndlessExamples : Type 0 where
+  pub over_stream : settings (codes "rpq" ∷ codes "--endless" ∷ codes "q" ∷ codes "t" ∷ [])
+      ≡ Some (endless (ForwardRun (over (codes "t" ∷ []))))
+  pub all_files : settings (codes "rpq" ∷ codes "--save=s" ∷ codes "--from=f" ∷ codes "--asks=a"
+      ∷ codes "--replies=r" ∷ codes "q" ∷ codes "t" ∷ codes "--endless" ∷ [])
+      ≡ Some (endless (ForwardRun resumed))
+  pub backwards : settings (codes "rpq" ∷ codes "--two-way" ∷ codes "--endless" ∷ codes "q"
+      ∷ codes "t" ∷ []) ≡ Some (endless (TwoWayRun (codes "t" ∷ [])))
+  pub with_history : settings (codes "rpq" ∷ codes "--endless" ∷ codes "--history=1000000"
+      ∷ codes "q" ∷ codes "t" ∷ []) ≡ None
+  pub checked : settings (codes "rpq" ∷ codes "--check" ∷ codes "--endless" ∷ codes "q" ∷ [])
+      ≡ None
+  pub made : settings (codes "rpq" ∷ codes "--generate=5" ∷ codes "--endless" ∷ codes "q" ∷ [])
+      ≡ None
+  pub no_stream : settings (codes "rpq" ∷ codes "--endless" ∷ codes "q" ∷ []) ≡ None
+  pub twice : settings (codes "rpq" ∷ codes "--endless" ∷ codes "--endless" ∷ codes "q"
+      ∷ codes "t" ∷ []) ≡ None
+
 -- The defaults. An option between streams, and zeros in front of its number. Values that begin with
 -- `-` or are empty behind `=`, and words behind `--`. A check; generated tuples. The greatest
 -- numbers. Refused: too many tuples to generate; no stream; no queries; a number above its range,
 -- below it, or with a sign; a flag given twice; asks without replies; a check with generated
 -- tuples, or with a stream; a value that begins with `-`; a name cut short; and `--help`.
--- And the examples of files to save to and to begin with, of edges taken backwards, of paths, and
--- of joins.
+-- And the examples of files to save to and to begin with, of edges taken backwards, of paths, of
+-- joins, and of runs as long as their streams.
 pub record SettingsExamples : Type 0 where
   pub defaults : settings (codes "rpq" ∷ codes "q" ∷ codes "s" ∷ [])
       ≡ Some (forwards (over (codes "s" ∷ [])))
@@ -128,7 +156,10 @@ pub record SettingsExamples : Type 0 where
       ≡ Some (plain (Generate Forwards 5))
   pub greatest : settings (codes "rpq" ∷ codes "--workers=64" ∷ codes "--history=2000000"
       ∷ codes "q" ∷ codes "s" ∷ [])
-      ≡ Some (record (forwards (over (codes "s" ∷ []))) { workers = 64; history = 2000000 })
+      ≡ Some (record (forwards (over (codes "s" ∷ []))) {
+        workers = 64;
+        extent = Capped (Some 2000000) (Streams (ForwardRun (over (codes "s" ∷ []))));
+      })
   pub most_made : settings (codes "rpq" ∷ codes "--generate=1000000" ∷ codes "q" ∷ [])
       ≡ Some (plain (Generate Forwards 1000000))
   pub over_made : settings (codes "rpq" ∷ codes "--generate=1000001" ∷ codes "q" ∷ []) ≡ None
@@ -149,3 +180,4 @@ pub record SettingsExamples : Type 0 where
   pub both_ways : TwoWayExamples
   pub paths : PathsExamples
   pub joins : JoinsExamples
+  pub without_end : EndlessExamples

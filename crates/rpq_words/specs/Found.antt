@@ -21,13 +21,14 @@ abbrev pub has_flag : Text → List Row → Bool
 has_flag name rows = option_map_or (bytes_eq (codes "true")) (first_of name rows) false
 
 -- what was found, where each number is in its range and there is a word for the queries: the
--- numbers of workers and of entries in the history; whether the queries are to be checked alone;
--- how many tuples are to be generated; whether expressions may take edges backwards; whether a path
--- is told behind each gained pair; and the names of the files
+-- number of workers, and that of entries in the history, if it is said; whether the queries are to
+-- be checked alone; how many tuples are to be generated; whether expressions may take edges
+-- backwards; whether the run goes on as long as its streams do; whether a path is told behind each
+-- gained pair; and the names of the files
 unfoldable pub words_found : List Row → Option ParsedWords
 words_found rows =
     first_of (codes "workers") rows >>= number_from_one 64 >>= λ workers.
-    first_of (codes "history") rows >>= number_from_one 2000000 >>= λ history.
+    optional_number 2000000 (first_of (codes "history") rows) >>= λ history.
     optional_number 1000000 (first_of (codes "generate") rows) >>= λ generate.
     first_of (codes "queries") rows >>= λ queries.
     Some (record {
@@ -36,6 +37,7 @@ words_found rows =
       check = has_flag (codes "check") rows;
       generate = generate;
       two_way = has_flag (codes "two-way") rows;
+      endless = has_flag (codes "endless") rows;
       queries = queries;
       words = record {
         paths = has_flag (codes "paths") rows;

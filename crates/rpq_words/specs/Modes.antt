@@ -1,11 +1,12 @@
 -- What settings are, said once more by what was found in the words.
 use Rattle.std.specs.Prelude.{◌≡◌, ◌≢◌, ◌≤◌, ℕ, Bool, true, false, not, List, length}
-use Rattle.std.specs.Prelude.{Option, Some, None, option_map}
+use Rattle.std.specs.Prelude.{◌⊎◌, ◌^◌, Option, Some, None, option_map}
 use Rattle.clap.specs.Walk.{Text}
 use Rattle.rpq_words.specs.declared.parsed_words.ParsedWords.{ParsedWords}
+use Rattle.rpq_words.specs.declared.settings.Extent.{Extent}
+use Rattle.rpq_words.specs.declared.settings.Extent.TheVariants.{Capped, Endless}
 use Rattle.rpq_words.specs.declared.settings.RunMode.{RunMode}
 use Rattle.rpq_words.specs.declared.settings.RunMode.TheVariants.{Check, Generate, Streams}
-use Rattle.rpq_words.specs.declared.settings.StreamSettings.{StreamSettings}
 use Rattle.rpq_words.specs.declared.settings.StreamSettings.TheVariants.{Forwards, BothWays}
 use Rattle.rpq_words.specs.declared.settings.Input.{Input}
 use Rattle.rpq_words.specs.declared.settings.Input.TheVariants.{Fresh, Resumed}
@@ -13,8 +14,8 @@ use Rattle.rpq_words.specs.Clash.{clash}
 use Rattle.rpq_words.specs.Options.{only_if}
 use Rattle.rpq_words.specs.declared.settings.Settings.{Settings}
 use Rattle.rpq_words.specs.Settings.{settings, settings_from}
-use Rattle.rpq_words.specs.Views.{asks_of, from_of, joins_of, paths_of, replies_of, save_of}
-use Rattle.rpq_words.specs.Views.{streams_of, two_way_of}
+use Rattle.rpq_words.specs.Views.{asks_of, cap_of, from_of, is_endless, joins_of, mode_of}
+use Rattle.rpq_words.specs.Views.{paths_of, replies_of, save_of, streams_of, two_way_of}
 
 -- the queries are checked, and nothing is run
 abbrev pub is_check : RunMode → Bool
@@ -28,14 +29,20 @@ count_of (Check directions) = None
 count_of (Generate directions count) = Some count
 count_of (Streams run) = None
 
+-- how many tuples the history holds at most, if the words say it
+abbrev pub history_in : Extent → Option ℕ
+history_in (Capped history mode) = history
+history_in (Endless run) = None
+
 -- what is found in words that have these settings
 abbrev pub words_of : Settings → ParsedWords
 words_of given = record {
   workers = given.workers;
-  history = given.history;
-  check = is_check given.mode;
-  generate = count_of given.mode;
+  history = history_in given.extent;
+  check = is_check (mode_of given);
+  generate = count_of (mode_of given);
   two_way = two_way_of given;
+  endless = is_endless given;
   queries = given.queries;
   words = record {
     paths = paths_of given;
@@ -69,11 +76,15 @@ IsMode (Generate directions count) = IsWithin 1000000 count
 IsMode (Streams (BothWays streams)) = IsWithin 64 (length streams)
 IsMode (Streams (Forwards run)) = IsInput run.save run.input
 
+-- how many tuples a history may hold: from 1 to 2,000,000, or as many as an endless run would take
+abbrev pub IsCap : ℕ → Type 0
+IsCap cap = IsWithin 2000000 cap ⊎ (cap ≡ 2 ^ 61)
+
 -- each number is in its range, and the files and the streams are such
 pub record AreSettings (given : Settings) : Type 0 where
   pub workers : IsWithin 64 given.workers
-  pub history : IsWithin 2000000 given.history
-  pub mode : IsMode given.mode
+  pub cap : is_endless given ≡ false → IsWithin 2000000 (cap_of given)
+  pub mode : IsMode (mode_of given)
 
 -- the settings of words are so
 abbrev pub WordsAreSettings : Type 0

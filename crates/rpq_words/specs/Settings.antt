@@ -6,6 +6,8 @@ use Rattle.std.specs.Global.{Global}
 use Rattle.clap.specs.Walk.{Row, Text, is_empty}
 use Rattle.rpq_words.specs.declared.parsed_words.ParsedWords.{ParsedWords}
 use Rattle.rpq_words.specs.declared.parsed_words.StreamWords.{StreamWords}
+use Rattle.rpq_words.specs.declared.settings.Extent.{Extent}
+use Rattle.rpq_words.specs.declared.settings.Extent.TheVariants.{Capped, Endless}
 use Rattle.rpq_words.specs.declared.settings.RunMode.{RunMode}
 use Rattle.rpq_words.specs.declared.settings.RunMode.TheVariants.{Check, Generate, Streams}
 use Rattle.rpq_words.specs.declared.settings.Directions.{Directions}
@@ -102,15 +104,20 @@ mode_from false (Some count) two_way words =
     if has_stream_words words then None else Some (Generate (directions_from two_way) count)
 mode_from false None two_way words = streams_from two_way words >>= λ run. Some (Streams run)
 
+-- what is done and for how long: a run goes on as long as its streams do only where it reads some,
+-- and where nothing is said of how many tuples the history holds
+abbrev pub extent_from : Bool → Option ℕ → RunMode → Option Extent
+extent_from false history mode = Some (Capped history mode)
+extent_from true (Some most) mode = None
+extent_from true None (Check directions) = None
+extent_from true None (Generate directions count) = None
+extent_from true None (Streams run) = Some (Endless run)
+
 -- the settings, where all that was found can stand together
 unfoldable pub settings_from : ParsedWords → Option Settings
 settings_from found = mode_from found.check found.generate found.two_way found.words >>= λ mode.
-    Some (record {
-      queries = found.queries;
-      workers = found.workers;
-      history = found.history;
-      mode = mode;
-    })
+    extent_from found.endless found.history mode >>= λ extent.
+    Some (record { queries = found.queries; workers = found.workers; extent = extent })
 
 -- what was found, where each number is in its range and all can stand together
 unfoldable pub settled : List Row → Option Settings

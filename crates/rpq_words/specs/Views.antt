@@ -1,13 +1,19 @@
 -- What settings say, one by one: those that only some runs have are no file, none, or not so in
 -- another run.
-use Rattle.std.specs.Prelude.{ℕ, Bool, true, false, List, [], ◌∷◌, Option, Some, None}
+use Rattle.std.specs.Prelude.{ℕ, ◌^◌, Bool, true, false, List, [], ◌∷◌, Option, Some, None}
+use Rattle.std.specs.Prelude.{unwrap_or}
 use Rattle.clap.specs.Walk.{Text}
 use Rattle.rpq_words.specs.declared.settings.Settings.{Settings}
+use Rattle.rpq_words.specs.declared.settings.Extent.{Extent}
+use Rattle.rpq_words.specs.declared.settings.Extent.TheVariants.{Capped, Endless}
 use Rattle.rpq_words.specs.declared.settings.RunMode.{RunMode}
 use Rattle.rpq_words.specs.declared.settings.RunMode.TheVariants.{Check, Generate, Streams}
+use Rattle.rpq_words.specs.declared.settings.ModeRef.{ModeRef}
+use Rattle.rpq_words.specs.declared.settings.ModeRef.TheVariants.{Check as CheckTold}
+use Rattle.rpq_words.specs.declared.settings.ModeRef.TheVariants.{Generate as GenerateTold}
+use Rattle.rpq_words.specs.declared.settings.ModeRef.TheVariants.{Streams as StreamsTold}
 use Rattle.rpq_words.specs.declared.settings.Directions.{Directions}
 use Rattle.rpq_words.specs.declared.settings.Directions.TheVariants.{Forwards, BothWays}
-use Rattle.rpq_words.specs.declared.settings.StreamSettings.{StreamSettings}
 use Rattle.rpq_words.specs.declared.settings.StreamSettings.TheVariants.{Forwards as ForwardRun}
 use Rattle.rpq_words.specs.declared.settings.StreamSettings.TheVariants.{BothWays as TwoWayRun}
 use Rattle.rpq_words.specs.declared.settings.ForwardSettings.{ForwardSettings}
@@ -17,6 +23,37 @@ use Rattle.rpq_words.specs.declared.settings.OutputKind.{OutputKind}
 use Rattle.rpq_words.specs.declared.settings.OutputKind.TheVariants.{Pairs, Paths, Bindings}
 use Rattle.rpq_words.specs.declared.settings.AskFiles.{AskFiles}
 use Rattle.rpq_words.specs.Options.{◌>>=◌}
+
+-- what is done with the queries
+abbrev pub mode_in : Extent → RunMode
+mode_in (Capped history mode) = mode
+mode_in (Endless run) = Streams run
+
+abbrev pub mode_of : Settings → RunMode
+mode_of given = mode_in given.extent
+
+-- what is done with the queries, where the settings are borrowed
+abbrev pub mode_told : ModeRef → RunMode
+mode_told (CheckTold directions) = Check directions
+mode_told (GenerateTold directions count) = Generate directions count
+mode_told (StreamsTold run) = Streams run.now
+
+-- the run goes on as long as its streams do
+abbrev pub is_endless_in : Extent → Bool
+is_endless_in (Capped history mode) = false
+is_endless_in (Endless run) = true
+
+abbrev pub is_endless : Settings → Bool
+is_endless given = is_endless_in given.extent
+
+-- how many tuples the history holds at most: a million where the words don't say it. The run of an
+-- endless one would end there
+abbrev pub cap_in : Extent → ℕ
+cap_in (Capped history mode) = unwrap_or history 1000000
+cap_in (Endless run) = 2 ^ 61
+
+abbrev pub cap_of : Settings → ℕ
+cap_of given = cap_in given.extent
 
 -- edges may be taken backwards
 abbrev pub is_both_ways : Directions → Bool
@@ -30,7 +67,7 @@ two_way_in (Streams (TwoWayRun streams)) = true
 two_way_in (Streams (ForwardRun run)) = false
 
 abbrev pub two_way_of : Settings → Bool
-two_way_of given = two_way_in given.mode
+two_way_of given = two_way_in (mode_of given)
 
 -- the settings of a run over streams that takes edges forwards alone
 abbrev pub forwards_in : RunMode → Option ForwardSettings
@@ -40,7 +77,7 @@ forwards_in (Streams (TwoWayRun streams)) = None
 forwards_in (Streams (ForwardRun run)) = Some run
 
 abbrev pub forwards_of : Settings → Option ForwardSettings
-forwards_of given = forwards_in given.mode
+forwards_of given = forwards_in (mode_of given)
 
 -- a path is told behind each gained pair
 abbrev pub has_paths : OutputKind → Bool
@@ -104,4 +141,4 @@ streams_in (Streams (TwoWayRun streams)) = streams
 streams_in (Streams (ForwardRun run)) = names_in run.input
 
 abbrev pub streams_of : Settings → List Text
-streams_of given = streams_in given.mode
+streams_of given = streams_in (mode_of given)

@@ -15,7 +15,7 @@ pub(crate) fn command<'a>(alloc: Global) -> Result<Command<'a>, AllocError>
 {
     Command::new(alloc, "rpq")
         .arg(option_or(alloc, "workers", "4"))?
-        .arg(option_or(alloc, "history", "1000000"))?
+        .arg(option_with_value(alloc, "history"))?
         .arg(option_with_value(alloc, "asks"))?
         .arg(option_with_value(alloc, "replies"))?
         .arg(flag(alloc, "check"))?
@@ -25,6 +25,7 @@ pub(crate) fn command<'a>(alloc: Global) -> Result<Command<'a>, AllocError>
         .arg(option_with_value(alloc, "joins"))?
         .arg(option_with_value(alloc, "save"))?
         .arg(option_with_value(alloc, "from"))?
+        .arg(flag(alloc, "endless"))?
         .arg(one_word(alloc, "queries"))?
         .arg(any_words(alloc, "streams"))
 }

@@ -1,8 +1,8 @@
 //! The words of a command line and the settings that they are.
 //!
 //! The command is `rpq [--workers N] [--history N] [--asks FILE --replies FILE] [--check]
-//! [--generate N] [--two-way] [--paths] [--joins FILE] [--save FILE] [--from FILE] QUERIES
-//! [STREAM...]`, read by `clap` as one simple command. The contract for the layer above:
+//! [--generate N] [--two-way] [--paths] [--joins FILE] [--save FILE] [--from FILE] [--endless]
+//! QUERIES [STREAM...]`, read by `clap` as one simple command. The contract for the layer above:
 //! [`read_words`] answers the settings of the words, as `specs/Settings` defines them by clap's own
 //! definition of such a command and the table of the ranges, or that the words have none, unless
 //! memory runs out. What can't stand together can't be said by a [`Settings`].
@@ -29,7 +29,8 @@ pub use file_word::FileWord;
 pub use laws::{settings_are_found, settings_examples, words_are_settings};
 pub use read::read_words;
 pub use settings::{
-    AskFiles, Directions, ForwardSettings, Input, OutputKind, RunMode, Settings, StreamSettings,
+    AskFiles, Directions, Extent, ForwardSettings, Input, ModeRef, OutputKind, RunMode, Settings,
+    StreamSettings,
 };
 pub use stream_names::StreamNames;
 pub use usage::usage_line;

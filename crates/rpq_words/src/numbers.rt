@@ -20,7 +20,7 @@ pub(crate) fn number_from_one(text: &str, most: u64) -> Option<u64>
 }
 
 /// The number of an option that stands there or has a default.
-pub(crate) fn needed_number(text: Option<&str>, most: u64) -> Option<u64>
+fn needed_number(text: Option<&str>, most: u64) -> Option<u64>
     ensures number { result
         ≡ option_and_then (number_from_one most) (option_map (λ known. known.now) text.entry) }
     ensures some { IfSome result (λ number. 1 ≤ number) }

@@ -2,14 +2,16 @@
 
 ghost use Rattle.std.specs.Prelude.{◌≡◌};
 ghost use Rattle.rpq_words.specs.Clash.{names_file};
-ghost use Rattle.rpq_words.specs.Settings.{asked_from, directions_from, forwards_from};
+ghost use Rattle.rpq_words.specs.Settings.{asked_from, directions_from, extent_from};
+ghost use Rattle.rpq_words.specs.Settings.{forwards_from};
 ghost use Rattle.rpq_words.specs.Settings.{has_forward_words, has_stream_words, input_from};
 ghost use Rattle.rpq_words.specs.Settings.{mode_from, saves_over, settings_from, shown_from};
 ghost use Rattle.rpq_words.specs.Settings.{streams_from};
 
 use crate::file_word::FileWord;
 use crate::settings::{
-    AskFiles, Directions, ForwardSettings, Input, OutputKind, RunMode, Settings, StreamSettings,
+    AskFiles, Directions, Extent, ForwardSettings, Input, OutputKind, RunMode, Settings,
+    StreamSettings,
 };
 use crate::stream_names::StreamNames;
 use rpq_base::Workers;
@@ -18,10 +20,11 @@ use rpq_base::Workers;
 #[derive(Debug, Drop)]
 pub struct ParsedWords {
     pub workers: Workers,
-    pub history: u64,
+    pub history: Option<u64>,
     pub check: bool,
     pub generate: Option<u64>,
     pub two_way: bool,
+    pub endless: bool,
     pub queries: FileWord,
     pub words: StreamWords,
 }
@@ -50,16 +53,30 @@ impl ParsedWords {
             check,
             generate,
             two_way,
+            endless,
             queries,
             words,
         } = self;
         let mode = mode_of(check, generate, two_way, words)?;
+        let extent = extent_of(endless, history, mode)?;
         Some(Settings {
             queries,
             workers,
-            history,
-            mode,
+            extent,
         })
+    }
+}
+
+/// What is done and for how long, if this can stand together.
+fn extent_of(endless: bool, history: Option<u64>, mode: RunMode) -> Option<Extent>
+    ensures { result ≡ extent_from endless history mode }
+{
+    match (endless, history, mode) {
+        (false, history, mode) => Some(Extent::Capped { history, mode }),
+        (true, None, RunMode::Streams(run)) => Some(Extent::Endless(run)),
+        (true, None, RunMode::Check(_directions)) => None,
+        (true, None, RunMode::Generate(_directions, _count)) => None,
+        (true, Some(_most), _mode) => None,
     }
 }
 

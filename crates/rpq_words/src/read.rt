@@ -12,7 +12,7 @@ use crate::command::command;
 use crate::fault::WordsFault;
 use crate::file_word::{FileWord, file_words, optional_file_word};
 use crate::matches::{all_of, first_of, has_flag};
-use crate::numbers::{needed_number, needed_workers, optional_number};
+use crate::numbers::{needed_workers, optional_number};
 use crate::parsed_words::{ParsedWords, StreamWords};
 use crate::settings::Settings;
 use crate::stream_names::StreamNames;
@@ -20,7 +20,7 @@ use clap::ArgMatches;
 use clap::error::ErrorKind;
 use std::alloc::Global;
 
-/// The most tuples that a history may hold.
+/// The most tuples that a history with a cap may hold.
 const MAX_HISTORY: u64 = 2_000_000;
 
 /// The most tuples that are generated.
@@ -88,7 +88,7 @@ fn read_found(alloc: Global, matches: &ArgMatches<'_>) -> Result<ParsedWords, Wo
         → words_found (rows_of (found_of matches.now)) ≡ None }
 {
     let workers = needed_workers(first_of(matches, "workers")).ok_or(WordsFault::Refused)?;
-    let history = needed_number(first_of(matches, "history"), MAX_HISTORY).ok_or(
+    let history = optional_number(first_of(matches, "history"), MAX_HISTORY).ok_or(
         WordsFault::Refused,
     )?;
     let generate = optional_number(first_of(matches, "generate"), MAX_GENERATED).ok_or(
@@ -101,6 +101,7 @@ fn read_found(alloc: Global, matches: &ArgMatches<'_>) -> Result<ParsedWords, Wo
         check: has_flag(matches, "check"),
         generate,
         two_way: has_flag(matches, "two-way"),
+        endless: has_flag(matches, "endless"),
         queries: FileWord::new(alloc, queries)?,
         words: StreamWords {
             paths: has_flag(matches, "paths"),

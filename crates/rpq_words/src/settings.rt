@@ -1,12 +1,21 @@
 //! The settings of a run.
 
 ghost use Rattle.std.specs.Prelude.{◌≡◌, option_copied};
-ghost use Rattle.rpq_words.specs.Views.{asks_of, forwards_of, from_of, is_both_ways, joins_of};
-ghost use Rattle.rpq_words.specs.Views.{paths_of, replies_of, save_of, two_way_of};
+ghost use Rattle.rpq_words.specs.declared.settings.RunMode.{RunMode};
+ghost use Rattle.rpq_words.specs.Views.{asks_of, cap_of, forwards_in, forwards_of, from_of};
+ghost use Rattle.rpq_words.specs.Views.{is_both_ways, is_endless, joins_of, mode_of, mode_told};
+ghost use Rattle.rpq_words.specs.Views.{paths_of};
+ghost use Rattle.rpq_words.specs.Views.{replies_of, save_of, two_way_in, two_way_of};
 
 use crate::file_word::FileWord;
 use crate::stream_names::StreamNames;
 use rpq_base::Workers;
+
+/// How many tuples a history holds at most where the words don't say it.
+const USUAL_CAP: u64 = 1_000_000;
+
+/// How many tuples an endless run would take.
+const ENDLESS_CAP: u64 = 1 << 61;
 
 /// The settings of a run.
 #[derive(Debug, Drop)]
@@ -15,10 +24,18 @@ pub struct Settings {
     pub queries: FileWord,
     /// How many workers keep the answers up to date.
     pub workers: Workers,
-    /// How many tuples the history holds at most.
-    pub history: u64,
-    /// What is done with the queries.
-    pub mode: RunMode,
+    /// What is done with the queries, and for how long.
+    pub extent: Extent,
+}
+
+/// What is done with the queries, and for how long.
+#[derive(Debug, Drop)]
+pub enum Extent {
+    /// What the mode says. The history holds so many tuples at most, or 1,000,000 where the words
+    /// don't say it.
+    Capped { history: Option<u64>, mode: RunMode },
+    /// They are evaluated over streams, as long as these go on.
+    Endless(StreamSettings),
 }
 
 /// What is done with the queries.
@@ -90,6 +107,18 @@ pub struct AskFiles {
     pub replies: FileWord,
 }
 
+/// What is done with the queries, as the settings of a run with a cap and of one without tell it
+/// alike.
+#[derive(Clone, Copy, Debug)]
+pub enum ModeRef<'a> {
+    /// They are checked, and nothing is run.
+    Check(Directions),
+    /// They are evaluated over this many generated tuples.
+    Generate(Directions, u64),
+    /// They are evaluated over streams.
+    Streams(&'a StreamSettings),
+}
+
 impl Directions {
     /// Whether edges may be taken backwards.
     pub fn is_both_ways(self) -> bool
@@ -102,16 +131,103 @@ impl Directions {
     }
 }
 
+impl RunMode {
+    /// Whether edges may be taken backwards.
+    fn is_two_way(&self) -> bool
+        ensures { result ≡ two_way_in self.now }
+    {
+        match self {
+            RunMode::Check(directions) => directions.is_both_ways(),
+            RunMode::Generate(directions, _count) => directions.is_both_ways(),
+            RunMode::Streams(run) => run.is_two_way(),
+        }
+    }
+}
+
+impl StreamSettings {
+    /// Whether edges may be taken backwards.
+    fn is_two_way(&self) -> bool
+        ensures { result ≡ two_way_in (RunMode.Streams self.now) }
+    {
+        match self {
+            StreamSettings::BothWays(_names) => true,
+            StreamSettings::Forwards(_run) => false,
+        }
+    }
+
+    /// The settings of one that takes edges forwards alone, if it is one.
+    fn forwards(&self) -> Option<&ForwardSettings>
+        ensures { option_copied result ≡ forwards_in (RunMode.Streams self.now) }
+    {
+        match self {
+            StreamSettings::Forwards(run) => Some(run),
+            StreamSettings::BothWays(_names) => None,
+        }
+    }
+}
+
 impl Settings {
+    /// What is done with the queries.
+    pub fn mode(&self) -> ModeRef<'_>
+        ensures { mode_told result ≡ mode_of self.now }
+    {
+        match &self.extent {
+            Extent::Capped {
+                history: _history,
+                mode: RunMode::Check(directions),
+            } => ModeRef::Check(*directions),
+            Extent::Capped {
+                history: _history,
+                mode: RunMode::Generate(directions, count),
+            } => ModeRef::Generate(*directions, *count),
+            Extent::Capped {
+                history: _history,
+                mode: RunMode::Streams(run),
+            } => ModeRef::Streams(run),
+            Extent::Endless(run) => ModeRef::Streams(run),
+        }
+    }
+
+    /// Whether the run goes on as long as its streams do.
+    pub fn is_endless(&self) -> bool
+        ensures { result ≡ is_endless self.now }
+    {
+        match &self.extent {
+            Extent::Capped {
+                history: _history,
+                mode: _mode,
+            } => false,
+            Extent::Endless(_run) => true,
+        }
+    }
+
+    /// How many tuples the history holds at most. An endless run would take 2^61.
+    pub fn history_cap(&self) -> u64
+        ensures { result ≡ cap_of self.now }
+    {
+        match &self.extent {
+            Extent::Capped {
+                history: Some(most),
+                mode: _mode,
+            } => *most,
+            Extent::Capped {
+                history: None,
+                mode: _mode,
+            } => USUAL_CAP,
+            Extent::Endless(_run) => ENDLESS_CAP,
+        }
+    }
+
     /// Whether edges may be taken backwards.
     pub fn is_two_way(&self) -> bool
         ensures { result ≡ two_way_of self.now }
     {
-        match &self.mode {
-            RunMode::Check(directions) => directions.is_both_ways(),
-            RunMode::Generate(directions, _count) => directions.is_both_ways(),
-            RunMode::Streams(StreamSettings::BothWays(_names)) => true,
-            RunMode::Streams(StreamSettings::Forwards(_run)) => false,
+        match &self.extent {
+            Extent::Capped {
+                history: _history,
+                mode,
+            } => mode.is_two_way(),
+            Extent::Endless(run) => run.is_two_way(),
         }
     }
 
@@ -119,10 +235,16 @@ impl Settings {
     pub fn forwards(&self) -> Option<&ForwardSettings>
         ensures { option_copied result ≡ forwards_of self.now }
     {
-        match &self.mode {
-            RunMode::Streams(StreamSettings::Forwards(run)) => Some(run),
-            RunMode::Check(_) | RunMode::Generate(_, _) => None,
-            RunMode::Streams(StreamSettings::BothWays(_)) => None,
+        match &self.extent {
+            Extent::Capped {
+                history: _history,
+                mode: RunMode::Streams(run),
+            } => run.forwards(),
+            Extent::Capped {
+                history: _history,
+                mode: RunMode::Check(_) | RunMode::Generate(_, _),
+            } => None,
+            Extent::Endless(run) => run.forwards(),
         }
     }
 

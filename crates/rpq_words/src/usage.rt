@@ -8,6 +8,6 @@ pub fn usage_line() -> &'static str
     ensures { result.now ≡ usage }
 {
     "usage: rpq [--workers N] [--history N] [--asks FILE --replies FILE] [--check] \
-     [--generate N] [--two-way] [--paths] [--joins FILE] [--save FILE] [--from FILE] QUERIES \
-     [STREAM...]"
+     [--generate N] [--two-way] [--paths] [--joins FILE] [--save FILE] [--from FILE] [--endless] \
+     QUERIES [STREAM...]"
 }

@@ -79,7 +79,7 @@ fn take<R: Threads + Sync>(
         Way::Front => feed_front(context, out, engine, &entries, workers)?,
         Way::Rebuilt => feed_again(context, out, engine, &entries, workers)?,
     }
-    put_end(context.alloc, out, engine)
+    put_end(context.alloc, out, engine, entries.len() as u64)
 }
 
 /// Feeds entries to an engine one after another, and puts what each changes.
@@ -168,22 +168,28 @@ fn rebuild<R: Threads + Sync>(
     workers: Workers,
 ) -> anyhow::Result<()> {
     ensure!(entries.len() < 1 << 30, "too many tuples");
-    let _shown = shown(engine)?;
+    let position = engine.position();
+    let _shown = shown(engine, position)?;
     engine.rebuild(context, entries, workers)?;
     Ok(())
 }
 
-/// What an engine shows.
-fn shown(engine: &mut Engine) -> anyhow::Result<Arc<View>> {
+/// What an engine shows at this position of the history.
+fn shown(engine: &mut Engine, position: u64) -> anyhow::Result<Arc<View>> {
     ensure!(!engine.is_spent(), "spent");
-    Ok(engine.view()?)
+    Ok(engine.view(position)?)
 }
 
-/// Puts the position of an engine and the answers with their ends.
-fn put_end(alloc: Global, out: &mut Output, engine: &mut Engine) -> anyhow::Result<()> {
+/// Puts how many entries an engine was fed, and the answers at this position with their ends.
+fn put_end(
+    alloc: Global,
+    out: &mut Output,
+    engine: &mut Engine,
+    position: u64,
+) -> anyhow::Result<()> {
     out.put(" ")?;
     out.put_shown(&engine.position())?;
-    put_view(alloc, out, &*shown(engine)?)
+    put_view(alloc, out, &*shown(engine, position)?)
 }
 
 /// Puts the answers of each query, `|` before each.

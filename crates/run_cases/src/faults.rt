@@ -75,7 +75,7 @@ fn put_faults(
 /// written whole.
 fn due_of(alloc: Global, queries: &[u8], left: &RunOutput) -> anyhow::Result<WrittenBlocks> {
     let queries = queries_of(alloc, queries)?;
-    blocks_of(alloc, &queries, &left.history, left.events.len())
+    blocks_of(alloc, &queries, left.history.as_slice(), left.events.len())
 }
 
 /// The queries that a field gives, and none where it has a fault.
@@ -103,7 +103,7 @@ fn put_extent(out: &mut Output, written: &[u8], text: &[u8]) -> anyhow::Result<(
 /// to the machine then how far the streams come.
 fn put_entries(out: &mut Output, left: &RunOutput, text: &[u8]) -> anyhow::Result<()> {
     if left.events.as_slice() == text {
-        put_count(out, left.history.len())
+        put_count(out, left.history.length() as usize)
     } else {
         out.put(" -")
     }

@@ -1,6 +1,7 @@
 //! What a run leaves behind, as bytes.
 
 use crate::outside::RunArguments;
+use kept_list::KeptList;
 use rpq_base::Entry;
 use rpq_io::{MemoryFiles, MemorySink};
 use rpq_run::{Answered, Report};
@@ -13,7 +14,7 @@ use text_parts::push_decimal;
 #[derive(Drop)]
 pub struct RunOutput {
     pub status: u8,
-    pub history: Vec<Entry>,
+    pub history: KeptList<Entry>,
     /// How many sources the report has.
     pub sources: usize,
     /// How many sessions the report has.
@@ -51,7 +52,7 @@ impl RunOutput {
     fn new(alloc: Global, status: u8) -> RunOutput {
         RunOutput {
             status,
-            history: Vec::new(alloc),
+            history: KeptList::new(alloc),
             sources: 0,
             sessions: 0,
             events: Vec::new(alloc),

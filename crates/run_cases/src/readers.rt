@@ -49,7 +49,7 @@ fn given<'a>(fields: Fields<'a>) -> RunInput<'a> {
 /// Puts what a run with readers left behind.
 fn put_readers(out: &mut Output, left: &RunOutput) -> anyhow::Result<()> {
     out.put_shown(&left.status)?;
-    put_counts(out, &left.history)?;
+    put_counts(out, left.history.as_slice())?;
     out.put("|")?;
     out.put_bytes(&left.errors)?;
     out.put("|")?;

@@ -1,6 +1,8 @@
 -- What settings say of a run over streams.
 use Rattle.std.proofs.Common.{arith, ◌≡◌, true, false, List, [], ◌∷◌, length, refl, subst, sym}
-use Rattle.std.specs.Prelude.{Option, Some, None, is_some}
+use Rattle.std.specs.Prelude.{◌^◌, Option, Some, None, is_some}
+use Rattle.rpq_words.specs.declared.settings.Extent.{Extent}
+use Rattle.rpq_words.specs.declared.settings.Extent.TheVariants.{Capped, Endless}
 use Rattle.rpq_words.specs.declared.settings.RunMode.{RunMode}
 use Rattle.rpq_words.specs.declared.settings.RunMode.TheVariants.{Check, Generate, Streams}
 use Rattle.rpq_words.specs.declared.settings.StreamSettings.{StreamSettings}
@@ -9,13 +11,17 @@ use Rattle.rpq_words.specs.declared.settings.Input.{Input}
 use Rattle.rpq_words.specs.declared.settings.Input.TheVariants.{Fresh, Resumed}
 use Rattle.rpq_words.specs.Modes.{AreSettings, IsInput, IsMode, IsWithin}
 use Rattle.rpq_words.specs.declared.settings.Settings.{Settings}
-use Rattle.rpq_words.specs.Views.{asks_of, forwards_in, from_in, from_of, names_in, paths_in, paths_of}
+use Rattle.rpq_words.specs.Options.{◌>>=◌}
+use Rattle.rpq_words.specs.Views.{asks_in, asks_of, cap_in, cap_of, forwards_in, from_in, from_of}
+use Rattle.rpq_words.specs.Views.{is_endless, is_endless_in, mode_of, names_in, paths_in, paths_of}
 use Rattle.rpq_words.specs.Views.{streams_in, streams_of, two_way_in, two_way_of}
+use Rattle.stream_tuples.specs.Limits.{byte_limit, byte_limit_of, endless_byte_limit}
+use Rattle.stream_tuples.proofs.ByteLimits.{endless_limit, kept_limit}
 
 -- 1 to 64 streams are read
-pub some_streams : (given : Settings) (run : StreamSettings) → given.mode ≡ Streams run
+pub some_streams : (given : Settings) (run : StreamSettings) → mode_of given ≡ Streams run
     → AreSettings given → IsWithin 64 (length (streams_of given))
-some_streams given run is are = by given.mode is are.mode
+some_streams given run is are = by (mode_of given) is are.mode
   where
     by_input : (save : Option _) (input : Input) → IsInput save input
         → IsWithin 64 (length (names_in input))
@@ -32,13 +38,13 @@ some_streams given run is are = by given.mode is are.mode
 -- and one where a saved window is read first
 pub one_stream : (given : Settings) → true ≡ is_some (from_of given)
     → length (streams_of given) ≡ 1
-one_stream given is = by given.mode is
+one_stream given is = by (mode_of given) is
   where
     by_input : (input : Input) → true ≡ is_some (from_in input) → length (names_in input) ≡ 1
     by_input (Fresh streams) is = absurd (cc is)
     by_input (Resumed from stream) is = refl
 
-    by : (mode : RunMode) → true ≡ is_some (from_of (record given { mode = mode }))
+    by : (mode : RunMode) → true ≡ is_some (forwards_in mode >>= λ run. from_in run.input)
         → length (streams_in mode) ≡ 1
     by (Check directions) is = absurd (cc is)
     by (Generate directions count) is = absurd (cc is)
@@ -47,9 +53,9 @@ one_stream given is = by given.mode is
 
 -- nobody asks where edges may be taken backwards
 pub unasked : (given : Settings) → two_way_of given ≡ true → asks_of given ≡ None
-unasked given is = by given.mode is
+unasked given is = by (mode_of given) is
   where
-    by : (mode : RunMode) → two_way_in mode ≡ true → asks_of (record given { mode = mode }) ≡ None
+    by : (mode : RunMode) → two_way_in mode ≡ true → (forwards_in mode >>= λ run. asks_in run.asked) ≡ None
     by (Check directions) is = refl
     by (Generate directions count) is = refl
     by (Streams (BothWays streams)) is = refl
@@ -57,10 +63,27 @@ unasked given is = by given.mode is
 
 -- and no path is told there
 pub forwards_alone : (given : Settings) → paths_of given ≡ true → two_way_of given ≡ false
-forwards_alone given is = by given.mode is
+forwards_alone given is = by (mode_of given) is
   where
     by : (mode : RunMode) → paths_in (forwards_in mode) ≡ true → two_way_in mode ≡ false
     by (Check directions) is = absurd (cc is)
     by (Generate directions count) is = absurd (cc is)
     by (Streams (BothWays streams)) is = absurd (cc is)
     by (Streams (Forwards forwards)) is = refl
+
+-- how many bytes its streams may have, as long as they go on
+pub endless_bytes : (given : Settings) → is_endless given ≡ true
+    → endless_byte_limit ≡ byte_limit_of (cap_of given)
+endless_bytes given is = by given.extent is
+  where
+    by : (extent : Extent) → is_endless_in extent ≡ true
+        → endless_byte_limit ≡ byte_limit_of (cap_in extent)
+    by (Capped history mode) is = absurd (cc is)
+    by (Endless run) is = sym (endless_limit (2 ^ 61) (omega arith))
+
+-- and where the history has a cap
+pub capped_bytes : (given : Settings) → AreSettings given → is_endless given ≡ false
+    → byte_limit ≡ byte_limit_of (cap_of given)
+capped_bytes given are is =
+    let within = are.cap is in
+    sym (kept_limit (cap_of given) (omega (arith, within.1)))

@@ -1,8 +1,9 @@
 -- The order of files, computed; and what a saved window gives before a stream.
 use Rattle.std.proofs.Common.{◌≡◌, ℕ, List, [], ◌∷◌, ◌++◌, map, Option, Some, refl, ap, ap₂, ◌∙◌}
 use Rattle.std.specs.Prelude.{option_map, unwrap_or}
-use Rattle.rpq_words.specs.Views.{streams_of}
+use Rattle.rpq_words.specs.Views.{cap_of, streams_of}
 use Rattle.saved_window.specs.SavedText.{SavedTextIsRead, saved_text}
+use Rattle.stream_tuples.specs.Limits.{byte_limit_of}
 use Rattle.run_start.specs.Files.{from_content, with_first}
 use Rattle.run_start.specs.Laws.{ReadInOrder, ReadWholeInOrder, WrittenInOrder, SavedComesFirst}
 
@@ -46,5 +47,5 @@ saved_comes_first are_read given holds tuples text begins =
     ∙ ap (λ (file : Option (List ℕ)). file ∷ []) begins.fresh in (
       saved ++ text,
       ap₂ (λ (one : Option (List ℕ)) (all : List (Option (List ℕ))). with_first one all) first files,
-      (are_read tuples begins.written).in_front text begins.fits,
+      (are_read tuples begins.written).in_front (byte_limit_of (cap_of given)) text begins.fits,
     )

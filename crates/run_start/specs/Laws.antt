@@ -3,20 +3,21 @@ use Rattle.std.specs.Prelude.{◌≡◌, ℕ, ◌+◌, ◌-◌, ◌≤◌, List,
 use Rattle.std.specs.Prelude.{Some, None}
 use Rattle.rpq_base.specs.TupleValue.{TupleValue}
 use Rattle.tuple_text.specs.Written.{IsStreamTuple}
-use Rattle.stream_tuples.specs.Limits.{byte_limit}
-use Rattle.stream_tuples.specs.StreamText.{tuples_before, tuples_from, stream_tuples}
+use Rattle.stream_tuples.specs.Limits.{byte_limit_of}
+use Rattle.stream_tuples.specs.StreamText.{tuples_before, tuples_from}
 use Rattle.query_file.specs.declared.fault.QueryFault.{QueryFault}
 use Rattle.join_file.specs.declared.fault.JoinFileFault.{JoinFileFault}
 use Rattle.ask_text.specs.declared.fault.AskFault.{AskFault}
 use Rattle.rpq_words.specs.declared.settings.Settings.{Settings}
 use Rattle.rpq_words.specs.declared.settings.OutputKind.TheVariants.{Bindings}
 use Rattle.rpq_words.specs.Examples.{forwards, over, resumed}
-use Rattle.rpq_words.specs.Views.{from_of, streams_of}
+use Rattle.rpq_words.specs.Views.{cap_of, from_of, streams_of}
 use Rattle.rpq_text.specs.declared.ends.StartFault.TheVariants as start
 use Rattle.rpq_text.specs.declared.ends.Which.TheVariants as file
 use Rattle.saved_window.specs.SavedText.{saved_text}
 use Rattle.run_start.specs.Files.{stream_contents}
 use Rattle.run_start.specs.Start.{AreOpened, AreMade}
+use Rattle.run_start.specs.Texts.{tuples_within}
 
 -- the settings of `rpq --joins=j --asks=a --replies=r --save=s --from=f q t`
 abbrev pub all_files : Settings
@@ -80,7 +81,7 @@ pub record BeginsWithSaved (given : Settings) (holds : List ℕ → Option (List
   pub saved : holds from ≡ Some (saved_text tuples)
   pub fresh : holds stream ≡ Some text
   pub written : All IsStreamTuple tuples
-  pub fits : length (saved_text tuples) ≤ byte_limit
+  pub fits : length (saved_text tuples) ≤ byte_limit_of (cap_of given)
 
 -- what is read as the stream of such a run: the tuples that were saved come first, and then those
 -- of the stream's own text, whose lines and bytes count behind theirs
@@ -88,5 +89,5 @@ abbrev pub SavedComesFirst : Type 0
 SavedComesFirst = (given : Settings) (holds : List ℕ → Option (List ℕ))
     (tuples : List TupleValue) (text : List ℕ) → BeginsWithSaved given holds tuples text →
     (all : List ℕ) × (stream_contents given holds ≡ Some all ∷ [])
-    × (stream_tuples all ≡ tuples_before tuples
-    (tuples_from (length tuples + 1) (byte_limit - length (saved_text tuples)) text))
+    × (tuples_within (cap_of given) all ≡ tuples_before tuples (tuples_from (length tuples + 1)
+    (byte_limit_of (cap_of given) - length (saved_text tuples)) text))

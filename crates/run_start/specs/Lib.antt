@@ -5,3 +5,4 @@ pub mod Start
 pub mod Ready
 pub mod Steps
 pub mod Laws
+pub mod Texts

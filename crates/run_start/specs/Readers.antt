@@ -12,11 +12,11 @@ abbrev pub lefts_of : {S : Type 0} → (S → Option (List ℕ)) → List (Reade
     → List (Option (List ℕ))
 lefts_of left readers = map (λ reader. left_of_both left reader.source) readers
 
--- they read nothing yet
-abbrev pub AreNewReaders : {S : Type 0} → (S → Option (List ℕ)) → (S → ℕ)
+-- they read nothing yet, and the history has at most so many entries
+abbrev pub AreNewReaders : {S : Type 0} → ℕ → (S → Option (List ℕ)) → (S → ℕ)
     → List (ReaderState (TwoSources S)) → Type 0
-AreNewReaders left faults readers =
-    All (IsNewReader (left_of_both left) (faults_of_both faults)) readers
+AreNewReaders cap left faults readers =
+    All (IsNewReader cap (left_of_both left) (faults_of_both faults)) readers
 
 -- what each reader has left
 abbrev pub contents_of : {S : Type 0} → (S → Option (List ℕ)) → Readers S
@@ -25,9 +25,9 @@ contents_of left (Alone readers) = lefts_of left readers.items
 contents_of left (Behind readers) = lefts_of left readers.items
 
 -- none of them read anything yet
-abbrev pub AreNew : {S : Type 0} → (S → Option (List ℕ)) → (S → ℕ) → Readers S → Type 0
-AreNew left faults (Alone readers) = AreNewReaders left faults readers.items
-AreNew left faults (Behind readers) = AreNewReaders left faults readers.items
+abbrev pub AreNew : {S : Type 0} → ℕ → (S → Option (List ℕ)) → (S → ℕ) → Readers S → Type 0
+AreNew cap left faults (Alone readers) = AreNewReaders cap left faults readers.items
+AreNew cap left faults (Behind readers) = AreNewReaders cap left faults readers.items
 
 -- whether a saved window is read before a file
 abbrev pub is_behind : {S : Type 0} → Readers S → Bool

@@ -10,7 +10,8 @@ use Rattle.rpq_words.specs.declared.settings.Directions.{Directions}
 use Rattle.rpq_words.specs.declared.settings.RunMode.TheVariants.{Check, Generate, Streams}
 use Rattle.rpq_words.specs.declared.settings.StreamSettings.{StreamSettings}
 use Rattle.rpq_words.specs.declared.settings.Settings.{Settings}
-use Rattle.rpq_words.specs.Views.{asks_of, from_of, joins_of, replies_of, save_of, two_way_of}
+use Rattle.rpq_words.specs.Views.{asks_of, cap_of, from_of, joins_of, mode_of, replies_of, save_of}
+use Rattle.rpq_words.specs.Views.{two_way_of}
 use Rattle.rpq_text.specs.Definitions.{definitions_of}
 use Rattle.rpq_text.specs.Limits.{query_limit}
 use Rattle.rpq_text.specs.declared.ends.StartFault.{StartFault}
@@ -61,10 +62,10 @@ pub record IsReading {S K : Type 0} (left : S → Option (List ℕ)) (faults : S
     (holds : List ℕ → Option (List ℕ)) (queries : List CompiledValue) (reading : StreamsPlan S K)
     : Type 0 where
   pub run : StreamSettings
-  pub mode : given.mode ≡ Streams run
+  pub mode : mode_of given ≡ Streams run
   pub contents : stream_contents given holds ≡ contents_of left reading.readers
   pub behind : is_behind reading.readers ≡ is_some (from_of given)
-  pub fresh : AreNew left faults reading.readers
+  pub fresh : AreNew (cap_of given) left faults reading.readers
   pub joined : ForJoins given holds (definitions_of queries)
       (λ found. reading.joins.value.items ≡ found)
   pub few_joins : length reading.joins.value.items ≤ 32
@@ -78,8 +79,8 @@ pub record IsReading {S K : Type 0} (left : S → Option (List ℕ)) (faults : S
 -- the work that the settings ask for: a check, the evaluation over so many generated tuples, or
 -- that over streams, for which this holds of what is read
 abbrev pub IsWork : {S K : Type 0} → Settings → (StreamsPlan S K → Type 0) → Work S K → Type 0
-IsWork given P Checks = (directions : Directions) × (given.mode ≡ Check directions)
-IsWork given P (Generates directions count) = given.mode ≡ Generate directions count
+IsWork given P Checks = (directions : Directions) × (mode_of given ≡ Check directions)
+IsWork given P (Generates directions count) = mode_of given ≡ Generate directions count
 IsWork given P (Reading reads) = P reads
 
 -- what a run begins with: the queries of its file, understood, and what is done with them

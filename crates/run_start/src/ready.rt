@@ -4,7 +4,7 @@ ghost use Rattle.std.specs.Prelude.{◌≡◌, ◌∷◌, [], Some, option_to_li
 ghost use Rattle.std.specs.Prelude.{IfSome};
 ghost use Rattle.rpq_words.specs.Modes.{AreSettings};
 ghost use Rattle.rpq_words.specs.declared.settings.RunMode.{RunMode};
-ghost use Rattle.rpq_words.specs.Views.{asks_of, joins_of, two_way_of};
+ghost use Rattle.rpq_words.specs.Views.{asks_of, joins_of, mode_of, two_way_of};
 ghost use Rattle.rpq_text.specs.Definitions.{definitions_of};
 ghost use Rattle.run_start.specs.Files.{HasQueries};
 ghost use Rattle.run_start.specs.Given.{later_names, sink_names};
@@ -23,7 +23,7 @@ use ask_text::Session;
 use join_file::JoinDef;
 use query_file::Compiled;
 use rpq_io::{Files, Sink, Source};
-use rpq_words::{Directions, RunMode, Settings, StreamSettings};
+use rpq_words::{Directions, ModeRef, Settings, StreamSettings};
 use std::alloc::Global;
 use std::sync::Arc;
 
@@ -84,16 +84,16 @@ pub fn begin<F: Files>(
         (Some chosen.now) (fault_of result) files.old files.new }
 {
     let queries = queries_of_file(alloc, files, chosen)?;
-    match &chosen.mode {
-        RunMode::Check(_directions) => Ok(RunPlan {
+    match chosen.mode() {
+        ModeRef::Check(_directions) => Ok(RunPlan {
             queries,
             work: Work::Check,
         }),
-        RunMode::Generate(directions, count) => Ok(RunPlan {
+        ModeRef::Generate(directions, count) => Ok(RunPlan {
             queries,
-            work: Work::Generate(*directions, *count),
+            work: Work::Generate(directions, count),
         }),
-        RunMode::Streams(run) => {
+        ModeRef::Streams(run) => {
             let reads = begin_reading(alloc, files, chosen, run, &queries)?;
             Ok(RunPlan {
                 queries,
@@ -113,7 +113,7 @@ fn begin_reading<F: Files>(
     queries: &[Compiled],
 ) -> Result<StreamsPlan<F::Source, F::Sink>, Refusal<F::Source>>
     requires settings { AreSettings chosen.now }
-    requires streams { chosen.now.mode ≡ RunMode.Streams run.now }
+    requires streams { mode_of chosen.now ≡ RunMode.Streams run.now }
     requires understood { AreUnderstood queries.now }
     requires has { IfSome (F.holds files.old chosen.now.queries)
         (λ bytes. HasQueries (two_way_of chosen.now) bytes (definitions_of queries.now)) }

@@ -18,9 +18,9 @@ use Rattle.tuple_text.specs.Parts.{IsActOf, LineByParts}
 use Rattle.tuple_text.specs.Written.{written, IsStreamAct, IsStreamTuple, WrittenIsShort, WrittenLinesAreRead}
 use Rattle.stream_tuples.specs.declared.ends.StreamEnd.{StreamEnd}
 use Rattle.stream_tuples.specs.declared.ends.StreamEnd.TheVariants.{Whole}
-use Rattle.stream_tuples.specs.Limits.{line_limit, byte_limit}
+use Rattle.stream_tuples.specs.Limits.{line_limit}
 use Rattle.stream_tuples.specs.StreamText.{StreamTuples, tuples_with, tuples_before, numbered}
-use Rattle.stream_tuples.specs.StreamText.{line_gives, tuples_of_lines, tuples_from, stream_tuples}
+use Rattle.stream_tuples.specs.StreamText.{line_gives, tuples_of_lines, tuples_from}
 use Rattle.stream_tuples.proofs.StreamTexts.{first_gives, tuples_after, nothing_left}
 use Rattle.saved_window.specs.SavedText.{saved_text, SavedTextIsRead}
 
@@ -131,16 +131,16 @@ text_is (tuple ∷ tuples) = ap (λ (rest : List ℕ). (written tuple ++ 10 ∷ 
 
 -- ---- the whole text
 
-read_in_front : (tuples : List TupleValue) → All IsItsLine tuples → (rest : List ℕ) → length (saved_text tuples) ≤ byte_limit →
-    stream_tuples (saved_text tuples ++ rest)
-    ≡ tuples_before tuples (tuples_from (length tuples + 1) (byte_limit - length (saved_text tuples)) rest)
-read_in_front tuples are rest =
-    subst (λ (text : List ℕ). length text ≤ byte_limit →
-    stream_tuples (text ++ rest) ≡ tuples_before tuples (tuples_from (length tuples + 1) (byte_limit - length text) rest))
+read_in_front : (tuples : List TupleValue) → All IsItsLine tuples → (limit : ℕ) (rest : List ℕ)
+    → length (saved_text tuples) ≤ limit → tuples_from 1 limit (saved_text tuples ++ rest)
+    ≡ tuples_before tuples (tuples_from (length tuples + 1) (limit - length (saved_text tuples)) rest)
+read_in_front tuples are limit rest =
+    subst (λ (text : List ℕ). length text ≤ limit →
+    tuples_from 1 limit (text ++ rest) ≡ tuples_before tuples (tuples_from (length tuples + 1) (limit - length text) rest))
     (text_is tuples)
     (λ fits.
-    tuples_after lines tuples (all_lines tuples are) read byte_limit rest fits
-    ∙ ap (λ (n : ℕ). tuples_before tuples (tuples_from (n + 1) (byte_limit - length (text_of lines)) rest)) (length-map tuples written))
+    tuples_after lines tuples (all_lines tuples are) read limit rest fits
+    ∙ ap (λ (n : ℕ). tuples_before tuples (tuples_from (n + 1) (limit - length (text_of lines)) rest)) (length-map tuples written))
   where
     lines : List (List ℕ)
     lines = map written tuples
@@ -151,12 +151,12 @@ read_in_front tuples are rest =
         lines_give tuples more 1 end are
         ∙ ap (λ (n : ℕ). tuples_before tuples (tuples_of_lines more (n + 1) end)) (sym (length-map tuples written))
 
-read_alone : (tuples : List TupleValue) → All IsItsLine tuples → length (saved_text tuples) < byte_limit →
-    stream_tuples (saved_text tuples) ≡ tuples_with tuples Whole
-read_alone tuples are short =
-    let left = byte_limit - length (saved_text tuples) in
-    ap stream_tuples (sym (append-nil (saved_text tuples)))
-    ∙ (read_in_front tuples are [] (omega (arith, short))
+read_alone : (tuples : List TupleValue) → All IsItsLine tuples → (limit : ℕ)
+    → length (saved_text tuples) < limit → tuples_from 1 limit (saved_text tuples) ≡ tuples_with tuples Whole
+read_alone tuples are limit short =
+    let left = limit - length (saved_text tuples) in
+    ap (tuples_from 1 limit) (sym (append-nil (saved_text tuples)))
+    ∙ (read_in_front tuples are limit [] (omega (arith, short))
     ∙ (ap (λ (rest : StreamTuples). tuples_before tuples rest) (nothing_left (length tuples + 1) left (omega (arith, short)))
     ∙ ap (λ (all : List TupleValue). tuples_with all Whole) (append-nil tuples)))
 

@@ -10,5 +10,4 @@ value fields =
       queries = fields.queries.value.items;
       streams = fields.streams;
       cap = fields.cap;
-    }) fields.calls fields.entries.items
-    fields.view.value
+    }) fields.calls fields.entries.items fields.entries.base fields.view.value

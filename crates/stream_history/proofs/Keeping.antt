@@ -84,37 +84,40 @@ still_shows journal line view below shows =
 
 -- what a call that adds this line leaves
 pub record Adds (journal later : JournalValue) (calls : List Call) (told : List Entry)
-    (open_streams : List ℕ) (reason : Option Why) : Type 0 where
-  pub kept : IsKept (journal_of journal.terms calls told later.view) calls told open_streams reason
-  pub is : journal_of journal.terms calls told later.view ≡ later
+    (base : ℕ) (open_streams : List ℕ) (reason : Option Why) : Type 0 where
+  pub kept : IsKept (journal_of journal.terms calls told base later.view) calls told open_streams
+      reason
+  pub is : journal_of journal.terms calls told base later.view ≡ later
   pub sound : IsSound later
 
 -- a sound journal with one line more is kept as before and its call
 adds : LinesAreJoined →
     (journal : JournalValue) (line : Line) (view : ViewValue) (calls : List Call)
     (told : List Entry)
-    (new_calls : List Call) (new_told : List Entry) (open_streams : List ℕ) (reason : Option Why) →
+    (new_calls : List Call) (new_told : List Entry) (new_base : ℕ) (open_streams : List ℕ)
+    (reason : Option Why) →
     journal.lines ≡ lines_of calls told → entries journal.lines ≡ told →
     new_calls ≡ calls ++ line.call ∷ [] → new_told ≡ told ++ entries (line ∷ []) →
-    IsSound (record { terms = journal.terms; lines = journal.lines ++ line ∷ []; view = view }) →
+    new_base ≡ journal.base →
+    IsSound (record (with_line journal line) { view = view }) →
     AreOpen journal.terms.streams (journal.lines ++ line ∷ []) open_streams →
     IsReason (journal.lines ++ line ∷ []) reason →
-    Adds journal (record { terms = journal.terms; lines = journal.lines ++ line ∷ []; view = view })
-    new_calls new_told open_streams reason
-adds law journal line view calls told new_calls new_told open_streams reason lines_are told_are
-    calls_is told_is sound open_are reason_is =
-    let later : JournalValue = record {
-      terms = journal.terms;
-      lines = journal.lines ++ line ∷ [];
-      view = view;
-    } in
+    Adds journal (record (with_line journal line) { view = view }) new_calls new_told new_base
+    open_streams reason
+adds law journal line view calls told new_calls new_told new_base open_streams reason lines_are
+    told_are calls_is told_is base_is sound open_are reason_is =
+    let later : JournalValue = record (with_line journal line) { view = view } in
     let whole : lines_of new_calls new_told ≡ later.lines =
     ap₂ lines_of calls_is told_is
     ∙ sym (told_push law journal.terms.streams journal.terms.cap journal.lines calls told line
     lines_are told_are sound.legal) in
-    let is : journal_of journal.terms new_calls new_told view ≡ later =
-    ap (λ (lines : List Line). record { terms = journal.terms; lines = lines; view = view })
-    whole in
+    let is : journal_of journal.terms new_calls new_told new_base view ≡ later =
+    ap₂ (λ (lines : List Line) (base : ℕ). record {
+      terms = journal.terms;
+      lines = lines;
+      base = base;
+      view = view;
+    }) whole base_is in
     let has : entries later.lines ≡ new_told =
     entries_push journal.lines line
     ∙ (ap (λ (all : List Entry). all ++ entries (line ∷ [])) told_are ∙ sym told_is) in
@@ -140,7 +143,7 @@ grows : LegalByLines → (journal : JournalValue) (line : Line) (view : ViewValu
     view.position ≤ length (entries journal.lines) →
     ShowsFront journal.terms.queries (entries journal.lines) view →
     All IsPlain (entries (line ∷ [])) →
-    IsSound (record { terms = journal.terms; lines = journal.lines ++ line ∷ []; view = view })
+    IsSound (record (with_line journal line) { view = view })
 grows law journal line view sound has may position below shows plain = record {
   terms = sound.terms;
   legal = (law.next journal.terms.streams journal.terms.cap journal.lines line).1
@@ -149,6 +152,7 @@ grows law journal line view sound has may position below shows plain = record {
       (All-append IsPlain (entries journal.lines) (entries (line ∷ [])) sound.plain plain);
   position = position;
   view = still_shows journal line view below shows;
+  whole = sound.whole;
 }
 
 -- nothing is shut where there is no reason
@@ -160,22 +164,23 @@ goes_on lines reason is none shut = let said = sym none ∙ (is shut.0).1 shut.1
 
 pub append_adds : LegalByLines → LinesAreJoined →
     (journal : JournalValue) (calls new_calls : List Call) (told new_told : List Entry)
-    (open_streams : List ℕ) (reason : Option Why) (stream : ℕ) (tuple : Tuple) →
+    (new_base : ℕ) (open_streams : List ℕ) (reason : Option Why) (stream : ℕ) (tuple : Tuple) →
     IsKept journal calls told open_streams reason → IsOpen journal stream → IsPlainTuple tuple →
     reason ≡ None →
     length told < journal.terms.cap →
     new_calls ≡ calls ++ record { by = stream; act = Append } ∷ [] →
     new_told ≡ told ++ record { stream = stream; tuple = tuple } ∷ [] →
-    Adds journal (with_line journal (append_line stream tuple)) new_calls new_told open_streams
-    reason
-append_adds by_lines joined journal calls new_calls told new_told open_streams reason stream tuple
-    kept still plain none short calls_is told_is =
+    new_base ≡ journal.base →
+    Adds journal (with_line journal (append_line stream tuple)) new_calls new_told new_base
+    open_streams reason
+append_adds by_lines joined journal calls new_calls told new_told new_base open_streams reason
+    stream tuple kept still plain none short calls_is told_is base_is =
     let line : Line = append_line stream tuple in
     let going = goes_on journal.lines reason kept.shut none in
     let below : length (entries journal.lines) < journal.terms.cap =
     omega (arith, short, ap length kept.appended) in
-    adds joined journal line journal.view calls told new_calls new_told open_streams reason
-    kept.lines kept.appended calls_is told_is
+    adds joined journal line journal.view calls told new_calls new_told new_base open_streams reason
+    kept.lines kept.appended calls_is told_is base_is
     (grows by_lines journal line journal.view kept.sound ((λ is. refl), (λ is. refl))
     (still.is, still.goes_on, going, below)
     (kept.sound.position ∙ sym (published_push journal.lines line)) (view_there journal kept.sound)
@@ -192,14 +197,14 @@ pub publish_adds : LegalByLines → LinesAreJoined →
     view.position ≤ length (entries journal.lines) →
     ShowsFront journal.terms.queries (entries journal.lines) view →
     new_calls ≡ calls ++ record { by = 0; act = Publish view.position } ∷ [] →
-    Adds journal (with_view journal view) new_calls told open_streams reason
+    Adds journal (with_view journal view) new_calls told journal.base open_streams reason
 publish_adds by_lines joined journal calls new_calls told open_streams reason view kept going above
     below shows calls_is =
     let line : Line = publish_line view.position in
     let rises : published journal.lines < view.position =
     omega (arith, above, kept.sound.position) in
-    adds joined journal line view calls told new_calls told open_streams reason kept.lines
-    kept.appended calls_is (sym (append-nil told))
+    adds joined journal line view calls told new_calls told journal.base open_streams reason
+    kept.lines kept.appended calls_is (sym (append-nil told)) refl
     (grows by_lines journal line view kept.sound (no_tuple 0 (Publish view.position) (λ is. cc))
     (refl, going, rises, below)
     (sym (published_push journal.lines line)) below shows (All-nil IsPlain))
@@ -231,11 +236,12 @@ pub shut_adds : LegalByLines → LinesAreJoined →
     (open_streams : List ℕ) (reason : Option Why) (why : Why) →
     IsKept journal calls told open_streams reason → (IsShut journal.lines → ⊥) →
     new_calls ≡ calls ++ record { by = 0; act = Shut why } ∷ [] →
-    Adds journal (with_line journal (shut_line why)) new_calls told open_streams (Some why)
+    Adds journal (with_line journal (shut_line why)) new_calls told journal.base open_streams
+    (Some why)
 shut_adds by_lines joined journal calls new_calls told open_streams reason why kept going calls_is =
     let line : Line = shut_line why in
-    adds joined journal line journal.view calls told new_calls told open_streams (Some why)
-    kept.lines kept.appended calls_is (sym (append-nil told))
+    adds joined journal line journal.view calls told new_calls told journal.base open_streams
+    (Some why) kept.lines kept.appended calls_is (sym (append-nil told)) refl
     (grows by_lines journal line journal.view kept.sound (no_tuple 0 (Shut why) (λ is. cc))
     (refl, going)
     (kept.sound.position ∙ sym (published_push journal.lines line)) (view_there journal kept.sound)
@@ -292,12 +298,12 @@ pub end_adds : LegalByLines → LinesAreJoined →
     IsKept journal calls told open_streams reason → IsOpen journal stream →
     new_calls ≡ calls ++ record { by = stream; act = EndStream } ∷ [] →
     new_open ≡ filter (is_other stream) open_streams →
-    Adds journal (with_line journal (end_line stream)) new_calls told new_open reason
+    Adds journal (with_line journal (end_line stream)) new_calls told journal.base new_open reason
 end_adds by_lines joined journal calls new_calls told open_streams new_open reason stream kept still
     calls_is open_is =
     let line : Line = end_line stream in
-    adds joined journal line journal.view calls told new_calls told new_open reason kept.lines
-    kept.appended calls_is (sym (append-nil told))
+    adds joined journal line journal.view calls told new_calls told journal.base new_open reason
+    kept.lines kept.appended calls_is (sym (append-nil told)) refl
     (grows by_lines journal line journal.view kept.sound (no_tuple stream EndStream (λ is. cc))
     (still.is, still.goes_on)
     (kept.sound.position ∙ sym (published_push journal.lines line)) (view_there journal kept.sound)

@@ -10,10 +10,10 @@ use Rattle.history_model.specs.Joined.{lines_of}
 use Rattle.history_model.specs.World.{Terms}
 use Rattle.stream_history.specs.Journal.{JournalValue, IsSound}
 
--- the journal whose lines are told by these calls and entries
-abbrev pub journal_of : Terms → List Call → List Entry → ViewValue → JournalValue
-journal_of terms calls told view =
-    record { terms = terms; lines = lines_of calls told; view = view }
+-- the journal whose lines are told by these calls and entries, of which so many first are gone
+abbrev pub journal_of : Terms → List Call → List Entry → ℕ → ViewValue → JournalValue
+journal_of terms calls told base view =
+    record { terms = terms; lines = lines_of calls told; base = base; view = view }
 
 -- the numbers are those of so many streams
 abbrev pub AreStreams : ℕ → List ℕ → Type 0

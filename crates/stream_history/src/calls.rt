@@ -1,12 +1,12 @@
 //! What threads do with a history.
 
 ghost use Rattle.std.specs.Prelude.{◌≡◌, ℕ, ◌<◌, ◌≤◌, ◌↔◌, Some, None, Err, length, take, drop};
-ghost use Rattle.std.specs.Prelude.{IsTrue, IfOk, IfErr, OnOk, OnErr};
+ghost use Rattle.std.specs.Prelude.{IsTrue, IfOk, IfErr, IfSome, IsSome, OnOk, OnErr};
 ghost use Rattle.rpq_base.specs.Plain.{IsPlainTuple};
 ghost use Rattle.history_model.specs.declared.line.Why.{Why as Reason};
 ghost use Rattle.history_model.specs.Lines.{append_line, end_line, publish_line, shut_line};
 ghost use Rattle.history_model.specs.Lines.{entries, published, AllEnded, IsShutFor};
-ghost use Rattle.stream_history.specs.Journal.{ShowsFront, IsSound};
+ghost use Rattle.stream_history.specs.Journal.{KeepsAll, ShowsFront, IsSound};
 ghost use Rattle.stream_history.specs.History.{IsPassOf, IsOpenPass, IsEnginePass, IsFeedingPass};
 ghost use Rattle.stream_history.specs.History.{HasSeen, HasAdded, AreFull, IsOver};
 ghost use Rattle.stream_history.specs.declared.fault.AppendFault.{AppendFault as NotAppended};
@@ -67,6 +67,7 @@ impl History {
         let stream = pass.number();
         let mut journal = self.turns.take(rt, pass);
         let answer = journal.append(stream, tuple);
+        self.room.count(&journal);
         self.turns.give(pass, journal);
         self.entry_bell.ring(pass);
         answer
@@ -137,36 +138,94 @@ impl History {
         let mut journal = self.turns.take(rt, pass);
         journal.shut(why);
         self.turns.give(pass, journal);
+        self.room.shut();
         self.entry_bell.ring(pass);
         self.view_bell.ring(pass);
+        self.room_bell.ring(pass);
     }
 
-    /// The entries behind so many first ones, all of them or the first 256.
+    /// The entries behind so many first ones, all of them or the first 256. Answers none where some
+    /// of these are gone, which a history that keeps all its entries never does.
     ///
     /// The engine of a history with readers has to publish what it got before it asks for more. The
-    /// only error is [`Memory`]. It costs a turn, in which the entries are copied.
+    /// only error is [`Memory`]. It costs a turn, in which the entries are copied. With the first
+    /// call the engine begins, so that streams wait for room from there on.
     pub fn after<R: Wait>(
         &self,
         rt: &R,
         alloc: Global,
         pass: &mut Pass,
         from: u64,
-    ) -> Result<Front, Memory>
+    ) -> Result<Option<Front>, Memory>
         requires engine { IsEnginePass self.now pass.old }
         requires there { from ≤ length (entries pass.old.seen) }
         requires published { 0 < self.now.readers → from ≤ published pass.old.mine }
         ensures pass { HasSeen self.now pass.old pass.new }
-        ensures entries { IfOk result (λ front.
-            front.entries.items ≡ take 256 (drop from (entries pass.new.seen))) }
-        ensures length { IfOk result (λ front. front.length ≡ length (entries pass.new.seen)) }
-        ensures all_ended { IfOk result (λ front.
-            IsTrue front.all_ended ↔ AllEnded self.now.terms.streams pass.new.seen) }
-        ensures heard { IfOk result (λ front. front.heard ≡ pass.new.seen) }
+        ensures entries { IfOk result (λ found. IfSome found (λ front.
+            front.entries.items ≡ take 256 (drop from (entries pass.new.seen)))) }
+        ensures length { IfOk result (λ found. IfSome found (λ front.
+            front.length ≡ length (entries pass.new.seen))) }
+        ensures all_ended { IfOk result (λ found. IfSome found (λ front.
+            IsTrue front.all_ended ↔ AllEnded self.now.terms.streams pass.new.seen)) }
+        ensures heard { IfOk result (λ found. IfSome found (λ front.
+            front.heard ≡ pass.new.seen)) }
+        ensures there { KeepsAll self.now.terms → IfOk result (λ found. IsSome found) }
     {
+        self.room.begin();
         let journal = self.turns.take(rt, pass);
         let front = front_of(alloc, &journal, from, self.entry_bell.heard(&journal));
         self.turns.give(pass, journal);
         front
+    }
+
+    /// Gives up the first entries, so many of them, which the engine has answered, and published if
+    /// there are readers. All that is known of the history stays so.
+    ///
+    /// It costs a turn, and takes no memory. At most twice as many entries stay as aren't given up.
+    /// Streams that wait for room go on once half of it is free.
+    pub fn forget<R: Wait>(&self, rt: &R, pass: &mut Pass, count: u64)
+        requires engine { IsFeedingPass self.now pass.old }
+        requires forgets { KeepsAll self.now.terms → ⊥ }
+        requires there { count ≤ length (entries pass.old.seen) }
+        requires published { 0 < self.now.readers → count ≤ published pass.old.mine }
+        ensures { HasSeen self.now pass.old pass.new }
+    {
+        let mut journal = self.turns.take(rt, pass);
+        journal.forget_first(count);
+        self.turns.give(pass, journal);
+        self.ring_for_room(pass, count);
+    }
+
+    // Wakes those who wait for room, if so many answered entries leave half of it free.
+    fn ring_for_room(&self, pass: &Pass, count: u64)
+        requires { pass.now.found ≡ None }
+    {
+        if self.room.answer(count) {
+            self.room_bell.ring(pass);
+        }
+    }
+
+    /// Sleeps while the history has no room for the pass's stream: while 65,536 entries or more are
+    /// there that the engine hasn't said by [`History::forget`] to have answered.
+    ///
+    /// A history that keeps all its entries always has room, and so has one whose engine hasn't
+    /// begun or that is shut. Where there is room this is two atomic reads, and no turn. No clause
+    /// says that anybody is woken.
+    pub fn wait_for_room<R: Wait>(&self, rt: &R, pass: &Pass)
+        requires { IsOpenPass self.now pass.now }
+    {
+        let _ = pass;
+        if self.keeps_all() {
+            return;
+        }
+        for _ in rt.forever() {
+            // A ring after this look ends the sleep.
+            let heard = self.room_bell.rings();
+            if self.room.is_free() {
+                break;
+            }
+            self.room_bell.sleep_beyond(rt, heard);
+        }
     }
 
     /// The view that was published last, and what else a reader wants to know. The only error is
@@ -229,26 +288,36 @@ impl History {
     }
 }
 
-// What stands behind so many first entries, with what was heard.
-fn front_of(alloc: Global, journal: &Journal, from: u64, heard: EntryRings) -> Result<Front, Memory>
+// What stands behind so many first entries, with what was heard, or none where some of it is gone.
+fn front_of(
+    alloc: Global,
+    journal: &Journal,
+    from: u64,
+    heard: EntryRings,
+) -> Result<Option<Front>, Memory>
     requires { from ≤ length (entries journal.now.lines) }
-    ensures entries { IfOk result (λ front.
-        front.entries.items ≡ take 256 (drop from (entries journal.now.lines))) }
-    ensures length { IfOk result (λ front. front.length ≡ length (entries journal.now.lines)) }
-    ensures all_ended { IfOk result (λ front.
-        IsTrue front.all_ended ↔ AllEnded journal.now.terms.streams journal.now.lines) }
-    ensures heard { IfOk result (λ front. front.heard ≡ heard) }
+    ensures entries { IfOk result (λ found. IfSome found (λ front.
+        front.entries.items ≡ take 256 (drop from (entries journal.now.lines)))) }
+    ensures length { IfOk result (λ found. IfSome found (λ front.
+        front.length ≡ length (entries journal.now.lines))) }
+    ensures all_ended { IfOk result (λ found. IfSome found (λ front.
+        IsTrue front.all_ended ↔ AllEnded journal.now.terms.streams journal.now.lines)) }
+    ensures heard { IfOk result (λ found. IfSome found (λ front. front.heard ≡ heard)) }
+    ensures there { IfOk result (λ found. IsSome found ↔ journal.now.base ≤ from) }
     ensures sound { IsSound journal.now }
 {
     let length = journal.length();
+    if from < journal.base() {
+        return Ok(None);
+    }
     let behind = journal.entries_from(from);
     let count = MOST.min(behind.len());
-    Ok(Front {
+    Ok(Some(Front {
         entries: copy_all(alloc, &behind[..count])?,
         length,
         all_ended: journal.all_ended(),
         heard,
-    })
+    }))
 }
 
 // What a reader finds, with what was heard.

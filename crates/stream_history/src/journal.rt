@@ -9,7 +9,7 @@ ghost use Rattle.history_model.specs.Lines.{entries, published};
 ghost use Rattle.history_model.specs.Lines.{AllEnded, IsShutFor, IsShut};
 ghost use Rattle.stream_history.specs.Journal.{AreTerms, empty_view, ShowsFront, IsSound, IsOpen};
 ghost use Rattle.stream_history.specs.Journal.{IsFullAt, IsBehind, first_journal, with_line};
-ghost use Rattle.stream_history.specs.Journal.{with_view};
+ghost use Rattle.stream_history.specs.Journal.{with_view, KeepsAll, Forgets};
 ghost use Rattle.stream_history.specs.Kept.{AreStreams};
 ghost use Rattle.stream_history.specs.declared.fault.AppendFault.{AppendFault as NotAppended};
 ghost use Rattle.stream_history.specs.declared.fault.PublishFault.{PublishFault as NotPublished};
@@ -19,6 +19,7 @@ use crate::laws::first_view;
 use answer_view::View;
 use ghost_list::GhostList;
 use history_model::{Call, CallAct, Why, legal_by_lines, lines_are_joined};
+use kept_list::KeptList;
 use rpq_base::{Entry, Memory, Tuple};
 use rpq_model::QueryDef;
 use std::alloc::Global;
@@ -29,14 +30,15 @@ use std::sync::Arc;
 /// queries that was published last. The engine has the number 0, and the streams are numbered
 /// from 1.
 ///
-/// Contracts see what it was made with, the list of its lines, and the view.
+/// Contracts see what it was made with, the list of its lines, how many of its first entries are gone
+/// from memory, and the view.
 #[derive(Drop)]
 pub struct Journal {
     queries: Arc<Vec<QueryDef>>,
     streams: u32,
     cap: u64,
-    /// The entries that were appended.
-    entries: Vec<Entry>,
+    /// The entries that were appended, of which the first may be gone.
+    entries: KeptList<Entry>,
     /// What was called, which takes no memory: contracts alone speak of it.
     calls: GhostList<Call>,
     view: Arc<View>,
@@ -61,13 +63,13 @@ impl Model for Journal {
       queries = journal.queries.value.items;
       streams = journal.streams;
       cap = journal.cap;
-    }) journal.calls journal.entries.items journal.view.value };
+    }) journal.calls journal.entries.items journal.entries.base journal.view.value };
 
     ghost invariant = { λ journal. IsKept (journal_of (record {
       queries = journal.queries.value.items;
       streams = journal.streams;
       cap = journal.cap;
-    }) journal.calls journal.entries.items journal.view.value)
+    }) journal.calls journal.entries.items journal.entries.base journal.view.value)
         journal.calls journal.entries.items journal.running.items journal.shut };
 }
 
@@ -101,7 +103,7 @@ impl Journal {
             queries,
             streams,
             cap,
-            entries: Vec::new(alloc),
+            entries: KeptList::new(alloc),
             calls: GhostList::new(),
             view: first,
             running,
@@ -131,7 +133,7 @@ impl Journal {
         if let Some(why) = self.shut {
             return Err(AppendFault::Closed(why));
         }
-        if self.entries.len() as u64 == self.cap {
+        if self.entries.length() == self.cap {
             return Err(AppendFault::Full(self.cap));
         }
         legal_by_lines();
@@ -141,7 +143,7 @@ impl Journal {
             by: stream,
             act: CallAct::Append,
         });
-        Ok(self.entries.len() as u64)
+        Ok(self.entries.length())
     }
 
     /// Ends the stream. Takes no memory.
@@ -232,19 +234,23 @@ impl Journal {
         ensures length { result ≡ length (entries self.now.lines) }
         ensures sound { IsSound self.now }
     {
-        self.entries.len() as u64
+        self.entries.length()
     }
 
-    /// The entries.
-    pub fn entries(&self) -> &[Entry]
-        ensures { result.now ≡ entries self.now.lines }
+    /// How many of the first entries are gone.
+    pub fn base(&self) -> u64
+        ensures base { result ≡ self.now.base }
+        ensures within { self.now.base ≤ length (entries self.now.lines) }
+        ensures whole { KeepsAll self.now.terms → self.now.base ≡ 0 }
     {
-        self.entries.as_slice()
+        self.entries.base()
     }
 
     /// The entries, of which nothing is copied.
-    pub fn into_entries(self) -> Vec<Entry>
-        ensures { result.items ≡ entries self.lines }
+    pub fn into_entries(self) -> KeptList<Entry>
+        ensures items { result.items ≡ entries self.lines }
+        ensures base { result.base ≡ self.base }
+        ensures whole { KeepsAll self.terms → result.base ≡ 0 }
     {
         let Journal {
             queries: _,
@@ -259,12 +265,26 @@ impl Journal {
         entries
     }
 
-    /// The entries behind so many first ones.
+    /// The entries behind so many first ones, which are at least those that are gone.
     pub fn entries_from(&self, from: u64) -> &[Entry]
-        requires { from ≤ length (entries self.now.lines) }
+        requires there { self.now.base ≤ from }
+        requires within { from ≤ length (entries self.now.lines) }
         ensures { result.now ≡ drop from (entries self.now.lines) }
     {
-        &self.entries[from as usize..]
+        self.entries.after(from)
+    }
+
+    /// Gives up the first entries, so many of them, and adds no line. No more are gone then, unless
+    /// more were, and at most twice as many are there as are behind them. Takes no memory.
+    pub fn forget_first(&mut self, count: u64)
+        requires forgets { KeepsAll self.old.terms → ⊥ }
+        requires there { count ≤ length (entries self.old.lines) }
+        ensures forgets { Forgets count self.old self.new }
+        ensures terms { self.new.terms ≡ self.old.terms }
+        ensures lines { self.new.lines ≡ self.old.lines }
+        ensures sound { IsSound self.new }
+    {
+        self.entries.forget_first(count);
     }
 
     /// The view that was published last, or the first one.

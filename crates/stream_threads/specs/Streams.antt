@@ -10,7 +10,7 @@ use Rattle.history_model.specs.World.{Terms}
 use Rattle.stream_history.specs.History.{HistoryValue, IsPassOf, IsOpenPass}
 use Rattle.stream_tuples.specs.declared.ends.StreamEnd.{StreamEnd}
 use Rattle.stream_tuples.specs.declared.ends.StreamEnd.TheVariants.{Read, Full, Closed}
-use Rattle.stream_tuples.specs.Limits.{byte_limit}
+use Rattle.stream_tuples.specs.Limits.{byte_limit_of}
 use Rattle.stream_tuples.specs.History.{AreTuplesOfEnd}
 
 -- the tuples of the entries that these lines add
@@ -31,7 +31,7 @@ pub record HasStreamed {S : Type 0} (left : S → Option (List ℕ)) (faults : S
   pub is : IsPassOf history pass
   pub number : pass.number ≡ given.number
   pub tied : IfSome (left before) (λ text.
-      AreTuplesOfEnd byte_limit text (left after) (tuples_of pass.mine) end)
+      AreTuplesOfEnd (byte_limit_of history.terms.cap) text (left after) (tuples_of pass.mine) end)
   pub ended : HasEnded pass.mine pass.number
   pub full : end ≡ Full → history.terms.cap ≤ length (entries pass.seen)
   pub closed : (why : Why) → end ≡ Closed why → IsShutFor pass.seen why

@@ -10,6 +10,9 @@
 //! the gate was told is given back (`specs/Sessions`). All of it is said of passes of the history,
 //! so it is known of the history as soon as that is finished.
 //!
+//! A stream's worker reads no line while the history has no room for it, and appends what it read at
+//! once: so what a stream holds back stays in its source.
+//!
 //! If no thread can be made for a stream, its work is done by the thread that started it. If none
 //! can be made for a session, its work is done where the others are done, or after the other work.
 //! A session that waits sleeps, and only if its position isn't published and one may come. That a

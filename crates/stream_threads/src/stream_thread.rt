@@ -3,6 +3,8 @@
 ghost use Rattle.std.specs.Prelude.{◌≡◌, ◌≤◌, ◌+◌, [], length, All};
 ghost use Rattle.std.specs.Vec.{vec_len, vec_capacity};
 ghost use Rattle.std.specs.Vec.Iter.{into_iter_items};
+ghost use Rattle.std.specs.Thread.{IsSync};
+ghost use Rattle.stream_history.specs.contracts.history.History.{the_row};
 ghost use Rattle.stream_tuples.specs.Progress.{IsNewReader};
 ghost use Rattle.stream_threads.specs.Streams.{IsNewPass, HasStreamed};
 ghost use Rattle.stream_threads.specs.Started.{IsStarted, AreStarted, Gives, Give, new_passes};
@@ -48,7 +50,8 @@ pub fn start_streams<'s, 'e, S: Source + Send + Drop + 's, G: Gate, R: Threads +
     requires passes { into_iter_items passes.old ≡ new_passes shared.now.history.now 1
         (shared.now.history.now.terms.streams + shared.now.history.now.readers) }
     requires streams { length readers.items ≡ shared.now.history.now.terms.streams }
-    requires fresh { All (IsNewReader S.left S.faults) readers.items }
+    requires fresh { All (IsNewReader shared.now.history.now.terms.cap S.left S.faults)
+        readers.items }
     requires none { started.items ≡ [] }
     requires room { vec_len readers ≤ vec_capacity started }
     ensures passes { into_iter_items passes.new ≡ new_passes shared.now.history.now
@@ -75,7 +78,7 @@ fn start_stream<'s, 'e, S: Source + Send + Drop + 's, G: Gate, R: Threads + Wait
     reader: LineReader<S>,
 ) -> StreamThread<S>
     requires pass { IsNewPass shared.now.history.now pass }
-    requires reader { IsNewReader S.left S.faults reader }
+    requires reader { IsNewReader shared.now.history.now.terms.cap S.left S.faults reader }
     ensures { IsStarted S.left S.faults shared.now.history.now reader pass result }
 {
     // The thread is handed the parts, since of a reference to a struct with a history in it no proof
@@ -83,6 +86,7 @@ fn start_stream<'s, 'e, S: Source + Send + Drop + 's, G: Gate, R: Threads + Wait
     let Context { rt, alloc, gate } = *shared.context;
     let history = shared.history;
     let queries = shared.queries;
+    threads_share_histories(history); // called for its clause
     let promise = StreamPromise {
         history: Snapshot::of(history),
         pass: Snapshot::of(&pass),
@@ -90,7 +94,7 @@ fn start_stream<'s, 'e, S: Source + Send + Drop + 's, G: Gate, R: Threads + Wait
     };
     let work = move ||
         requires pass { IsNewPass history.now pass }
-        requires reader { IsNewReader S.left S.faults reader }
+        requires reader { IsNewReader history.now.terms.cap S.left S.faults reader }
     {
         let context = Context { rt, alloc, gate };
         let shared = RunParts {
@@ -104,6 +108,21 @@ fn start_stream<'s, 'e, S: Source + Send + Drop + 's, G: Gate, R: Threads + Wait
         Ok(handle) => StreamThread::Running(handle),
         Err(refused) => StreamThread::Done((refused.value)()),
     }
+}
+
+/// Does nothing. It says that threads may share values of this type, which is found more easily for
+/// a type alone than for all that a closure captures.
+fn threads_share<T: Sync>(value: &T)
+    ensures { IsSync T.row }
+{
+    let _ = value;
+}
+
+/// Does nothing. It says that threads may share a history.
+fn threads_share_histories(history: &History)
+    ensures { IsSync the_row }
+{
+    threads_share(history)
 }
 
 /// What the workers give, in their order. The list of it is empty, and has room for it.

@@ -5,7 +5,7 @@ ghost use Rattle.rpq_io.specs.Counts.{CountsFault};
 ghost use Rattle.history_model.specs.declared.line.Why.{Why as Reason};
 ghost use Rattle.history_model.specs.Lines.{entries, IsShutFor};
 ghost use Rattle.stream_history.specs.History.{IsOpenPass};
-ghost use Rattle.stream_tuples.specs.Limits.{byte_limit};
+ghost use Rattle.stream_tuples.specs.Limits.{byte_limit_of};
 ghost use Rattle.stream_tuples.specs.History.{AreTuplesOfEnd};
 ghost use Rattle.stream_tuples.specs.Progress.{IsStreamReader, IsNewReader};
 ghost use Rattle.stream_threads.specs.Streams.{tuples_of, IsNewPass, HasStreamed};
@@ -32,7 +32,7 @@ pub fn serve_stream<S: Source, G: Gate, R: Wait>(
     mut reader: LineReader<S>,
 ) -> StreamResult<S>
     requires pass { IsNewPass shared.now.history.now pass }
-    requires reader { IsNewReader S.left S.faults reader }
+    requires reader { IsNewReader shared.now.history.now.terms.cap S.left S.faults reader }
     ensures { HasStreamed S.left S.faults shared.now.history.now reader.source pass
         result.source result.pass result.end }
 {
@@ -53,12 +53,12 @@ fn take_all<S: Source, G: Gate, R: Wait>(
     reader: &mut LineReader<S>,
 ) -> StreamEnd
     requires pass { IsNewPass shared.now.history.now pass.old }
-    requires reader { IsNewReader S.left S.faults reader.old }
+    requires reader { IsNewReader shared.now.history.now.terms.cap S.left S.faults reader.old }
     ensures open { IsOpenPass shared.now.history.now pass.new }
     ensures number { pass.new.number ≡ pass.old.number }
     ensures tied { IfSome (S.left reader.old.source) (λ text.
-        AreTuplesOfEnd byte_limit text (S.left reader.new.source)
-        (tuples_of pass.new.mine) result) }
+        AreTuplesOfEnd (byte_limit_of shared.now.history.now.terms.cap) text
+        (S.left reader.new.source) (tuples_of pass.new.mine) result) }
     ensures full { result ≡ StreamEnd.Full
         → shared.now.history.now.terms.cap ≤ length (entries pass.new.seen) }
     ensures closed { (why : Reason) → result ≡ StreamEnd.Closed why
@@ -72,7 +72,8 @@ fn take_all<S: Source, G: Gate, R: Wait>(
     }
 }
 
-/// Appends the next tuple of the stream, or answers how the stream ended.
+/// Appends the next tuple of the stream once the history has room for it, or answers how the stream
+/// ended.
 fn take_one<S: Source, G: Gate, R: Wait>(
     shared: &RunParts<'_, R, G>,
     pass: &mut Pass,
@@ -89,6 +90,8 @@ fn take_one<S: Source, G: Gate, R: Wait>(
         (S.faults reader.old.source) (S.faults reader.new.source) }
     ensures limits { reader.new.byte_limit ≡ reader.old.byte_limit }
 {
+    // It sleeps before it reads, so that no tuple that was read waits for room.
+    shared.history.wait_for_room(shared.context.rt, pass);
     let tuple = match next_tuple(shared.context.alloc, reader) {
         Ok(tuple) => tuple,
         Err(end) => return Err(end),

@@ -1,4 +1,5 @@
 mod ByParts
 mod Longest
+pub mod ByteLimits
 pub mod StreamTexts
 pub mod Reading

@@ -21,7 +21,7 @@ use Rattle.tuple_text.specs.Reading.{line_tuple}
 use Rattle.stream_tuples.specs.declared.ends.StreamEnd.{StreamEnd}
 use Rattle.stream_tuples.specs.declared.ends.StreamEnd.TheVariants.{Whole, Line, LongLine, LongStream}
 use Rattle.stream_tuples.specs.declared.ends.StreamEnd.TheVariants.{Read, Memory}
-use Rattle.stream_tuples.specs.Limits.{line_limit, byte_limit}
+use Rattle.stream_tuples.specs.Limits.{line_limit, endless_byte_limit}
 use Rattle.stream_tuples.specs.StreamText.{StreamTuples, tuples_with, tuples_before, numbered, line_gives}
 use Rattle.stream_tuples.specs.StreamText.{tuples_of_lines, tuples_from}
 use Rattle.stream_tuples.specs.History.{IsPrefix, AreTaken, AreTuplesOfEnd}
@@ -313,7 +313,7 @@ module _ {S : Type 0} (left : S → Option (List ℕ)) (has_told_end : S → Boo
   pub still_sound : IsStreamReader left new
   still_sound = record {
     lines = kept.line_limit ∙ sound.lines;
-    bytes = subst (λ n. n ≤ byte_limit) (sym kept.byte_limit) sound.bytes;
+    bytes = subst (λ n. n ≤ endless_byte_limit) (sym kept.byte_limit) sound.bytes;
     counted = kept.fewer;
     within = kept.within;
     before_limit = kept.before_limit;

@@ -8,7 +8,7 @@ use Rattle.rpq_io.specs.Counts.{CountsFault}
 use Rattle.stream_tuples.specs.declared.ends.StreamEnd.{StreamEnd}
 use Rattle.stream_tuples.specs.declared.ends.StreamEnd.TheVariants.{Whole, Line, LongLine, LongStream}
 use Rattle.stream_tuples.specs.declared.ends.StreamEnd.TheVariants.{Read, Full, Closed, Memory}
-use Rattle.stream_tuples.specs.Limits.{byte_limit}
+use Rattle.stream_tuples.specs.Limits.{byte_limit_of}
 use Rattle.text_parts.specs.EndedLines.{ended_lines}
 use Rattle.stream_tuples.specs.StreamText.{tuples_with, tuples_of_lines, tuples_from}
 
@@ -65,7 +65,7 @@ pub record IsStreamOf {S : Type 0} (left : S → Option (List ℕ)) (faults : S 
     (number limit : ℕ) (file : Option (List ℕ)) (source : S) (history : List Entry)
     (end : StreamEnd) : Type 0 where
   pub tied : IfSome file (λ text.
-      AreTuplesOfEnd byte_limit text (left source) (own_tuples number history) end)
+      AreTuplesOfEnd (byte_limit_of limit) text (left source) (own_tuples number history) end)
   pub full : end ≡ Full → length history ≡ limit
   pub read : CountsFault (end ≡ Read) 0 (faults source)
 

@@ -9,9 +9,9 @@ use Rattle.tuple_text.specs.declared.read.BadLine.{BadLine}
 use Rattle.tuple_text.specs.Reading.{line_tuple}
 use Rattle.stream_tuples.specs.declared.ends.StreamEnd.{StreamEnd}
 use Rattle.stream_tuples.specs.declared.ends.StreamEnd.TheVariants.{Whole, Line, LongLine}
-use Rattle.stream_tuples.specs.Limits.{line_limit, byte_limit}
+use Rattle.stream_tuples.specs.Limits.{line_limit, byte_limit, byte_limit_of}
 use Rattle.stream_tuples.specs.StreamText.{tuples_with, numbered, line_gives, tuples_of_lines}
-use Rattle.stream_tuples.specs.StreamText.{cut_end, cut_tuples, stream_tuples}
+use Rattle.stream_tuples.specs.StreamText.{cut_end, cut_tuples, tuples_from, stream_tuples}
 
 -- how the lines that follow the good ones end a stream: at once, with a line that is too long, or
 -- with one that has a fault
@@ -53,7 +53,8 @@ StreamByParts =
     (text : List ℕ) (tuples : List Tuple) (end : StreamEnd) → IsStreamByParts text tuples end
 
 -- a line of 1,024 bytes is read, and one more is too many; a stream of 2^40 - 1 bytes is read to its
--- end, and one more is too many: then it is cut off
+-- end, and one more is too many: then it is cut off. So it is in a history of at most 2^30 entries;
+-- in one of more, a stream of 2^62 - 1 bytes is read to its end, and one more is too many
 pub record LimitExamples : Type 0 where
   pub longest_line : (number : ℕ) (line : List ℕ) → length line ≡ 1024 →
       line_gives number line ≡ numbered number (line_tuple (without_return line))
@@ -63,3 +64,9 @@ pub record LimitExamples : Type 0 where
       stream_tuples text ≡ tuples_of_lines (raw_lines text) 1 Whole
   pub longer_stream : (text : List ℕ) → length text ≡ 2 ^ 40 →
       stream_tuples text ≡ cut_tuples 1 text
+  pub in_kept : (cap : ℕ) (text : List ℕ) → cap ≤ 2 ^ 30 →
+      tuples_from 1 (byte_limit_of cap) text ≡ stream_tuples text
+  pub longest_endless : (cap : ℕ) (text : List ℕ) → 2 ^ 30 < cap → length text ≡ 2 ^ 62 - 1 →
+      tuples_from 1 (byte_limit_of cap) text ≡ tuples_of_lines (raw_lines text) 1 Whole
+  pub longer_endless : (cap : ℕ) (text : List ℕ) → 2 ^ 30 < cap → length text ≡ 2 ^ 62 →
+      tuples_from 1 (byte_limit_of cap) text ≡ cut_tuples 1 text

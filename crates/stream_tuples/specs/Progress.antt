@@ -7,7 +7,7 @@ use Rattle.rpq_base.specs.declared.data.Tuple.{Tuple}
 use Rattle.rpq_io.specs.Reader.{ReaderState}
 use Rattle.stream_tuples.specs.declared.ends.StreamEnd.{StreamEnd}
 use Rattle.stream_tuples.specs.declared.ends.StreamEnd.TheVariants.{Whole}
-use Rattle.stream_tuples.specs.Limits.{line_limit, byte_limit}
+use Rattle.stream_tuples.specs.Limits.{line_limit, endless_byte_limit, byte_limit_of}
 use Rattle.stream_tuples.specs.StreamText.{tuples_with, tuples_before, tuples_of_lines, tuples_from}
 use Rattle.stream_tuples.specs.Ends.{IsReadEnd}
 use Rattle.stream_tuples.specs.History.{AreTuplesOfEnd}
@@ -17,7 +17,7 @@ use Rattle.stream_tuples.specs.History.{AreTuplesOfEnd}
 pub record IsStreamReader {S : Type 0} (left : S → Option (List ℕ)) (reader : ReaderState S)
     : Type 0 where
   pub lines : reader.line_limit ≡ line_limit
-  pub bytes : reader.byte_limit ≤ byte_limit
+  pub bytes : reader.byte_limit ≤ endless_byte_limit
   pub counted : reader.line_count + length reader.held_bytes ≤ reader.taken_count
   pub within : reader.taken_count ≤ reader.byte_limit
   pub before_limit : reader.is_at_end ≡ true → reader.taken_count < reader.byte_limit
@@ -30,13 +30,14 @@ pub record IsNew {S : Type 0} (reader : ReaderState S) : Type 0 where
   pub no_line : reader.line_count ≡ 0
   pub not_at_end : reader.is_at_end ≡ false
 
--- a reader of a stream that took nothing yet, and of which no read failed
-pub record IsNewReader {S : Type 0} (left : S → Option (List ℕ)) (faults : S → ℕ)
+-- a reader of a stream that took nothing yet, and of which no read failed; the history has at most
+-- so many entries
+pub record IsNewReader {S : Type 0} (cap : ℕ) (left : S → Option (List ℕ)) (faults : S → ℕ)
     (reader : ReaderState S) : Type 0 where
   pub counted : faults reader.source ≡ 0
   pub sound : IsStreamReader left reader
   pub fresh : IsNew reader
-  pub limit : reader.byte_limit ≡ byte_limit
+  pub limit : reader.byte_limit ≡ byte_limit_of cap
 
 -- how many bytes a reader gave as lines, line feeds counted
 abbrev pub passed : {S : Type 0} → ReaderState S → ℕ

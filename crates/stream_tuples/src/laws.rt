@@ -8,7 +8,7 @@ pub fn stream_by_parts()
     ensures { StreamByParts }
 {}
 
-/// The longest line and the longest stream that are read, and those of one byte more.
+/// The longest line and the longest streams that are read, and those of one byte more.
 pub fn limit_examples()
     ensures { LimitExamples }
 {}

@@ -14,5 +14,5 @@ mod stream;
 
 pub use ends::StreamEnd;
 pub use laws::{limit_examples, stream_by_parts};
-pub use limits::{BYTE_LIMIT, LINE_LIMIT};
+pub use limits::{BYTE_LIMIT, ENDLESS_BYTE_LIMIT, LINE_LIMIT};
 pub use stream::next_tuple;

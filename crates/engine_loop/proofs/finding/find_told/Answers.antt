@@ -6,7 +6,7 @@ use Rattle.entry_steps.specs.Evaluator.{Finds, IsAhead, Tells}
 use Rattle.entry_steps.specs.declared.unnamed_steps.UnnamedSteps.{UnnamedSteps}
 use Rattle.rpq_base.specs.declared.data.Entry.{Entry}
 use Rattle.engine_loop.specs.Loop.{answered}
-use Rattle.engine_loop.proofs.Rebuilding.{evaluable_still, forwards_still, one_still}
+use Rattle.engine_loop.proofs.Rebuilt.{evaluable_still, forwards_still, one_still}
 use Rattle.engine_loop.proofs.finding.find_told.Goals as goal
 
 -- the engine alone was fed, and is ahead of what is told
@@ -16,7 +16,7 @@ tell-requires-clause-ahead g c =
     let mid = c.feed_with_rebuild.new.evaluator in
     let before = answered old (g.S.EntrySource.given c.args.source.now) in
     let finds = subst (λ (front : List Entry). Finds before mid front c.in_ok-found.found)
-    (sym (c.front.ensures ∙ c.feed_with_rebuild.ensures.stays.same_front)) c.in_ok-found.ensures.finds in (
+    (sym (c.front.ensures ∙ c.feed_with_rebuild.ensures.stays.has.same_front)) c.in_ok-found.ensures.finds in (
       before,
       ahead_by before old mid c.front.result.now c.in_ok-found.found c.requires.stands.tells
           c.feed_with_rebuild.ensures.keeps finds,
@@ -37,7 +37,7 @@ tell-requires-clause-one g c =
     one_still c.args.evaluator.now c.feed_with_rebuild.new.evaluator
     c.feed_with_rebuild.ensures.keeps c.requires.runs c.front.result.now
     (subst (λ (front : List Entry). c.args.evaluator.now.options.paths ≡ true → length front ≤ 1)
-    (sym (c.front.ensures ∙ c.feed_with_rebuild.ensures.stays.same_front)) c.requires.comes.one)
+    (sym (c.front.ensures ∙ c.feed_with_rebuild.ensures.stays.has.same_front)) c.requires.comes.one)
 
 pub returns-clause-told : goal.returns-clause-told
 returns-clause-told g c =
@@ -45,7 +45,7 @@ returns-clause-told g c =
     let mid = c.feed_with_rebuild.new.evaluator in
     let new = c.tell.new.self in
     let before = answered old (g.S.EntrySource.given c.args.source.now) in
-    let same = c.front.ensures ∙ c.feed_with_rebuild.ensures.stays.same_front in
+    let same = c.front.ensures ∙ c.feed_with_rebuild.ensures.stays.has.same_front in
     let finds = subst (λ (front : List Entry). Finds before mid front c.in_ok-found.found)
     (sym same) c.in_ok-found.ensures.finds in
     let ahead = ahead_by before old mid c.front.result.now c.in_ok-found.found

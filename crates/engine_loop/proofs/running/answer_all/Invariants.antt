@@ -9,10 +9,10 @@ invariant-loop g l = record {
   home : g.S.EntrySource.home l.source ≡ g.S.EntrySource.home l.fn.source;
   takes : TakesMore g.K.StepSink.takes l.fn.evaluator (g.S.EntrySource.given l.fn.source)
       (g.S.EntrySource.given l.source) None l.fn.sink l.sink;
-  along : IsAlong g.S.EntrySource.given g.S.EntrySource.feeds g.K.StepSink.taken l.source
-      l.evaluator l.sink;
+  along : IsAlong g.S.EntrySource.given g.S.EntrySource.kept g.S.EntrySource.front
+      g.S.EntrySource.feeds g.K.StepSink.taken l.source l.evaluator l.sink;
   keeps : KeepsSetup l.fn.evaluator l.evaluator;
 }
 
 abbrev pub decreases-loop : goal.decreases-loop
-decreases-loop g l = 2 ^ 29 - length (g.S.EntrySource.given l.source)
+decreases-loop g l = 2 ^ 61 - length (g.S.EntrySource.given l.source)

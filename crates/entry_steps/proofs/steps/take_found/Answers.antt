@@ -1,4 +1,4 @@
-use Rattle.std.proofs.Common.{◌≡◌, ◌<◌, ◌^◌, List, All, length, Vec, Global, sym, ◌∙◌, arith}
+use Rattle.std.proofs.Common.{◌≡◌, List, All, length, Vec, Global, sym, ◌∙◌}
 use Rattle.std.proofs.lemmas.List.{length-map}
 use Rattle.rpq_base.specs.declared.data.Entry.{Entry}
 use Rattle.rpq_base.specs.declared.data.Event.{Event}
@@ -8,18 +8,10 @@ use Rattle.entry_steps.specs.Showing.{MayShow, AreShownBy, AreFound}
 use Rattle.entry_steps.specs.Telling.{lists_in, steps_with, AreToldBeside}
 use Rattle.entry_steps.specs.declared.unnamed_steps.PathsAndJoins.{PathsAndJoins}
 use Rattle.entry_steps.proofs.Feeding.{ok_from_three}
-use Rattle.entry_steps.proofs.Finding.{each_given, each_may_show, few_taken, found_may_take}
+use Rattle.entry_steps.proofs.Finding.{each_given, each_may_show, found_may_take}
 use Rattle.entry_steps.proofs.Finding.{steps_follow}
 use Rattle.entry_steps.proofs.Telling.{events_with}
 use Rattle.entry_steps.proofs.steps.take_found.Goals as goal
-
-pub take_entries-requires : goal.take_entries-requires
-take_entries-requires c =
-    let given = c.requires.found in
-    let engine = c.args.engine.now in
-    let below : engine.position < 2 ^ 64 = omega (arith, c.position-position.ensures) in
-    few_taken given.0 engine c.args.marks.now c.args.joins.now given.1 c.args.entries.now
-    (lists_in c.args.found.now) given.2 below
 
 pub make_beside-requires-clause-may_show : goal.make_beside-requires-clause-may_show
 make_beside-requires-clause-may_show c =

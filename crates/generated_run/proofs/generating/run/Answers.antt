@@ -4,8 +4,8 @@ use Rattle.std.specs.Result.{result_err}
 use Rattle.std.proofs.lemmas.List.{length-map}
 use Rattle.std.proofs.lemmas.Slice.Zip.{AllZip-long}
 use Rattle.answer_rows.specs.Answers.{Answer}
-use Rattle.answer_view.specs.View.{ViewValue, AreRowsOf, IsViewOf}
-use Rattle.entry_steps.specs.Evaluator.{queries_of as queries_in}
+use Rattle.answer_view.specs.View.{ViewValue, AreRowsOf}
+use Rattle.entry_steps.specs.Evaluator.{IsViewAfter, queries_of as queries_in}
 use Rattle.entry_steps.specs.Steps.{OptionsValue}
 use Rattle.query_file.specs.Compiled.{CompiledValue}
 use Rattle.rpq_model.specs.Query.{Query, path_query}
@@ -14,7 +14,7 @@ use Rattle.tuple_generator.specs.Generator.{generated_history}
 use Rattle.two_way.specs.TwoWay.{walked}
 use Rattle.generated_run.specs.Generates.{AreTold, queries_of, said_by}
 use Rattle.generated_run.specs.Summary.{summary_text}
-use Rattle.generated_run.proofs.Running.{told_none, told_so, summary_so}
+use Rattle.generated_run.proofs.Running.{AreRowsFor, told_none, told_so, summary_so}
 use Rattle.generated_run.proofs.generating.run.Goals as goal
 
 pub returns-in_default-clause-part : goal.returns-in_default-clause-part
@@ -71,7 +71,7 @@ summary_text-requires-clause-view g c =
     let history = walked new.options.two_way made in
     let view = c.in-Ok-view.view.value in
     let stands = c.in-Ok-answer_all.ensures.along.stands in
-    let shows : IsViewOf (queries_in new) history view = c.in-Ok-view.ensures.view made stands in
+    let shows : IsViewAfter new made view = c.in-Ok-view.ensures.view made stands in
     let many : length view.rows ≡ length (queries_in new) =
     AllZip-long (λ (query : Query) (own : List Answer). AreRowsOf (path_query query) history own)
     (queries_in new) view.rows shows.rows in
@@ -96,12 +96,12 @@ returns-clause-summary g c =
     let whole : result_err c.answer_all.result ≡ None = ap result_err c.in-Ok-answer_all.is in
     let kept : c.queries-queries.result.now ≡ old.engine.queries =
     c.queries-queries.ensures ∙ (c.view.ensures.keeps.queries ∙ keeps.queries) in
-    let shows : IsViewOf (queries_in old) (walked old.options.two_way made) view =
-    subst (λ (options : OptionsValue). IsViewOf (queries_in old) (walked options.two_way made) view)
-    keeps.options (subst (λ (compiled : List CompiledValue).
-    IsViewOf (map (λ (each : CompiledValue). each.def) compiled)
-    (walked new.options.two_way made) view) keeps.queries
-    (c.in-Ok-view.ensures.view made c.in-Ok-answer_all.ensures.along.stands)) in
+    let sees : IsViewAfter new made view =
+    c.in-Ok-view.ensures.view made c.in-Ok-answer_all.ensures.along.stands in
+    let shows : AreRowsFor old.options.two_way (queries_in old) made view =
+    subst (λ (options : OptionsValue). AreRowsFor options.two_way (queries_in old) made view)
+    keeps.options (subst (λ (compiled : List CompiledValue). AreRowsFor new.options.two_way
+    (map (λ (each : CompiledValue). each.def) compiled) made view) keeps.queries sees.rows) in
     let by : List CompiledValue → ViewValue → List ℕ =
     λ each shown. summary_text counts.totals.entries counts.totals.added counts.totals.retracted
     (map (λ (one : CompiledValue). one.def) each)

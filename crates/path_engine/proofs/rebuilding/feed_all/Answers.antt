@@ -1,6 +1,6 @@
 use Rattle.std.proofs.Common.{rules, ◌∙◌}
 use Rattle.std.specs.Slice.Iter.{chunks_rest}
-use Rattle.path_engine.proofs.Anew.{all_fed, front_fits, more_fed, none_fed}
+use Rattle.path_engine.proofs.Anew.{all_counted, all_fed, front_fits, more_fed, none_fed}
 use Rattle.path_engine.proofs.rebuilding.feed_all.Goals as goal
 
 pub loop-front-init : goal.loop-front-init
@@ -8,7 +8,8 @@ loop-front-init g c = (
   search rules,
   tt,
   search rules,
-  none_fed c.args.entries.now c.args.engine.now _ c.requires.starts (search rules),
+  none_fed c.args.entries.now c.args.engine.now _ c.requires.starts c.requires.position
+      (search rules),
 )
 
 pub feed_next-requires-clause-short : goal.feed_next-requires-clause-short
@@ -35,6 +36,12 @@ loop-front-preserved g c = (
 pub returns-clause-stands : goal.returns-clause-stands
 returns-clause-stands g c =
     all_fed c.args.engine.now.queries c.args.entries.now c.loop-front.engine
+    (chunks_rest c.loop-front.front-iterator) c.loop-front.invariant.3
+    c.in-None.ensures.steps.1.0
+
+pub returns-clause-position : goal.returns-clause-position
+returns-clause-position g c =
+    all_counted c.args.engine.now.queries c.args.entries.now c.loop-front.engine
     (chunks_rest c.loop-front.front-iterator) c.loop-front.invariant.3
     c.in-None.ensures.steps.1.0
 

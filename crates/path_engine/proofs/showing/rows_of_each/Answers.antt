@@ -22,7 +22,7 @@ pub loop-place-init : goal.loop-place-init
 loop-place-init c = record {
   have = c.requires.indexes;
   still = all_still c.args.queries.now c.args.names.now c.args.indexes.now;
-  shown = λ history are.
+  shown = λ history fed are.
       subst (Have history []) (sym {A = List (List Answer)} c.in_ok-rows.ensures.items) tt;
 }
 
@@ -84,21 +84,21 @@ loop-place-preserved c =
           within c.index-queries-place.is old_is c.rows.ensures.kept was.have;
       still = still_more queries names olds current place query old c.rows.new.self inside
           within c.index-queries-place.is old_is c.rows.ensures.kept was.still;
-      shown = λ history are.
+      shown = λ history fed are.
           let is = zip_at (λ (each : CompiledValue) (index : IndexValue).
-          IsIndexFor each history names index) queries current place query old
-          (was.still.stand history are) inside c.index-queries-place.is old_is in
+          IsIndexFor each history fed names index) queries current place query old
+          (was.still.stand history fed are) inside c.index-queries-place.is old_is in
           subst (Have history (take (place + 1) queries))
           (sym {A = List (List Answer)} c.in_ok-push.ensures.items)
           (zip_more (λ (each : CompiledValue) (own : List Answer).
           AreRowsOf (path_query each.def) history own) queries c.loop-place.rows.items place query
-          c.in_ok-own.own inside c.index-queries-place.is (was.shown history are)
-          (c.in_ok-own.ensures.rows history is));
+          c.in_ok-own.own inside c.index-queries-place.is (was.shown history fed are)
+          (c.in_ok-own.ensures.rows history fed is));
     }
 
 pub returns-clause-rows : goal.returns-clause-rows
-returns-clause-rows c = λ history are.
+returns-clause-rows c = λ history fed are.
     subst (λ (all : List CompiledValue). Have history all c.loop-place.rows.items)
     (take_all c.loop-place.place c.args.queries.now
     (omega (arith, c.requires.as_many, c.loop-place-test.false)))
-    (c.loop-place.invariant.shown history are)
+    (c.loop-place.invariant.shown history fed are)

@@ -1,4 +1,4 @@
-use Rattle.std.proofs.Common.{List, take}
+use Rattle.std.proofs.Common.{ℕ, List, take}
 use Rattle.std.specs.List.{AllZip}
 use Rattle.rpq_base.specs.declared.data.Entry.{Entry}
 use Rattle.rpq_model.specs.Query.{path_query}
@@ -14,7 +14,8 @@ abbrev pub invariant-loop-place : goal.invariant-loop-place
 invariant-loop-place l = record {
   have : HaveHistories l.names l.queries l.indexes;
   still : StandStill l.queries l.names l.fn.indexes l.indexes;
-  shown : (history : List Entry) → AreIndexes history l.names l.queries l.fn.indexes →
+  shown : (history : List Entry) (fed : ℕ) →
+      AreIndexes history fed l.names l.queries l.fn.indexes →
       AllZip (λ (query : CompiledValue) (own : List Answer).
       AreRowsOf (path_query query.def) history own) (take l.place l.queries) l.rows.items;
 }

@@ -44,9 +44,9 @@ returns-clause-runs g c = λ file has.
     (λ none. c.run_status-status.ensures.memory (ap not (c.is_some-is_done.ensures ∙ none)))
     (λ some. c.run_status-status.ensures.others (ap not (c.is_some-is_done.ensures ∙ some))
     ∙ ap₂ first_status (c.deref.ensures.value ∙ ends_are) failed_are)
-    c.push_reserved.new.self.items c.new.result.items
+    c.of.result.items c.of.result.base c.push_reserved.new.self.items c.new.result.items
     (map (λ (own : Vec AnsweredValue). own.items) c.new-2.result.items)
     c.args.standing.now.items c.put_back-left.new.standing.items c.put_back-left.result.items
-    (sym ends_are) c.new.ensures.items (ap (map (λ (own : Vec AnsweredValue). own.items)) c.new-2.ensures.items)
+    c.of.ensures.items c.of.ensures.base (sym ends_are) c.new.ensures.items (ap (map (λ (own : Vec AnsweredValue). own.items)) c.new-2.ensures.items)
     c.in_ok-circle.ensures.members (sym c.put_back-left.ensures.stayed) (sym c.put_back-left.ensures.left)
     status_is told

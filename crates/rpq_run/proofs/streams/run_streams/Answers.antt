@@ -11,9 +11,10 @@ use Rattle.saved_window.specs.Saved.{saved}
 use Rattle.saved_window.specs.SavedText.{saved_text}
 use Rattle.saved_window.specs.Then.{TwoSources, left_of_both}
 use Rattle.rpq_threads.specs.Runs.{IsSessionOf}
-use Rattle.rpq_run.specs.Ending.{SavesIfThere, is_left_out}
+use Rattle.rpq_run.specs.Ending.{SavesIfThere, entries_left, is_left_out}
 use Rattle.rpq_run.specs.Outcome.{meanings, sinks}
 use Rattle.rpq_run.proofs.Running.{run_reported}
+use Rattle.rpq_run.proofs.Windows.{plain_as_left, saves_as_left, saves_of_history}
 use Rattle.rpq_run.proofs.streams.run_streams.Goals as goal
 
 pub write_own-written-requires-clause-few : goal.write_own-written-requires-clause-few
@@ -25,6 +26,12 @@ write_own-written-requires-clause-few g c =
     (IsSessionOf (definitions_of c.args.task.queries.items) threads.history.items answers.last)
     c.args.task.sessions.items (map own threads.sessions.items) answers.sessions in
     omega (arith, length-map threads.sessions.items own, as_many, c.requires.task.few)
+
+pub write_own-written-requires-clause-plain : goal.write_own-written-requires-clause-plain
+write_own-written-requires-clause-plain g c =
+    let threads = c.in-Ok.outcome in
+    plain_as_left (definitions_of c.args.task.queries.items) threads.window threads.history
+    threads.why c.in-Ok.ensures.ok.window c.in-Ok.ensures.ok.plain
 
 pub end_run-requires-clause-room : goal.end_run-requires-clause-room
 end_run-requires-clause-room g c κs within =
@@ -72,10 +79,14 @@ returns-clause-runs g c = λ given holds asked.
     (sinks c.args.events.now c.run_threads.new.events c.args.errors.now c.end_run.new.errors) _
     c.in_ok-circle.circle threads report texts asked c.in-Ok.ensures.ok
     c.write_own-written.ensures.replied
+    (saves_of_history written failures threads.why threads.short_of_memory threads.ends.items
+    texts.replied _ _ c.args.own.save own.save texts.saved
+    (λ quiet. ap saved_text (saves_as_left (definitions_of c.args.task.queries.items) threads.window
+    threads.history threads.why c.in-Ok.ensures.ok.window quiet))
     (subst (λ (queries : List Query). SavesIfThere written failures
-    (saved_text (saved queries threads.history.items))
+    (saved_text (saved queries (entries_left threads.window threads.history)))
     (is_left_out threads.why threads.short_of_memory threads.ends.items texts.replied)
-    c.args.own.save own.save texts.saved) definitions c.write_own-written.ensures.saved)
+    c.args.own.save own.save texts.saved) definitions c.write_own-written.ensures.saved))
     ended.sources ended.from ended.memory ended.status ended.parts c.args.standing.now.items
     c.end_run.new.standing.items report.left.items c.in_ok-circle.ensures.members
     (sym ended.objects.0) (sym ended.objects.1) c.fronts_hold_answers.ensures

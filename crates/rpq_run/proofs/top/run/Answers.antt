@@ -20,6 +20,14 @@ returns-in_default-clause-files g c =
     (files_untouched g.F.Files.holds g.F.Files.opened g.F.Files.made g.F.Files.unread g.F.Files.unmade
     (settings (texts c.args.words.now)) Memory c.args.files.now tt)
 
+pub returns-in-Err-clause-files : goal.returns-in-Err-clause-files
+returns-in-Err-clause-files g c =
+    subst (λ (start : Option StartFault). UsesFiles g.F.Files.holds g.F.Files.opened g.F.Files.made g.F.Files.unread
+    g.F.Files.unmade (settings (texts c.args.words.now)) start c.args.files.now c.args.files.now)
+    (sym c.report_of_refusal.ensures.start)
+    (files_untouched g.F.Files.holds g.F.Files.opened g.F.Files.made g.F.Files.unread g.F.Files.unmade
+    (settings (texts c.args.words.now)) c.in-Err.fault c.args.files.now c.in-Err.ensures.cause)
+
 pub returns-in-Err-begin-clause-complete : goal.returns-in-Err-begin-clause-complete
 returns-in-Err-begin-clause-complete g c = for_given _ c.in-Ok.chosen _ c.in-Ok.ensures.ok (λ form none.
     let left = g.F.Source.Source.left in

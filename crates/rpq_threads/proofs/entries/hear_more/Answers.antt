@@ -1,9 +1,10 @@
-use Rattle.std.proofs.Common.{◌≡◌, length, sym, ap, ◌∙◌, arith}
+use Rattle.std.proofs.Common.{◌≡◌, length, take, drop, sym, ap, ◌∙◌, arith}
 use Rattle.std.specs.Vec.{vec_len}
 use Rattle.std.proofs.lemmas.Bool.{eqb-true}
-use Rattle.history_model.specs.Lines.{published}
+use Rattle.history_model.specs.Lines.{entries, published}
+use Rattle.stream_history.specs.declared.calls.Front.{Front}
 use Rattle.stream_threads.proofs.Seen.{entries_grow}
-use Rattle.rpq_threads.proofs.ComingNext.{none_comes_then}
+use Rattle.rpq_threads.proofs.ComingNext.{none_comes_then, of_found}
 use Rattle.rpq_threads.proofs.entries.hear_more.Goals as goal
 
 pub after-requires-clause-engine : goal.after-requires-clause-engine
@@ -27,14 +28,17 @@ after-requires-clause-published g c = λ some.
 pub sleep_until_entries-requires-clause-answered :
     goal.sleep_until_entries-requires-clause-answered
 sleep_until_entries-requires-clause-answered g c =
-    let empty = eqb-true (vec_len c.in_ok-entries.field-0.entries) 0
+    let empty = eqb-true (vec_len c.in-Some-2.front.entries) 0
     (sym c.is_empty.ensures ∙ c.if-not-is_empty.false) in
-    let none : length c.in_ok-entries.field-0.entries.items ≡ 0 =
-    omega (arith, empty, c.in_ok-entries.field-0.entries.ok.0) in
+    let none : length c.in-Some-2.front.entries.items ≡ 0 =
+    omega (arith, empty, c.in-Some-2.front.entries.ok.0) in
     none_comes_then c.args.history.now c.loop.pass c.after.new.pass c.args.count
     (omega (
       arith,
       c.requires.there,
       entries_grow c.loop.pass.seen c.args.pass.now.seen c.loop.invariant.starts,
-    )) c.after.ensures.pass c.in_ok-entries.field-0.entries.items
-    c.in_ok-entries.ensures.entries none
+    )) c.after.ensures.pass c.in-Some-2.front.entries.items
+    (of_found c.in_ok-front.field-0 c.in-Some-2.front
+    (λ (front : Front). front.entries.items
+    ≡ take 256 (drop c.args.count (entries c.after.new.pass.seen))) c.in-Some-2.is
+    c.in_ok-front.ensures.entries) none

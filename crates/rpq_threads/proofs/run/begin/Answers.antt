@@ -1,8 +1,10 @@
 use Rattle.std.proofs.Common.{◌≡◌, [], All, length, refl, sym, ap, subst, ◌∙◌, arith, rules}
 use Rattle.history_model.specs.World.{Terms}
 use Rattle.rpq_text.specs.Definitions.{definitions_of}
+use Rattle.stream_tuples.specs.Progress.{IsNewReader}
 use Rattle.stream_threads.proofs.Numbering.{new_length}
 use Rattle.rpq_threads.proofs.Starting.{first_shown, Moves, terms_of, begun_fed, begun_asks}
+use Rattle.rpq_threads.proofs.Starting.{at_least, at_most, length-definitions}
 use Rattle.rpq_threads.proofs.run.begin.Goals as goal
 
 pub new-requires-3-clause-first : goal.new-requires-3-clause-first
@@ -14,6 +16,28 @@ new-requires-3-clause-first g c =
     c.in_ok-first.first.value
     (ap definitions_of c.in_ok-evaluator.ensures.queries_are ∙ sym given)
     (c.in_ok-first.ensures.view [] c.in_ok-evaluator.ensures.stands)
+
+pub new-requires-3-clause-terms : goal.new-requires-3-clause-terms
+new-requires-3-clause-terms g c =
+    let task = c.args.task in
+    let own = c.in_ok-given.given.value.items in
+    let queries : own ≡ definitions_of task.queries.items = search rules in
+    let many : length own ≡ length task.queries.items =
+    ap length queries ∙ length-definitions task.queries.items in
+    let streams : c.len-streams.result ≡ length task.readers.items = omega (
+      arith,
+      c.len-streams.ensures,
+      task.readers.ok.0,
+      c.requires.streams.1,
+    ) in
+    record {
+      some_queries = omega (arith, many, c.requires.understood.some);
+      few_queries = omega (arith, many, c.requires.understood.few);
+      some_streams = omega (arith, streams, c.requires.streams.0);
+      few_streams = omega (arith, streams, c.requires.streams.1);
+      some_entries = at_least task.limit c.requires.limit;
+      few_entries = at_most task.limit c.requires.limit;
+    }
 
 pub new-requires-4-clause-passes : goal.new-requires-4-clause-passes
 new-requires-4-clause-passes g c =
@@ -63,7 +87,8 @@ returns g c =
             (kept.keeps.options ∙ c.in_ok-evaluator.ensures.options_are) (made.readers ∙ asking)
             move (kept.stands [] c.in_ok-evaluator.ensures.stands);
         streams = sym (ap (λ (t : Terms). t.streams) terms);
-        fresh = c.requires.fresh;
+        fresh = subst (λ (t : Terms). All (IsNewReader t.cap g.S.Source.left g.S.Source.faults)
+            task.readers.items) (sym terms) c.requires.fresh;
         readers = sym (made.readers ∙ asking);
         few = omega (arith, made.readers, asking, c.requires.few);
         asks = begun_asks g.S.Source.left g.S.Source.faults task c.requires history terms;

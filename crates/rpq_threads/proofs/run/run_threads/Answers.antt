@@ -4,6 +4,7 @@ use Rattle.turn_lock.specs.Passes.{Knows}
 use Rattle.history_model.specs.Legal.{IsLegal}
 use Rattle.history_model.specs.World.{Terms}
 use Rattle.stream_history.specs.History.{author}
+use Rattle.stream_history.specs.Journal.{KeepsAll}
 use Rattle.rpq_threads.specs.declared.task.RunOutcome.{RunOutcome}
 use Rattle.rpq_threads.specs.Runs.{Holds}
 use Rattle.rpq_threads.proofs.Finishing.{all_are_back, all_are_passes, outcome_holds}
@@ -42,12 +43,15 @@ returns-clause-ok g c =
     finished.sound.legal in
     let knows = subst (λ (t : Terms). All (Knows author t journal.lines) passes) same
     finished.passes in
+    let whole = subst (λ (t : Terms). KeepsAll t → c.into_entries.result.base ≡ 0) same
+    c.into_entries.ensures.whole in
     let outcome : RunOutcome _ _ = record {
       history = c.into_entries.result;
       ends = served.gathered.ends;
       sources = served.gathered.sources;
       sessions = served.gathered.answers;
       why = served.why;
+      window = served.window;
       short_of_memory = served.short_of_memory;
       circle = served.circle;
     } in
@@ -57,7 +61,7 @@ returns-clause-ok g c =
     (search rules)
     (outcome_holds c.legal_is_sound.ensures c.fronts_are_legal.ensures left faults written failures
     seen task begun.history is.terms journal.lines legal c.args.events.now served.events.now
-    c.args.circle outcome passes c.into_entries.ensures
+    c.args.circle outcome passes c.into_entries.ensures.items whole
     begun.job.evaluator.options begun.job.readers.items begun.job.sessions.items is.options
     is.readers is.sessions c.serve-gathered.ensures.served knows
     is.job.readers finished.sound.plain)

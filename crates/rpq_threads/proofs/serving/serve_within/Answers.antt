@@ -3,6 +3,7 @@ use Rattle.std.proofs.Common.{Option, map, sym, ap, subst, ◌∙◌, arith}
 use Rattle.std.specs.Global.{Vec}
 use Rattle.std.specs.Vec.{vec_len}
 use Rattle.std.specs.Vec.Iter.{into_iter_items}
+use Rattle.rpq_base.specs.declared.data.Entry.{Entry}
 use Rattle.ask_text.specs.Answered.{AnsweredValue}
 use Rattle.stream_threads.specs.declared.session_work.SessionWork.{SessionWork}
 use Rattle.stream_threads.specs.declared.stream_worker.StreamResult.{StreamResult}
@@ -124,17 +125,22 @@ returns-clause-served g c =
           (new_pass history number) done.source done.pass done.end)
           (λ n m x y z r k. k history x (new_pass history n) r) 1 0 _ _ _
           c.start_streams-started.ensures.started c.join_streams-streamed.ensures.gives;
-      answered_all = subst (λ (asks : List (List Ask)). HaveReplied history (1 + history.terms.streams) asks replied)
+      answered_all = subst (λ (asks : List (List Ask)). HaveReplied history
+          (1 + history.terms.streams) asks replied)
           c.session_works-works.ensures.asks c.beside_sessions-replied.ensures.replied;
       fed =
           subst (λ (events : _). HasFed written failures options history before events first
-          (as_seen seen served.circle) engine.pass served.why) (sym gathered.events.0)
+          (as_seen seen served.circle) engine.pass served.why served.window)
+          (sym gathered.events.0)
           (subst (λ (circle : Parts _). HasFed written failures options history before
-          engine.events.now first (as_seen seen circle) engine.pass served.why)
+          engine.events.now first (as_seen seen circle) engine.pass served.why served.window)
           (sym gathered.circle)
           (subst (λ (why : Option Why). HasFed written failures options history before
-          engine.events.now first (as_seen seen engine.circle) engine.pass why) (sym gathered.why)
-          c.beside_sessions-replied.ensures.rest.0));
+          engine.events.now first (as_seen seen engine.circle) engine.pass why served.window)
+          (sym gathered.why.0)
+          (subst (λ (window : Option (Vec Entry)). HasFed written failures options history before
+          engine.events.now first (as_seen seen engine.circle) engine.pass engine.why window)
+          (sym gathered.why.1) c.beside_sessions-replied.ensures.rest.0)));
       passes_are = gathered.passes;
       sources_are = gathered.sources;
       ends_are = gathered.ends;
@@ -154,6 +160,7 @@ beside_sessions-replied-requires-clause-rest g c κs within =
     (omega (arith, c.requires.job_is.count))).0 in (
       record {
         fed = subst (IsFed history evaluator) (sym first) c.requires.job_is.fed;
+        same = c.requires.job_is.queries;
         fresh = ap (map g.O.Standing.seen) c.requires.fresh;
       },
       (

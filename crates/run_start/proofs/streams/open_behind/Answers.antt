@@ -1,8 +1,7 @@
 use Rattle.std.proofs.Common.{rules, ◌≡◌, ℕ, List, [], ◌∷◌, ◌++◌, Option, Some, None, refl, sym, subst, ◌∙◌}
-use Rattle.std.proofs.Common.{ap, append-nil, append_assoc, arith, length, get_or}
+use Rattle.std.proofs.Common.{ap, append-nil, append_assoc, arith, length}
 use Rattle.std.specs.Prelude.{option_to_list, slice_get}
 use Rattle.std.proofs.lemmas.List.{take_all}
-use Rattle.std.proofs.lemmas.Option.{slice_get_read}
 use Rattle.rpq_io.specs.Reader.{ReaderState}
 use Rattle.saved_window.specs.Then.{left_of_both}
 use Rattle.rpq_text.specs.declared.ends.StartFault.{StartFault}

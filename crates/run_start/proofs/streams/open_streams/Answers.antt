@@ -16,7 +16,7 @@ use Rattle.run_start.proofs.Opening.{front_of_streams, join_nothing, one_content
 use Rattle.run_start.proofs.SinkSteps.{no_step}
 use Rattle.run_start.proofs.Using.{holds_stays, opening_refuses, refused_as, refused_by, then_refused}
 use Rattle.run_start.proofs.streams.open_streams.Goals as goal
-use Rattle.rpq_words.specs.Views.{streams_of}
+use Rattle.rpq_words.specs.Views.{cap_of, streams_of}
 
 pub returns-in_default-clause-files : goal.returns-in_default-clause-files
 returns-in_default-clause-files g c =
@@ -83,9 +83,9 @@ loop-place-preserved g c =
           c.push.new.self.items c.in_ok-reader.reader next is (holds_stays inv.files) inv.contents
           (c.in_ok-reader.ensures.content ∙ join_nothing (g.F.Files.holds c.loop-place.files name))
           c.in-Ok-push.ensures.items;
-      fresh = All-same (IsNewReader (left_of_both g.F.Source.Source.left) (faults_of_both g.F.Source.Source.faults)) c.push.new.self.items
+      fresh = All-same (IsNewReader (cap_of given) (left_of_both g.F.Source.Source.left) (faults_of_both g.F.Source.Source.faults)) c.push.new.self.items
           (c.loop-place.readers.items ++ c.in_ok-reader.reader ∷ []) c.in-Ok-push.ensures.items
-          (All-push (IsNewReader (left_of_both g.F.Source.Source.left) (faults_of_both g.F.Source.Source.faults)) c.loop-place.readers.items
+          (All-push (IsNewReader (cap_of given) (left_of_both g.F.Source.Source.left) (faults_of_both g.F.Source.Source.faults)) c.loop-place.readers.items
           c.in_ok-reader.reader inv.fresh c.in_ok-reader.ensures.fresh);
       files = uses_stream given place (place + 1) name None c.args.files.now c.loop-place.files
           c.open_stream.new.files next is inv.files tt c.in_ok-reader.ensures.files;
@@ -100,8 +100,8 @@ loop-place-init g c =
       names = search rules;
       contents = sym (ap (λ (rs : List (ReaderState _)). map (λ (r : ReaderState _). left r.source) rs)
           c.in-Ok.ensures.items);
-      fresh = All-same (IsNewReader left faults) c.in-Ok.readers.items [] c.in-Ok.ensures.items
-          (All-nil (IsNewReader left faults));
+      fresh = All-same (IsNewReader (cap_of given) left faults) c.in-Ok.readers.items [] c.in-Ok.ensures.items
+          (All-nil (IsNewReader (cap_of given) left faults));
       files = no_step given (first_names given) c.args.files.now;
     }
 

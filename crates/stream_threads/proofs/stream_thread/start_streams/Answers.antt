@@ -29,7 +29,8 @@ loop-reader-init g c =
           (sym c.requires.none) tt;
       many = omega (arith, ap length c.requires.none);
       streams = omega (arith, many);
-      fresh = All-same (IsNewReader g.S.Source.left g.S.Source.faults) _ _ gives.0
+      fresh = All-same
+          (IsNewReader history.terms.cap g.S.Source.left g.S.Source.faults) _ _ gives.0
           c.requires.fresh;
     }
 
@@ -51,7 +52,8 @@ pub start_stream-requires-clause-reader : goal.start_stream-requires-clause-read
 start_stream-requires-clause-reader g c κs within =
     let was = c.loop-reader.invariant in
     let step = c.in-Some.ensures.steps in
-    let Fresh = IsNewReader g.S.Source.left g.S.Source.faults in
+    let cap = c.args.shared.now.history.now.terms.cap in
+    let Fresh = IsNewReader cap g.S.Source.left g.S.Source.faults in
     All-head Fresh c.in-Some.reader (into_iter_items c.next.new.self)
     (All-same Fresh _ _ (sym step.0) was.fresh)
 
@@ -64,7 +66,7 @@ loop-reader-preserved g c =
     let step = c.in-Some.ensures.steps in
     let pushed = c.push_reserved.ensures in
     let reader = c.in-Some.reader in
-    let Fresh = IsNewReader left faults in
+    let Fresh = IsNewReader history.terms.cap left faults in
     let from : ℕ = 1 + length c.loop-reader.yielded in
     let more = length-append c.loop-reader.yielded (reader ∷ []) in
     let rest = into_iter_items c.next.new.self in

@@ -24,6 +24,6 @@ invariant-loop-reader g l = record {
   many : vec_len l.started ≡ length l.yielded;
   streams : length l.yielded + length (into_iter_items l.reader-iterator)
       ≡ l.shared.history.now.terms.streams;
-  fresh : All (IsNewReader g.S.Source.left g.S.Source.faults)
+  fresh : All (IsNewReader l.shared.history.now.terms.cap g.S.Source.left g.S.Source.faults)
       (into_iter_items l.reader-iterator);
 }

@@ -5,7 +5,7 @@ use Rattle.rpq_io.specs.Counts.{CountsFault}
 use Rattle.history_model.specs.declared.line.CallAct.TheVariants.{Shut}
 use Rattle.history_model.specs.Lines.{end_line}
 use Rattle.stream_tuples.specs.declared.ends.StreamEnd.TheVariants.{Read}
-use Rattle.stream_tuples.specs.Limits.{byte_limit}
+use Rattle.stream_tuples.specs.Limits.{byte_limit_of}
 use Rattle.stream_tuples.specs.History.{AreTuplesOfEnd}
 use Rattle.stream_threads.specs.Streams.{tuples_of}
 use Rattle.stream_threads.proofs.Appending.{tuples_ended, has_ended}
@@ -30,9 +30,9 @@ returns g c =
       is = ended.is;
       number = ended.number ∙ did.number;
       tied = subst (λ s. IfSome file (λ text.
-          AreTuplesOfEnd byte_limit text (left s) (tuples_of after.mine) end)) (sym source)
+          AreTuplesOfEnd (byte_limit_of history.terms.cap) text (left s) (tuples_of after.mine) end)) (sym source)
           (subst (λ (ts : List Tuple). IfSome file (λ text.
-          AreTuplesOfEnd byte_limit text (left c.take_all-end.new.reader.source) ts end)) (sym same)
+          AreTuplesOfEnd (byte_limit_of history.terms.cap) text (left c.take_all-end.new.reader.source) ts end)) (sym same)
           did.tied);
       ended = has_ended history before after ended;
       full = λ is. omega (arith, did.full is, entries_grow after.seen before.seen starts);

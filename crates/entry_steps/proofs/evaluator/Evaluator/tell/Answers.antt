@@ -1,7 +1,7 @@
-use Rattle.std.proofs.Common.{◌≡◌, ◌≤◌, true, false, List, Vec, Global, length, sym, subst}
-use Rattle.rpq_base.specs.declared.data.Entry.{Entry}
-use Rattle.entry_steps.specs.Evaluator.{EvaluatorValue, IsAhead, Finds}
+use Rattle.std.proofs.Common.{sym, subst, arith}
+use Rattle.entry_steps.specs.Evaluator.{EvaluatorValue, IsAhead}
 use Rattle.entry_steps.proofs.Feeding.{MayTell, found_ahead, tells_steps}
+use Rattle.entry_steps.proofs.Finding.{few_taken}
 use Rattle.entry_steps.proofs.evaluator.Evaluator.tell.Goals as goal
 
 pub tell_of-requires-clause-names : goal.tell_of-requires-clause-names
@@ -9,6 +9,15 @@ tell_of-requires-clause-names c =
     let given = c.requires.ahead in
     (subst (λ (old : EvaluatorValue). IsAhead given.0 old c.args.entries.now c.args.found)
     (sym c.self.view_is) given.1).finds.have_names
+
+pub tell_of-requires-clause-room : goal.tell_of-requires-clause-room
+tell_of-requires-clause-room c =
+    let given = c.requires.ahead in
+    let entries = c.args.entries.now in
+    let ahead = subst (λ (old : EvaluatorValue). IsAhead given.0 old entries c.args.found)
+    (sym c.self.view_is) given.1 in
+    few_taken c.self.inside.options.paths _ c.self.inside.marks given.0 entries
+    c.self.inside.position ahead.tells.marked ahead.finds.fed.counted (omega arith)
 
 pub tell_of-requires-clause-found : goal.tell_of-requires-clause-found
 tell_of-requires-clause-found c =

@@ -4,7 +4,7 @@ use Rattle.rpq_base.proofs.Outcomes.{on_err}
 use Rattle.engine_loop.specs.Sources.{ComesNext}
 use Rattle.tuple_generator.specs.Generator.{generated_history}
 use Rattle.generated_run.specs.Made.{MadeValue}
-use Rattle.generated_run.proofs.Histories.{history_goes_on, they_come_next}
+use Rattle.generated_run.proofs.Histories.{history_goes_on, kept_next, they_come_next}
 use Rattle.generated_run.proofs.entries.GeneratedEntriesEntrySource.next.Goals as goal
 
 pub returns-in_err-make-clause-err : goal.returns-in_err-make-clause-err
@@ -45,3 +45,18 @@ returns-clause-more g c = λ is.
     (they_come_next c.history_is_of_first_stream.ensures c.args.evaluator.now old new
     c.at_once.result further (omega (arith, last, c.self-2.invariant.within, c.self-2.invariant.few))
     (omega (arith, same, c.in_ok-make.ensures.ok)) c.at_once.ensures.one)
+
+pub returns-clause-kept : goal.returns-clause-kept
+returns-clause-kept g c =
+    let old = c.args.self.now in
+    let new = c.make.new.self in
+    let same = ap (λ (made : MadeValue). made.count) c.self.view_is in
+    let before : new.before ≡ old.count = omega (
+      arith,
+      same,
+      c.make.ensures.before,
+      c.len-self-inside.ensures,
+      c.self.inside.entries.ok.0,
+    ) in
+    kept_next old.before old.count new.before new.count before
+    (omega (arith, same, c.make.ensures.more))

@@ -15,7 +15,7 @@ index-index-requires c =
     let unspent = ap (λ (engine : EngineValue). engine.spent) c.self.view_is ∙ c.requires.unspent in
     let found = c.self.invariant.stands unspent in
     let as_many = AllZip-long (λ (query : CompiledValue) (index : IndexValue).
-    IsIndexFor query found.0 inside.names index) inside.queries.items inside.indexes.items
+    IsIndexFor query found.0 inside.position inside.names index) inside.queries.items inside.indexes.items
     found.1.indexes in
     let queries = ap (λ (engine : EngineValue). length engine.queries) c.self.view_is in
     omega (arith, as_many, inside.indexes.ok.0, queries, c.requires.some)
@@ -27,7 +27,7 @@ returns-clause-forest c =
     let unspent = ap (λ (engine : EngineValue). engine.spent) c.self.view_is ∙ c.requires.unspent in
     let found = c.self.invariant.stands unspent in
     let as_many = AllZip-long (λ (query : CompiledValue) (index : IndexValue).
-    IsIndexFor query found.0 inside.names index) inside.queries.items inside.indexes.items
+    IsIndexFor query found.0 inside.position inside.names index) inside.queries.items inside.indexes.items
     found.1.indexes in
     let queries = ap (λ (engine : EngineValue). length engine.queries) c.self.view_is in
     let within : c.args.q < length inside.indexes.items =
@@ -51,7 +51,7 @@ returns-clause-stands c = λ history stands query query_is.
     let there = subst (λ (each : EngineValue). slice_get each.queries c.args.q ≡ Some query)
     (sym c.self.view_is) query_is in
     let is = zip_at (λ (each : CompiledValue) (own : IndexValue).
-    IsIndexFor each history inside.names own) queries inside.indexes.items c.args.q query index
+    IsIndexFor each history inside.position inside.names own) queries inside.indexes.items c.args.q query index
     engine.indexes (slice_get_within queries c.args.q query there)
     (sym (get_or_from_slice_get queries c.args.q query query there)) c.index-index.ensures in
     let same : here ≡ query =
@@ -59,6 +59,6 @@ returns-clause-stands c = λ history stands query query_is.
     subst (λ (each : EngineValue). IsForestFor query history each.names c.forest.result.now)
     c.self.view_is
     (subst (λ (each : CompiledValue). IsForestFor each history inside.names c.forest.result.now) same
-    (c.forest.ensures.is history inside.names
-    (subst (λ (each : CompiledValue). IsIndexFor each history inside.names index)
+    (c.forest.ensures.is history inside.position inside.names
+    (subst (λ (each : CompiledValue). IsIndexFor each history inside.position inside.names index)
     (sym {A = CompiledValue} same) is)))

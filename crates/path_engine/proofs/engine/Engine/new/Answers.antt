@@ -16,7 +16,7 @@ invariant_of-result g c =
       indexes = c.in_ok-indexes.indexes.items;
     } in
     let indexes = subst (λ (queries : List CompiledValue).
-    AreIndexes [] [] queries c.in_ok-indexes.indexes.items) c.deref.ensures.value
+    AreIndexes [] 0 [] queries c.in_ok-indexes.indexes.items) c.deref.ensures.value
     c.in_ok-indexes.ensures in
     let stands : StandsFor engine [] = starts engine refl refl c.in_ok-names.ensures indexes in
     record {
@@ -39,7 +39,7 @@ returns-clause-stands g c =
       indexes = c.in_ok-indexes.indexes.items;
     } in
     let indexes = subst (λ (queries : List CompiledValue).
-    AreIndexes [] [] queries c.in_ok-indexes.indexes.items) c.deref.ensures.value
+    AreIndexes [] 0 [] queries c.in_ok-indexes.indexes.items) c.deref.ensures.value
     c.in_ok-indexes.ensures in
     let stands : StandsFor engine [] = starts engine refl refl c.in_ok-names.ensures indexes in
     stands

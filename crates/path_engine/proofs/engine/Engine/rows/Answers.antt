@@ -1,4 +1,4 @@
-use Rattle.std.proofs.Common.{◌++◌, List, length, take, drop, sym, ap, subst, ◌∙◌, arith, Vec, Global}
+use Rattle.std.proofs.Common.{◌++◌, ℕ, List, length, take, drop, sym, ap, subst, ◌∙◌, Vec, Global}
 use Rattle.std.specs.List.{AllZip}
 use Rattle.std.proofs.lemmas.Slice.Zip.{AllZip-long}
 use Rattle.rpq_base.specs.declared.data.Entry.{Entry}
@@ -22,8 +22,8 @@ have c =
     let inside = c.self.inside in
     let unspent = ap (λ (engine : EngineValue). engine.spent) c.self.view_is ∙ c.requires.unspent in
     let found = c.self.invariant.stands unspent in
-    have_histories found.0 inside.names inside.queries.items inside.indexes.items
-    (omega (arith, found.1.counted, c.self.invariant.short)) found.1.indexes
+    have_histories found.0 inside.position inside.names inside.queries.items inside.indexes.items
+    c.self.invariant.short found.1.indexes
 
 pub rows_of_each-requires-clause-as_many : goal.rows_of_each-requires-clause-as_many
 rows_of_each-requires-clause-as_many c =
@@ -96,15 +96,15 @@ pub returns-clause-rows : goal.returns-clause-rows
 returns-clause-rows c = λ history stands.
     let inside = c.self.inside in
     let here = subst (λ (each : EngineValue). StandsFor each history) (sym c.self.view_is) stands in
-    let are : AreIndexes history inside.names c.deref.result.now c.deref_mut.result.now =
+    let are : AreIndexes history inside.position inside.names c.deref.result.now c.deref_mut.result.now =
     subst (λ (queries : List CompiledValue).
-    AreIndexes history inside.names queries c.deref_mut.result.now)
+    AreIndexes history inside.position inside.names queries c.deref_mut.result.now)
     (sym {A = List CompiledValue} c.deref.ensures.value)
-    (subst (AreIndexes history inside.names inside.queries.items)
+    (subst (AreIndexes history inside.position inside.names inside.queries.items)
     (sym {A = List IndexValue} c.deref_mut.ensures.value) here.indexes) in
     if_ok_map
-    (λ (rows : Vec (List Answer) Global). (history : List Entry) →
-    AreIndexes history inside.names c.deref.result.now c.deref_mut.result.now →
+    (λ (rows : Vec (List Answer) Global). (history : List Entry) (fed : ℕ) →
+    AreIndexes history fed inside.names c.deref.result.now c.deref_mut.result.now →
     AllZip (λ (query : CompiledValue) (own : List Answer).
     AreRowsOf (path_query query.def) history own) c.deref.result.now rows.items)
     (λ (rows : Vec (List Answer) Global).
@@ -115,7 +115,7 @@ returns-clause-rows c = λ history stands.
     AllZip (λ (query : CompiledValue) (own : List Answer).
     AreRowsOf (path_query query.def) history own) queries rows.items)
     (c.deref.ensures.value ∙ ap (λ (engine : EngineValue). engine.queries) c.self.view_is)
-    (given history are))
+    (given history inside.position are))
     c.rows_of_each.result c.rows_of_each.ensures.rows
 
 pub returns-clause-stands : goal.returns-clause-stands

@@ -15,7 +15,7 @@ invariant_of-self-2 c =
       indexes = c.in_ok-self-inside.field-0.items;
     } in
     let indexes = subst (λ (queries : List CompiledValue).
-    AreIndexes [] [] queries c.in_ok-self-inside.field-0.items) c.deref.ensures.value
+    AreIndexes [] 0 [] queries c.in_ok-self-inside.field-0.items) c.deref.ensures.value
     c.in_ok-self-inside.ensures in
     let stands : StandsFor engine [] = starts engine refl refl c.clear.ensures indexes in
     record {

@@ -38,7 +38,7 @@ events_between-requires-clause-first_named g c =
     subst (AreNamed names) (sym c.deref.ensures.value)
     (first_named c.laws.ensures names c.args.entry.now c.args.query.now c.args.self.now
     c.step.new.self c.in_ok-logs.logs.first.items (second g c) c.mode_of-mode.ensures.slide
-    c.mode_of-mode.ensures.compiled (stepped g c) has.history has.is)
+    c.mode_of-mode.ensures.compiled (stepped g c) has.history has.fed has.is)
 
 pub events_between-requires-clause-second_named : goal.events_between-requires-clause-second_named
 events_between-requires-clause-second_named g c =
@@ -47,7 +47,7 @@ events_between-requires-clause-second_named g c =
     subst (AreNamed names) (sym c.second_log-second.ensures)
     (second_named c.laws.ensures names c.args.entry.now c.args.query.now c.args.self.now
     c.step.new.self c.in_ok-logs.logs.first.items (second g c) c.mode_of-mode.ensures.slide
-    c.mode_of-mode.ensures.compiled (stepped g c) has.history has.is)
+    c.mode_of-mode.ensures.compiled (stepped g c) has.history has.fed has.is)
 
 pub returns : goal.returns
 returns g c =

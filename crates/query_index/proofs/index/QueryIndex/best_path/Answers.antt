@@ -1,4 +1,4 @@
-use Rattle.std.proofs.Common.{List, Option, Vec, Global, IfOk, sym, ap, subst, ◌∙◌}
+use Rattle.std.proofs.Common.{ℕ, List, Option, Vec, Global, IfOk, sym, ap, subst, ◌∙◌}
 use Rattle.rpq_base.specs.declared.data.Edge.{Edge}
 use Rattle.rpq_base.specs.declared.data.Entry.{Entry}
 use Rattle.rpq_base.specs.declared.data.Pair.{Pair}
@@ -37,8 +37,8 @@ returns c =
     let ends = c.in-Some.ends in
     let pair : Pair = record { from = c.args.from.now; to = c.args.to.now } in
     if_ok_map (ShowsEnd names index.forest ends.from ends.to)
-    (λ (found : Option (Vec Edge Global)). (history : List Entry) →
-    IsIndexFor query history names index → ShowsPair query.def history pair found)
+    (λ (found : Option (Vec Edge Global)). (history : List Entry) (fed : ℕ) →
+    IsIndexFor query history fed names index → ShowsPair query.def history pair found)
     (λ found end. shows c.kept_is_best.ensures c.index_tells_answers.ensures
     c.paths_by_numbers.ensures.answers query names index c.mode_of-mode.ensures.slide
     c.mode_of-mode.ensures.compiled pair ends.from ends.to c.in-Some.ensures.some

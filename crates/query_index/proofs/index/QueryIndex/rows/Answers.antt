@@ -28,13 +28,13 @@ returns-clause-kept c =
     c.mode_of-mode.ensures.is c.fresh_rows.ensures.kept)
 
 pub returns-clause-rows : goal.returns-clause-rows
-returns-clause-rows c = λ history is.
+returns-clause-rows c = λ history fed is.
     let query = c.args.query.now in
     let index = c.args.self.now in
     let names = c.args.names.now in
     rows_of_query query.def history names index.forest c.in_ok-rows.rows
     (c.index_tells_answers.ensures query.def history names index.forest.dfa (kept index.forest)
-    (is_index c.kept_is_best.ensures query history names index c.mode_of-mode.ensures.slide
+    (is_index c.kept_is_best.ensures query history fed names index c.mode_of-mode.ensures.slide
     c.mode_of-mode.ensures.compiled is))
     c.count-count.ensures.sorted
     (subst (λ (mode : Mode). HaveShown mode names index.forest c.in_ok-rows.rows)

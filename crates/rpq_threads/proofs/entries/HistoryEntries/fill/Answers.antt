@@ -1,55 +1,68 @@
-use Rattle.std.proofs.Common.{drop, arith}
-use Rattle.rpq_threads.proofs.ComingNext.{given_stays, feeds_still, feeds_seen, more_comes, none_comes}
+use Rattle.std.proofs.Common.{◌≡◌, ℕ, [], drop, sym, ap, ◌∙◌}
+use Rattle.history_model.specs.Lines.{entries}
+use Rattle.rpq_threads.proofs.ComingNext.{given_stays, none_comes}
+use Rattle.rpq_threads.proofs.Keeping.{begun_is, feeds_still_on, feeds_filled, kept_filled}
 use Rattle.rpq_threads.proofs.entries.HistoryEntries.fill.Goals as goal
+
+pub returns-then-self-len-clause-kept : goal.returns-then-self-len-clause-kept
+returns-then-self-len-clause-kept g c =
+    let source = c.args.self.now in
+    begun_is source.history.now source.pass source.past source.buffer.items source.from source.to
+    source.count c.requires.0 c.requires.1
 
 pub returns-in_err-more-clause-given : goal.returns-in_err-more-clause-given
 returns-in_err-more-clause-given g c =
-    let source = c.args.self.now in
-    let rest = drop source.to source.buffer.items in
-    let was = c.requires.1.feeds_from in
-    let seen = c.hear_more.ensures.seen in
-    given_stays source.pass c.hear_more.new.pass seen.seen source.count rest was.rest_comes
+    let mid = c.settle.new.self in
+    let fed = c.settle.ensures.feeds c.requires.0 c.requires.1 c.requires.2 in
+    given_stays mid.pass c.hear_more.new.pass c.hear_more.ensures.seen.seen mid.count
+    (drop mid.to mid.buffer.items) fed.feeds_from.rest_comes
+    ∙ c.settle.ensures.given
 
 pub returns-in_err-more-clause-feeds : goal.returns-in_err-more-clause-feeds
-returns-in_err-more-clause-feeds g c = λ evaluator fed.
-    let source = c.args.self.now in
-    let rest = drop source.to source.buffer.items in
-    record {
-      within = fed.within;
-      feeds_from = feeds_still source.history.now source.pass c.hear_more.new.pass
-          c.hear_more.ensures.seen source.count rest evaluator fed.feeds_from;
-    }
+returns-in_err-more-clause-feeds g c = λ evaluator was place.
+    let mid = c.settle.new.self in
+    feeds_still_on mid.history.now mid.pass c.hear_more.new.pass mid.past mid.buffer.items mid.from
+    mid.to mid.count evaluator (c.settle.ensures.feeds evaluator was place)
+    c.hear_more.ensures.seen
 
 pub returns-clause-given : goal.returns-clause-given
 returns-clause-given g c =
-    let source = c.args.self.now in
-    let rest = drop source.to source.buffer.items in
-    let was = c.requires.1.feeds_from in
-    let seen = c.hear_more.ensures.seen in
-    given_stays source.pass c.hear_more.new.pass seen.seen source.count rest was.rest_comes
+    let mid = c.settle.new.self in
+    let fed = c.settle.ensures.feeds c.requires.0 c.requires.1 c.requires.2 in
+    given_stays mid.pass c.hear_more.new.pass c.hear_more.ensures.seen.seen mid.count
+    (drop mid.to mid.buffer.items) fed.feeds_from.rest_comes
+    ∙ c.settle.ensures.given
 
 pub returns-clause-feeds : goal.returns-clause-feeds
-returns-clause-feeds g c = λ evaluator fed.
-    let source = c.args.self.now in
-    let rest = drop source.to source.buffer.items in
-    let more = c.in_ok-more.more.items in
-    let seen = c.hear_more.ensures.seen in
-    record {
-      within = omega arith;
-      feeds_from = feeds_seen source.history.now source.pass c.hear_more.new.pass seen source.count
-          rest evaluator fed.feeds_from more
-          (more_comes source.history.now source.pass c.hear_more.new.pass source.count
-          fed.feeds_from.rest_comes.there fed.feeds_from.few seen more c.in_ok-more.ensures.more);
-    }
+returns-clause-feeds g c = λ evaluator was place.
+    let mid = c.settle.new.self in
+    let empty = c.in_ok-settle.ensures.empty in
+    feeds_filled mid.history.now mid.pass c.hear_more.new.pass mid.past mid.buffer.items
+    c.in_ok-more.more.items mid.from mid.to mid.count evaluator empty.from_first empty.to_first
+    (c.settle.ensures.feeds evaluator was place) c.hear_more.ensures.seen
+    c.in_ok-more.ensures.more
+
+pub returns-clause-kept : goal.returns-clause-kept
+returns-clause-kept g c =
+    let mid = c.settle.new.self in
+    let fed = c.settle.ensures.feeds c.requires.0 c.requires.1 c.requires.2 in
+    let empty = c.in_ok-settle.ensures.empty in
+    kept_filled mid.past mid.buffer.items c.in_ok-more.more.items (entries mid.pass.seen)
+    (entries c.hear_more.new.pass.seen) mid.from mid.to mid.count empty.from_first empty.to_first
+    (given_stays mid.pass c.hear_more.new.pass c.hear_more.ensures.seen.seen mid.count
+    (drop mid.to mid.buffer.items) fed.feeds_from.rest_comes)
+    ∙ c.in_ok-settle.ensures.kept
 
 pub returns-clause-ended : goal.returns-clause-ended
 returns-clause-ended g c = λ none.
-    let source = c.args.self.now in
-    let rest = drop source.to source.buffer.items in
-    let was = c.requires.1.feeds_from in
-    let seen = c.hear_more.ensures.seen in
-    let more = c.in_ok-more.more.items in (
-      c.in_ok-more.ensures.ended none,
-      none_comes source.history.now source.pass c.hear_more.new.pass source.count
-          was.rest_comes.there was.few seen more c.in_ok-more.ensures.more none,
+    let mid = c.settle.new.self in
+    let fed = c.settle.ensures.feeds c.requires.0 c.requires.1 c.requires.2 in
+    let empty = c.in_ok-settle.ensures.empty in
+    let more = c.in_ok-more.more.items in
+    let no_more : more ≡ [] = sym (ap (λ (n : ℕ). drop n more) empty.to_first) ∙ none in (
+      record { none = no_more; from_first = empty.from_first; to_first = empty.to_first },
+      c.in_ok-more.ensures.ended no_more,
+      none_comes mid.history.now mid.pass c.hear_more.new.pass mid.count
+          fed.feeds_from.rest_comes.there fed.feeds_from.few c.hear_more.ensures.seen more
+          c.in_ok-more.ensures.more no_more,
     )

@@ -1,9 +1,10 @@
-use Rattle.std.proofs.Common.{◌≡◌, ◌<◌, Err, take, drop, ap, ◌∙◌, arith}
+use Rattle.std.proofs.Common.{◌≡◌, ◌<◌, Err, take, drop, refl, ap, ◌∙◌, arith}
 use Rattle.history_model.specs.Lines.{entries}
 use Rattle.stream_history.specs.declared.fault.PublishFault.{PublishFault}
 use Rattle.stream_history.specs.declared.fault.PublishFault.TheVariants.{Behind}
 use Rattle.rpq_threads.proofs.ComingNext.{place_now, is_ahead, view_place, view_there, view_shows}
 use Rattle.rpq_threads.proofs.ComingNext.{feeds_published, given_published}
+use Rattle.rpq_threads.proofs.Keeping.{feeds_with, kept_with}
 use Rattle.rpq_threads.proofs.entries.HistoryEntriesEntrySource.publish.Goals as goal
 
 pub unreachable-requires : goal.unreachable-requires
@@ -68,8 +69,8 @@ publish-requires-clause-shows g c =
     let some : 0 < history.readers = omega (arith, c.readers.ensures) in
     view_shows history pass source.count rest before now was on stands some view sees
 
-pub returns-in-Ok-clause-given : goal.returns-in-Ok-clause-given
-returns-in-Ok-clause-given g c =
+pub returns-in-Ok-clause-has : goal.returns-in-Ok-clause-has
+returns-in-Ok-clause-has g c =
     let source = c.args.self.now in
     let history = source.history.now in
     let pass = source.pass in
@@ -83,9 +84,17 @@ returns-in-Ok-clause-given g c =
     let given = take source.count (entries pass.seen) in
     let sees = c.in_ok-view.ensures.view given stands in
     let some : 0 < history.readers = omega (arith, c.readers.ensures) in
-    given_published history pass source.count rest before now was on stands c.view.new.self
-    c.view.ensures.keeps c.view.ensures.position c.publish.new.pass view.position
-    (view_place history pass source.count rest before now was on stands some view sees) c.in-Ok.ensures.line
+    let same = given_published history pass source.count rest before now was on stands
+    c.view.new.self c.view.ensures.keeps c.view.ensures.position c.publish.new.pass view.position
+    (view_place history pass source.count rest before now was on stands some view sees)
+    c.in-Ok.ensures.line in
+    record {
+      same_home = refl;
+      same_given = same;
+      same_kept = kept_with source.past (take source.from source.buffer.items) (entries pass.seen)
+          (entries c.publish.new.pass.seen) source.from source.to source.count same;
+      same_front = refl;
+    }
 
 pub returns-in-Ok-clause-ok : goal.returns-in-Ok-clause-ok
 returns-in-Ok-clause-ok g c =
@@ -102,10 +111,18 @@ returns-in-Ok-clause-ok g c =
     let given = take source.count (entries pass.seen) in
     let sees = c.in_ok-view.ensures.view given stands in
     let some : 0 < history.readers = omega (arith, c.readers.ensures) in
-    record {
-      within = c.requires.feeds.1.within;
-      feeds_from = feeds_published history pass source.count rest before now was on stands
-          c.view.new.self c.view.ensures.keeps c.view.ensures.position c.publish.new.pass
-          view.position (view_place history pass source.count rest before now was on stands some view
-          sees) c.in-Ok.ensures.line;
-    }
+    let same = given_published history pass source.count rest before now was on stands
+    c.view.new.self c.view.ensures.keeps c.view.ensures.position c.publish.new.pass view.position
+    (view_place history pass source.count rest before now was on stands some view sees)
+    c.in-Ok.ensures.line in
+    feeds_with history pass c.publish.new.pass source.past source.buffer.items source.from
+    source.to source.count before c.view.new.self c.requires.feeds.1 same
+    (omega (
+      arith,
+      c.view.ensures.position,
+      place_now history pass source.count rest before now was on stands,
+    ))
+    (feeds_published history pass source.count rest before now was on stands c.view.new.self
+    c.view.ensures.keeps c.view.ensures.position c.publish.new.pass view.position
+    (view_place history pass source.count rest before now was on stands some view sees)
+    c.in-Ok.ensures.line)

@@ -1,5 +1,5 @@
 use Rattle.std.proofs.Common.{refl, arith}
-use Rattle.std.specs.Prelude.{◌↔◌, IfOk, IsTrue}
+use Rattle.std.specs.Prelude.{◌↔◌, IfOk, IfSome, IsTrue}
 use Rattle.history_model.specs.Lines.{AllEnded}
 use Rattle.stream_history.proofs.Turns.{no_fewer, adds_none, told}
 use Rattle.stream_history.proofs.history.History.after.Goals as goal
@@ -22,6 +22,6 @@ pub returns-clause-all_ended : goal.returns-clause-all_ended
 returns-clause-all_ended g c =
     told c.args.self.now c.args.pass.now c.take-journal.new.pass c.give.new.pass
     c.take-journal.result c.requires.engine.is c.take-journal.ensures.value c.give.ensures
-    (λ terms lines. IfOk c.front_of-front.result
-    (λ front. IsTrue front.all_ended ↔ AllEnded terms.streams lines))
+    (λ terms lines. IfOk c.front_of-front.result (λ found. IfSome found (λ front.
+    IsTrue front.all_ended ↔ AllEnded terms.streams lines)))
     c.front_of-front.ensures.all_ended

@@ -28,23 +28,17 @@ returns-in-Some-clause-full c = subst (TellsFull (Err (Closed c.in-Some.why))) c
     (closed_not_full (value c.self.inside) c.self.inside.shut c.in-Some.why c.self.invariant.shut
     c.in-Some.is)
 
-pub returns-then-len-self-clause-closed : goal.returns-then-len-self-clause-closed
-returns-then-len-self-clause-closed c = subst (TellsClosed (Err (Full c.self.inside.cap)))
+pub returns-then-length-self-clause-closed : goal.returns-then-length-self-clause-closed
+returns-then-length-self-clause-closed c = subst (TellsClosed (Err (Full c.self.inside.cap)))
     c.self.view_is
     (λ why. not_closed (Err (Full c.self.inside.cap)) (value c.self.inside).lines c.self.inside.shut
     c.self.invariant.shut c.in_default.is why (λ same. cc))
 
-pub returns-then-len-self-clause-full : goal.returns-then-len-self-clause-full
-returns-then-len-self-clause-full c =
+pub returns-then-length-self-clause-full : goal.returns-then-length-self-clause-full
+returns-then-length-self-clause-full c =
     let inside = c.self.inside in
     let full : length (entries (value inside).lines) ≡ inside.cap =
-    omega (
-      arith,
-      ap length c.self.invariant.appended,
-      c.if-len-self.true,
-      c.len.ensures,
-      inside.entries.ok.0,
-    ) in
+    omega (arith, ap length c.self.invariant.appended, c.if-length-self.true, c.length.ensures) in
     subst (TellsFull (Err (Full inside.cap))) c.self.view_is
     (full_at (value inside) inside.shut c.self.invariant.shut c.in_default.is full)
 
@@ -55,10 +49,11 @@ returns-in_err-push-clause-closed c = subst (TellsClosed c.from_residual.result)
     (λ same. grind (arith, same, c.from_residual.ensures, c.in_err-push.is)))
 
 -- what an append adds
-added : (c : goal.After-len-2) →
+added : (c : goal.After-length-2) →
     Adds (value c.self.inside)
     (with_line (value c.self.inside) (append_line c.args.stream c.args.tuple))
-    c.push-2.new.self c.push.new.self.items c.self.inside.running.items c.self.inside.shut
+    c.push-2.new.self c.push.new.self.items c.push.new.self.base c.self.inside.running.items
+    c.self.inside.shut
 added c =
     let inside = c.self.inside in
     let going : IsOpen (value inside) c.args.stream =
@@ -67,12 +62,12 @@ added c =
     let below : length inside.entries.items ≤ inside.cap =
     omega (arith, c.self.invariant.sound.legal.capped, ap length c.self.invariant.appended) in
     let short : length inside.entries.items < inside.cap =
-    grind (arith, below, c.if-len-self.false, c.len.ensures, inside.entries.ok.0) in
+    grind (arith, below, c.if-length-self.false, c.length.ensures) in
     append_adds c.legal_by_lines.ensures c.lines_are_joined.ensures
     (value inside) inside.calls c.push-2.new.self inside.entries.items c.push.new.self.items
-    inside.running.items inside.shut c.args.stream c.args.tuple
+    c.push.new.self.base inside.running.items inside.shut c.args.stream c.args.tuple
     c.self.invariant going c.requires.plain c.in_default.is short c.push-2.ensures
-    c.in_ok-push.ensures.items
+    c.in_ok-push.ensures.ok c.push.ensures.base
 
 pub invariant_of-self-2 : goal.invariant_of-self-2
 invariant_of-self-2 c = let adds = added c in adds.kept
@@ -85,12 +80,11 @@ returns-clause-line c =
 
 pub returns-clause-position : goal.returns-clause-position
 returns-clause-position c =
-    let adds = added c in
-    c.len-2.ensures ∙ (c.push.new.self.ok.0 ∙ sym (ap length adds.kept.appended))
+    let adds = added c in c.length-2.ensures ∙ sym (ap length adds.kept.appended)
 
 pub returns-clause-closed : goal.returns-clause-closed
-returns-clause-closed c = subst (TellsClosed (Ok c.len-2.result)) c.self.view_is
-    (λ why. not_closed (Ok c.len-2.result) (value c.self.inside).lines c.self.inside.shut
+returns-clause-closed c = subst (TellsClosed (Ok c.length-2.result)) c.self.view_is
+    (λ why. not_closed (Ok c.length-2.result) (value c.self.inside).lines c.self.inside.shut
     c.self.invariant.shut c.in_default.is why (λ same. cc))
 
 pub returns-clause-sound : goal.returns-clause-sound

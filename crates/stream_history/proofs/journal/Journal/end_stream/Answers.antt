@@ -15,7 +15,8 @@ left c = filter_same _ (is_other c.args.stream) _ (λ x b f' k. search rules) _ 
 -- what an end adds
 added : (c : goal.After-retain) →
     Adds (value c.self.inside) (with_line (value c.self.inside) (end_line c.args.stream))
-    c.push.new.self c.self.inside.entries.items c.retain.new.self.items c.self.inside.shut
+    c.push.new.self c.self.inside.entries.items c.self.inside.entries.base
+    c.retain.new.self.items c.self.inside.shut
 added c =
     let inside = c.self.inside in
     let going : IsOpen (value inside) c.args.stream =

@@ -11,7 +11,8 @@ use Rattle.stream_history.proofs.journal.Journal.publish.Goals as goal
 -- what a publish adds
 added : (c : goal.After-drop-self-inside) →
     Adds (value c.self.inside) (with_view (value c.self.inside) c.args.view.value)
-    c.push.new.self c.self.inside.entries.items c.self.inside.running.items c.self.inside.shut
+    c.push.new.self c.self.inside.entries.items c.self.inside.entries.base
+    c.self.inside.running.items c.self.inside.shut
 added c =
     let inside = c.self.inside in
     let view = c.args.view.value in

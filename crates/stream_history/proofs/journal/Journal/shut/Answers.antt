@@ -8,7 +8,8 @@ use Rattle.stream_history.proofs.journal.Journal.shut.Goals as goal
 -- what a shut adds
 added : (c : goal.After-self-1) →
     Adds (value c.self.inside) (with_line (value c.self.inside) (shut_line c.args.why))
-    c.push.new.self c.self.inside.entries.items c.self.inside.running.items (Some c.args.why)
+    c.push.new.self c.self.inside.entries.items c.self.inside.entries.base
+    c.self.inside.running.items (Some c.args.why)
 added c =
     let inside = c.self.inside in
     let going : IsShut (value inside).lines →
