@@ -33,7 +33,7 @@ part_without bytes start end count =
     between_is bytes (start + count) end ∙ sym (drop-drop count start (take end bytes)) ∙ ap (drop count) (sym (between_is bytes start end))
 
 -- no bytes from a place to itself
-part_nil : (bytes : List ℕ) (place : ℕ) → place ≤ length bytes → slice_range bytes place place ≡ []
+pub part_nil : (bytes : List ℕ) (place : ℕ) → place ≤ length bytes → slice_range bytes place place ≡ []
 part_nil bytes place within =
     between_is bytes place place
     ∙ drop_all place (take place bytes) (omega (arith, length-take-le place bytes within))

@@ -6,5 +6,6 @@ mod FoundLines
 mod HeldParts
 mod LongLines
 mod Names
+mod PassedLines
 mod ReaderSteps
 mod TextAhead

@@ -1,11 +1,11 @@
 -- The bytes that a reader of lines holds. No public contract cites these.
-use Rattle.std.specs.Prelude.{◌≡◌, ◌≢◌, ℕ, ◌+◌, ◌-◌, ◌<◌, ◌≤◌, Bool, true, List, [], ◌++◌, length}
-use Rattle.std.specs.Prelude.{drop, slice_range, Option, IfSome, if◌then◌else◌}
+use Rattle.std.specs.Prelude.{◌≡◌, ◌≢◌, ℕ, ◌+◌, ◌-◌, ◌<◌, ◌≤◌, Bool, true, false, List, [], ◌++◌, length}
+use Rattle.std.specs.Prelude.{drop, slice_range, Option, IfSome, if◌then◌else◌, ◌⊎◌}
 use Rattle.std.specs.Prelude.{Result, Ok, Err, OnErr, IsErr}
 use Rattle.std.specs.Io.KnownBytes.{prepend_known}
 use Rattle.text_parts.specs.Lines.{line_length}
 use Rattle.rpq_io.specs.Counts.{CountsFault}
-use Rattle.rpq_io.specs.Reader.{ReaderState, IsLongStream, TakesNothing}
+use Rattle.rpq_io.specs.Reader.{ReaderState, Had, IsLongStream, TakesNothing}
 use Rattle.rpq_io.specs.Reads.{tells_end}
 use Rattle.rpq_io.specs.declared.fault.LineFault.{LineFault}
 use Rattle.rpq_io.specs.declared.fault.LineFault.TheVariants.{Read, Memory, LongLine, LongStream}
@@ -81,3 +81,16 @@ pub record RemovesLine {S : Type 0} (old new : ReaderState S) : Type 0 where
   pub taken : TakesNothing old new
   pub line_limit : new.line_limit ≡ old.line_limit
   pub byte_limit : new.byte_limit ≡ old.byte_limit
+
+-- neither a line feed is held nor was the end told
+pub record IsLineOpen {S : Type 0} (reader : ReaderState S) : Type 0 where
+  pub untold : reader.is_at_end ≡ false
+  pub no_line : line_length reader.held_bytes ≡ length reader.held_bytes
+
+-- the bytes held were let go of and others taken, or nothing happened
+pub record PassesPiece {S : Type 0} (left : S → Option (List ℕ)) (old new : ReaderState S)
+    : Type 0 where
+  pub gone : List ℕ
+  pub of_line : (gone ≡ old.held_bytes) ⊎ (gone ≡ [])
+  pub had : Had left old new (gone ++ new.held_bytes)
+  pub counted : new.line_count ≡ old.line_count

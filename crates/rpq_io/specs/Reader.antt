@@ -110,6 +110,35 @@ pub record IsLongStream {S : Type 0} (reader : ReaderState S) : Type 0 where
   pub no_line : line_length reader.held_bytes ≡ length reader.held_bytes
   pub fits : length reader.held_bytes ≤ reader.line_limit
 
+-- a call passed over a line of any length: it stood first in the bytes that the call had, and in the
+-- text ahead, up to a line feed or up to the end of the source; the bytes after it are held
+pub record PassesLine {S : Type 0} (left : S → Option (List ℕ)) (old new : ReaderState S)
+    : Type 0 where
+  pub raw : List ℕ
+  pub whole : IsLine raw
+  pub bytes : List ℕ
+  pub had : Had left old new bytes
+  pub cut : (bytes ≡ raw ++ line_feed ∷ new.held_bytes)
+      ⊎ ((new.is_at_end ≡ true) × (bytes ≡ raw) × (new.held_bytes ≡ []))
+  pub counted : new.line_count ≡ old.line_count + 1
+  pub text : IfSome (text_ahead left old) (λ text. IsSomeAnd (text_ahead left new) (λ rest.
+      raw_lines text ≡ raw ∷ raw_lines rest))
+
+-- a call that was to pass over a line found no end of it: all the bytes that the call had are of
+-- this line
+pub record StaysInLine {S : Type 0} (left : S → Option (List ℕ)) (old new : ReaderState S)
+    : Type 0 where
+  pub bytes : List ℕ
+  pub whole : IsLine bytes
+  pub had : Had left old new bytes
+  pub untold : new.is_at_end ≡ false
+  pub counted : new.line_count ≡ old.line_count
+
+-- why a line wasn't passed over to its end: a read failed, or as many bytes were taken as may be
+abbrev pub IsPassFault : {S : Type 0} → ReaderState S → LineFault → Type 0
+IsPassFault reader fault =
+    (fault ≡ Read) ⊎ ((fault ≡ LongStream) × (reader.taken_count ≡ reader.byte_limit))
+
 -- why a call gave no line shows in the reader: after a failed read it holds no answer; else it
 -- holds a line longer than may be, or took as many bytes as may be
 pub record ShowsCause {S A : Type 0} (left : S → Option (List ℕ)) (old new : ReaderState S)

@@ -17,7 +17,7 @@ use crate::source::Source;
 pub trait Files {
     type Source: Source + Send + Drop;
 
-    type Sink: Sink + Drop;
+    type Sink: Sink + Send + Drop;
 
     ghost holds: { Self → List ℕ → Option (List ℕ) };
 

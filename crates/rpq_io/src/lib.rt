@@ -4,8 +4,8 @@
 //! The layer above rests on one contract: a failed read, write or opening is answered exactly where
 //! its count rose, so none is passed over in silence or tried again, and a failed read or write
 //! moved nothing. [`read_all`] gives all the bytes of a source, whatever pieces it gives,
-//! [`LineReader`] gives or lends its lines as they come, and [`put_all`] writes all bytes, or a
-//! proper prefix of them and a fault.
+//! [`LineReader`] gives or lends its lines as they come and passes over one that is too long, and
+//! [`put_all`] writes all bytes, or a proper prefix of them and a fault.
 //!
 //! What a call may do to the counts of faults, by its answer ("stays" and "rises" as in
 //! `specs/Counts`; no other count changes):
@@ -25,6 +25,8 @@
 //! | [`LineReader::next_line`] | `Ok`, `LongLine`, `LongStream`, `Memory` | the reads: stays |
 //! | | `Read` | rises |
 //! | [`LineReader::lend_line`] | `Ok`, `LongLine`, `LongStream` | the reads: stays |
+//! | | `Read` | rises |
+//! | [`LineReader::pass_long_line`] | `Ok`, `LongStream` | the reads: stays |
 //! | | `Read` | rises |
 //! | [`put_all`] | `Ok` | the writes of its sink: stays |
 //! | | `Err` | rises |

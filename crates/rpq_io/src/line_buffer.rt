@@ -87,7 +87,7 @@ impl LineBuffer {
     }
 
     /// The first `count` bytes held.
-    fn front(&self, count: usize) -> &[u8]
+    pub fn front(&self, count: usize) -> &[u8]
         requires { count ≤ length self.now.bytes }
         ensures { result.now ≡ take count self.now.bytes }
     {
@@ -110,6 +110,15 @@ impl LineBuffer {
         self.removed_end = line_end;
         self.start = self.end.min(line_end + 1);
         self.line_length = line_length_from(&self.bytes.as_slice()[self.start..self.end], 0);
+    }
+
+    /// Lets go of all bytes held.
+    pub fn clear(&mut self)
+        ensures bytes { self.new.bytes ≡ [] }
+        ensures size { self.new.size ≡ self.old.size }
+    {
+        self.start = self.end;
+        self.line_length = 0;
     }
 
     /// The line that was removed last.

@@ -1,12 +1,15 @@
 //! The lines of a source.
 
-ghost use Rattle.std.specs.Prelude.{[], ◌≡◌, ◌≢◌, ◌<◌, ◌≤◌, ◌↔◌, length, true};
+ghost use Rattle.std.specs.Prelude.{[], ◌≡◌, ◌≢◌, ◌<◌, ◌≤◌, ◌↔◌, length, take, true};
 ghost use Rattle.std.specs.Prelude.{false, IsTrue, IfOk, OnErr, IfErr, IsErr, OnOk, IfSome, IfNone};
 ghost use Rattle.rpq_io.specs.Counts.{CountsFault};
-ghost use Rattle.rpq_io.specs.Held.{reads_left, IsFaultOfHeld};
+ghost use Rattle.rpq_io.specs.Held.{reads_left, IsFaultOfHeld, RemovesLine, IsLineOpen};
+ghost use Rattle.rpq_io.specs.Held.{PassesPiece};
 ghost use Rattle.rpq_io.specs.Outcomes.{AllowsLine};
 ghost use Rattle.rpq_io.specs.Reader.{HoldsNoAnswer, Had, GivesLine, IsAtEnd, LosesNothing};
 ghost use Rattle.rpq_io.specs.Reader.{ShowsCause, TakesNothing, StaysSound, HasLent};
+ghost use Rattle.rpq_io.specs.Reader.{PassesLine, StaysInLine, IsPassFault};
+ghost use Rattle.text_parts.specs.Lines.{line_length};
 
 use crate::fault::{Failed, LineFault};
 use crate::line_buffer::{LineBuffer, PIECE};
@@ -214,6 +217,73 @@ impl<S: Source> LineReader<S> {
         } else {
             Ok(true)
         }
+    }
+
+    /// The first bytes that it holds, as many as a line may have at most.
+    pub fn front(&self) -> &[u8]
+        ensures { result.now ≡ take self.now.line_limit self.now.held_bytes }
+    {
+        self.buffer.front(self.buffer.len().min(self.line_limit))
+    }
+
+    /// Passes over the next line, which is longer than a line may be, and counts it: up to and with
+    /// its line feed, or up to the end of the source. It may have any number of bytes, which are let
+    /// go of as they come. After a fault those that came are lost, and what follows of the line
+    /// stands as a line of its own.
+    pub fn pass_long_line(&mut self) -> Result<(), LineFault>
+        requires { self.old.line_limit < line_length self.old.held_bytes }
+        ensures ok { OnOk result (PassesLine S.left self.old self.new) }
+        ensures err { OnErr result (StaysInLine S.left self.old self.new) }
+        ensures faults { CountsFault (result ≡ Err LineFault.Read)
+            (S.faults self.old.source) (S.faults self.new.source) }
+        ensures cause { IfErr result (λ fault. IsPassFault self.new fault) }
+        ensures sound { StaysSound S.left S.has_told_end self.old self.new }
+    {
+        let _ = &self.buffer;
+        while self.is_line_open() {
+            self.pass_piece()?;
+        }
+        self.end_line();
+        Ok(())
+    }
+
+    /// Whether neither the end of the line that it holds nor the end of the source came yet.
+    fn is_line_open(&self) -> bool
+        ensures { IsTrue result ↔ IsLineOpen self.now }
+    {
+        !self.is_at_end && self.buffer.line_length() == self.buffer.len()
+    }
+
+    /// Lets go of the bytes that it holds, and reads once.
+    fn pass_piece(&mut self) -> Result<(), LineFault>
+        requires { IsLineOpen self.old }
+        ensures had { PassesPiece S.left self.old self.new }
+        ensures progress { OnOk result (reads_left self.new < reads_left self.old) }
+        ensures open { OnErr result (IsLineOpen self.new) }
+        ensures faults { CountsFault (result ≡ Err LineFault.Read)
+            (S.faults self.old.source) (S.faults self.new.source) }
+        ensures cause { IfErr result (λ fault. IsPassFault self.new fault) }
+        ensures sound { StaysSound S.left S.has_told_end self.old self.new }
+    {
+        if self.taken_count == self.byte_limit {
+            return Err(LineFault::LongStream);
+        }
+        self.buffer.clear();
+        self.fill()?;
+        Ok(())
+    }
+
+    /// Lets go of what it holds of a line, whose end came, and counts the line.
+    fn end_line(&mut self)
+        requires came { ¬ IsLineOpen self.old }
+        requires room { self.old.line_count < self.old.taken_count }
+        ensures line { RemovesLine self.old self.new }
+        ensures sound { StaysSound S.left S.has_told_end self.old self.new }
+    {
+        if self.buffer.len() > 0 {
+            self.buffer.remove_line();
+        }
+        self.line_count += 1;
     }
 
     /// How many lines were given.

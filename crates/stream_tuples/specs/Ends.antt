@@ -1,7 +1,4 @@
 -- Which ends the reading of a stream meets. Only private contracts cite this file.
-use Rattle.std.specs.Prelude.{◌≡◌, ℕ, Option, Result, Err}
-use Rattle.rpq_base.specs.declared.data.Tuple.{Tuple}
-use Rattle.tuple_text.specs.declared.read.BadLine.{BadLine}
 use Rattle.stream_tuples.specs.declared.ends.StreamEnd.{StreamEnd}
 use Rattle.stream_tuples.specs.declared.ends.StreamEnd.TheVariants.{Whole, Line, LongLine}
 use Rattle.stream_tuples.specs.declared.ends.StreamEnd.TheVariants.{LongStream, Read, Full, Closed}
@@ -17,7 +14,3 @@ IsReadEnd Read = Unit {0}
 IsReadEnd Full = ⊥
 IsReadEnd (Closed why) = ⊥
 IsReadEnd Memory = Unit {0}
-
--- the end of a stream whose line with this number has a fault
-abbrev pub IsFaultOf : ℕ → Result (Option Tuple) BadLine → StreamEnd → Type 0
-IsFaultOf number gives end = (fault : BadLine) × (end ≡ Line number fault) × (gives ≡ Err fault)

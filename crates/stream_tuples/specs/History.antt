@@ -1,7 +1,6 @@
 -- How the history of a run is tied to the bytes of its streams.
-use Rattle.std.specs.Prelude.{◌≡◌, ◌≢◌, ℕ, ◌+◌, ◌≤◌, ◌==◌, List, [], ◌++◌, length, map, filter}
+use Rattle.std.specs.Prelude.{◌≡◌, ℕ, ◌+◌, ◌≤◌, ◌==◌, List, [], length, map, filter}
 use Rattle.std.specs.Prelude.{slice_get, Option, Some, IfSome}
-use Rattle.std.specs.Io.KnownBytes.{prepend_known}
 use Rattle.rpq_base.specs.declared.data.Tuple.{Tuple}
 use Rattle.rpq_base.specs.declared.data.Entry.{Entry}
 use Rattle.rpq_io.specs.Counts.{CountsFault}
@@ -9,6 +8,7 @@ use Rattle.stream_tuples.specs.declared.ends.StreamEnd.{StreamEnd}
 use Rattle.stream_tuples.specs.declared.ends.StreamEnd.TheVariants.{Whole, Line, LongLine, LongStream}
 use Rattle.stream_tuples.specs.declared.ends.StreamEnd.TheVariants.{Read, Full, Closed, Memory}
 use Rattle.stream_tuples.specs.Limits.{byte_limit_of}
+pub use Rattle.text_items.specs.Taken.{IsPrefix, IsProperPrefix, AreTaken}
 use Rattle.text_parts.specs.EndedLines.{ended_lines}
 use Rattle.stream_tuples.specs.StreamText.{tuples_with, tuples_of_lines, tuples_from}
 
@@ -21,21 +21,6 @@ pub record IsNumberOf (count number : ℕ) : Type 0 where
 abbrev pub own_tuples : ℕ → List Entry → List Tuple
 own_tuples number history =
     map (λ entry. entry.tuple) (filter (λ entry. entry.stream == number) history)
-
--- a list is a prefix of another, perhaps all of it
-pub record IsPrefix {A : Type 0} (front all : List A) : Type 0 where
-  pub rest : List A
-  pub cut : all ≡ front ++ rest
-
--- a list is a prefix of another, and not all of it
-pub record IsProperPrefix {A : Type 0} (front all : List A) : Type 0 where
-  pub rest : List A
-  pub cut : all ≡ front ++ rest
-  pub proper : rest ≢ []
-
--- these bytes were taken from a text, of which these are left
-abbrev pub AreTaken : List ℕ → Option (List ℕ) → List ℕ → Type 0
-AreTaken text left bytes = Some text ≡ prepend_known bytes left
 
 -- the tuples that are taken of a text by how its stream ended, where its source has these bytes
 -- left: all up to the end of the text, or up to its first fault; or those of the lines that end

@@ -1,9 +1,6 @@
 -- How much is taken of a line and of a stream.
 use Rattle.std.specs.Prelude.{ℕ, ◌^◌, nat_le, if◌then◌else◌}
-
--- the most bytes of a line before its line feed, its carriage return counted
-abbrev pub line_limit : ℕ
-line_limit = 1024
+pub use Rattle.text_items.specs.Limits.{line_limit}
 
 -- a stream has fewer bytes than this, where the history keeps all its entries
 abbrev pub byte_limit : ℕ

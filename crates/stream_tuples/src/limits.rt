@@ -1,7 +1,4 @@
-//! How much is taken of a line and of a stream.
-
-/// The most bytes of a line of a stream before its line feed, its carriage return counted.
-pub const LINE_LIMIT: usize = 1024;
+//! How many bytes are taken of a stream.
 
 /// A stream has fewer bytes than this, where the history keeps all its entries.
 pub const BYTE_LIMIT: u64 = 1 << 40;
