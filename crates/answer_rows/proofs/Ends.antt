@@ -1,22 +1,26 @@
 -- The ends of pairs, and the rows that they stand in.
-use Rattle.std.proofs.Common.{◌≡◌, ℕ, Bool, true, false, cond, List, [], ◌∷◌, Some, None, Ordering, refl, sym, ap, ◌∙◌}
-use Rattle.std.specs.Prelude.{find}
+use Rattle.std.proofs.Common.{◌≡◌, ℕ, Bool, true, false, cond, List, [], ◌∷◌, map, Option, Some, None, Ordering, refl, sym, ap, subst, ◌∙◌}
+use Rattle.std.specs.Prelude.{All, find}
 use Rattle.std.specs.Option.{option_map}
 use Rattle.std.specs.List.{AllByRecursion}
-use Rattle.std.specs.Ordering.{ordering_reverse}
+use Rattle.std.specs.Ordering.{ordering_reverse, ordering_then}
 use Rattle.std.specs.declared.cmp.Ordering.TheVariants.{Less, Equal, Greater}
 use Rattle.std.proofs.lemmas.Bool.{false_from_ne_true}
-use Rattle.std.proofs.lemmas.Cmp.{tied_itself}
-use Rattle.std.proofs.lemmas.List.Elements.{All-from_recursion, recursion_from_All, All-weaker}
+use Rattle.std.proofs.lemmas.Cmp.{tied_itself, nat_list_cmp_total}
+use Rattle.std.proofs.lemmas.List.Elements.{All-nil, All-cons, All-from_recursion, recursion_from_All, All-weaker}
 use Rattle.std.proofs.lemmas.Map.Keys.{sorted_head, sorted_tail}
 use Rattle.std.proofs.lemmas.Option.{none-some, same_Some}
-use Rattle.rpq_base.specs.Order.{pair_cmp}
+use Rattle.rpq_base.specs.Order.{name_cmp, pair_cmp}
 use Rattle.rpq_base.specs.Same.{same_name, same_pair}
 use Rattle.rpq_base.specs.declared.data.Pair.{Pair}
-use Rattle.rpq_base.proofs.Equality.{pairs as pair_test}
+use Rattle.rpq_base.proofs.Equality.{names, pairs as pair_test}
 use Rattle.rpq_base.proofs.Orders.{pair_cmp_total, pair_cmp_exact}
-use Rattle.answer_rows.specs.Answers.{Answer, pair_of, pairs, AreRows, until_of, row_of, end_of, target_of}
+use Rattle.rpq_base.proofs.Sorted.{sorted_nil, sorted_cons}
+use Rattle.answer_rows.specs.Answers.{Answer, pair as pair_with, pair_of, pairs, AreRows, AreTargets, until_of, row_of, end_of, target_of}
+use Rattle.answer_rows.specs.BySource.{answer}
 use Rattle.answer_rows.specs.declared.target.Target.{Target}
+use Rattle.answer_rows.proofs.Places.{to_of}
+use Rattle.answer_rows.proofs.Sources.{row_here, row_elsewhere, row_sorted}
 
 -- ---- the end of a pair stands in the row of its source
 
@@ -124,3 +128,55 @@ pub rows_tell : (rows others : List Answer) → AreRows rows → AreRows others 
     ((from : List ℕ) → row_of rows from ≡ row_of others from) → rows ≡ others
 rows_tell rows others sorted others_sorted same = ends_tell rows others sorted others_sorted (λ pair.
     ends_in_rows rows pair ∙ (ap (λ (row : List Target). end_of row pair.to) (same pair.from) ∙ sym (ends_in_rows others pair)))
+
+-- ---- the ends tell one row
+
+-- the ends of one row, as answers of any source
+row_ends : (row : List Target) (pair : Pair) (test : Bool) → same_name [] pair.from ≡ test →
+    until_of (map (answer []) row) pair ≡ cond test (end_of row pair.to) None
+row_ends row pair true e =
+    ends_in_rows (map (answer []) row) pair
+    ∙ ap (λ (each : List Target). end_of each pair.to)
+    (ap (row_of (map (answer []) row)) (sym ((names [] pair.from).0 e)) ∙ row_here [] row)
+row_ends row pair false e =
+    ends_in_rows (map (answer []) row) pair
+    ∙ ap (λ (each : List Target). end_of each pair.to) (row_elsewhere [] pair.from row e)
+
+pub targets_tell : (row others : List Target) → AreTargets row → AreTargets others →
+    ((to : List ℕ) → end_of row to ≡ end_of others to) → row ≡ others
+targets_tell row others sorted others_sorted same =
+    let rows = ends_tell (map (answer []) row) (map (answer []) others) (row_sorted [] row sorted) (row_sorted [] others others_sorted)
+    (λ pair.
+    let test = same_name [] pair.from in
+    row_ends row pair test refl ∙ (ap (λ (found : Option ℕ). cond test found None) (same pair.to) ∙ sym (row_ends others pair test refl))) in
+    sym (row_here [] row) ∙ (ap (λ (all : List Answer). row_of all []) rows ∙ row_here [] others)
+
+-- the targets of a source in pairs above one of it
+targets_above : (from to : List ℕ) (rest : List Answer) → AllByRecursion (λ each. pair_cmp (pair_with from to) each ≡ Less) (pairs rest) →
+    All (λ name. name_cmp to name ≡ Less) (map to_of (row_of rest from))
+targets_above from to [] above = All-nil (λ (name : List ℕ). name_cmp to name ≡ Less)
+targets_above from to (first ∷ rest) above = by (same_name first.from from) refl (targets_above from to rest above.1)
+  where
+    by : (test : Bool) → same_name first.from from ≡ test → All (λ name. name_cmp to name ≡ Less) (map to_of (row_of rest from)) →
+        All (λ name. name_cmp to name ≡ Less) (map to_of (row_of (first ∷ rest) from))
+    by false e later = rw e later
+    by true e later =
+        let tied : name_cmp from first.from ≡ Equal = ap (name_cmp from) ((names first.from from).0 e) ∙ tied_itself nat_list_cmp_total from in
+        let less : name_cmp to first.to ≡ Less = ap (λ (order : Ordering). ordering_then order (name_cmp to first.to)) (sym tied) ∙ above.0 in
+        rw e (All-cons (λ (name : List ℕ). name_cmp to name ≡ Less) first.to (map to_of (row_of rest from)) less later)
+
+-- the row of a source is in order
+pub rows_in_order : (rows : List Answer) (from : List ℕ) → AreRows rows → AreTargets (row_of rows from)
+rows_in_order [] from sorted = sorted_nil name_cmp
+rows_in_order (first ∷ rest) from sorted =
+    by (same_name first.from from) refl (rows_in_order rest from (sorted_tail pair_cmp (pair_of first) (pairs rest) sorted))
+  where
+    above : first.from ≡ from → All (λ name. name_cmp first.to name ≡ Less) (map to_of (row_of rest from))
+    above is = targets_above from first.to rest
+        (subst (λ (name : List ℕ). AllByRecursion (λ each. pair_cmp (pair_with name first.to) each ≡ Less) (pairs rest)) is
+        (below_all first rest sorted))
+
+    by : (test : Bool) → same_name first.from from ≡ test → AreTargets (row_of rest from) → AreTargets (row_of (first ∷ rest) from)
+    by false e later = rw e later
+    by true e later = rw e
+        (sorted_cons name_cmp first.to (map to_of (row_of rest from)) (above ((names first.from from).0 e)) later)

@@ -34,12 +34,12 @@ row_append rows others from =
     ap (map target_of) (filter-append test rows others) ∙ map-append target_of (filter test rows) (filter test others)
 
 -- the row of a source is what it leads to
-row_here : (from : List ℕ) (targets : List Target) → row_of (map (answer from) targets) from ≡ targets
+pub row_here : (from : List ℕ) (targets : List Target) → row_of (map (answer from) targets) from ≡ targets
 row_here from [] = refl
 row_here from (first ∷ rest) = rw (name_again from) (ap (λ (others : List Target). first ∷ others) (row_here from rest))
 
 -- another source has no part in it
-row_elsewhere : (from other : List ℕ) (targets : List Target) → same_name from other ≡ false → row_of (map (answer from) targets) other ≡ []
+pub row_elsewhere : (from other : List ℕ) (targets : List Target) → same_name from other ≡ false → row_of (map (answer from) targets) other ≡ []
 row_elsewhere from other [] e = refl
 row_elsewhere from other (first ∷ rest) e = rw e (row_elsewhere from other rest e)
 
@@ -108,7 +108,7 @@ below_row from to (first ∷ rest) below =
     ∙ All-head (λ (name : List ℕ). name_cmp to name ≡ Less) first.to (map to_of rest) below)
     (below_row from to rest (All-tail (λ (name : List ℕ). name_cmp to name ≡ Less) first.to (map to_of rest) below))
 
-row_sorted : (from : List ℕ) (targets : List Target) → AreTargets targets → AreRows (map (answer from) targets)
+pub row_sorted : (from : List ℕ) (targets : List Target) → AreTargets targets → AreRows (map (answer from) targets)
 row_sorted from [] sorted = sorted_nil pair_cmp
 row_sorted from (first ∷ rest) sorted =
     sorted_cons pair_cmp (pair from first.to) (pairs (map (answer from) rest))

@@ -43,6 +43,11 @@ target_of answer = record { to = answer.to; until = answer.until }
 abbrev pub row_of : List Answer → List ℕ → List Target
 row_of answers from = map target_of (filter (λ answer. same_name answer.from from) answers)
 
+-- the sources from which an answer leads to a vertex, in their order
+abbrev pub sources_of : List Answer → List ℕ → List (List ℕ)
+sources_of answers to =
+    map (λ answer. answer.from) (filter (λ answer. same_name answer.to to) answers)
+
 -- the targets are sorted by their names, each once
 abbrev pub AreTargets : List Target → Type 0
 AreTargets targets = IsStrictlySortedBy name_cmp (map (λ target. target.to) targets)

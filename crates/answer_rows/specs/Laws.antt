@@ -1,10 +1,11 @@
 -- What the definitions are meant to say, as laws.
 use Rattle.std.specs.Prelude.{◌≡◌, ℕ, ◌↔◌, ◌⊎◌, true, false, List, ◌++◌, map, Contains, None, IsSome}
 use Rattle.std.specs.List.Sorted.{IsStrictlySortedBy}
-use Rattle.rpq_base.specs.Order.{pair_cmp}
+use Rattle.rpq_base.specs.Order.{name_cmp, pair_cmp}
 use Rattle.rpq_base.specs.declared.data.Pair.{Pair}
 use Rattle.rpq_base.specs.declared.data.Event.{Event}
-use Rattle.answer_rows.specs.Answers.{Answer, AreRows, until_of, row_of, end_of}
+use Rattle.answer_rows.specs.Answers.{Answer, AreRows, pair, until_of, row_of, sources_of}
+use Rattle.answer_rows.specs.Answers.{end_of}
 use Rattle.answer_rows.specs.Changes.{changes, event}
 
 -- rows in which all pairs have the same ends are the same
@@ -16,6 +17,13 @@ EndsTellRows = (rows others : List Answer) → AreRows rows → AreRows others �
 abbrev pub EndsAreInRows : Type 0
 EndsAreInRows =
     (rows : List Answer) (pair : Pair) → until_of rows pair ≡ end_of (row_of rows pair.from) pair.to
+
+-- the sources of a vertex are those from which a pair to it has an end, in order and each once
+pub record SourcesHaveEnds : Type 0 where
+  pub each : (rows : List Answer) (from to : List ℕ) →
+      Contains (sources_of rows to) from ↔ IsSome (until_of rows (pair from to))
+  pub in_order : (rows : List Answer) (to : List ℕ) → AreRows rows →
+      IsStrictlySortedBy name_cmp (sources_of rows to)
 
 -- an event between two lists of answers: the pair of a loss has an end in the old one and none in
 -- the new one, that of a gain none in the old one and an end in the new one

@@ -1,7 +1,7 @@
 //! Laws of the definitions. The functions do nothing: their contracts are the laws.
 
 ghost use Rattle.answer_rows.specs.Laws.{EndsTellRows, EndsAreInRows, EventsAreChanges};
-ghost use Rattle.answer_rows.specs.Laws.{EventsAreInOrder};
+ghost use Rattle.answer_rows.specs.Laws.{EventsAreInOrder, SourcesHaveEnds};
 
 /// Rows in which all pairs have the same ends are the same.
 pub fn ends_tell_rows()
@@ -11,6 +11,11 @@ pub fn ends_tell_rows()
 /// The end of a pair is that of its target in the row of its source.
 pub fn ends_are_in_rows()
     ensures { EndsAreInRows }
+{}
+
+/// The sources of a vertex are those from which a pair to it has an end, in order and each once.
+pub fn sources_have_ends()
+    ensures { SourcesHaveEnds }
 {}
 
 /// The events between two lists of answers are exactly the pairs that lost their end or got one.

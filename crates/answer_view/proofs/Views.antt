@@ -70,5 +70,6 @@ pub views_are_one : EndsTellRows → (queries : List Query) (history : List Entr
     view ≡ other
 views_are_one ends_tell queries history view other first second =
     let position = first.position ∙ sym second.position in
+    let clock = first.clock ∙ sym second.clock in
     let rows = lists_are_one ends_tell queries history view.rows other.rows first.rows second.rows in
-    λ i. record { position = position i; rows = rows i }
+    λ i. record { position = position i; clock = clock i; rows = rows i }

@@ -10,11 +10,12 @@ use std::alloc::Global;
 use std::marker::Model;
 use std::sync::Arc;
 
-/// The answers of several queries at a position of a history, each with its end. Queries are
-/// numbered from 0.
+/// The answers of several queries at a position of a history, each with its end, and the clock
+/// there. Queries are numbered from 0.
 #[derive(Debug)]
 pub struct View {
     position: u64,
+    clock: u64,
     rows: Vec<Rows>,
 }
 
@@ -22,6 +23,7 @@ impl Drop for View {
     fn drop(self) {
         let View {
             position: _position,
+            clock: _clock,
             rows: _rows,
         } = self;
     }
@@ -32,16 +34,30 @@ impl Model for View {
 
     ghost Value = { ViewValue };
 
-    ghost view = { λ view. record { position = view.position; rows = view.rows.items } };
+    ghost view = { λ view. record {
+      position = view.position;
+      clock = view.clock;
+      rows = view.rows.items;
+    } };
 }
 
 impl View {
-    /// The view of these answers, one `Rows` for each query, at this position.
-    pub fn new(alloc: Global, position: u64, rows: Vec<Rows>) -> Result<Arc<View>, Memory>
-        ensures { IfOk result (λ view.
-            view.value ≡ record { position = position; rows = rows.items }) }
+    /// The view of these answers, one `Rows` for each query, at this position and this clock.
+    pub fn new(
+        alloc: Global,
+        position: u64,
+        clock: u64,
+        rows: Vec<Rows>,
+    ) -> Result<Arc<View>, Memory>
+        ensures { IfOk result (λ view. view.value
+            ≡ record { position = position; clock = clock; rows = rows.items }) }
     {
-        Ok(Arc::new(alloc, View { position, rows })?)
+        let view = View {
+            position,
+            clock,
+            rows,
+        };
+        Ok(Arc::new(alloc, view)?)
     }
 
     /// The number of entries of the history.
@@ -51,11 +67,25 @@ impl View {
         self.position
     }
 
+    /// The clock of the history: the greatest time of its entries, and 0 before any.
+    pub fn clock(&self) -> u64
+        ensures { result ≡ self.now.clock }
+    {
+        self.clock
+    }
+
     /// The number of queries.
     pub fn queries(&self) -> usize
         ensures { result ≡ length self.now.rows }
     {
         self.rows.len()
+    }
+
+    /// The answers of all queries, in their order.
+    pub fn all_rows(&self) -> &[Rows]
+        ensures { result.now ≡ self.now.rows }
+    {
+        &self.rows
     }
 
     /// The answers of the query with this number.

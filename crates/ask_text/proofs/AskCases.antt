@@ -13,12 +13,14 @@ use Rattle.rpq_model.specs.Query.{Query, query_named}
 use Rattle.answer_rows.specs.Answers.{pair}
 use Rattle.ask_text.specs.declared.ask.Ask.{Ask}
 use Rattle.ask_text.specs.declared.ask.Ask.TheVariants.{Answers, From, Pair, Count, Wait, Until}
+use Rattle.ask_text.specs.declared.ask.Ask.TheVariants.{Stats, Clock, Ends, To}
 use Rattle.ask_text.specs.declared.fault.AskKind.{AskKind}
 use Rattle.ask_text.specs.declared.fault.AskKind.TheVariants.{Shape, UnknownQuery, BadName, Number}
 use Rattle.ask_text.specs.declared.fault.AskKind.TheVariants.{TooMany, Memory}
-use Rattle.ask_text.specs.Reading.{position_of, ask_of_two, ask_of_three}
+use Rattle.ask_text.specs.Reading.{position_of, ask_of_one, ask_of_two, vertex_at, ask_of_three}
 use Rattle.ask_text.specs.Reading.{pair_of, ask_of_four, ask_of_fields}
-use Rattle.ask_text.specs.Parts.{names, IsPositionText, IsQueryWord, IsPairWord, IsAskOf, IsForm}
+use Rattle.ask_text.specs.Parts.{names, IsPositionText, IsLoneWord, IsQueryWord, IsVertexWord}
+use Rattle.ask_text.specs.Parts.{IsPairWord, IsAskOf, IsForm}
 use Rattle.ask_text.specs.Parts.{HasAskFault, IsFirstNamed, number_of_kind}
 use Rattle.ask_text.proofs.Steps.{WordCase, is_it, unlike, word_case, QueryCase, known, unknown}
 use Rattle.ask_text.proofs.Steps.{query_case, VertexCase, vertex, no_vertex, vertex_case}
@@ -181,41 +183,107 @@ two_ends queries word field = by (word_case word (codes "answers")) (word_case w
         (λ form. ⊎_elim (λ query. ⊎_elim no_answers no_count query) no_wait form)
         (rw (e, f, g) refl)
 
--- three fields
-three_ends : (queries : List Query) (word name from : List ℕ) →
-    AskEnds queries (word ∷ name ∷ from ∷ [])
-unfolding ask_of_fields ask_of_three
-three_ends queries word name from =
-    by (word_case word (codes "from")) (query_case queries name) (vertex_case from)
+-- one field, which is the word of an ask
+of_lone : (queries : List Query) (word : List ℕ) (ask : Ask) → IsLoneWord word →
+    IsAskOf queries ask (word ∷ []) → ask_of_fields queries (word ∷ []) ≡ Ok ask →
+    AskEnds queries (word ∷ [])
+of_lone queries word ask w is e = gives_ask ask is no_fault e
   where
-    no_fault : (q : ℕ) → word ≡ codes "from" → IsFirstNamed queries q name → IsName from →
-        (kind : AskKind) → HasAskFault queries (word ∷ name ∷ from ∷ []) kind → ⊥
-    no_fault q w is named Shape f = f w
-    no_fault q w is named UnknownQuery (field, (same_word, same), none) =
-        is_known queries q name field is same none
-    no_fault q w is named BadName (field, (same_word, same), bad) =
-        bad (subst IsName (sym same) named)
-    no_fault q w is named Number (field, has, bad) = has
-    no_fault q w is named TooMany f = f
-    no_fault q w is named Memory f = f
+    no_fault : (kind : AskKind) → HasAskFault queries (word ∷ []) kind → ⊥
+    no_fault Shape f = f w
+    no_fault UnknownQuery (field, has, none) = has
+    no_fault BadName (field, has, bad) = has
+    no_fault Number (field, has, bad) = has
+    no_fault TooMany f = f
+    no_fault Memory f = f
 
-    by : WordCase word (codes "from") → QueryCase queries name → VertexCase from →
-        AskEnds queries (word ∷ name ∷ from ∷ [])
-    by (unlike no_from e) q v = no_form queries (word ∷ name ∷ from ∷ []) no_from (rw e refl)
-    by (is_it same e) (unknown none found) v =
-        unknown_first queries (word ∷ name ∷ from ∷ []) same (name, (same, refl), none)
-        (rw (e, found) refl)
-    by (is_it same e) (known q is found) (no_vertex bad read) =
-        bad_name_first queries (word ∷ name ∷ from ∷ []) same
-        (λ f. is_known queries q name f.0 is f.1.1 f.2) (from, (same, refl), bad)
-        (rw (e, found, read) refl)
-    by (is_it same e) (known q is found) (vertex named read) =
-        gives_ask (From q from) (
-          name,
-          ap (λ (first : List ℕ). first ∷ name ∷ from ∷ []) same,
-          is,
-          named,
-        ) (no_fault q same is named) (rw (e, found, read) refl)
+-- one field
+one_ends : (queries : List Query) (word : List ℕ) → AskEnds queries (word ∷ [])
+unfolding ask_of_fields ask_of_one
+one_ends queries word = by (word_case word (codes "stats")) (word_case word (codes "clock"))
+  where
+    by : WordCase word (codes "stats") → WordCase word (codes "clock") → AskEnds queries (word ∷ [])
+    by (is_it same e) clock =
+        of_lone queries word Stats (inl same) (ap (λ (first : List ℕ). first ∷ []) same) (rw e refl)
+    by (unlike no_stats e) (is_it same f) =
+        of_lone queries word Clock (inr same) (ap (λ (first : List ℕ). first ∷ []) same)
+        (rw (e, f) refl)
+    by (unlike no_stats e) (unlike no_clock f) =
+        no_form queries (word ∷ []) (λ form. ⊎_elim no_stats no_clock form) (rw (e, f) refl)
+
+-- how a query and a vertex end
+data VertexEnds (queries : List Query) (name field : List ℕ) : Type 0 where
+  both_named : (q : ℕ) → IsFirstNamed queries q name → IsName field →
+      vertex_at queries name field ≡ Ok (q, field) → VertexEnds queries name field
+  no_such_query : (Contains (names queries) name → ⊥) →
+      vertex_at queries name field ≡ Err UnknownQuery → VertexEnds queries name field
+  bad_vertex : (q : ℕ) → IsFirstNamed queries q name → (IsName field → ⊥) →
+      vertex_at queries name field ≡ Err BadName → VertexEnds queries name field
+
+vertex_ends : (queries : List Query) (name field : List ℕ) → VertexEnds queries name field
+unfolding vertex_at
+vertex_ends queries name field = by (query_case queries name) (vertex_case field)
+  where
+    by : QueryCase queries name → VertexCase field → VertexEnds queries name field
+    by (unknown none found) v = no_such_query none (rw found refl)
+    by (known q is found) (no_vertex bad read) = bad_vertex q is bad (rw (found, read) refl)
+    by (known q is found) (vertex named read) = both_named q is named (rw (found, read) refl)
+
+-- three fields, of which the first is the word of an ask about a vertex
+of_vertex : (queries : List Query) (word name field : List ℕ) (make : ℕ → List ℕ → Ask) →
+    IsVertexWord word →
+    ((q : ℕ) → IsFirstNamed queries q name → IsName field →
+    IsAskOf queries (make q field) (word ∷ name ∷ field ∷ [])) →
+    ask_of_fields queries (word ∷ name ∷ field ∷ []) ≡ (vertex_at queries name field >>=
+    λ p. Ok (make p.0 p.1)) →
+    VertexEnds queries name field → AskEnds queries (word ∷ name ∷ field ∷ [])
+of_vertex queries word name field make w asks e (no_such_query none found) =
+    unknown_first queries (word ∷ name ∷ field ∷ []) w (name, (w, refl), none)
+    (e ∙ ap (λ r. r >>= λ p. Ok (make p.0 p.1)) found)
+of_vertex queries word name field make w asks e (bad_vertex q is bad found) =
+    bad_name_first queries (word ∷ name ∷ field ∷ []) w
+    (λ f. is_known queries q name f.0 is f.1.1 f.2) (field, (w, refl), bad)
+    (e ∙ ap (λ r. r >>= λ p. Ok (make p.0 p.1)) found)
+of_vertex queries word name field make w asks e (both_named q is named found) =
+    gives_ask (make q field) (asks q is named) no_fault
+    (e ∙ ap (λ r. r >>= λ p. Ok (make p.0 p.1)) found)
+  where
+    no_fault : (kind : AskKind) → HasAskFault queries (word ∷ name ∷ field ∷ []) kind → ⊥
+    no_fault Shape f = f w
+    no_fault UnknownQuery (other, (same_word, same), none) =
+        is_known queries q name other is same none
+    no_fault BadName (other, (same_word, same), bad) = bad (subst IsName (sym same) named)
+    no_fault Number (other, has, bad) = has
+    no_fault TooMany f = f
+    no_fault Memory f = f
+
+-- three fields
+three_ends : (queries : List Query) (word name field : List ℕ) →
+    AskEnds queries (word ∷ name ∷ field ∷ [])
+unfolding ask_of_fields ask_of_three
+three_ends queries word name field =
+    by (word_case word (codes "from")) (word_case word (codes "ends")) (word_case word (codes "to"))
+  where
+    same_fields : (text : List ℕ) → word ≡ text → word ∷ name ∷ field ∷ [] ≡ text ∷ name ∷ field ∷ []
+    same_fields text same = ap (λ (first : List ℕ). first ∷ name ∷ field ∷ []) same
+
+    by : WordCase word (codes "from") → WordCase word (codes "ends") → WordCase word (codes "to") →
+        AskEnds queries (word ∷ name ∷ field ∷ [])
+    by (is_it same e) ends to =
+        of_vertex queries word name field (λ q x. From q x) (inl same)
+        (λ q is named. (name, same_fields (codes "from") same, is, named)) (rw e refl)
+        (vertex_ends queries name field)
+    by (unlike no_from e) (is_it same f) to =
+        of_vertex queries word name field (λ q x. Ends q x) (inr (inl same))
+        (λ q is named. (name, same_fields (codes "ends") same, is, named)) (rw (e, f) refl)
+        (vertex_ends queries name field)
+    by (unlike no_from e) (unlike no_ends f) (is_it same g) =
+        of_vertex queries word name field (λ q x. To q x) (inr (inr same))
+        (λ q is named. (name, same_fields (codes "to") same, is, named)) (rw (e, f, g) refl)
+        (vertex_ends queries name field)
+    by (unlike no_from e) (unlike no_ends f) (unlike no_to g) =
+        no_form queries (word ∷ name ∷ field ∷ [])
+        (λ form. ⊎_elim no_from (λ other. ⊎_elim no_ends no_to other) form) (rw (e, f, g) refl)
 
 -- how a query and two vertices end
 data PairCase (queries : List Query) (name from to : List ℕ) : Type 0 where
@@ -305,9 +373,9 @@ four_ends queries word name from to =
 pub ask_ends : (queries : List Query) (fields : List (List ℕ)) → AskEnds queries fields
 unfolding ask_of_fields
 ask_ends queries [] = no_form queries [] (λ form. form) refl
-ask_ends queries (a ∷ []) = no_form queries (a ∷ []) (λ form. form) refl
+ask_ends queries (word ∷ []) = one_ends queries word
 ask_ends queries (word ∷ field ∷ []) = two_ends queries word field
-ask_ends queries (word ∷ name ∷ from ∷ []) = three_ends queries word name from
+ask_ends queries (word ∷ name ∷ field ∷ []) = three_ends queries word name field
 ask_ends queries (word ∷ name ∷ from ∷ to ∷ []) = four_ends queries word name from to
 ask_ends queries (a ∷ b ∷ c ∷ d ∷ e ∷ more) =
     no_form queries (a ∷ b ∷ c ∷ d ∷ e ∷ more) (λ form. form) refl

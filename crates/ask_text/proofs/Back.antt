@@ -3,12 +3,13 @@ use Rattle.std.proofs.Common.{◌≡◌, ℕ, ◌+◌, ◌<◌, ◌≤◌, Bool,
 use Rattle.std.proofs.Common.{Some, None, Ok, Err, List, [], ◌∷◌, ◌++◌, length, map}
 use Rattle.std.proofs.Common.{filter, refl, sym, ap, ap₂, subst, ◌∙◌, arith, inl, inr}
 use Rattle.std.proofs.Common.{length-append, append_assoc, append-nil}
-use Rattle.std.specs.Prelude.{All}
+use Rattle.std.specs.Prelude.{All, bytes_eq, codes}
 use Rattle.std.specs.List.{AllZip}
 use Rattle.std.specs.Result.{result_map_both}
 use Rattle.std.proofs.lemmas.Bool.{cases_order, false≢true}
 use Rattle.std.proofs.lemmas.List.Elements.{All-head, All-tail}
 use Rattle.std.proofs.lemmas.Bool.{lt-leb}
+use Rattle.std.proofs.lemmas.Slice.Eq.{bytes_eq-Decides}
 use Rattle.text_parts.specs.Lines.{is_blank_line, is_comment, lines}
 use Rattle.text_parts.specs.Fields.{fields}
 use Rattle.text_parts.specs.Reading.{◌>>=◌}
@@ -20,7 +21,8 @@ use Rattle.ask_text.specs.declared.fault.AskFault.{AskFault}
 use Rattle.ask_text.specs.declared.fault.AskKind.{AskKind}
 use Rattle.ask_text.specs.declared.fault.AskKind.TheVariants.{UnknownQuery}
 use Rattle.ask_text.specs.declared.ask.Ask.TheVariants.{Answers, From, Pair, Count, Wait, Until}
-use Rattle.ask_text.specs.Reading.{vertex_of, position_of, ask_of_two}
+use Rattle.ask_text.specs.declared.ask.Ask.TheVariants.{Stats, Clock, Ends, To}
+use Rattle.ask_text.specs.Reading.{vertex_of, position_of, ask_of_one, ask_of_two, vertex_at}
 use Rattle.ask_text.specs.Reading.{ask_of_three, pair_of, ask_of_four, ask_of_fields}
 use Rattle.ask_text.specs.Asks.{Sessions, all, with_current, none_yet, begun, grown, begins_session}
 use Rattle.ask_text.specs.Asks.{after_fields, after_line, fault_at, line_step, gives, asks}
@@ -75,7 +77,7 @@ position_read field number is = by (position_case field)
 
 ask_read : (queries : List Query) (ask : Ask) (list : List (List ℕ)) → IsAskOf queries ask list →
     ask_of_fields queries list ≡ Ok ask
-unfolding ask_of_fields ask_of_two ask_of_three ask_of_four pair_of
+unfolding ask_of_fields ask_of_one ask_of_two ask_of_three ask_of_four vertex_at pair_of
 ask_read queries (Answers q) list (name, is, first) = ap (ask_of_fields queries) is
     ∙ rw (query_read queries q name first) refl
 ask_read queries (Count q) list (name, is, first) = ap (ask_of_fields queries) is
@@ -84,6 +86,12 @@ ask_read queries (Wait n) list (text, is, at) = ap (ask_of_fields queries) is
     ∙ rw (position_read text n at) refl
 ask_read queries (From q from) list (name, is, first, named) = ap (ask_of_fields queries) is
     ∙ rw (query_read queries q name first, vertex_read from named) refl
+ask_read queries (Ends q from) list (name, is, first, named) = ap (ask_of_fields queries) is
+    ∙ rw (query_read queries q name first, vertex_read from named) refl
+ask_read queries (To q to) list (name, is, first, named) = ap (ask_of_fields queries) is
+    ∙ rw (query_read queries q name first, vertex_read to named) refl
+ask_read queries Stats list is = ap (ask_of_fields queries) is
+ask_read queries Clock list is = ap (ask_of_fields queries) is
 ask_read queries (Pair q from to) list (name, is, first, named, also) =
     ap (ask_of_fields queries) is ∙ rw (
       query_read queries q name first,
@@ -97,12 +105,25 @@ ask_read queries (Until q from to) list (name, is, first, named, also) =
       vertex_read to also,
     ) refl
 
+-- a word alone that isn't `session`
+other_word : (word : List ℕ) (list : List (List ℕ)) → list ≡ word ∷ [] → bytes_eq word (codes "session") ≡ false →
+    list ≡ session_fields → ⊥
+other_word word list is differs e =
+    let same : word ∷ [] ≡ session_fields = sym is ∙ e in
+    false≢true (sym differs ∙ (bytes_eq-Decides word (codes "session")).1 cc)
+
 -- an ask doesn't begin a session
 ask_goes_on : (queries : List Query) (ask : Ask) (list : List (List ℕ)) → IsAskOf queries ask list →
     list ≡ session_fields → ⊥
 ask_goes_on queries (Answers q) list (name, is, first) e = omega (arith, ap length (sym is ∙ e))
 ask_goes_on queries (Count q) list (name, is, first) e = omega (arith, ap length (sym is ∙ e))
 ask_goes_on queries (Wait n) list (text, is, at) e = omega (arith, ap length (sym is ∙ e))
+ask_goes_on queries Stats list is e = other_word (codes "stats") list is refl e
+ask_goes_on queries Clock list is e = other_word (codes "clock") list is refl e
+ask_goes_on queries (Ends q from) list (name, is, first, named) e =
+    omega (arith, ap length (sym is ∙ e))
+ask_goes_on queries (To q to) list (name, is, first, named) e =
+    omega (arith, ap length (sym is ∙ e))
 ask_goes_on queries (From q from) list (name, is, first, named) e =
     omega (arith, ap length (sym is ∙ e))
 ask_goes_on queries (Pair q from to) list (name, is, first, named, also) e =

@@ -1,6 +1,7 @@
 mod AskCases
 mod Back
 mod ByParts
+mod Counts
 mod Examples
 mod LineCases
 mod Ranged

@@ -9,6 +9,7 @@ use Rattle.std.proofs.lemmas.Option.{slice_get_within}
 use Rattle.rpq_model.specs.Query.{Query}
 use Rattle.ask_text.specs.declared.ask.Ask.{Ask}
 use Rattle.ask_text.specs.declared.ask.Ask.TheVariants.{Answers, From, Pair, Count, Wait, Until}
+use Rattle.ask_text.specs.declared.ask.Ask.TheVariants.{Stats, Clock, Ends, To}
 use Rattle.ask_text.specs.Asks.{Sessions, all, with_current}
 use Rattle.ask_text.specs.Parts.{names, IsFirstNamed, IsAskOf, IsAfter}
 use Rattle.ask_text.specs.Ranges.{IsInRange, IsSession}
@@ -32,7 +33,11 @@ ask_in_range queries (Pair q from to) list (name, is, known, named, also) =
     known_below queries q name known
 ask_in_range queries (Until q from to) list (name, is, known, named, also) =
     known_below queries q name known
+ask_in_range queries (Ends q from) list (name, is, known, named) = known_below queries q name known
+ask_in_range queries (To q to) list (name, is, known, named) = known_below queries q name known
 ask_in_range queries (Wait number) list is = tt
+ask_in_range queries Stats list is = tt
+ask_in_range queries Clock list is = tt
 
 longer : (over : List (List Ask)) (asks : List Ask) → length (over ++ asks ∷ []) ≡ length over + 1
 longer over asks = length-append over (asks ∷ [])

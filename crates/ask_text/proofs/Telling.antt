@@ -5,7 +5,7 @@ use Rattle.std.proofs.Common.{drop, take, get_or, Option, Some, None, codes, ref
 use Rattle.std.proofs.Common.{subst, ◌∙◌}
 use Rattle.std.proofs.Common.{arith, inl, inr, ⊎_elim, length-append, append_assoc}
 use Rattle.std.specs.Prelude.{◌↔◌, IsSome, is_some, Contains, decimal, flat_map, slice_get}
-use Rattle.std.specs.Prelude.{slice_index_or}
+use Rattle.std.specs.Prelude.{slice_index_or, zip}
 use Rattle.std.specs.List.{AllZip}
 use Rattle.std.proofs.Math.Seq.{drop-append_seam}
 use Rattle.std.proofs.lemmas.Bool.{false≢true}
@@ -20,15 +20,21 @@ use Rattle.rpq_base.proofs.Orders.{pair_cmp_total, pair_cmp_exact}
 use Rattle.rpq_base.proofs.Sorted.{same_from_members}
 use Rattle.rpq_model.specs.Answers.{IsAnswer, AreAnswers}
 use Rattle.rpq_model.specs.Query.{Query, path_query}
-use Rattle.answer_rows.specs.Answers.{Answer, pair, pair_of, pairs, until_of, row_of}
+use Rattle.rpq_model.specs.Window.{clock as clock_of}
+use Rattle.answer_rows.specs.Answers.{Answer, pair, pair_of, pairs, until_of, end_of, row_of}
+use Rattle.answer_rows.specs.Answers.{sources_of}
+use Rattle.answer_rows.proofs.Ends.{ends_in_rows, rows_in_order, targets_tell}
 use Rattle.answer_rows.specs.declared.target.Target.{Target}
 use Rattle.answer_view.specs.View.{ViewValue, AreRowsOf, rows_at}
 use Rattle.ask_text.specs.declared.ask.Ask.{Ask}
 use Rattle.ask_text.specs.declared.ask.Ask.TheVariants.{Answers, From, Pair, Count, Until}
-use Rattle.ask_text.specs.Reply.{name_at, pair_line, target_line, query_front, answers_text}
-use Rattle.ask_text.specs.Reply.{from_text, pair_text, yes_or_no, end_text, count_text, told, reply}
-use Rattle.ask_text.specs.Reply.{IsReply}
-use Rattle.ask_text.specs.Laws.{EndsWith, targets, TellsPair, TellsPairs, RepliesTellAnswers}
+use Rattle.ask_text.specs.declared.ask.Ask.TheVariants.{Stats, Clock, Ends, To}
+use Rattle.ask_text.specs.Reply.{name_at, pair_line, target_line, end_line, count_line}
+use Rattle.ask_text.specs.Reply.{query_front, answers_text, from_text, ends_text, to_text}
+use Rattle.ask_text.specs.Reply.{pair_text, yes_or_no, end_text, count_text, stats_text}
+use Rattle.ask_text.specs.Reply.{clock_text, told, reply, IsReply}
+use Rattle.ask_text.specs.Laws.{EndsWith, IsTold, targets, sources, TellsPair}
+use Rattle.ask_text.specs.Laws.{TellsPairs, AreEndsFrom, RepliesTellAnswers}
 
 -- ---- the query of a number, and its rows
 
@@ -307,6 +313,72 @@ row_said name from rows =
     (lines_of_targets row ∙ ap (λ (list : List (List ℕ)). flat_map
     (λ (to : List ℕ). to ++ codes "\n") list) reached)
 
+column_is_sources : (rows : List Answer) (to : List ℕ) → sources_of rows to ≡ sources to (pairs rows)
+column_is_sources [] to = refl
+column_is_sources (first ∷ rows) to = by (same_name first.to to) refl (column_is_sources rows to)
+  where
+    by : (same : Bool) → same_name first.to to ≡ same → sources_of rows to ≡ sources to (pairs rows) →
+        sources_of (first ∷ rows) to ≡ sources to (pairs (first ∷ rows))
+    by true e later = rw e (ap (λ (list : List (List ℕ)). first.from ∷ list) later)
+    by false e later = rw e later
+
+column_said : (name to : List ℕ) (rows : List Answer) →
+    codes " " ++ to_text name to (sources_of rows to)
+    ≡ query_front (codes " to") name ++ to ++ codes " " ++ decimal
+    (length (sources to (pairs rows))) ++ codes "\n"
+    ++ flat_map (λ (from : List ℕ). from ++ codes "\n") (sources to (pairs rows))
+unfolding to_text
+column_said name to rows =
+    ap (λ (list : List (List ℕ)). query_front (codes " to") name ++ to ++ codes " " ++ decimal
+    (length list) ++ codes "\n" ++ flat_map (λ (from : List ℕ). from ++ codes "\n") list)
+    (column_is_sources rows to)
+
+-- the lines of the numbers of all queries
+abbrev count_of : Query × List Answer → List ℕ
+count_of each = count_line each.0.name (length each.1)
+
+count_lines : List Query → List (List Answer) → List (List ℕ)
+count_lines queries all = map count_of (zip queries all)
+
+lines_joined : (lists : List (Query × List Answer)) →
+    flat_map count_of lists ≡ flat_map (λ (line : List ℕ). line) (map count_of lists)
+lines_joined [] = refl
+lines_joined (first ∷ rest) = ap (λ (text : List ℕ). count_of first ++ text) (lines_joined rest)
+
+lines_counted : (queries : List Query) (history : List Entry) (all : List (List Answer)) →
+    AllZip (λ each list. AreRowsOf (path_query each) history list) queries all →
+    length (count_lines queries all) ≡ length queries
+unfolding count_lines
+lines_counted [] history all are = refl
+lines_counted (first ∷ queries) history [] are = absurd are
+lines_counted (first ∷ queries) history (rows ∷ all) are =
+    omega (arith, lines_counted queries history all are.1)
+
+line_there : (queries : List Query) (history : List Entry) (all : List (List Answer)) (number : ℕ)
+    (query : Query) → slice_get queries number ≡ Some query →
+    AllZip (λ each list. AreRowsOf (path_query each) history list) queries all →
+    slice_get (count_lines queries all) number
+    ≡ Some (count_line query.name (length (slice_index_or all number [])))
+unfolding count_lines
+line_there [] history all number query e are = absurd (none-some query e)
+line_there (first ∷ queries) history [] number query e are = absurd are
+line_there (first ∷ queries) history (rows ∷ all) zero query e are =
+    ap (λ (each : Query). Some (count_line each.name (length rows))) (same_Some first query e)
+line_there (first ∷ queries) history (rows ∷ all) (suc number) query e are =
+    line_there queries history all number query e are.1
+
+-- the reply about the numbers of all queries
+told_stats : (queries : List Query) (view : ViewValue) (ended : Bool) →
+    reply queries view Stats ended
+    ≡ (codes "@" ++ decimal view.position) ++ (codes " stats " ++ decimal (length queries)
+    ++ codes "\n" ++ flat_map (λ (line : List ℕ). line) (count_lines queries view.rows))
+unfolding told stats_text count_lines
+told_stats queries view ended =
+    told_last queries view Stats ended
+    ∙ ap (λ (lines : List ℕ). (codes "@" ++ decimal view.position)
+    ++ (codes " stats " ++ decimal (length queries) ++ codes "\n" ++ lines))
+    (lines_joined (zip queries view.rows))
+
 tells_pairs : (query : Query) → Held query → (queries : List Query) (history : List Entry)
     (position number : ℕ) (answers : List PairOf) → slice_get queries number ≡ Some query →
     AreAnswers (path_query query) (take position history) answers →
@@ -322,12 +394,35 @@ tells_pairs query held queries history position number answers there given = rec
       by (Count number) ended text is
       (λ name list. query_front (codes " count") name ++ decimal (length list) ++ codes "\n")
       (count_said (name_at queries number) (rows_at is.view number));
+  stats = λ ended text is.
+      let rows = rows_at is.view number in
+      let are = rows_told queries history position number query Stats ended text there is in
+      let count : length rows ≡ length answers =
+      sym (length-map rows pair_of) ∙ ap (λ (list : List PairOf). length list)
+      (answers_are_pairs query (take position history) rows answers are
+      (held (take position history) rows are) given) in record {
+        lines = count_lines queries is.view.rows;
+        ends = (
+          codes "@" ++ decimal is.view.position,
+          is.is_text ∙ told_stats queries is.view ended,
+        );
+        each = lines_counted queries (take position history) is.view.rows is.is_view.rows;
+        own = line_there queries (take position history) is.view.rows number query there
+            is.is_view.rows
+            ∙ ap (λ (n : ℕ). Some (count_line query.name n)) count;
+      };
   row = λ from ended text is.
       by (From number from) ended text is
       (λ name list. query_front (codes " from") name ++ from ++ codes " " ++ decimal
       (length (targets from list))
       ++ codes "\n" ++ flat_map (λ (to : List ℕ). to ++ codes "\n") (targets from list))
       (row_said (name_at queries number) from (rows_at is.view number));
+  column = λ to ended text is.
+      by (To number to) ended text is
+      (λ name list. query_front (codes " to") name ++ to ++ codes " " ++ decimal
+      (length (sources to list))
+      ++ codes "\n" ++ flat_map (λ (from : List ℕ). from ++ codes "\n") (sources to list))
+      (column_said (name_at queries number) to (rows_at is.view number));
 }
   where
     by : (ask : Ask) (ended : Bool) (text : List ℕ)
@@ -347,6 +442,70 @@ tells_pairs query held queries history position number answers there given = rec
               (held (take position history) rows are) given)),
         )
 
+-- ---- what is told of the targets with their ends
+
+-- options with the same values are equal
+same_option : (first second : Option ℕ) →
+    ((n : ℕ) → (first ≡ Some n) ↔ (second ≡ Some n)) → first ≡ second
+same_option None None same = refl
+same_option None (Some n) same = (same n).1 refl
+same_option (Some n) second same = sym ((same n).0 refl)
+
+-- targets with their ends are the row of their source
+ends_are_row : (query : Query) (history : List Entry) (from : List ℕ) (row : List Target)
+    (rows : List Answer) → AreEndsFrom (path_query query) history from row →
+    AreRowsOf (path_query query) history rows → row_of rows from ≡ row
+ends_are_row query history from row rows given are =
+    targets_tell (row_of rows from) row (rows_in_order rows from are.sorted) given.sorted (λ to.
+    sym (ends_in_rows rows (pair from to))
+    ∙ same_option (until_of rows (pair from to)) (end_of row to) (λ until. (
+      (λ e. (given.exact to until).1 ((are.exact (pair from to) until).0 e)),
+      (λ e. (are.exact (pair from to) until).1 ((given.exact to until).0 e)),
+    )))
+
+ends_said : (name from : List ℕ) (row : List Target) → codes " " ++ ends_text name from row
+    ≡ query_front (codes " ends") name ++ from ++ codes " " ++ decimal (length row)
+    ++ codes "\n" ++ flat_map end_line row
+unfolding ends_text
+ends_said name from row = refl
+
+tells_ends : (query : Query) (queries : List Query) (history : List Entry) (position number : ℕ)
+    (from : List ℕ) (row : List Target) → slice_get queries number ≡ Some query →
+    AreEndsFrom (path_query query) (take position history) from row →
+    IsTold queries history position (Ends number from)
+    (query_front (codes " ends") query.name ++ from ++ codes " " ++ decimal (length row)
+    ++ codes "\n" ++ flat_map end_line row)
+unfolding told
+tells_ends query queries history position number from row there given ended text is =
+    let are = rows_told queries history position number query (Ends number from) ended text there is in
+    let rows = rows_at is.view number in (
+      codes "@" ++ decimal is.view.position,
+      is.is_text ∙ told_last queries is.view (Ends number from) ended
+          ∙ ap (λ (last : List ℕ). (codes "@" ++ decimal is.view.position) ++ last)
+          (ends_said (name_at queries number) from (row_of rows from)
+          ∙ ap₂ (λ (name : List ℕ) (list : List Target). query_front (codes " ends") name ++ from
+          ++ codes " " ++ decimal (length list) ++ codes "\n" ++ flat_map end_line list)
+          (name_there queries number query there)
+          (ends_are_row query (take position history) from row rows given are)),
+    )
+
+-- ---- what is told of the clock
+
+tells_clock : (queries : List Query) (history : List Entry) (position : ℕ) →
+    IsTold queries history position Clock
+    (codes " clock " ++ decimal (clock_of (take position history)) ++ codes "\n")
+unfolding told clock_text
+tells_clock queries history position ended text is = (
+  codes "@" ++ decimal is.view.position,
+  is.is_text ∙ told_last queries is.view Clock ended
+      ∙ ap (λ (clock : ℕ). (codes "@" ++ decimal is.view.position)
+      ++ (codes " clock " ++ decimal clock ++ codes "\n")) is.is_view.clock,
+)
+
 pub replies_tell_answers : (query : Query) → Held query → RepliesTellAnswers query
-replies_tell_answers query held =
-    record { one = tells_pair query held; all = tells_pairs query held }
+replies_tell_answers query held = record {
+  one = tells_pair query held;
+  all = tells_pairs query held;
+  ends = tells_ends query;
+  clock = tells_clock;
+}

@@ -9,6 +9,7 @@ use Rattle.rpq_base.specs.declared.data.TheConstants.{MAX_TIME}
 use Rattle.rpq_model.specs.Query.{Query}
 use Rattle.ask_text.specs.declared.ask.Ask.{Ask}
 use Rattle.ask_text.specs.declared.ask.Ask.TheVariants.{Answers, From, Pair, Count, Wait, Until}
+use Rattle.ask_text.specs.declared.ask.Ask.TheVariants.{Stats, Clock, Ends, To}
 use Rattle.ask_text.specs.declared.fault.AskKind.{AskKind}
 use Rattle.ask_text.specs.declared.fault.AskKind.TheVariants.{Shape, UnknownQuery, BadName, Number}
 use Rattle.ask_text.specs.declared.fault.AskKind.TheVariants.{TooMany, Memory}
@@ -29,7 +30,8 @@ pub record IsPositionText (number : ℕ) (text : List ℕ) : Type 0 where
   pub value : number_of text ≡ number
   pub range : number ≤ MAX_TIME
 
--- the fields of an ask: its word, the name of its query, and its vertices; or the position
+-- the fields of an ask: its word, the name of its query, and its vertices; or the position; or its
+-- word alone
 abbrev pub IsAskOf : List Query → Ask → List (List ℕ) → Type 0
 IsAskOf queries (Answers query) fields =
     (name : List ℕ) × (fields ≡ codes "answers" ∷ name ∷ []) × IsFirstNamed queries query name
@@ -46,35 +48,51 @@ IsAskOf queries (Wait number) fields =
 IsAskOf queries (Until query from to) fields =
     (name : List ℕ) × (fields ≡ codes "until" ∷ name ∷ from ∷ to ∷ [])
     × IsFirstNamed queries query name × IsName from × IsName to
+IsAskOf queries Stats fields = fields ≡ codes "stats" ∷ []
+IsAskOf queries Clock fields = fields ≡ codes "clock" ∷ []
+IsAskOf queries (Ends query from) fields =
+    (name : List ℕ) × (fields ≡ codes "ends" ∷ name ∷ from ∷ [])
+    × IsFirstNamed queries query name × IsName from
+IsAskOf queries (To query to) fields =
+    (name : List ℕ) × (fields ≡ codes "to" ∷ name ∷ to ∷ [])
+    × IsFirstNamed queries query name × IsName to
 
 -- the fields of the line that begins a session
 abbrev pub session_fields : List (List ℕ)
 session_fields = codes "session" ∷ []
 
--- the word of an ask about the answers of a query as a whole, and of one about a pair
+-- the word of an ask about no query, of one about the answers of a query as a whole, of one about a
+-- vertex, and of one about a pair
+abbrev pub IsLoneWord : List ℕ → Type 0
+IsLoneWord word = (word ≡ codes "stats") ⊎ (word ≡ codes "clock")
+
 abbrev pub IsQueryWord : List ℕ → Type 0
 IsQueryWord word = (word ≡ codes "answers") ⊎ (word ≡ codes "count")
+
+abbrev pub IsVertexWord : List ℕ → Type 0
+IsVertexWord word = (word ≡ codes "from") ⊎ ((word ≡ codes "ends") ⊎ (word ≡ codes "to"))
 
 abbrev pub IsPairWord : List ℕ → Type 0
 IsPairWord word = (word ≡ codes "pair") ⊎ (word ≡ codes "until")
 
 -- the fields have the word and the number of fields of an ask
 abbrev pub IsForm : List (List ℕ) → Type 0
+IsForm (word ∷ []) = IsLoneWord word
 IsForm (word ∷ name ∷ []) = IsQueryWord word ⊎ (word ≡ codes "wait")
-IsForm (word ∷ name ∷ from ∷ []) = word ≡ codes "from"
+IsForm (word ∷ name ∷ vertex ∷ []) = IsVertexWord word
 IsForm (word ∷ name ∷ from ∷ to ∷ []) = IsPairWord word
 IsForm others = ⊥
 
 -- this field should be the name of a query
 abbrev pub HasQuery : List (List ℕ) → List ℕ → Type 0
 HasQuery (word ∷ name ∷ []) field = IsQueryWord word × (field ≡ name)
-HasQuery (word ∷ name ∷ from ∷ []) field = (word ≡ codes "from") × (field ≡ name)
+HasQuery (word ∷ name ∷ vertex ∷ []) field = IsVertexWord word × (field ≡ name)
 HasQuery (word ∷ name ∷ from ∷ to ∷ []) field = IsPairWord word × (field ≡ name)
 HasQuery others field = ⊥
 
 -- this field should be a vertex
 abbrev pub HasVertex : List (List ℕ) → List ℕ → Type 0
-HasVertex (word ∷ name ∷ from ∷ []) field = (word ≡ codes "from") × (field ≡ from)
+HasVertex (word ∷ name ∷ vertex ∷ []) field = IsVertexWord word × (field ≡ vertex)
 HasVertex (word ∷ name ∷ from ∷ to ∷ []) field =
     IsPairWord word × ((field ≡ from) ⊎ (field ≡ to))
 HasVertex others field = ⊥

@@ -2,6 +2,7 @@
 use Rattle.std.specs.Prelude.{ℕ, ◌<◌, ◌≤◌, nat_lt, Bool, false, List, length, All}
 use Rattle.ask_text.specs.declared.ask.Ask.{Ask}
 use Rattle.ask_text.specs.declared.ask.Ask.TheVariants.{Answers, From, Pair, Count, Wait, Until}
+use Rattle.ask_text.specs.declared.ask.Ask.TheVariants.{Stats, Clock, Ends, To}
 
 -- the query of the ask, if it is of one, is among so many
 abbrev pub IsInRange : ℕ → Ask → Type 0
@@ -11,6 +12,10 @@ IsInRange queries (Pair query from to) = query < queries
 IsInRange queries (Count query) = query < queries
 IsInRange queries (Wait number) = Unit {0}
 IsInRange queries (Until query from to) = query < queries
+IsInRange queries Stats = Unit {0}
+IsInRange queries Clock = Unit {0}
+IsInRange queries (Ends query from) = query < queries
+IsInRange queries (To query to) = query < queries
 
 -- a session about so many queries: at most 1,024 asks, whose queries are among these
 pub record IsSession (queries : ℕ) (asks : List Ask) : Type 0 where
@@ -25,3 +30,7 @@ ended_at (From query from) position = false
 ended_at (Pair query from to) position = false
 ended_at (Count query) position = false
 ended_at (Until query from to) position = false
+ended_at Stats position = false
+ended_at Clock position = false
+ended_at (Ends query from) position = false
+ended_at (To query to) position = false

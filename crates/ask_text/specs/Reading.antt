@@ -12,6 +12,7 @@ use Rattle.rpq_model.specs.Query.{Query, query_named}
 use Rattle.answer_rows.specs.Answers.{pair}
 use Rattle.ask_text.specs.declared.ask.Ask.{Ask}
 use Rattle.ask_text.specs.declared.ask.Ask.TheVariants.{Answers, From, Pair, Count, Wait, Until}
+use Rattle.ask_text.specs.declared.ask.Ask.TheVariants.{Stats, Clock, Ends, To}
 use Rattle.ask_text.specs.declared.fault.AskKind.{AskKind}
 use Rattle.ask_text.specs.declared.fault.AskKind.TheVariants.{Shape, UnknownQuery, BadName, Number}
 
@@ -23,6 +24,13 @@ vertex_of field = if is_name field then Ok field else Err BadName
 unfoldable pub position_of : List ℕ → Result ℕ AskKind
 position_of field = ok_or (number_within MAX_TIME field) Number
 
+-- an ask of one field
+unfoldable pub ask_of_one : List ℕ → Result Ask AskKind
+ask_of_one word =
+    if bytes_eq word (codes "stats") then Ok Stats
+    else if bytes_eq word (codes "clock") then Ok Clock
+    else Err Shape
+
 -- an ask of two fields
 unfoldable pub ask_of_two : List Query → List ℕ → List ℕ → Result Ask AskKind
 ask_of_two queries word field =
@@ -33,13 +41,21 @@ ask_of_two queries word field =
     else if bytes_eq word (codes "wait") then (position_of field >>= λ n. Ok (Wait n))
     else Err Shape
 
+-- a query and a vertex
+unfoldable pub vertex_at : List Query → List ℕ → List ℕ → Result (ℕ × List ℕ) AskKind
+vertex_at queries name field = do
+  query ← query_named UnknownQuery queries name
+  vertex ← vertex_of field
+  Ok (query, vertex)
+
 -- an ask of three fields
 unfoldable pub ask_of_three : List Query → List ℕ → List ℕ → List ℕ → Result Ask AskKind
-ask_of_three queries word name from =
-    if bytes_eq word (codes "from") then (do
-      query ← query_named UnknownQuery queries name
-      vertex ← vertex_of from
-      Ok (From query vertex))
+ask_of_three queries word name field =
+    if bytes_eq word (codes "from") then
+    (vertex_at queries name field >>= λ p. Ok (From p.0 p.1))
+    else if bytes_eq word (codes "ends") then
+    (vertex_at queries name field >>= λ p. Ok (Ends p.0 p.1))
+    else if bytes_eq word (codes "to") then (vertex_at queries name field >>= λ p. Ok (To p.0 p.1))
     else Err Shape
 
 -- a query and the pair of two vertices
@@ -61,7 +77,8 @@ ask_of_four queries word name from to =
 
 -- the ask that the fields of a line give
 unfoldable pub ask_of_fields : List Query → List (List ℕ) → Result Ask AskKind
+ask_of_fields queries (word ∷ []) = ask_of_one word
 ask_of_fields queries (word ∷ field ∷ []) = ask_of_two queries word field
-ask_of_fields queries (word ∷ name ∷ from ∷ []) = ask_of_three queries word name from
+ask_of_fields queries (word ∷ name ∷ field ∷ []) = ask_of_three queries word name field
 ask_of_fields queries (word ∷ name ∷ from ∷ to ∷ []) = ask_of_four queries word name from to
 ask_of_fields queries others = Err Shape

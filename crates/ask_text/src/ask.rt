@@ -21,6 +21,14 @@ pub enum Ask {
     Wait(u64),
     /// When the pair of these vertices ends as an answer of the query.
     Until(u32, Name, Name),
+    /// The number of pairs of each query.
+    Stats,
+    /// The clock.
+    Clock,
+    /// All vertices to which the query leads from this one, each with the end of the pair.
+    Ends(u32, Name),
+    /// All vertices from which the query leads to this one.
+    To(u32, Name),
 }
 
 impl Ask {
@@ -61,6 +69,20 @@ pub struct Answered {
     pub ask: Ask,
     pub position: u64,
     pub text: Vec<u8>,
+}
+
+impl Answered {
+    /// The reply, of which nothing is copied.
+    pub fn into_text(self) -> Vec<u8>
+        ensures { result.items ≡ self.text }
+    {
+        let Answered {
+            ask: _ask,
+            position: _position,
+            text,
+        } = self;
+        text
+    }
 }
 
 impl Drop for Answered {

@@ -1,15 +1,16 @@
 //! Replies.
 
 ghost use Rattle.std.specs.Prelude.{◌≡◌, ◌<◌, ◌++◌, length, flat_map, decimal};
-ghost use Rattle.std.specs.Prelude.{take, List, IfOk, OnOk};
-ghost use Rattle.answer_rows.specs.Answers.{pairs, row_of, pair};
+ghost use Rattle.std.specs.Prelude.{take, zip, List, IfOk, OnOk};
+ghost use Rattle.answer_rows.specs.Answers.{pairs, row_of, sources_of, pair};
 ghost use Rattle.answer_rows.specs.Listing.{listed};
 ghost use Rattle.answer_view.specs.View.{rows_at, IsViewOf};
 ghost use Rattle.rpq_base.specs.declared.data.Entry.{Entry as EntryOf};
 ghost use Rattle.ask_text.specs.Ranges.{IsInRange, ended_at};
-ghost use Rattle.ask_text.specs.Reply.{name_at, pair_line, target_line, answers_text, from_text};
-ghost use Rattle.ask_text.specs.Reply.{pair_text, yes_or_no, end_text, count_text, wait_text};
-ghost use Rattle.ask_text.specs.Reply.{query_front, told, reply, IsReply};
+ghost use Rattle.ask_text.specs.Reply.{name_at, pair_line, target_line, end_line, count_line};
+ghost use Rattle.ask_text.specs.Reply.{answers_text, from_text, ends_text, to_text, pair_text};
+ghost use Rattle.ask_text.specs.Reply.{yes_or_no, end_text, count_text, stats_text, clock_text};
+ghost use Rattle.ask_text.specs.Reply.{wait_text, query_front, vertex_front, told, reply, IsReply};
 
 use crate::ask::Ask;
 use answer_rows::{Rows, Target};
@@ -25,7 +26,9 @@ use text_parts::push_decimal;
 /// is. The only error is [`Memory`].
 ///
 /// All pairs of a query cost time and memory for each of them, the targets of a vertex time for
-/// each of them and for finding it, and the rest a look-up.
+/// each of them and for finding it. The sources of a vertex cost a look-up in the row of each
+/// source of the query, since no index leads back, and memory for the text alone. The numbers of
+/// pairs cost a step for each query, and the rest a look-up.
 #[tactic(auto, unfolding(crate::specs::Reply::reply))]
 pub fn reply_text(
     alloc: Global,
@@ -66,14 +69,10 @@ fn push_told(
         (text.new.items ≡ text.old.items ++ told queries.now view.now ask.now ended) }
 {
     match ask {
-        Ask::Answers(query) => { push_answers(text, name_at(queries, *query), view.rows(*query)) }
+        Ask::Answers(query) => push_answers(text, name_at(queries, *query), view.rows(*query)),
         Ask::From(query, from) => {
-            push_from(
-                text,
-                name_at(queries, *query),
-                from,
-                row_at(view, *query, from),
-            )
+            let row = row_at(view, *query, from);
+            push_from(text, name_at(queries, *query), from, row)
         }
         Ask::Pair(query, from, to) => {
             let said = yes_or_no(view.holds(*query, from, to));
@@ -86,6 +85,13 @@ fn push_told(
             let said = end_text(&mut buffer, view.until(*query, from, to));
             push_pair(text, b"until", name_at(queries, *query), from, to, said)
         }
+        Ask::Stats => push_stats(text, queries, view.all_rows()),
+        Ask::Clock => push_clock(text, view.clock()),
+        Ask::Ends(query, from) => {
+            let row = row_at(view, *query, from);
+            push_ends(text, name_at(queries, *query), from, row)
+        }
+        Ask::To(query, to) => push_to(text, name_at(queries, *query), to, view.rows(*query)),
     }
 }
 
@@ -177,16 +183,31 @@ fn push_pair_line(text: &mut Vec<u8>, from: &Name, to: &Name) -> Result<(), Memo
     Ok(())
 }
 
+/// Writes a word about a vertex at the end of the text, and how many lines follow.
+fn push_vertex(
+    text: &mut Vec<u8>,
+    word: &[u8],
+    name: &[u8],
+    vertex: &Name,
+    count: u128,
+) -> Result<(), Memory>
+    ensures { OnOk result (text.new.items
+        ≡ text.old.items ++ vertex_front word.now name.now vertex.now count) }
+{
+    push_front(text, word, name)?;
+    text.extend_from_slice(vertex.as_bytes())?;
+    text.extend_from_slice(b" ")?;
+    push_number(text, count)?;
+    text.extend_from_slice(b"\n")?;
+    Ok(())
+}
+
 /// Writes the targets of a vertex at the end of the text.
 #[tactic(auto, unfolding(crate::specs::Reply::from_text))]
 fn push_from(text: &mut Vec<u8>, name: &[u8], from: &Name, row: &[Target]) -> Result<(), Memory>
     ensures { OnOk result (text.new.items ≡ text.old.items ++ from_text name.now from.now row.now) }
 {
-    push_front(text, b"from", name)?;
-    text.extend_from_slice(from.as_bytes())?;
-    text.extend_from_slice(b" ")?;
-    push_number(text, row.len() as u128)?;
-    text.extend_from_slice(b"\n")?;
+    push_vertex(text, b"from", name, from, row.len() as u128)?;
     push_targets(text, row)
 }
 
@@ -207,6 +228,46 @@ fn push_target_line(text: &mut Vec<u8>, target: &Target) -> Result<(), Memory>
     text.extend_from_slice(target.to.as_bytes())?;
     text.extend_from_slice(b"\n")?;
     Ok(())
+}
+
+/// Writes the targets of a vertex at the end of the text, each with the end of its pair.
+#[tactic(auto, unfolding(crate::specs::Reply::ends_text))]
+fn push_ends(text: &mut Vec<u8>, name: &[u8], from: &Name, row: &[Target]) -> Result<(), Memory>
+    ensures { OnOk result (text.new.items ≡ text.old.items ++ ends_text name.now from.now row.now) }
+{
+    push_vertex(text, b"ends", name, from, row.len() as u128)?;
+    push_end_lines(text, row)
+}
+
+/// Writes targets with the ends of their pairs at the end of the text, one a line.
+fn push_end_lines(text: &mut Vec<u8>, row: &[Target]) -> Result<(), Memory>
+    ensures { OnOk result (text.new.items ≡ text.old.items ++ flat_map end_line row.now) }
+{
+    for target in row {
+        push_end_line(text, target)?;
+    }
+    Ok(())
+}
+
+/// Writes a target with the end of its pair at the end of the text, in a line.
+fn push_end_line(text: &mut Vec<u8>, target: &Target) -> Result<(), Memory>
+    ensures { OnOk result (text.new.items ≡ text.old.items ++ end_line target.now) }
+{
+    text.extend_from_slice(target.to.as_bytes())?;
+    text.extend_from_slice(b" ")?;
+    push_decimal(text, target.until)?;
+    text.extend_from_slice(b"\n")?;
+    Ok(())
+}
+
+/// Writes the sources of a vertex at the end of the text.
+#[tactic(auto, unfolding(crate::specs::Reply::to_text))]
+fn push_to(text: &mut Vec<u8>, name: &[u8], to: &Name, rows: &Rows) -> Result<(), Memory>
+    ensures { OnOk result (text.new.items
+        ≡ text.old.items ++ to_text name.now to.now (sources_of rows.now to.now)) }
+{
+    push_vertex(text, b"to", name, to, rows.count_sources(to))?;
+    rows.push_sources(to, text)
 }
 
 /// Writes a word about the pair of two vertices at the end of the text.
@@ -239,6 +300,54 @@ fn push_count(text: &mut Vec<u8>, name: &[u8], count: u128) -> Result<(), Memory
 {
     push_front(text, b"count", name)?;
     push_number(text, count)?;
+    text.extend_from_slice(b"\n")?;
+    Ok(())
+}
+
+/// Writes the number of answers of each query at the end of the text.
+#[tactic(auto, unfolding(crate::specs::Reply::stats_text))]
+fn push_stats(text: &mut Vec<u8>, queries: &[QueryDef], all: &[Rows]) -> Result<(), Memory>
+    requires { length all.now ≡ length queries.now }
+    ensures { OnOk result (text.new.items ≡ text.old.items ++ stats_text queries.now all.now) }
+{
+    text.extend_from_slice(b"stats ")?;
+    push_number(text, queries.len() as u128)?;
+    text.extend_from_slice(b"\n")?;
+    push_counts(text, queries, all)
+}
+
+/// Writes each query with the number of its answers at the end of the text, one a line.
+fn push_counts(text: &mut Vec<u8>, queries: &[QueryDef], all: &[Rows]) -> Result<(), Memory>
+    requires { length all.now ≡ length queries.now }
+    ensures { OnOk result (text.new.items ≡ text.old.items
+        ++ flat_map (λ each. count_line each.0.name (length each.1)) (zip queries.now all.now)) }
+{
+    for number in 0..queries.len() {
+        let query = &queries[number];
+        let rows = &all[number];
+        push_count_line(text, query.name.as_bytes(), rows.count())?;
+    }
+    Ok(())
+}
+
+/// Writes a query with the number of its answers at the end of the text, in a line.
+fn push_count_line(text: &mut Vec<u8>, name: &[u8], count: u128) -> Result<(), Memory>
+    ensures { OnOk result (text.new.items ≡ text.old.items ++ count_line name.now count) }
+{
+    text.extend_from_slice(name)?;
+    text.extend_from_slice(b" ")?;
+    push_number(text, count)?;
+    text.extend_from_slice(b"\n")?;
+    Ok(())
+}
+
+/// Writes the clock at the end of the text.
+#[tactic(auto, unfolding(crate::specs::Reply::clock_text))]
+fn push_clock(text: &mut Vec<u8>, clock: u64) -> Result<(), Memory>
+    ensures { OnOk result (text.new.items ≡ text.old.items ++ clock_text clock) }
+{
+    text.extend_from_slice(b"clock ")?;
+    push_decimal(text, clock)?;
     text.extend_from_slice(b"\n")?;
     Ok(())
 }

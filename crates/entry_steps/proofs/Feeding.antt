@@ -174,7 +174,7 @@ pub view_forwards : (evaluator : EvaluatorValue) (history : List Entry) (view : 
 view_forwards evaluator history view forwards is =
     let own = subst (λ (two_way : Bool). IsViewAt (length history) (queries_of evaluator)
     (walked two_way history) view) forwards is in
-    record { position = own.says; rows = own.rows }
+    record { position = own.says; clock = own.clock; rows = own.rows }
 
 -- an engine that showed a view, which changes nothing of what it stands for
 pub stands_viewed : (evaluator : EvaluatorValue) (engine : EngineValue) (history : List Entry) →

@@ -123,8 +123,8 @@ pub record OnlyFeeds (old new : EvaluatorValue) : Type 0 where
   pub marks : new.marks ≡ old.marks
   pub joins : new.joins ≡ old.joins
 
--- the view has the length of the history as its position, and the answers over what the queries are
--- evaluated over, of this history
+-- the view has the length of the history as its position, and the clock and the answers over what
+-- the queries are evaluated over, of this history
 abbrev pub IsViewAfter : EvaluatorValue → List Entry → ViewValue → Type 0
 IsViewAfter evaluator history view = IsViewAt (length history) (queries_of evaluator)
     (walked evaluator.options.two_way history) view

@@ -3,6 +3,7 @@ use Rattle.std.proofs.Common.{◌≡◌, ℕ, List, [], length, map, refl, sym, 
 use Rattle.rpq_base.specs.declared.data.Entry.{Entry}
 use Rattle.rpq_base.specs.declared.data.Event.{Event}
 use Rattle.rpq_model.specs.Query.{Query}
+use Rattle.rpq_model.specs.Window.{clock}
 use Rattle.rpq_model.proofs.AllEvents.{under_one}
 use Rattle.rpq_model.proofs.EachEntry.{each_are_one}
 use Rattle.two_way.specs.TwoWay.{walked, AreWalkedEvents}
@@ -20,7 +21,8 @@ text_by queries entries said events answers =
 
 -- the view of these answers over the history
 view_of : (queries : List Query) (history : List Entry) (answers : List (List Answer)) → ViewValue
-view_of queries history answers = record { position = length history; rows = answers }
+view_of queries history answers =
+    record { position = length history; clock = clock history; rows = answers }
 
 pub one_summary : ViewsAreOne → OneSummary
 unfolding text_by view_of
@@ -34,8 +36,8 @@ one_summary one_view two_way queries history said text other first second =
     ap (λ (view : ViewValue). view.rows) (one_view queries (walked two_way history)
     (view_of queries (walked two_way history) first.answers)
     (view_of queries (walked two_way history) second.answers)
-    (record { position = refl; rows = first.are_answers })
-    (record { position = refl; rows = second.are_answers })) in
+    (record { position = refl; clock = refl; rows = first.are_answers })
+    (record { position = refl; clock = refl; rows = second.are_answers })) in
     first.is
     ∙ (ap₂ (text_by queries (length history) said) events answers
     ∙ sym second.is)

@@ -56,7 +56,7 @@ pub(crate) fn first_view(rt: &impl Abort, alloc: Global) -> Arc<View>
 {
     let mut rows = Vec::new(alloc);
     rows.push(Rows::new(alloc)).expect(rt, "memory");
-    View::new(alloc, 0, rows).expect(rt, "memory")
+    View::new(alloc, 0, 0, rows).expect(rt, "memory")
 }
 
 /// A history of two streams that takes one entry.
@@ -118,11 +118,12 @@ fn shut(journal: &mut Journal)
     journal.shut(Why::Write);
 }
 
-/// Whether the history tells that it has one entry, which was published.
+/// Whether the history tells that it has one entry, of time 5, which was published.
 fn tells_one_entry(journal: &Journal) -> bool {
     let one = (journal.length() == 1) & (journal.published() == 1);
     let there = journal.entries_from(journal.base()).len();
-    one & (there == 1) & (journal.view().position() == 1)
+    let view = journal.view();
+    one & (there == 1) & (view.position() == 1) & (view.clock() == 5)
 }
 
 /// Whether a history refuses what it should, and tells of its streams what it should.

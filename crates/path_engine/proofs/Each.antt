@@ -10,6 +10,7 @@ use Rattle.rpq_base.specs.declared.data.Event.{Event}
 use Rattle.end_events.specs.declared.numbered_event.NumberedEvent.{NumberedEvent}
 use Rattle.end_events.specs.Named.{named, HasNames}
 use Rattle.rpq_model.specs.QueryEvents.{AreEventsUnder}
+use Rattle.rpq_model.specs.Window.{clock}
 use Rattle.name_table.specs.Names.{KeepsNumbers}
 use Rattle.delta_forest.specs.Forest.{ForestValue}
 use Rattle.query_file.specs.Compiled.{CompiledValue}
@@ -40,6 +41,16 @@ have_histories history fed names (query ∷ queries) (index ∷ indexes) short a
   record { history = history; fed = fed; short = short; is = are.0 },
   have_histories history fed names queries indexes short are.1,
 )
+
+-- the clock of the first index is that of the history
+pub first_clock : (history : List Entry) (fed : ℕ) (names : List (List ℕ))
+    (queries : List CompiledValue) (indexes : List IndexValue) (first : IndexValue) →
+    1 ≤ length queries → AreIndexes history fed names queries indexes →
+    first ≡ get_or indexes 0 first → first.clock.clock ≡ clock history
+first_clock history fed names [] indexes first some are is = absurd (omega (arith, some))
+first_clock history fed names (query ∷ queries) [] first some are is = absurd are
+first_clock history fed names (query ∷ queries) (index ∷ indexes) first some are is =
+    ap (λ (each : IndexValue). each.clock.clock) is ∙ are.0.time
 
 -- more names get numbers
 pub more_named : MoreNamesKeepIndexes → (history : List Entry) (fed : ℕ) (names more : List (List ℕ))

@@ -8,6 +8,7 @@ use Rattle.rpq_base.specs.declared.data.Entry.{Entry}
 use Rattle.rpq_base.specs.declared.data.Event.{Event}
 use Rattle.rpq_model.specs.Query.{Query, path_query}
 use Rattle.rpq_model.specs.QueryEvents.{AreEventsUnder}
+use Rattle.rpq_model.specs.Window.{clock}
 use Rattle.rpq_model.proofs.EachEntry.{each_as_many}
 use Rattle.delta_forest.specs.Forest.{ForestValue}
 use Rattle.answer_rows.specs.Answers.{Answer}
@@ -64,16 +65,17 @@ fed_one old new entry lists own known stands is feeds =
       position = front.position;
     }
 
--- the rows of each query make the view
-pub view_of : (engine : EngineValue) (history : List Entry) (position : ℕ)
+-- the clock and the rows of each query make the view
+pub view_of : (engine : EngineValue) (history : List Entry) (position now : ℕ)
     (rows : List (List Answer)) (view : ViewValue) →
-    view ≡ record { position = position; rows = rows } →
+    view ≡ record { position = position; clock = now; rows = rows } → now ≡ clock history →
     AllZip (λ (query : CompiledValue) (own : List Answer).
     AreRowsOf (path_query query.def) history own) engine.queries rows →
     IsViewAt position (definitions engine) history view
-view_of engine history position rows view is all =
+view_of engine history position now rows view is time all =
     subst (IsViewAt position (definitions engine) history) (sym is) (record {
       says = refl;
+      clock = time;
       rows = zip_map (λ (query : CompiledValue). query.def)
           (λ (query : Query) (own : List Answer). AreRowsOf (path_query query) history own)
           engine.queries rows all;

@@ -6,6 +6,7 @@ ghost use Rattle.std.specs.Prelude.{slice_get};
 ghost use Rattle.std.specs.List.{AllZip};
 ghost use Rattle.rpq_base.specs.declared.data.Entry.{Entry as EntryTaken};
 ghost use Rattle.rpq_model.specs.Query.{path_query};
+ghost use Rattle.rpq_model.specs.Window.{clock};
 ghost use Rattle.answer_view.specs.View.{AreRowsOf};
 ghost use Rattle.end_events.specs.Named.{named_lists, HaveAllNames};
 ghost use Rattle.query_file.specs.Compiled.{CompiledValue};
@@ -370,9 +371,9 @@ impl Engine {
         self.position
     }
 
-    /// The answers of each query with their ends, as those at this position: it is the caller who
-    /// knows how long the history is for which the engine stands. The only error is [`Memory`], and
-    /// the engine goes on after it.
+    /// The clock of the history and the answers of each query with their ends, as those at this
+    /// position: it is the caller who knows how long the history is for which the engine stands. The
+    /// only error is [`Memory`], and the engine goes on after it.
     ///
     /// The view shares its rows with the views before it. For each vertex whose tree was touched
     /// since the last one it goes through that tree, and puts the targets there in the order of
@@ -392,8 +393,18 @@ impl Engine {
         ensures forests { forests self.new ≡ forests self.old }
     {
         let alloc = self.alloc;
+        let clock = self.clock();
         let rows = self.rows()?;
-        View::new(alloc, position, rows)
+        View::new(alloc, position, clock, rows)
+    }
+
+    /// The clock of the history, which is the same in the index of each query.
+    fn clock(&self) -> u64
+        requires unspent { self.now.spent ≡ false }
+        ensures { (history : List EntryTaken) → StandsFor self.now history →
+            result ≡ clock history }
+    {
+        self.indexes[0].clock()
     }
 
     /// The answers of each query, as rows.

@@ -8,7 +8,7 @@ use answer_rows::Rows;
 use answer_view::View;
 use plain_evaluator::plain_rows;
 use rpq_base::{Entry, Memory};
-use rpq_model::QueryDef;
+use rpq_model::{QueryDef, clock};
 use std::alloc::Global;
 use std::sync::Arc;
 
@@ -44,5 +44,5 @@ pub fn plain_view(
     for query in queries {
         rows.push(rows_of(alloc, query, entries)?)?;
     }
-    View::new(alloc, entries.len() as u64, rows)
+    View::new(alloc, entries.len() as u64, clock(entries), rows)
 }

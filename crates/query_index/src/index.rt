@@ -62,6 +62,13 @@ impl QueryIndex {
         })
     }
 
+    /// The clock of the history.
+    pub fn clock(&self) -> u64
+        ensures { result ≡ self.now.clock.clock }
+    {
+        self.clock.clock()
+    }
+
     /// The forest of the index, which is one of this query.
     pub fn forest(&self, query: &Compiled) -> &Forest
         ensures forest { result.now ≡ self.now.forest }

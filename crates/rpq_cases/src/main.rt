@@ -27,8 +27,9 @@
 //! - `rows SIZE SLIDE MODE EXPR TUPLES`: the answers after each tuple with their ends, `;` behind
 //!   each.
 //! - `view SIZE SLIDE MODE EXPR FROM TO TUPLES`: the view after each tuple, `;` behind each: its
-//!   position, the number of answers, `+` where the pair of both names is one, else `-`, its end,
-//!   and behind `|` the targets of the first name with their ends.
+//!   position, the clock, the number of answers, `+` where the pair of both names is one, else `-`,
+//!   its end, behind `|` the targets of the first name with their ends, and behind another `|` the
+//!   number of the sources of the second name, and these as lines.
 //! - `live SIZE SLIDE CLOCK TUPLES`: the places of the live entries, from 0, with their edges.
 //! - `clock TUPLES`: the clock of the history.
 //! - `tuple LINE`: the tuple of a line as it is written, `nothing`, or the fault of the line.

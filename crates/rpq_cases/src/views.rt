@@ -4,12 +4,12 @@ ghost use Rattle.std.specs.Prelude.{◌<◌, length};
 
 use crate::queries::query_of;
 use crate::texts::name_of;
-use answer_rows::Target;
+use answer_rows::{Rows, Target};
 use answer_view::View;
 use anyhow::ensure;
 use case_lines::{Fields, Output, entries_of};
 use plain_checks::plain_view;
-use rpq_base::{Entry, Pair};
+use rpq_base::{Entry, Name, Pair};
 use rpq_model::QueryDef;
 use std::alloc::Global;
 use std::slice::from_ref;
@@ -49,7 +49,7 @@ fn put_views(
 ) -> anyhow::Result<()> {
     for count in 1..=entries.len() {
         let view = view_over(alloc, query, &entries[..count])?;
-        put_view(out, &*view, pair)?;
+        put_view(alloc, out, &*view, pair)?;
     }
     Ok(())
 }
@@ -63,18 +63,21 @@ fn view_over(alloc: Global, query: &[QueryDef], entries: &[Entry]) -> anyhow::Re
 }
 
 /// Puts what the view answers about a pair.
-fn put_view(out: &mut Output, view: &View, pair: &Pair) -> anyhow::Result<()> {
+fn put_view(alloc: Global, out: &mut Output, view: &View, pair: &Pair) -> anyhow::Result<()> {
     ensure!(view.queries() > 0, "no query");
     put_pair(out, view, pair)?;
-    put_targets(out, view.row(0, &pair.from).unwrap_or(&[]))
+    put_targets(out, view.row(0, &pair.from).unwrap_or(&[]))?;
+    put_sources(alloc, out, view.rows(0), &pair.to)
 }
 
-/// Puts the position, the number of answers, and whether the pair is one up to when.
+/// Puts the position, the clock, the number of answers, and whether the pair is one up to when.
 fn put_pair(out: &mut Output, view: &View, pair: &Pair) -> anyhow::Result<()>
     requires { 0 < length view.now.rows }
 {
     out.put(" ")?;
     out.put_shown(&view.position())?;
+    out.put(" ")?;
+    out.put_shown(&view.clock())?;
     out.put(" ")?;
     out.put_shown(&view.count(0))?;
     out.put(" ")?;
@@ -98,5 +101,16 @@ fn put_targets(out: &mut Output, targets: &[Target]) -> anyhow::Result<()> {
         out.put("@")?;
         out.put_shown(&target.until)?;
     }
+    Ok(())
+}
+
+/// Puts the number of the sources of a vertex, and the lines that they are written in.
+fn put_sources(alloc: Global, out: &mut Output, rows: &Rows, to: &Name) -> anyhow::Result<()> {
+    let mut text = Vec::new(alloc);
+    rows.push_sources(to, &mut text)?;
+    out.put("| ")?;
+    out.put_shown(&rows.count_sources(to))?;
+    out.put(" ")?;
+    out.put_bytes(&text)?;
     out.put(";")
 }

@@ -22,6 +22,7 @@ use Rattle.query_file.specs.Compiled.{CompiledValue}
 use Rattle.rpq_base.specs.Plain.{IsPlain}
 use Rattle.rpq_base.specs.declared.data.Entry.{Entry}
 use Rattle.rpq_model.specs.Query.{Query, path_query}
+use Rattle.rpq_model.specs.Window.{clock}
 use Rattle.stream_threads.proofs.Numbering.{Each}
 use Rattle.stream_threads.proofs.Seen.{entries_grow, same_front, take_part, part_fits, none_after}
 use Rattle.stream_threads.proofs.Seen.{starts_then, added_starts}
@@ -307,14 +308,18 @@ module _ (history : HistoryValue) (pass : Each) (count : ℕ) (rest : List Entry
   module _ (some : 0 < history.readers) (view : ViewValue)
       (sees : IsViewAfter now (take count (entries pass.seen)) view) where
     shows : IsViewOf (queries_of now) (take count (entries pass.seen)) view
-    shows = record {
-      position = sees.says;
-      rows = subst (λ (two_way : Bool). AllZip (λ (query : Query) (rows : List Answer).
-          AreRowsOf (path_query query) (walked two_way (take count (entries pass.seen))) rows)
-          (queries_of now) view.rows)
-          (ap (λ (options : OptionsValue). options.two_way) on.setup.options
-          ∙ not_where_some before.options.two_way history.readers was.unread some) sees.rows;
-    }
+    shows =
+        let forwards : now.options.two_way ≡ false =
+        ap (λ (options : OptionsValue). options.two_way) on.setup.options
+        ∙ not_where_some before.options.two_way history.readers was.unread some in
+        record {
+          position = sees.says;
+          clock = sees.clock ∙ ap (λ (two_way : Bool).
+              clock (walked two_way (take count (entries pass.seen)))) forwards;
+          rows = subst (λ (two_way : Bool). AllZip (λ (query : Query) (rows : List Answer).
+              AreRowsOf (path_query query) (walked two_way (take count (entries pass.seen))) rows)
+              (queries_of now) view.rows) forwards sees.rows;
+        }
 
     pub view_place : view.position ≡ count
     view_place =

@@ -8,6 +8,7 @@ use Rattle.containment_laws.specs.Accepted.{IsAccepted}
 use Rattle.query_file.specs.Compiled.{CompiledValue}
 use Rattle.rpq_base.specs.declared.data.Entry.{Entry}
 use Rattle.rpq_model.specs.Query.{Query, path_query}
+use Rattle.rpq_model.specs.Window.{clock}
 use Rattle.two_way.specs.TwoWay.{walked}
 use Rattle.std.specs.List.{AllZip}
 use Rattle.answer_rows.specs.Answers.{Answer}
@@ -46,6 +47,7 @@ pub first_shown : FirstView → (evaluator : EvaluatorValue) (queries : List Que
 first_shown law evaluator queries view same shows =
     let is : IsViewOf (queries_of evaluator) [] view = record {
       position = shows.says;
+      clock = shows.clock ∙ ap clock (walked_none evaluator.options.two_way);
       rows = subst (λ (history : List Entry). AllZip (λ (query : Query) (rows : List Answer).
           AreRowsOf (path_query query) history rows) (queries_of evaluator) view.rows)
           (walked_none evaluator.options.two_way) shows.rows;

@@ -34,9 +34,9 @@ pub record AreTerms (terms : Terms) : Type 0 where
 abbrev pub KeepsAll : Terms → Type 0
 KeepsAll terms = terms.cap ≤ 2 ^ 30
 
--- position 0, and no answer of any of so many queries
+-- position 0, clock 0, and no answer of any of so many queries
 abbrev pub empty_view : ℕ → ViewValue
-empty_view queries = record { position = 0; rows = replicate queries [] }
+empty_view queries = record { position = 0; clock = 0; rows = replicate queries [] }
 
 -- the view is that of the queries after as many of the entries as its position says
 abbrev pub ShowsFront : List Query → List Entry → ViewValue → Type 0

@@ -49,6 +49,13 @@ impl WindowClock {
         }
     }
 
+    /// The greatest time that it was told, and 0 before any.
+    pub fn clock(&self) -> u64
+        ensures { result ≡ self.now.clock }
+    {
+        self.clock
+    }
+
     /// Takes a time into account, and answers the clock: the greater of the clock and the time.
     pub fn advance(&mut self, time: u64) -> u64
         ensures clock { self.new.clock ≡ max self.old.clock time }

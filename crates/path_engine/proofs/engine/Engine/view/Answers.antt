@@ -11,9 +11,10 @@ pub returns-clause-view : goal.returns-clause-view
 returns-clause-view c = λ history stands.
     let engine = c.args.self.now in
     let rows = c.in_ok-rows.rows.items in
-    let shown : ViewValue = record { position = c.args.position; rows = rows } in
+    let now = c.clock-clock.result in
+    let shown : ViewValue = record { position = c.args.position; clock = now; rows = rows } in
     if_ok_map (λ (view : Arc ViewValue Global). view.value ≡ shown)
     (λ (view : Arc ViewValue Global). IsViewAt c.args.position (definitions engine) history view.value)
-    (λ view is. view_of engine history c.args.position rows view.value is
-    (c.in_ok-rows.ensures.rows history stands))
+    (λ view is. view_of engine history c.args.position now rows view.value is
+    (c.clock-clock.ensures history stands) (c.in_ok-rows.ensures.rows history stands))
     c.new.result c.new.ensures
