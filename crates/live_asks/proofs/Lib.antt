@@ -1,0 +1,4 @@
+pub mod AskEnds
+mod Examples
+mod LineAsks
+mod Sessions
