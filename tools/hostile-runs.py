@@ -35,6 +35,7 @@ QUERIES = [
 ASKS = [
     b"session\nwait 1\ncount q\nsession\nanswers q\nfrom q x\npair q x z\nuntil q x z\nwait 9\n",
     b"# none\nsession\n",
+    b"session\nstats\nclock\nends q x\nto q z\nwait 2\n",
 ]
 STREAMS = [
     b"1 x a y\n2 y b z\n3 x a w +\n7 y b z -\n200\n",

@@ -301,6 +301,15 @@ def read_joins(case):
         return [], fault
 
 
+def random_ask(rng, queries, names, total):
+    query, pair = rng.choice(queries)["name"], (rng.choice(names), rng.choice(names))
+    wait = ("wait", str(rng.randrange(total + 3)))
+    return rng.choice([
+        ("answers", query), ("from", query, pair[0]), ("pair", query) + pair, ("count", query),
+        ("until", query) + pair, ("ends", query, pair[0]), ("to", query, pair[1]), ("stats",),
+        ("clock",), wait, wait, wait])
+
+
 def random_case(rng, has_joins):
     two_way, queries = not has_joins and rng.random() < 0.33, []
     has_joins = has_joins or not two_way and rng.random() < 0.25
@@ -320,14 +329,7 @@ def random_case(rng, has_joins):
     total = sum(len(stream["entries"]) for stream in streams)
     sessions = []
     for _ in range(0 if two_way else rng.randrange(4)):
-        asks = []
-        for _ in range(rng.randrange(7)):
-            query, pair = rng.choice(queries)["name"], (rng.choice(names), rng.choice(names))
-            asks.append(rng.choice([
-                ("answers", query), ("from", query, pair[0]), ("pair", query) + pair,
-                ("count", query), ("until", query) + pair,
-                ("wait", str(rng.randrange(total + 3))), ("wait", str(rng.randrange(total + 3)))]))
-        sessions.append(asks)
+        sessions.append([random_ask(rng, queries, names, total) for _ in range(rng.randrange(7))])
     begins = len(streams) == 1 and not two_way and rng.random() < 0.5
     window = random_stream(rng, names, most) if begins else None
     if window is not None and window["fault"] is None:
@@ -458,11 +460,24 @@ def expected_errors(case, history, numbers):
     return status, "".join(lines)
 
 
-def expected_reply(ask, position, ends, names):
+def expected_reply(ask, history, ends, names):
+    """The reply to the ask after this history, with the ends of each query's pairs there."""
+    position = len(history)
     front = "@%d %s" % (position, " ".join(ask))
     if ask[0] == "wait":
         return front + (" ended\n" if position < int(ask[1]) else "\n")
+    if ask[0] == "clock":
+        return front + " %d\n" % clock_of(history)
+    if ask[0] == "stats":
+        return front + " %d\n" % len(names) + "".join(
+            "%s %d\n" % (name, len(own)) for name, own in zip(names, ends))
     own = ends[names.index(ask[1])]
+    if ask[0] == "ends":
+        targets = sorted((pair[1], end) for pair, end in own.items() if pair[0] == ask[2])
+        return front + " %d\n" % len(targets) + "".join("%s %d\n" % one for one in targets)
+    if ask[0] == "to":
+        sources = sorted(pair[0] for pair in own if pair[1] == ask[2])
+        return front + " %d\n" % len(sources) + "".join(source + "\n" for source in sources)
     if ask[0] == "answers":
         return front + " %d\n" % len(own) + "".join("%s %s\n" % pair for pair in sorted(own))
     if ask[0] == "from":
@@ -488,7 +503,7 @@ def check_replies(case, history, ends, replies):
             position = int(head[1:]) if head[:1] == "@" and head[1:].isdigit() else -1
             if not last <= position <= len(history):
                 return "the position %s of an ask of session %d" % (head, number)
-            due = expected_reply(ask, position, ends[position], names)
+            due = expected_reply(ask, history[:position], ends[position], names)
             if not replies.startswith(due):
                 return "session %d, %r: %r, due %r" % (number, ask, replies[:60], due)
             if ask[0] == "wait" and position < int(ask[1]) and position != len(history):
