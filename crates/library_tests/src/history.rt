@@ -47,7 +47,7 @@ pub(crate) fn shared_history(
     let queries = one_query(rt, alloc);
     let shared = Arc::try_clone(&queries).expect(rt, "memory");
     let first = first_view(rt, alloc);
-    let (history, passes) = History::new(alloc, shared, streams, readers, cap, first).expect(
+    let (history, passes) = History::new(alloc, shared, streams, readers, 0, cap, first).expect(
         rt, "memory",
     );
     (history, passes, queries)
@@ -672,6 +672,15 @@ fn hears_an_end<R: Wait>(
     sleep_from(rt, history, near, wanted) & sleep_from(rt, history, far, 1000)
 }
 
+/// Whether somebody waits for this position, and nobody for one before it.
+fn is_waited_for_from(history: &History, position: u64) -> bool
+    requires { 1 ≤ position }
+{
+    let here = history.is_view_wanted(position);
+    let before = history.is_view_wanted(position - 1);
+    here & !before
+}
+
 /// Whether each sleep ends for what came between the look and the sleep. No other thread is there:
 /// a sleep that doesn't see it never ends.
 fn no_ring_is_lost<R: Wait + Abort>(rt: &R, alloc: Global) -> bool {
@@ -681,10 +690,11 @@ fn no_ring_is_lost<R: Wait + Abort>(rt: &R, alloc: Global) -> bool {
     let view = hears_a_view(rt, alloc, &queries, &history, &mut engine, &mut reader, 1);
     // Of the two who sleep here the one for the near position is still woken by the next view.
     let end = hears_an_end(rt, &history, &mut two, &mut reader, 2);
+    let told = is_waited_for_from(&history, 2);
     let more = write(rt, &history, &mut one, 2) == Ok(2);
     let next = hears_a_view(rt, alloc, &queries, &history, &mut engine, &mut reader, 3);
     let last = hears_an_end(rt, &history, &mut one, &mut reader, 9);
-    entry & view & end & more & next & last
+    entry & view & end & told & more & next & last
 }
 
 #[test]

@@ -1,7 +1,9 @@
 //! Words of command lines.
 
 use case_lines::{Fields, Output, words_of};
-use rpq_words::{FileWord, Input, ModeRef, Settings, StreamSettings, WordsFault, read_words};
+use rpq_words::{
+    FileWord, Input, ModeRef, ReaderFiles, Settings, StreamSettings, WordsFault, read_words,
+};
 use std::alloc::Global;
 
 /// The settings of a command line, or why its words aren't taken.
@@ -56,7 +58,8 @@ fn put_files(out: &mut Output, chosen: &Settings) -> anyhow::Result<()> {
     put_file(out, chosen.asks())?;
     put_file(out, chosen.replies())?;
     put_file(out, chosen.save())?;
-    put_file(out, chosen.from())
+    put_file(out, chosen.from())?;
+    put_readers(out, chosen.readers())
 }
 
 /// Puts the word of an option, or `-` where it isn't given.
@@ -66,6 +69,20 @@ fn put_file(out: &mut Output, word: Option<&FileWord>) -> anyhow::Result<()> {
         Some(word) => put_word(out, word),
         None => out.put("-"),
     }
+}
+
+/// Puts the words of the readers, for each that of its asks and that of its replies, or `-` where
+/// there is no reader.
+fn put_readers(out: &mut Output, readers: &[ReaderFiles]) -> anyhow::Result<()> {
+    out.put(" ")?;
+    if readers.is_empty() {
+        return out.put("-");
+    }
+    for reader in readers {
+        put_word(out, &reader.asks)?;
+        put_word(out, &reader.replies)?;
+    }
+    Ok(())
 }
 
 /// Puts the words of the streams, or `-` where none is read.

@@ -4,7 +4,7 @@ use Rattle.std.proofs.Common.{Option, Some, None, refl, ap, sym, subst, subst₂
 use Rattle.std.proofs.Common.{inr, ◌⊎◌}
 use Rattle.std.proofs.Common.{append-nil, cond, length-append}
 use Rattle.std.specs.Prelude.{IfSome, Contains, filter, is_some, option_map, slice_get}
-use Rattle.std.specs.List.{All}
+use Rattle.std.specs.List.{All, AllZip}
 use Rattle.std.proofs.lemmas.List.{length-map}
 use Rattle.std.proofs.lemmas.Option.{slice_get-map}
 use Rattle.std.specs.Io.KnownBytes.{append_known}
@@ -27,20 +27,21 @@ use Rattle.rpq_text.specs.declared.ends.SinkName.{SinkName}
 use Rattle.rpq_text.specs.declared.ends.SinkName.TheVariants.{Events, Replies, Save}
 use Rattle.rpq_text.specs.Statuses.{AreSomeSinks, all_sinks}
 use Rattle.rpq_text.specs.Text.{IsText}
-use Rattle.rpq_threads.specs.Runs.{AreSessionsOf, asks_answered}
+use Rattle.rpq_threads.specs.Runs.{AreSessionsOf, IsLiveOf, asks_answered}
 use Rattle.saved_window.specs.Saved.{saved}
 use Rattle.saved_window.specs.SavedText.{saved_text}
 use Rattle.saved_window.specs.Then.{left_of_both, faults_of_both}
 use Rattle.run_start.specs.Files.{HasQueries, ForQueries, stream_contents}
 use Rattle.run_start.specs.Texts.{tuples_within}
 use Rattle.rpq_run.specs.AnyStatus.{AnyStatus, IsFrontOf, IsUncut}
+use Rattle.rpq_run.specs.Beside.{asks_held}
 use Rattle.rpq_run.specs.Failed.{failed_sinks}
 use Rattle.rpq_run.specs.Headline.{Told, IsTold, stream_texts}
 use Rattle.rpq_run.specs.Options.{options_of}
-use Rattle.rpq_run.specs.Outcome.{Meanings, Sinks, Objects, Outcome}
+use Rattle.rpq_run.specs.Outcome.{Meanings, Sinks, Objects, Outcome, ends_of}
 use Rattle.rpq_run.specs.Replies.{texts_of}
 use Rattle.rpq_run.specs.RunsStreams.{GotText, IsUnsaved, RunsStreams, nothing_told}
-use Rattle.rpq_run.specs.Shortage.{has_memory_end, is_short_before}
+use Rattle.rpq_run.specs.Shortage.{has_memory_end, has_short_reader, is_short_before}
 use Rattle.rpq_run.specs.Sources.{stream_sources}
 use Rattle.rpq_run.specs.Written.{WritesWhere}
 use Rattle.rpq_run.proofs.Done.{stream_at}
@@ -233,23 +234,32 @@ module _ {S K : Type 0} (means : Meanings S K) (given : Settings)
   -- none did, and memory didn't run out, where nothing was cut
   no_failure : IsUncut outcome.status → (sink : SinkName) → Contains runs.failed sink → ⊥
   no_failure uncut sink has =
-      elim (sink_status outcome.ends runs.failed outcome.status sink runs.causes.status_is has) [
+      elim (sink_status outcome.ends (ends_of outcome.readers) runs.failed outcome.status sink
+      runs.causes.status_is has) [
         | inl eight ↦ uncut.1 eight
         | inr six ↦ uncut.0 six
       ]
 
-  no_shortage_in : IsUncut outcome.status → NoneShort outcome.ends runs.short
-  no_shortage_in uncut =
-      none_short outcome.ends runs.short (λ short. uncut.1 (runs.causes.memory.1 short))
+  no_shortage_in : IsUncut outcome.status
+      → NoneShort outcome.ends (ends_of outcome.readers) runs.short
+  no_shortage_in uncut = none_short outcome.ends (ends_of outcome.readers) runs.short
+      (λ short. uncut.1 (runs.causes.memory.1 short))
 
-  -- a failed write of the window isn't told as want of memory
-  window_write : Contains runs.failed Save → outcome.status ≡ 6
-  window_write has =
-      elim (sink_status outcome.ends runs.failed outcome.status Save runs.causes.status_is has) [
-        | inl eight ↦ absurd (elim (either (is_short_before outcome.ends runs.short)
-            runs.short.save (runs.causes.memory.0 eight)) [
-              | inl before ↦ runs.saves.tried (inl has) (inr before)
-              | inr short ↦ runs.saves.apart has short
+  -- a failed write of the window isn't told as want of memory, unless it ran out for a reader
+  window_write : has_short_reader (ends_of outcome.readers) ≡ false → Contains runs.failed Save
+      → outcome.status ≡ 6
+  window_write fine has =
+      elim (sink_status outcome.ends (ends_of outcome.readers) runs.failed outcome.status Save
+      runs.causes.status_is has) [
+        | inl eight ↦ absurd (elim (either (is_short_before outcome.ends runs.short
+            || runs.short.save) (has_short_reader (ends_of outcome.readers))
+            (runs.causes.memory.0 eight)) [
+              | inl run ↦ elim (either (is_short_before outcome.ends runs.short)
+                  runs.short.save run) [
+                    | inl before ↦ runs.saves.tried (inl has) (inr before)
+                    | inr short ↦ runs.saves.apart has short
+                  ]
+              | inr reader ↦ never_both (has_short_reader (ends_of outcome.readers)) fine reader
             ])
         | inr six ↦ six
       ]
@@ -331,12 +341,12 @@ module _ {S K : Type 0} (means : Meanings S K) (given : Settings)
       b || (runs.short.engine || (runs.short.session || runs.short.replies))) ended))
 
   -- and its status, where a write of it failed
-  write_in : (kept : Option K)
+  write_in : has_short_reader (ends_of outcome.readers) ≡ false → (kept : Option K)
       → IfSome kept (λ sink. CountsFault (Contains runs.failed Save) 0 (means.failures sink))
       → IfSome kept (λ sink. means.failures sink ≢ 0 → outcome.status ≡ 6)
-  write_in None counts = tt
-  write_in (Some sink) counts = λ changed.
-      window_write (failed_by (Contains runs.failed Save) 0 (means.failures sink) (failing Save)
+  write_in fine None counts = tt
+  write_in fine (Some sink) counts = λ changed.
+      window_write fine (failed_by (Contains runs.failed Save) 0 (means.failures sink) (failing Save)
       counts changed)
 
   -- the tuples of a stream of which no read failed
@@ -434,9 +444,16 @@ module _ {S K : Type 0} (means : Meanings S K) (given : Settings)
             there.has there.asked (runs.replies.all (no_shortage_in uncut).session);
         replied = replied_in (replies (texts_of outcome.sessions)) outcome.replies
             runs.replies.text runs.causes.replies_failed;
+        beside = subst (λ (files : List (Option (List ℕ))).
+            AllZip (IsLiveOf means.left means.faults means.written means.failures there.queries
+            outcome.history runs.replies.last) files outcome.readers) is.readers
+            (from_queries (two_way_of given) one (holds given.queries) told.queries there.queries
+            (λ queries. AllZip (IsLiveOf means.left means.faults means.written means.failures queries
+            outcome.history runs.replies.last) (asks_held given holds) outcome.readers) is.queries
+            there.has runs.readers.each);
         saved_is = saved_in there.queries outcome.save window runs.causes.save_failed;
         none_saved = λ ended. none_in there.queries outcome.save ended window;
-        window_failed = write_in outcome.save runs.causes.save_failed;
+        window_failed = λ fine. write_in fine outcome.save runs.causes.save_failed;
         no_replies = λ none. runs.replies.no_sink
             (no_one outcome.replies (runs.replies.sink ∙ (is.replies ∙ none)));
         no_window = λ none. runs.saves.no_sink

@@ -3,6 +3,7 @@ use Rattle.std.proofs.Common.{◌≡◌, ℕ, Bool, true, false, List, [], Optio
 use Rattle.std.proofs.Common.{Result, Ok, Err, refl, sym, subst, ◌∙◌, arith}
 use Rattle.std.specs.Prelude.{IfSome, Contains, is_err}
 use Rattle.std.specs.List.{All, flat_map}
+use Rattle.live_asks.specs.declared.reader.ReaderOutcome.{ReaderOutcome}
 use Rattle.rpq_base.specs.declared.data.Entry.{Entry}
 use Rattle.rpq_io.proofs.Counting.{counts_as}
 use Rattle.history_model.specs.declared.line.Why.TheVariants.{Write}
@@ -39,6 +40,7 @@ check_outcome status =
       sources = [];
       from = None;
       sessions = [];
+      readers = [];
       replies = None;
       save = None;
     }
@@ -46,8 +48,8 @@ check_outcome status =
 -- it has no member in any list
 nothing_taken : {S K : Type 0} (status : ℕ) (history : List Entry) (base : ℕ)
     (ends : List StreamEnd) (sources : List S) (sessions : List (List AnsweredValue))
-    → history ≡ [] → base ≡ 0 → ends ≡ [] → sources ≡ []
-    → sessions ≡ [] → check_outcome {S = S} {K = K} status ≡ record {
+    (readers : List (ReaderOutcome S K)) → history ≡ [] → base ≡ 0 → ends ≡ [] → sources ≡ []
+    → sessions ≡ [] → readers ≡ [] → check_outcome {S = S} {K = K} status ≡ record {
       status = status;
       history = history;
       base = base;
@@ -55,11 +57,12 @@ nothing_taken : {S K : Type 0} (status : ℕ) (history : List Entry) (base : ℕ
       sources = sources;
       from = None;
       sessions = sessions;
+      readers = readers;
       replies = None;
       save = None;
     }
-nothing_taken status history base ends sources sessions no_history none_gone no_end no_source
-    no_session = λ i. record {
+nothing_taken {S} {K} status history base ends sources sessions readers no_history none_gone no_end
+    no_source no_session no_reader = λ i. record {
       status = status;
       history = sym {A = List Entry} no_history i;
       base = sym none_gone i;
@@ -67,6 +70,7 @@ nothing_taken status history base ends sources sessions no_history none_gone no_
       sources = sym no_source i;
       from = None;
       sessions = sym {A = List (List AnsweredValue)} no_session i;
+      readers = sym {A = List (ReaderOutcome S K)} no_reader i;
       replies = None;
       save = None;
     }
@@ -110,7 +114,7 @@ verdicts_written written failures queries old new (Err e) all told =
     }
 
 -- it never ends for want of memory
-never_short : (failed : Bool) → first_status [] (failed_sinks failed false false) ≡ 8 → ⊥
+never_short : (failed : Bool) → first_status [] [] (failed_sinks failed false false) ≡ 8 → ⊥
 never_short false eight = absurd (omega (arith, eight))
 never_short true eight = absurd (omega (arith, eight))
 
@@ -123,9 +127,9 @@ check_runs : {S K T E : Type 0} (means : Meanings S K) (two_way : Bool)
     → All IsCompiled queries
     → Tells means.written means.failures (flat_map compiled_line queries) sinks.events_old
     sinks.events_new result
-    → status ≡ first_status [] (failed_sinks (is_err result) false false)
+    → status ≡ first_status [] [] (failed_sinks (is_err result) false false)
     → TellsLines means.written means.failures
-    (run_lines [] (failed_sinks (is_err result) false false) status)
+    (run_lines [] [] (failed_sinks (is_err result) false false) status)
     sinks.errors_old sinks.errors_new
     → RunsCheck {S = S} {K = K} means two_way file sinks all (check_outcome status)
 check_runs means two_way file queries sinks result status all kept has are told is lines = record {
@@ -135,6 +139,7 @@ check_runs means two_way file queries sinks result status all kept has are told 
     none_gone = refl;
     no_stream = refl;
     no_session = refl;
+    no_reader = refl;
     no_replies = refl;
     no_window = (refl, refl);
   };
@@ -175,17 +180,18 @@ check_runs means two_way file queries sinks result status all kept has are told 
 pub runs_check : {S K T E : Type 0} (means : Meanings S K) (two_way : Bool)
     (file : Option (List ℕ)) (queries : List CompiledValue) (sinks : Sinks K)
     (result : Result T E) (status : ℕ) (all : Objects) (history : List Entry) (base : ℕ)
-    (ends : List StreamEnd) (sources : List S) (sessions : List (List AnsweredValue)) → history ≡ []
+    (ends : List StreamEnd) (sources : List S) (sessions : List (List AnsweredValue))
+    (readers : List (ReaderOutcome S K)) → history ≡ []
     → base ≡ 0 → ends ≡ [] → sources ≡ []
-    → sessions ≡ [] → LeavesObjects all
+    → sessions ≡ [] → readers ≡ [] → LeavesObjects all
     → IfSome file (λ bytes. HasQueries two_way bytes
     (definitions_of queries))
     → All IsCompiled queries
     → Tells means.written means.failures (flat_map compiled_line queries) sinks.events_old
     sinks.events_new result
-    → status ≡ first_status [] (failed_sinks (is_err result) false false)
+    → status ≡ first_status [] [] (failed_sinks (is_err result) false false)
     → TellsLines means.written means.failures
-    (run_lines [] (failed_sinks (is_err result) false false) status)
+    (run_lines [] [] (failed_sinks (is_err result) false false) status)
     sinks.errors_old sinks.errors_new
     → RunsCheck means two_way file sinks all (record {
       status = status;
@@ -195,13 +201,15 @@ pub runs_check : {S K T E : Type 0} (means : Meanings S K) (two_way : Bool)
       sources = sources;
       from = None;
       sessions = sessions;
+      readers = readers;
       replies = None;
       save = None;
     })
 runs_check {S} {K} means two_way file queries sinks result status all history base ends sources
-    sessions no_history none_gone no_end no_source no_session kept has compiled told status_is lines =
+    sessions readers no_history none_gone no_end no_source no_session no_reader kept has compiled told
+    status_is lines =
     subst (λ (outcome : Outcome S K). RunsCheck means two_way file sinks all outcome)
-    (nothing_taken status history base ends sources sessions no_history none_gone no_end no_source
-    no_session)
+    (nothing_taken status history base ends sources sessions readers no_history none_gone no_end
+    no_source no_session no_reader)
     (check_runs means two_way file queries sinks result status all kept has compiled told
     status_is lines)

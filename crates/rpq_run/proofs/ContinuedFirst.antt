@@ -12,6 +12,7 @@ use Rattle.rpq_words.specs.Views.{cap_of, streams_of, two_way_of}
 use Rattle.stream_tuples.specs.Limits.{byte_limit_of}
 use Rattle.tuple_text.specs.Parts.{LineByParts}
 use Rattle.tuple_text.specs.Written.{IsStreamTuple}
+use Rattle.live_asks.specs.declared.ends.ReaderEnd.{ReaderEnd}
 use Rattle.stream_tuples.specs.declared.ends.StreamEnd.{StreamEnd}
 use Rattle.stream_tuples.specs.History.{own_tuples}
 use Rattle.query_file.specs.Laws.{OneOutcome, OneOutcomeOf}
@@ -21,14 +22,14 @@ use Rattle.saved_window.specs.Then.{left_of_both, faults_of_both}
 use Rattle.entry_steps.specs.Steps.{OptionsValue}
 use Rattle.rpq_text.specs.declared.ends.SinkName.{SinkName}
 use Rattle.rpq_text.specs.declared.ends.SinkName.TheVariants.{Events, Save}
-use Rattle.rpq_text.specs.Statuses.{IsStatusOf, arose}
+use Rattle.rpq_text.specs.Statuses.{IsStatusOf}
 use Rattle.rpq_text.specs.Text.{IsText}
 use Rattle.rpq_threads.specs.Written.{Grew}
 use Rattle.run_start.specs.Files.{ForQueries, HasQueries, stream_contents}
 use Rattle.rpq_run.specs.Continued.{StreamRun, IsToldRun}
 use Rattle.rpq_run.specs.Headline.{AreJoined, behind_text, stream_texts}
 use Rattle.rpq_run.specs.Options.{options_of}
-use Rattle.rpq_run.specs.Outcome.{Meanings}
+use Rattle.rpq_run.specs.Outcome.{Meanings, ends_of}
 use Rattle.rpq_run.specs.RunsStreams.{GotText, IsUnsaved}
 use Rattle.rpq_run.specs.Shortage.{is_short_before}
 use Rattle.rpq_run.specs.Sources.{stream_sources}
@@ -39,26 +40,21 @@ use Rattle.rpq_run.proofs.ContinuedSettings.{save_is_forwards}
 use Rattle.rpq_run.proofs.Done.{stream_at}
 use Rattle.rpq_run.proofs.Headlines.{contents_are, from_joined, joins_there}
 use Rattle.rpq_run.proofs.Shortages.{NoneShort, never_both, none_short}
-use Rattle.rpq_run.proofs.Statuses.{first_of, sink_arose}
+use Rattle.rpq_run.proofs.Statuses.{sink_status}
 
 -- the options of a run that takes edges forwards
 abbrev pub forwards_with : Bool → List JoinValue → OptionsValue
 forwards_with paths joins = record { two_way = false; paths = paths; joins = joins }
 
 -- where the status is that of neither, no write of a sink failed
-none_failed : (ends : List StreamEnd) (failed : List SinkName) (status : ℕ) (sink : SinkName) →
-    IsStatusOf ends failed status → status ≢ 6 → status ≢ 8 → Contains failed sink → ⊥
-none_failed ends failed status sink is no_write no_memory has = by (arose ends failed 8) refl
-  where
-    p : ℕ → Bool
-    p = arose ends failed
-
-    by : (memory : Bool) → arose ends failed 8 ≡ memory → ⊥
-    by true eight =
-        no_memory (is.memory (ap (λ (memory : Bool). first_of memory (p 6) (p 7) (p 5) (p 4)) eight))
-    by false eight =
-        no_write (is.others no_memory
-        ∙ ap₂ (λ (memory write : Bool). first_of memory write (p 7) (p 5) (p 4)) eight (sink_arose ends failed sink has))
+none_failed : (ends : List StreamEnd) (asked : List ReaderEnd) (failed : List SinkName) (status : ℕ)
+    (sink : SinkName) →
+    IsStatusOf ends asked failed status → status ≢ 6 → status ≢ 8 → Contains failed sink → ⊥
+none_failed ends asked failed status sink is no_write no_memory has =
+    elim (sink_status ends asked failed status sink is has) [
+      | inl eight ↦ no_memory eight
+      | inr six ↦ no_write six
+    ]
 
 -- the sink of the saved window, and what it got
 sink_there : {K : Type 0} (written : K → Option (List ℕ)) (save : Option K) (window : List ℕ) →
@@ -104,10 +100,12 @@ has_saved {S} {K} means run window one by_parts is no_write no_memory saved_is =
     history = run.outcome.history
 
     none : (sink : SinkName) → Contains is.runs.failed sink → ⊥
-    none sink = none_failed run.outcome.ends is.runs.failed run.outcome.status sink is.runs.causes.status_is no_write no_memory
+    none sink = none_failed run.outcome.ends (ends_of run.outcome.readers) is.runs.failed run.outcome.status sink
+        is.runs.causes.status_is no_write no_memory
 
-    fine : NoneShort run.outcome.ends is.runs.short
-    fine = none_short run.outcome.ends is.runs.short (λ short. no_memory (is.runs.causes.memory.1 short))
+    fine : NoneShort run.outcome.ends (ends_of run.outcome.readers) is.runs.short
+    fine = none_short run.outcome.ends (ends_of run.outcome.readers) is.runs.short
+        (λ short. no_memory (is.runs.causes.memory.1 short))
 
     is_saved : IsUnsaved is.runs.failed run.outcome.ends is.runs.short → ⊥
     is_saved (inl failed) = none Events failed

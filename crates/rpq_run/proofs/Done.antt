@@ -2,8 +2,8 @@
 use Rattle.std.proofs.Common.{◌≡◌, ◌≢◌, ℕ, zero, suc, ◌+◌, ◌<◌, ◌≤◌, List, [], ◌∷◌, ◌++◌, length, get_or}
 use Rattle.std.proofs.Common.{Option, Some, None, Bool, refl, ap, sym, subst, ◌∙◌, arith, inl}
 use Rattle.std.proofs.Common.{inr, ◌⊎◌, length-append}
-use Rattle.std.specs.Prelude.{IfSome, Contains, map, slice_get, sum}
-use Rattle.std.specs.List.{All}
+use Rattle.std.specs.Prelude.{IfSome, IsSomeAnd, Contains, map, slice_get, sum}
+use Rattle.std.specs.List.{All, AllZip}
 use Rattle.std.proofs.lemmas.Bool.{cases_eq}
 use Rattle.std.proofs.lemmas.List.{length-map}
 use Rattle.std.proofs.lemmas.List.Elements.{All-cons, All-head, All-nil, All-tail}
@@ -15,7 +15,11 @@ use Rattle.rpq_words.specs.declared.settings.RunMode.{RunMode}
 use Rattle.rpq_words.specs.declared.settings.RunMode.TheVariants.{Check, Generate, Streams}
 use Rattle.rpq_words.specs.Modes.{AreSettings, count_of}
 use Rattle.rpq_words.specs.declared.settings.Settings.{Settings}
-use Rattle.rpq_words.specs.Views.{cap_of, is_both_ways, mode_of, streams_of}
+use Rattle.rpq_words.specs.declared.reader_names.ReaderFiles.{ReaderFiles}
+use Rattle.rpq_words.specs.Views.{cap_of, is_both_ways, mode_of, readers_of, streams_of}
+use Rattle.rpq_words.specs.Views.{two_way_of}
+use Rattle.live_asks.specs.declared.ends.ReaderEnd.{ReaderEnd}
+use Rattle.live_asks.specs.declared.reader.ReaderOutcome.{ReaderOutcome}
 use Rattle.history_model.specs.declared.line.Why.TheVariants.{Write, Memory as MemoryOfAll}
 use Rattle.stream_tuples.specs.declared.ends.StreamEnd.{StreamEnd}
 use Rattle.stream_tuples.specs.declared.ends.StreamEnd.TheVariants.{Whole, Line, LongLine, LongStream}
@@ -28,13 +32,16 @@ use Rattle.rpq_text.specs.declared.ends.SinkName.{SinkName}
 use Rattle.rpq_text.specs.declared.ends.SinkName.TheVariants.{Events, Replies, Save}
 use Rattle.rpq_text.specs.Statuses.{first_status, status_of_end, IsStatusOf}
 use Rattle.saved_window.specs.Then.{left_of_both, faults_of_both, faults_of_first}
-use Rattle.run_start.specs.Files.{from_content, stream_contents}
+use Rattle.run_start.specs.Files.{ForQueries, IsFaultless, from_content, stream_contents}
 use Rattle.run_start.specs.Ready.{AreReadWhole}
 use Rattle.run_start.specs.Texts.{tuples_within}
 use Rattle.run_start.proofs.Modes.{some_streams}
+use Rattle.rpq_run.specs.Beside.{CountsReader, asks_held}
 use Rattle.rpq_run.specs.Causes.{HasCauses}
-use Rattle.rpq_run.specs.Done.{IsWholeStream, tuple_count, CanBeDone, NothingRose, NothingFails}
-use Rattle.rpq_run.specs.Outcome.{Meanings, Sinks, Objects, Openings, Outcome}
+use Rattle.rpq_run.specs.Done.{AreFewAsks, IsWholeStream, tuple_count, CanBeDone, NothingRose}
+use Rattle.rpq_run.specs.Done.{NothingFails}
+use Rattle.rpq_run.specs.Outcome.{Meanings, Sinks, Objects, Openings, Outcome, ends_of}
+use Rattle.rpq_threads.specs.Runs.{IsLiveOf}
 use Rattle.rpq_run.specs.Run.{Runs, RunsIn}
 use Rattle.rpq_run.specs.RunsCheck.{RunsCheck}
 use Rattle.rpq_run.specs.RunsGenerated.{RunsGenerated}
@@ -42,7 +49,10 @@ use Rattle.rpq_run.specs.RunsStreams.{RunsStreams}
 use Rattle.rpq_run.specs.Shortage.{Shortage, no_shortage}
 use Rattle.rpq_run.specs.Sources.{stream_sources, two_sources}
 use Rattle.rpq_run.proofs.Sinks.{no_sinks}
-use Rattle.rpq_run.proofs.Statuses.{IsFine, counted_quietly, fine_or_memory, read_quietly}
+use Rattle.rpq_run.proofs.Beside.{all_end_well as all_readers_end_well, contains_at, fine_ends}
+use Rattle.rpq_run.proofs.Beside.{quiet_reader, served_or_shut}
+use Rattle.rpq_run.proofs.Statuses.{IsFine, IsFineReader, counted_quietly, fine_or_memory}
+use Rattle.rpq_run.proofs.Statuses.{first_of_done, read_quietly}
 use Rattle.rpq_run.proofs.Totals.{AreFew, all_counted, fewer_in_all}
 use Rattle.rpq_run.proofs.Windows.{as_many_contents}
 
@@ -215,25 +225,17 @@ module _ {S : Type 0} (left : S → Option (List ℕ)) (faults : S → ℕ) (lim
       (subst (λ (x : StreamEnd). IfSome file.0 (λ text.
       AreTuplesOfEnd (byte_limit_of limit) text (left source.0) (own_tuples (place + 1) history) x)) e stream.tied))
       (λ e. closed (contains_at ends place end (Closed Write) end_is e)) stream.tied)
-    where
-      contains_at : (xs : List StreamEnd) (place : ℕ) (x y : StreamEnd) → slice_get xs place ≡ Some x → x ≡ y
-          → Contains xs y
-      contains_at xs place x y is same =
-          let inside = slice_get_within xs place x is in
-          let at : ◌≡◌ {A = Option StreamEnd} (Some (get_or xs place y)) (Some y) =
-          sym (slice_get-get_or xs place y inside) ∙ (is ∙ ap (λ (e : StreamEnd). Some e) same) in
-          (place, inside, cc at)
 
   -- where all is done no read of a source failed
-  pub reads_quietly : (failed : List SinkName) (status : ℕ) → IsStatusOf ends failed status → status ≡ 0
-      → All (λ source. faults source ≡ 0) sources
-  reads_quietly failed status is done =
+  pub reads_quietly : (asked : List ReaderEnd) (failed : List SinkName) (status : ℕ)
+      → IsStatusOf ends asked failed status → status ≡ 0 → All (λ source. faults source ≡ 0) sources
+  reads_quietly asked failed status is done =
       all_by (λ source. faults source ≡ 0) sources (λ place source source_is.
       let inside = slice_get_within sources place source source_is in
       let file = found files place (omega (arith, inside, are.as_many_sources)) in
       let end = found ends place (omega (arith, inside, are.as_many_sources, are.as_many_ends)) in
       let stream = are.each place file.0 source end.0 file.1 source_is end.1 in
-      stream.read.quiet (read_quietly ends failed status place end.0 is done end.1))
+      stream.read.quiet (read_quietly ends asked failed status place end.0 is done end.1))
 
 -- ---- a run
 
@@ -320,14 +322,15 @@ none_failed {S} {K} means failed short sinks outcome causes writes replies save 
     none_of name (Some sink) counts none quiet has = quiet (counts.rose has)
 
 -- such a status is that of a run that is done, or of want of memory
-done_or_short : (ends : List StreamEnd) (failed : List SinkName) (status : ℕ) → failed ≡ []
-    → IsStatusOf ends failed status → All IsFine ends → (status ≡ 0) ⊎ (status ≡ 8)
-done_or_short ends failed status none is fine = elim (cases_eq status 8) [
+done_or_short : (ends : List StreamEnd) (asked : List ReaderEnd) (failed : List SinkName)
+    (status : ℕ) → failed ≡ [] → IsStatusOf ends asked failed status → All IsFine ends
+    → All IsFineReader asked → (status ≡ 0) ⊎ (status ≡ 8)
+done_or_short ends asked failed status none is fine fine_asked = elim (cases_eq status 8) [
   | inl eight ↦ inr eight
   | inr other ↦
-      let first : status ≡ first_status ends [] =
-      is.others other ∙ ap (λ (fs : List SinkName). first_status ends fs) none in
-      elim (fine_or_memory ends fine) [
+      let first : status ≡ first_status ends asked [] =
+      is.others other ∙ ap (λ (fs : List SinkName). first_status ends asked fs) none in
+      elim (fine_or_memory ends asked fine fine_asked) [
         | inl done ↦ inl (first ∙ done)
         | inr eight ↦ inr (first ∙ eight)
       ]
@@ -339,6 +342,29 @@ pub as_many_streams : (given : Settings) (holds : List ℕ → Option (List ℕ)
 as_many_streams given holds = as_many_contents (from_content given holds) (map holds (streams_of given))
     ∙ length-map (streams_of given) holds
 
+-- the readers of such a run ended well
+readers_well : {S K : Type 0} (means : Meanings S K) (given : Settings)
+    (holds : List ℕ → Option (List ℕ)) (openings : Openings) (sinks : Sinks K) (objects : Objects)
+    (outcome : Outcome S K) → RunsStreams means given holds sinks objects outcome
+    → CanBeDone given holds → NothingRose means given openings sinks outcome
+    → All IsFineReader (ends_of outcome.readers)
+readers_well means given holds openings sinks objects outcome runs can none =
+    fine_ends outcome.readers (by (holds given.queries) can.understood can.readers
+    runs.readers.each)
+  where
+    by : (file : Option (List ℕ)) → IsSomeAnd file (IsFaultless (two_way_of given))
+        → All (λ (files : ReaderFiles). IsSomeAnd (holds files.asks)
+        (AreFewAsks (two_way_of given) file)) (readers_of given)
+        → ForQueries (two_way_of given) file (λ queries.
+        AllZip (IsLiveOf means.left means.faults means.written means.failures queries
+        outcome.history runs.replies.last) (asks_held given holds) outcome.readers)
+        → All (λ (one : ReaderOutcome _ _). IsFineReader one.end) outcome.readers
+    by None some can_be live = absurd some
+    by (Some bytes) some can_be (queries, has, live) =
+        all_readers_end_well means (two_way_of given) bytes queries has outcome.history
+        runs.replies.last holds (readers_of given) outcome.readers can_be live none.asked
+        none.answered
+
 -- a run over streams that can be done, in which no count rose, is done, or wants memory
 pub streams_done : {S K : Type 0} (means : Meanings S K) (given : Settings)
     (holds : List ℕ → Option (List ℕ)) (openings : Openings) (sinks : Sinks K) (objects : Objects)
@@ -346,12 +372,20 @@ pub streams_done : {S K : Type 0} (means : Meanings S K) (given : Settings)
     → NothingRose means given openings sinks outcome → (outcome.status ≡ 0) ⊎ (outcome.status ≡ 8)
 streams_done means given holds openings sinks objects outcome runs can none =
     let failed = none_failed means runs.failed runs.short sinks outcome runs.causes none.writes none.replies none.save in
-    done_or_short outcome.ends runs.failed outcome.status failed runs.causes.status_is
-    (all_end_well (left_of_both means.left) (faults_of_both means.faults) (cap_of given) (stream_contents given holds)
+    done_or_short outcome.ends (ends_of outcome.readers) runs.failed outcome.status failed
+    runs.causes.status_is (all_end_well (left_of_both means.left) (faults_of_both means.faults) (cap_of given) (stream_contents given holds)
     (stream_sources outcome.from outcome.sources) outcome.history outcome.ends runs.history.each_stream
     (length (streams_of given)) (sym (as_many_streams given holds)) runs.history.no_other can.whole
     (sources_quiet means.faults outcome.from outcome.sources none.from none.reads) can.few
     (λ closed. none.writes (runs.causes.events_failed.rose (runs.causes.closed closed))))
+    (readers_well means given holds openings sinks objects outcome runs can none)
+
+-- no reader ended badly where there is none
+no_reader_badly : {S K : Type 0} (readers : List (ReaderOutcome S K)) → readers ≡ []
+    → All IsFineReader (ends_of readers)
+no_reader_badly {S} {K} readers none =
+    subst (λ (rs : List (ReaderOutcome S K)). All IsFineReader (ends_of rs)) (sym none)
+    (All-nil IsFineReader)
 
 -- so is one over generated tuples
 pub generated_done : {S K : Type 0} (means : Meanings S K) (given : Settings) (two_way : Bool)
@@ -371,9 +405,11 @@ generated_done means given two_way count file openings sinks objects outcome run
         | inr short ↦ inr (ap status_of_end short)
       ]
     ] in
-    done_or_short outcome.ends runs.failed outcome.status failed runs.causes.status_is
+    done_or_short outcome.ends (ends_of outcome.readers) runs.failed outcome.status failed
+    runs.causes.status_is
     (subst (λ (ends : List StreamEnd). All IsFine ends) (sym runs.history.one_stream)
     (All-cons IsFine runs.history.end [] fine (All-nil IsFine)))
+    (no_reader_badly outcome.readers runs.no_reader)
 
 -- and so is a check
 pub check_done : {S K : Type 0} (means : Meanings S K) (given : Settings) (two_way : Bool)
@@ -382,19 +418,22 @@ pub check_done : {S K : Type 0} (means : Meanings S K) (given : Settings) (two_w
     → NothingRose means given openings sinks outcome → (outcome.status ≡ 0) ⊎ (outcome.status ≡ 8)
 check_done means given two_way file openings sinks objects outcome runs none =
     let failed = none_failed means runs.failed no_shortage sinks outcome runs.causes none.writes none.replies none.save in
-    done_or_short outcome.ends runs.failed outcome.status failed runs.causes.status_is
+    done_or_short outcome.ends (ends_of outcome.readers) runs.failed outcome.status failed
+    runs.causes.status_is
     (subst (λ (ends : List StreamEnd). All IsFine ends) (sym runs.nothing.no_stream) (All-nil IsFine))
+    (no_reader_badly outcome.readers runs.nothing.no_reader)
 
 -- ---- what failed nowhere
 
 -- no write on a sink failed, if there is one
-quiet_sink : {K : Type 0} (failures : K → ℕ) (failed : List SinkName) (ends : List StreamEnd) (status : ℕ)
-    (name : SinkName) → IsStatusOf ends failed status → status ≡ 0 → (one : Option K)
+quiet_sink : {K : Type 0} (failures : K → ℕ) (failed : List SinkName) (ends : List StreamEnd)
+    (asked : List ReaderEnd) (status : ℕ)
+    (name : SinkName) → IsStatusOf ends asked failed status → status ≡ 0 → (one : Option K)
     → IfSome one (λ sink. CountsFault (Contains failed name) 0 (failures sink))
     → IfSome one (λ sink. failures sink ≡ 0)
-quiet_sink failures failed ends status name is done None counts = tt
-quiet_sink failures failed ends status name is done (Some sink) counts =
-    counted_quietly ends failed status name 0 (failures sink) is done counts
+quiet_sink failures failed ends asked status name is done None counts = tt
+quiet_sink failures failed ends asked status name is done (Some sink) counts =
+    counted_quietly ends asked failed status name 0 (failures sink) is done counts
 
 module _ {S K : Type 0} (means : Meanings S K) (words : Option Settings) (given : Settings)
     (holds : List ℕ → Option (List ℕ)) (openings : Openings) (sinks : Sinks K) (outcome : Outcome S K)
@@ -402,24 +441,48 @@ module _ {S K : Type 0} (means : Meanings S K) (words : Option Settings) (given 
     (unmade : (name : List ℕ) → openings.unmade_new name ≡ openings.unmade_old name)
     (whole : AreReadWhole means.left means.faults given holds) (settings : AreSettings given)
     (done : outcome.status ≡ 0) where
+  -- how the readers ended
+  abbrev asked_in : List ReaderEnd
+  asked_in = ends_of outcome.readers
+
   -- where all is done and no read of a source failed, nothing did
   all_quiet : (failed : List SinkName) (short : Shortage) → HasCauses means failed short sinks outcome
       → All (λ source. means.faults source ≡ 0) outcome.sources
       → IfSome outcome.from (λ source. means.faults source ≡ 0)
+      → All (CountsReader means) outcome.readers
       → NothingFails means words holds openings sinks outcome
-  all_quiet failed short causes reads from = record {
+  all_quiet failed short causes reads from counted = record {
     unread = unread;
     unmade = unmade;
     whole = subst (λ (w : Option Settings). IfSome w (λ g. AreReadWhole means.left means.faults g holds)) (sym are) whole;
     reads = reads;
     from = from;
-    writes = counted_quietly outcome.ends failed outcome.status Events (means.failures sinks.events_old)
+    writes = counted_quietly outcome.ends asked_in failed outcome.status Events
+        (means.failures sinks.events_old)
         (means.failures sinks.events_new) causes.status_is done causes.events_failed;
-    replies = quiet_sink means.failures failed outcome.ends outcome.status Replies causes.status_is done
-        outcome.replies causes.replies_failed;
-    save = quiet_sink means.failures failed outcome.ends outcome.status Save causes.status_is done
-        outcome.save causes.save_failed;
+    replies = quiet_sink means.failures failed outcome.ends asked_in outcome.status Replies
+        causes.status_is done outcome.replies causes.replies_failed;
+    save = quiet_sink means.failures failed outcome.ends asked_in outcome.status Save
+        causes.status_is done outcome.save causes.save_failed;
+    asked = all_by (λ (one : ReaderOutcome S K). means.faults one.source ≡ 0) outcome.readers
+        (λ place one at. (quiet place one at).0);
+    answered = all_by (λ (one : ReaderOutcome S K). means.failures one.replies ≡ 0)
+        outcome.readers (λ place one at. (quiet place one at).1);
   }
+    where
+      first : first_status outcome.ends asked_in failed ≡ 0
+      first = first_of_done outcome.ends asked_in failed outcome.status causes.status_is done
+
+      quiet : (place : ℕ) (one : ReaderOutcome S K) → slice_get outcome.readers place ≡ Some one
+          → (means.faults one.source ≡ 0) × (means.failures one.replies ≡ 0)
+      quiet place one at = quiet_reader means one
+          (served_or_shut outcome.ends outcome.readers failed first place one at)
+          (all_at (CountsReader means) outcome.readers place one counted at)
+
+  -- no reader has a count where there is none
+  none_counted : outcome.readers ≡ [] → All (CountsReader means) outcome.readers
+  none_counted none = subst (λ (rs : List (ReaderOutcome S K)). All (CountsReader means) rs)
+      (sym none) (All-nil (CountsReader means))
 
   -- no source has a fault where there is none
   none_faulty : outcome.sources ≡ [] → All (λ source. means.faults source ≡ 0) outcome.sources
@@ -437,9 +500,10 @@ module _ {S K : Type 0} (means : Meanings S K) (words : Option Settings) (given 
       let none = sources_none means.faults outcome.from outcome.sources
       (omega (arith, as_many, as_many_streams given holds, some))
       (reads_quietly (left_of_both means.left) (faults_of_both means.faults) (cap_of given) (stream_contents given holds)
-      (stream_sources outcome.from outcome.sources) outcome.history outcome.ends runs.history.each_stream runs.failed
+      (stream_sources outcome.from outcome.sources) outcome.history outcome.ends runs.history.each_stream asked_in
+      runs.failed
       outcome.status runs.causes.status_is done) in
-      all_quiet runs.failed runs.short runs.causes none.0 none.1
+      all_quiet runs.failed runs.short runs.causes none.0 none.1 runs.readers.counted
 
   -- nothing failed in a run that is done
   pub runs_quiet : (objects : Objects) → Runs means given holds sinks objects outcome
@@ -451,8 +515,9 @@ module _ {S K : Type 0} (means : Meanings S K) (words : Option Settings) (given 
           → NothingFails means words holds openings sinks outcome
       by (Check directions) is runs = all_quiet runs.failed no_shortage runs.causes
           (none_faulty runs.no_source) (none_first runs.nothing.no_window.0)
+          (none_counted runs.nothing.no_reader)
       by (Generate directions count) is runs = all_quiet runs.failed no_shortage runs.causes
-          (none_faulty runs.no_source) (none_first runs.no_window.0)
+          (none_faulty runs.no_source) (none_first runs.no_window.0) (none_counted runs.no_reader)
       by (Streams run) is runs = streams_quiet objects (some_streams given run is settings).0 runs
 
 -- a run that can be done, in which no count rose, is done, or wants memory

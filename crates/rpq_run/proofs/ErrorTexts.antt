@@ -8,8 +8,9 @@ use Rattle.std.specs.Io.KnownBytes.{append_known}
 use Rattle.std.proofs.lemmas.List.{append-nil, take-append-drop, take_more, drop_more}
 use Rattle.std.proofs.lemmas.List.Concat.{flat_map-append}
 use Rattle.rpq_io.specs.Counts.{Rose, CountsFault}
+use Rattle.live_asks.specs.declared.ends.ReaderEnd.{ReaderEnd}
 use Rattle.stream_tuples.specs.declared.ends.StreamEnd.{StreamEnd}
-use Rattle.rpq_text.specs.ErrorLines.{end_line, end_lines}
+use Rattle.rpq_text.specs.ErrorLines.{end_line, end_lines, reader_line, reader_lines}
 use Rattle.rpq_threads.specs.Written.{GrewByPrefix}
 use Rattle.rpq_run.specs.Written.{Tells, TellsLines}
 use Rattle.rpq_io.proofs.Bytes.{append_known-append}
@@ -145,6 +146,31 @@ ends_more ends place end before now next inside is told written = record {
       ∙ (ap (λ (t : List ℕ). told.done ++ t) (sym (ends_from ends place end inside is)) ∙ told.cut);
   written = written ∙ (ap (λ (w : Option (List ℕ)). append_known w (end_line (place + 1) end)) told.written
       ∙ append_known-append before told.done (end_line (place + 1) end));
+}
+
+-- the same of the readers
+pub record HasToldReaders (ends : List ReaderEnd) (place : ℕ) (before now : Option (List ℕ)) : Type 0 where
+  pub done : List ℕ
+  pub cut : done ++ reader_lines (place + 1) (drop place ends) ≡ reader_lines 1 ends
+  pub written : now ≡ append_known before done
+
+pub readers_from : (ends : List ReaderEnd) (place : ℕ) (end : ReaderEnd) → place < length ends
+    → end ≡ get_or ends place end
+    → reader_lines (place + 1) (drop place ends)
+    ≡ reader_line (place + 1) end ++ reader_lines ((place + 1) + 1) (drop (place + 1) ends)
+readers_from ends place end inside is =
+    ap (reader_lines (place + 1)) (drop_more ends place end inside
+    ∙ ap (λ (e : ReaderEnd). e ∷ drop (place + 1) ends) (sym is))
+
+pub readers_more : (ends : List ReaderEnd) (place : ℕ) (end : ReaderEnd) (before now next : Option (List ℕ))
+    → place < length ends → end ≡ get_or ends place end → HasToldReaders ends place before now
+    → next ≡ append_known now (reader_line (place + 1) end) → HasToldReaders ends (place + 1) before next
+readers_more ends place end before now next inside is told written = record {
+  done = told.done ++ reader_line (place + 1) end;
+  cut = append_assoc told.done (reader_line (place + 1) end) (reader_lines ((place + 1) + 1) (drop (place + 1) ends))
+      ∙ (ap (λ (t : List ℕ). told.done ++ t) (sym (readers_from ends place end inside is)) ∙ told.cut);
+  written = written ∙ (ap (λ (w : Option (List ℕ)). append_known w (reader_line (place + 1) end)) told.written
+      ∙ append_known-append before told.done (reader_line (place + 1) end));
 }
 
 -- one of the pieces

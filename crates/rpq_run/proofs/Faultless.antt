@@ -21,7 +21,10 @@ use Rattle.rpq_words.specs.declared.settings.StreamSettings.TheVariants.{BothWay
 use Rattle.rpq_words.specs.declared.settings.Settings.{Settings}
 use Rattle.rpq_words.specs.Examples.{SettingsExamples, plain}
 use Rattle.rpq_words.specs.Modes.{count_of}
-use Rattle.rpq_words.specs.Views.{asks_of, cap_of, joins_of, mode_of, two_way_of}
+use Rattle.rpq_words.specs.declared.reader_names.ReaderFiles.{ReaderFiles}
+use Rattle.rpq_words.specs.Views.{asks_of, cap_of, joins_of, mode_of, readers_of, two_way_of}
+use Rattle.live_asks.specs.Items.{asked_items}
+use Rattle.text_items.specs.declared.ends.TextEnd.TheVariants.{LongText}
 use Rattle.run_start.specs.Files.{HasQueries, ForQueries, AreFaultlessAsks, AreFaultlessJoins}
 use Rattle.run_start.specs.Files.{IsFaultless, stream_contents}
 use Rattle.run_start.specs.Texts.{tuples_within}
@@ -32,7 +35,7 @@ use Rattle.stream_tuples.specs.Limits.{byte_limit}
 use Rattle.stream_tuples.specs.StreamText.{StreamTuples, tuples_from}
 use Rattle.stream_tuples.proofs.ByteLimits.{kept_limit}
 use Rattle.entry_steps.specs.Laws.{StepsHaveJoinEvents, StepsHaveTheEvents}
-use Rattle.rpq_run.specs.Done.{CanBeDone, IsWholeStream, NothingRose, tuple_count}
+use Rattle.rpq_run.specs.Done.{AreFewAsks, CanBeDone, IsWholeStream, NothingRose, tuple_count}
 use Rattle.rpq_run.specs.Faultless.{AreFaultless, SmallRunCanBeDone}
 use Rattle.rpq_run.specs.Headline.{Told, IsTold, AreAsked, AreJoined, Headline, stream_texts}
 use Rattle.rpq_run.specs.Outcome.{Meanings, Sinks, Objects, Openings, Outcome}
@@ -116,6 +119,29 @@ module _ {S K : Type 0} (means : Meanings S K) (given : Settings)
                 absurd (cc both);
           })
 
+  -- the readers' asks don't have too many bytes
+  readers_in : (texts : List (List ℕ)) (files : List ReaderFiles)
+      → map (λ (each : ReaderFiles). holds each.asks) files
+      ≡ map (λ (bytes : List ℕ). Some bytes) texts
+      → All (λ text. (asked_items queries text).end ≢ LongText) texts
+      → All (λ (each : ReaderFiles). IsSomeAnd (holds each.asks)
+      (AreFewAsks (two_way_of given) (holds given.queries))) files
+  readers_in texts [] are few = All-nil (λ (each : ReaderFiles). IsSomeAnd (holds each.asks)
+      (AreFewAsks (two_way_of given) (holds given.queries)))
+  readers_in [] (file ∷ files) are few = absurd (cc are)
+  readers_in (text ∷ texts) (file ∷ files) are few =
+      let IsFew : List ℕ → Type 0 = λ bytes. (asked_items queries bytes).end ≢ LongText in
+      let content : holds file.asks ≡ Some text = cc are in
+      let rest : map (λ (each : ReaderFiles). holds each.asks) files
+      ≡ map (λ (bytes : List ℕ). Some bytes) texts = cc are in
+      All-cons (λ (each : ReaderFiles). IsSomeAnd (holds each.asks)
+      (AreFewAsks (two_way_of given) (holds given.queries))) file files
+      (subst (λ (held : Option (List ℕ)). IsSomeAnd held
+      (AreFewAsks (two_way_of given) (holds given.queries))) (sym content)
+      (λ long. All-head IsFew text texts few
+      (of_these (λ all. (asked_items all text).end ≡ LongText) long)))
+      (readers_in texts files rest (All-tail IsFew text texts few))
+
 -- ---- the streams
 
 whole_contents : (cap : ℕ) (texts : List (List ℕ))
@@ -167,6 +193,8 @@ can_be_done means given holds sinks told run one_way two_way mode is fine =
         ap (λ (counts : List ℕ). sum counts) (counted cap (stream_texts told)),
         streams.1,
       );
+      readers = readers_in means given holds sinks told one is fine.queries has told.readers
+          (readers_of given) is.readers fine.few_asks;
       made = subst (λ (m : RunMode). IfSome (count_of m) (λ count. count ≤ cap))
           (sym {A = RunMode} mode) tt;
     }
@@ -230,6 +258,8 @@ small_run one examples words read = λ holds tuples queries stream may few short
         count,
         few,
       );
+      readers = All-nil (λ (each : ReaderFiles). IsSomeAnd (holds each.asks)
+          (AreFewAsks (two_way_of given) (holds given.queries)));
       made = tt;
     })
   where

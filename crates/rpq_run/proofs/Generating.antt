@@ -10,6 +10,7 @@ use Rattle.rpq_io.proofs.Bytes.{append_known-nil}
 use Rattle.rpq_io.proofs.Counting.{counts_as}
 use Rattle.rpq_io.specs.Writes.{WritesProperPrefix}
 use Rattle.ask_text.specs.Answered.{AnsweredValue}
+use Rattle.live_asks.specs.declared.reader.ReaderOutcome.{ReaderOutcome}
 use Rattle.rpq_base.specs.declared.data.Entry.{Entry}
 use Rattle.history_model.specs.declared.line.Why.TheVariants.{Write}
 use Rattle.stream_tuples.specs.declared.ends.StreamEnd.{StreamEnd}
@@ -51,7 +52,8 @@ not_closed true false is = absurd (cc is)
 not_closed true true is = absurd (cc is)
 
 -- no such status is that of want of memory, where all is done for which memory is needed
-not_short : (fits failed : Bool) → first_status (end_of true fits ∷ []) (failed_sinks failed false false) ≡ 8 → ⊥
+not_short : (fits failed : Bool)
+    → first_status (end_of true fits ∷ []) [] (failed_sinks failed false false) ≡ 8 → ⊥
 not_short false false eight = absurd (omega (arith, eight))
 not_short false true eight = absurd (omega (arith, eight))
 not_short true false eight = absurd (omega (arith, eight))
@@ -78,8 +80,8 @@ not_within count limit above = elim (leb_tells count limit) [
 
 -- what the run answers, by its history and how its stream ended
 abbrev pub generated_outcome : {S K : Type 0} → ℕ → List Entry → ℕ → List StreamEnd → List S
-    → List (List AnsweredValue) → Outcome S K
-generated_outcome status history base ends sources sessions = record {
+    → List (List AnsweredValue) → List (ReaderOutcome S K) → Outcome S K
+generated_outcome status history base ends sources sessions readers = record {
   status = status;
   history = history;
   base = base;
@@ -87,20 +89,23 @@ generated_outcome status history base ends sources sessions = record {
   sources = sources;
   from = None;
   sessions = sessions;
+  readers = readers;
   replies = None;
   save = None;
 }
 
--- it has no source and no session, and all its history is there
+-- it has no source, no session and no reader, and all its history is there
 nothing_asked : {S K : Type 0} (status : ℕ) (history history' : List Entry) (base : ℕ)
     (ends ends' : List StreamEnd)
-    (sources : List S) (sessions : List (List AnsweredValue)) → history' ≡ history → base ≡ 0 → ends ≡ ends'
-    → sources ≡ [] → sessions ≡ []
-    → generated_outcome {S = S} {K = K} status history 0 ends [] []
-    ≡ generated_outcome status history' base ends' sources sessions
-nothing_asked status history history' base ends ends' sources sessions one none_gone same no_source no_session = λ i.
+    (sources : List S) (sessions : List (List AnsweredValue)) (readers : List (ReaderOutcome S K))
+    → history' ≡ history → base ≡ 0 → ends ≡ ends'
+    → sources ≡ [] → sessions ≡ [] → readers ≡ []
+    → generated_outcome {S = S} {K = K} status history 0 ends [] [] []
+    ≡ generated_outcome status history' base ends' sources sessions readers
+nothing_asked {S} {K} status history history' base ends ends' sources sessions readers one none_gone same no_source
+    no_session no_reader = λ i.
     generated_outcome status (sym one i) (sym none_gone i) (same i) (sym no_source i)
-    (sym {A = List (List AnsweredValue)} no_session i)
+    (sym {A = List (List AnsweredValue)} no_session i) (sym {A = List (ReaderOutcome S K)} no_reader i)
 
 module _ {S K T E O : Type 0} (means : Meanings S K)
     (file : Option (List ℕ)) (task : Generation) (sinks : Sinks K) (seen : O → ObjectValue)
@@ -111,7 +116,7 @@ module _ {S K T E O : Type 0} (means : Meanings S K)
     (tells : Tells means.written means.failures (bytes_of run.summary) sinks.events_old sinks.events_new wrote)
     (short : is_some run.summary ≡ false → status ≡ 8)
     (others : is_some run.summary ≡ true
-    → status ≡ first_status (end_of (is_some run.summary) (nat_le task.count task.limit) ∷ [])
+    → status ≡ first_status (end_of (is_some run.summary) (nat_le task.count task.limit) ∷ []) []
     (failed_sinks (is_err wrote) false false)) where
   -- whether all tuples fit into the history, how the stream ended, and what the run answers
   abbrev pub fits : Bool
@@ -121,7 +126,7 @@ module _ {S K T E O : Type 0} (means : Meanings S K)
   end_in = end_of (is_some run.summary) fits
 
   abbrev pub outcome_in : Outcome S K
-  outcome_in = generated_outcome status run.history.items 0 (end_in ∷ []) [] []
+  outcome_in = generated_outcome status run.history.items 0 (end_in ∷ []) [] [] []
 
   -- the objects before and after
   abbrev pub objects_in : Objects
@@ -131,9 +136,10 @@ module _ {S K T E O : Type 0} (means : Meanings S K)
   short_of_memory : (summary : Option (Vec ℕ)) → run.summary ≡ summary → status ≡ 8 → summary ≡ None
   short_of_memory None is eight = refl
   short_of_memory (Some text) is eight =
-      let first : status ≡ first_status (end_of true fits ∷ []) (failed_sinks (is_err wrote) false false) =
+      let first : status ≡ first_status (end_of true fits ∷ []) [] (failed_sinks (is_err wrote) false false) =
       others (ap is_some is)
-      ∙ ap (λ (s : Option (Vec ℕ)). first_status (end_of (is_some s) fits ∷ []) (failed_sinks (is_err wrote) false false)) is in
+      ∙ ap (λ (s : Option (Vec ℕ)).
+      first_status (end_of (is_some s) fits ∷ []) [] (failed_sinks (is_err wrote) false false)) is in
       absurd (not_short fits (is_err wrote) (sym first ∙ eight))
 
   -- the history
@@ -240,23 +246,25 @@ module _ {S K T E O : Type 0} (means : Meanings S K)
   end_is_memory is = ap (λ (s : Option (Vec ℕ)). end_of (is_some s) fits) is
 
   by_end : (summary : Option (Vec ℕ)) → run.summary ≡ summary
-      → is_short (end_of (is_some summary) fits ∷ []) no_shortage ≡ true → status ≡ 8
+      → is_short (end_of (is_some summary) fits ∷ []) [] no_shortage ≡ true → status ≡ 8
   by_end None is ended = short (ap is_some is)
   by_end (Some text) is ended = absurd (fine fits ended)
     where
-      fine : (f : Bool) → is_short (end_of true f ∷ []) no_shortage ≡ true → ⊥
+      fine : (f : Bool) → is_short (end_of true f ∷ []) [] no_shortage ≡ true → ⊥
       fine false ended = absurd (cc ended)
       fine true ended = absurd (cc ended)
 
   -- all of it
-  generated_runs : IsStatusOf (end_in ∷ []) (failed_sinks (is_err wrote) false false) status
-      → TellsLines means.written means.failures (run_lines (end_in ∷ []) (failed_sinks (is_err wrote) false false) status)
+  generated_runs : IsStatusOf (end_in ∷ []) [] (failed_sinks (is_err wrote) false false) status
+      → TellsLines means.written means.failures
+      (run_lines (end_in ∷ []) [] (failed_sinks (is_err wrote) false false) status)
       sinks.errors_old sinks.errors_new
       → RunsGenerated means task.two_way task.limit task.count file sinks objects_in outcome_in
   generated_runs status_is lines = record {
     understood = is_queries_file task.two_way file (definitions_of task.queries.items) has;
     no_source = refl;
     no_session = refl;
+    no_reader = refl;
     no_replies = refl;
     no_window = (refl, refl);
     failed = failed_sinks (is_err wrote) false false;
@@ -283,7 +291,7 @@ module _ {S K T E O : Type 0} (means : Meanings S K)
       closed = λ closed. absurd (not_closed (is_some run.summary) fits (one_contained end_in (Closed Write) closed));
       status_is = status_is;
       memory = (
-        λ eight. ap (λ (end : StreamEnd). is_short (end ∷ []) no_shortage)
+        λ eight. ap (λ (end : StreamEnd). is_short (end ∷ []) [] no_shortage)
             (end_is_memory (short_of_memory run.summary refl eight)),
         by_end run.summary refl,
       );
@@ -293,18 +301,20 @@ module _ {S K T E O : Type 0} (means : Meanings S K)
 
   -- the same with what it answers and the objects in their lists
   pub runs_generated : (history : List Entry) (base : ℕ) (ends : List StreamEnd) (sources : List S)
-      (sessions : List (List AnsweredValue)) (before stayed left : List O) → history ≡ run.history.items
-      → base ≡ 0 → end_in ∷ [] ≡ ends → sources ≡ [] → sessions ≡ []
+      (sessions : List (List AnsweredValue)) (readers : List (ReaderOutcome S K)) (before stayed left : List O)
+      → history ≡ run.history.items
+      → base ≡ 0 → end_in ∷ [] ≡ ends → sources ≡ [] → sessions ≡ [] → readers ≡ []
       → circle.members ≡ before → run.circle.members ≡ stayed → run.circle.left ≡ left
-      → IsStatusOf (end_in ∷ []) (failed_sinks (is_err wrote) false false) status
-      → TellsLines means.written means.failures (run_lines (end_in ∷ []) (failed_sinks (is_err wrote) false false) status)
+      → IsStatusOf (end_in ∷ []) [] (failed_sinks (is_err wrote) false false) status
+      → TellsLines means.written means.failures
+      (run_lines (end_in ∷ []) [] (failed_sinks (is_err wrote) false false) status)
       sinks.errors_old sinks.errors_new
       → RunsGenerated means task.two_way task.limit task.count file sinks (objects seen before stayed left)
-      (generated_outcome status history base ends sources sessions)
-  runs_generated history base ends sources sessions before stayed left same none_gone ends_are no_source no_session
-      befores stays leaves status_is lines =
+      (generated_outcome status history base ends sources sessions readers)
+  runs_generated history base ends sources sessions readers before stayed left same none_gone ends_are no_source
+      no_session no_reader befores stays leaves status_is lines =
       subst₂ (λ (all : Objects) (outcome : Outcome S K). RunsGenerated means task.two_way task.limit task.count file sinks all outcome)
       (objects_are seen circle.members before run.circle.members stayed run.circle.left left befores stays leaves)
-      (nothing_asked status run.history.items history base (end_in ∷ []) ends sources sessions same none_gone ends_are
-      no_source no_session)
+      (nothing_asked status run.history.items history base (end_in ∷ []) ends sources sessions readers same none_gone
+      ends_are no_source no_session no_reader)
       (generated_runs status_is lines)

@@ -5,9 +5,9 @@ use Rattle.std.proofs.Common.{arith, inl, inr, ◌⊎◌, append-nil}
 use Rattle.std.specs.Prelude.{⊤, IfSome, MatchOption, Contains, map, option_map, unwrap_or}
 use Rattle.std.specs.Prelude.{is_some, slice_get}
 use Rattle.std.specs.Io.KnownBytes.{append_known}
-use Rattle.std.specs.List.{All, flat_map}
+use Rattle.std.specs.List.{All, AllZip, flat_map}
 use Rattle.std.proofs.lemmas.List.{length-map, take_all}
-use Rattle.std.proofs.lemmas.List.Elements.{All-head, All-tail}
+use Rattle.std.proofs.lemmas.List.Elements.{All-head, All-map, All-tail}
 use Rattle.std.proofs.lemmas.Option.{slice_get-map, slice_get_within}
 use Rattle.rpq_base.specs.declared.data.Entry.{Entry}
 use Rattle.rpq_io.proofs.Bytes.{append_known-nil}
@@ -24,6 +24,9 @@ use Rattle.rpq_words.specs.Views.{two_way_of}
 use Rattle.ask_text.specs.declared.ask.Ask.{Ask}
 use Rattle.ask_text.specs.declared.fault.AskFault.{AskFault}
 use Rattle.ask_text.specs.Replies.{replies}
+use Rattle.live_asks.specs.declared.ends.ReaderEnd.{ReaderEnd}
+use Rattle.live_asks.specs.declared.ends.ReaderEnd.TheVariants.{Closed, Memory as ShortOfMemory}
+use Rattle.live_asks.specs.declared.reader.ReaderOutcome.{ReaderOutcome}
 use Rattle.stream_tuples.specs.declared.ends.StreamEnd.{StreamEnd}
 use Rattle.stream_tuples.specs.declared.ends.StreamEnd.TheVariants.{Whole}
 use Rattle.stream_tuples.specs.History.{IsNumberOf, AreTuplesOfEnd, own_tuples}
@@ -32,6 +35,7 @@ use Rattle.stream_tuples.specs.StreamText.{StreamTuples}
 use Rattle.rpq_text.specs.declared.ends.SinkName.{SinkName}
 use Rattle.rpq_text.specs.declared.ends.SinkName.TheVariants.{Events, Replies, Save}
 use Rattle.rpq_text.specs.ErrorLines.{end_line, end_lines, memory_line, run_lines}
+use Rattle.rpq_text.specs.Statuses.{first_status}
 use Rattle.entry_steps.specs.Laws.{StepsHaveJoinEvents, StepsHaveTheEvents}
 use Rattle.entry_steps.specs.Steps.{OptionsValue, StepValue, AreSteps, events_of}
 use Rattle.rpq_text.specs.Text.{blocks_from}
@@ -41,27 +45,29 @@ use Rattle.saved_window.specs.Then.{left_of_both, faults_of_both}
 use Rattle.run_start.specs.Files.{HasJoins, HasQueries, HasSessions, ForQueries, ForJoins}
 use Rattle.run_start.specs.Files.{ForJoined, ForSessions, ForAsked, stream_contents, with_first}
 use Rattle.run_start.specs.Texts.{tuples_within}
-use Rattle.rpq_threads.specs.Runs.{AreSessionsOf, asks_answered}
+use Rattle.rpq_threads.specs.Runs.{AreSessionsOf, IsLiveOf, asks_answered}
 use Rattle.rpq_threads.specs.Told.{BeginsBlock, TellsObjects}
 use Rattle.standing.specs.Circles.{CircleValue}
 use Rattle.standing.specs.Objects.{ObjectValue}
 use Rattle.standing.specs.Stood.{HaveStood}
 use Rattle.standing.proofs.HavingStood.{stood_weaker}
+use Rattle.rpq_run.specs.Beside.{IsServedEnd, asks_held}
 use Rattle.rpq_run.specs.Headline.{Told, IsTold, AreAsked, AreBound, AreJoined, Headline}
 use Rattle.rpq_run.specs.Headline.{behind_text, stream_texts}
 use Rattle.rpq_run.specs.Options.{options_of}
-use Rattle.rpq_run.specs.Outcome.{Meanings, Sinks, Objects, Outcome}
+use Rattle.rpq_run.specs.Outcome.{Meanings, Sinks, Objects, Outcome, ends_of}
 use Rattle.rpq_run.specs.Replies.{texts_of}
 use Rattle.rpq_run.specs.RunsStreams.{GotText, RunsStreams, FrontsBind, FrontsHold, IsUnsaved}
 use Rattle.rpq_run.specs.RunsStreams.{nothing_told}
 use Rattle.rpq_run.specs.Shortage.{is_short_before}
 use Rattle.rpq_run.specs.Sources.{stream_sources}
 use Rattle.rpq_run.specs.Written.{TellsLines, WritesWhere}
-use Rattle.rpq_run.proofs.Done.{all_by, stream_at}
+use Rattle.rpq_run.proofs.Beside.{all_served, no_reader_lines, served_or_shut}
+use Rattle.rpq_run.proofs.Done.{all_at, all_by, stream_at}
 use Rattle.rpq_run.proofs.ErrorTexts.{nil_front}
 use Rattle.rpq_run.proofs.Shortages.{never_both, none_short}
 use Rattle.rpq_run.proofs.Sinks.{no_sinks}
-use Rattle.rpq_run.proofs.Statuses.{first_of_done, sink_quietly, whole_end}
+use Rattle.rpq_run.proofs.Statuses.{IsServedOrShut, first_of_done, sink_quietly, whole_end}
 
 -- ---- the one list of queries, of joins, and of sessions
 
@@ -289,13 +295,14 @@ whole_lines (end ∷ ends) number whole =
     ∙ whole_lines ends (number + 1) (All-tail (λ (e : StreamEnd). e ≡ Whole) end ends whole)
 
 -- a run that is done has none
-no_lines : (ends : List StreamEnd) (failed : List SinkName) (status : ℕ)
-    → All (λ (end : StreamEnd). end ≡ Whole) ends → failed ≡ [] → status ≡ 0
-    → run_lines ends failed status ≡ []
+no_lines : (ends : List StreamEnd) (asked : List ReaderEnd) (failed : List SinkName) (status : ℕ)
+    → All (λ (end : StreamEnd). end ≡ Whole) ends → All IsServedEnd asked → failed ≡ []
+    → status ≡ 0 → run_lines ends asked failed status ≡ []
 unfolding run_lines memory_line
-no_lines ends failed status whole none done =
-    ap₂ (λ (names : List SinkName) (n : ℕ). run_lines ends names n) none done
-    ∙ ap (λ (lines : List ℕ). lines ++ []) (whole_lines ends 1 whole)
+no_lines ends asked failed status whole served none done =
+    ap₂ (λ (names : List SinkName) (n : ℕ). run_lines ends asked names n) none done
+    ∙ ap₂ (λ (lines more : List ℕ). lines ++ (more ++ [])) (whole_lines ends 1 whole)
+    (no_reader_lines asked 1 served)
 
 -- so nothing was written on the errors
 nothing_written : {K : Type 0} (written : K → Option (List ℕ)) (failures : K → ℕ) (lines : List ℕ)
@@ -388,9 +395,11 @@ headline_of means given holds sinks objects outcome told one law lines runs done
     runs.understood.joins in
     let options = options_of given found.0 in
     let quiet : (Contains runs.failed Events → ⊥) =
-    sink_quietly outcome.ends runs.failed outcome.status Events runs.causes.status_is done in
+    sink_quietly outcome.ends (ends_of outcome.readers) runs.failed outcome.status Events
+    runs.causes.status_is done in
     let not_short : outcome.status ≢ 8 = λ eight. absurd (omega (arith, eight, done)) in
-    let short = none_short outcome.ends runs.short (λ is. not_short (runs.causes.memory.1 is)) in
+    let short = none_short outcome.ends (ends_of outcome.readers) runs.short
+    (λ is. not_short (runs.causes.memory.1 is)) in
     let tells = from_joined means given holds sinks told there.queries found.0
     (λ queries joins. TellsObjects (options_of given joins) queries outcome.history
     (means.written sinks.events_old) (means.written sinks.events_new) objects.before
@@ -444,22 +453,36 @@ headline_of means given holds sinks objects outcome told one law lines runs done
       all_answered = from_asked means given holds sinks told there.queries there.sessions
           (λ queries asked. asks_answered outcome.sessions ≡ asked) one is there.has there.asked
           (runs.replies.all short.session);
+      served = all_served means there.queries outcome.history told.readers outcome.readers
+          each_served (subst (λ (files : List (Option (List ℕ))).
+          AllZip (IsLiveOf means.left means.faults means.written means.failures there.queries
+          outcome.history (length outcome.history)) files outcome.readers) is.readers
+          (subst (λ n. AllZip (IsLiveOf means.left means.faults means.written means.failures
+          there.queries outcome.history n) (asks_held given holds) outcome.readers) last
+          (from_queries (two_way_of given) one (holds given.queries) told.queries there.queries
+          (λ queries. AllZip (IsLiveOf means.left means.faults means.written means.failures queries
+          outcome.history runs.replies.last) (asks_held given holds) outcome.readers) is.queries
+          there.has runs.readers.each)));
       replies_there = runs.replies.sink ∙ is.replies;
       replied = replies_are means.written (replies (texts_of outcome.sessions))
           (Contains runs.failed Replies) (runs.short.replies ≡ true)
-          (sink_quietly outcome.ends runs.failed outcome.status Replies runs.causes.status_is done)
+          (sink_quietly outcome.ends (ends_of outcome.readers) runs.failed outcome.status Replies
+          runs.causes.status_is done)
           (never_both runs.short.replies short.replies) outcome.replies runs.replies.text;
       window_there = runs.saves.sink ∙ is.save;
       saved_is = window_is outcome.save runs.saves.text
-          (sink_quietly outcome.ends runs.failed outcome.status Save runs.causes.status_is done)
+          (sink_quietly outcome.ends (ends_of outcome.readers) runs.failed outcome.status Save
+          runs.causes.status_is done)
           (λ reason. elim reason [
             | inl failed ↦ quiet failed
             | inr before ↦
                 never_both (is_short_before outcome.ends runs.short) short.before before
           ]) (never_both runs.short.save short.save) there.queries there.has;
       quiet = nothing_written means.written means.failures
-          (run_lines outcome.ends runs.failed outcome.status) sinks.errors_old sinks.errors_new
-          (no_lines outcome.ends runs.failed outcome.status whole_ends none_failed_in done)
+          (run_lines outcome.ends (ends_of outcome.readers) runs.failed outcome.status)
+          sinks.errors_old sinks.errors_new
+          (no_lines outcome.ends (ends_of outcome.readers) runs.failed outcome.status whole_ends
+          served_ends none_failed_in done)
           runs.causes.told;
     }
   where
@@ -469,16 +492,43 @@ headline_of means given holds sinks objects outcome told one law lines runs done
     unended (Some Write) why_is quiet not_short = absurd (quiet (runs.told.write why_is))
     unended (Some Memory) why_is quiet not_short = absurd (not_short (runs.told.memory why_is))
 
+    first : first_status outcome.ends (ends_of outcome.readers) runs.failed ≡ 0
+    first = first_of_done outcome.ends (ends_of outcome.readers) runs.failed outcome.status
+        runs.causes.status_is done
+
+    quiet_of : (sink : SinkName) → Contains runs.failed sink → ⊥
+    quiet_of sink = sink_quietly outcome.ends (ends_of outcome.readers) runs.failed outcome.status
+        sink runs.causes.status_is done
+
     whole_ends : All (λ (end : StreamEnd). end ≡ Whole) outcome.ends
     whole_ends = all_by (λ (end : StreamEnd). end ≡ Whole) outcome.ends (λ place end at.
-        whole_end outcome.ends runs.failed place end
-        (first_of_done outcome.ends runs.failed outcome.status runs.causes.status_is done) at)
+        whole_end outcome.ends (ends_of outcome.readers) runs.failed place end first at)
 
     none_failed_in : runs.failed ≡ []
-    none_failed_in = no_sinks runs.failed
-        (sink_quietly outcome.ends runs.failed outcome.status Events runs.causes.status_is done)
-        (sink_quietly outcome.ends runs.failed outcome.status Replies runs.causes.status_is done)
-        (sink_quietly outcome.ends runs.failed outcome.status Save runs.causes.status_is done)
+    none_failed_in = no_sinks runs.failed (quiet_of Events) (quiet_of Replies) (quiet_of Save)
+
+    -- no reader found the history shut
+    not_shut : (place : ℕ) (reader : ReaderOutcome _ _)
+        → slice_get outcome.readers place ≡ Some reader → IsServedOrShut reader.end
+        → IsServedEnd reader.end
+    not_shut place reader at (inl served) = served
+    not_shut place reader at (inr (Write, is)) = absurd (quiet_of Events
+        (all_at (λ (each : ReaderOutcome _ _). each.end ≡ Closed Write
+        → Contains runs.failed Events) outcome.readers place reader runs.readers.closed at is))
+    not_shut place reader at (inr (Memory, is)) =
+        let eight = all_at (λ (each : ReaderOutcome _ _).
+        (each.end ≡ Closed Memory) ⊎ (each.end ≡ ShortOfMemory) → outcome.status ≡ 8)
+        outcome.readers place reader runs.readers.memory at (inl is) in
+        absurd (omega (arith, eight, done))
+
+    each_served : All (λ (reader : ReaderOutcome _ _). IsServedEnd reader.end) outcome.readers
+    each_served = all_by (λ (reader : ReaderOutcome _ _). IsServedEnd reader.end) outcome.readers
+        (λ place reader at. not_shut place reader at
+        (served_or_shut outcome.ends outcome.readers runs.failed first place reader at))
+
+    served_ends : All IsServedEnd (ends_of outcome.readers)
+    served_ends = All-map IsServedEnd (λ (reader : ReaderOutcome _ _). reader.end) outcome.readers
+        each_served
 
     window_is : (save : Option _)
         → IfSome save (λ sink. ForQueries (two_way_of given) (holds given.queries) (λ queries.
@@ -516,8 +566,7 @@ headline_of means given holds sinks objects outcome told one law lines runs done
         is.limit
         (tuples_are (cap_of given) text (left_of_both means.left stream.source) (place + 1)
         outcome.history stream.end
-        (whole_end outcome.ends runs.failed place stream.end
-        (first_of_done outcome.ends runs.failed outcome.status runs.causes.status_is done)
+        (whole_end outcome.ends (ends_of outcome.readers) runs.failed place stream.end first
         stream.end_is) stream.stream.tied)
 
 -- and as it is told

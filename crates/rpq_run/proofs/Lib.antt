@@ -5,6 +5,7 @@ mod Windows
 mod Replying
 mod Totals
 mod Statuses
+mod Beside
 mod Done
 mod Running
 mod Checking

@@ -4,8 +4,8 @@ use Rattle.std.proofs.Common.{Option, Some, None, refl, sym, subst, ◌∙◌, a
 use Rattle.std.proofs.Common.{append_assoc}
 use Rattle.std.specs.Prelude.{IfSome, IsSomeAnd, option_to_list}
 use Rattle.std.specs.List.{All}
-use Rattle.std.proofs.lemmas.List.{append-nil}
-use Rattle.std.proofs.lemmas.List.Elements.{All-head, All-tail}
+use Rattle.std.proofs.lemmas.List.{append-nil, length-map}
+use Rattle.std.proofs.lemmas.List.Elements.{All-cons, All-head, All-nil, All-tail}
 use Rattle.std.proofs.lemmas.Option.{slice_get-get_or}
 use Rattle.rpq_io.specs.Counts.{Rose}
 use Rattle.rpq_io.proofs.Counting.{counts_none}
@@ -15,11 +15,12 @@ use Rattle.join_file.specs.JoinsFile.{joins}
 use Rattle.ask_text.specs.declared.fault.AskFault.{AskFault}
 use Rattle.ask_text.specs.Asks.{asks}
 use Rattle.rpq_words.specs.declared.settings.Settings.{Settings}
-use Rattle.rpq_words.specs.Views.{asks_of, from_of, joins_of, replies_of, save_of, streams_of}
-use Rattle.rpq_words.specs.Views.{two_way_of}
-use Rattle.stream_tuples.specs.History.{IsPrefix}
+use Rattle.rpq_words.specs.declared.reader_names.ReaderFiles.{ReaderFiles}
+use Rattle.rpq_words.specs.Views.{asks_of, from_of, joins_of, readers_of, replies_of, save_of}
+use Rattle.rpq_words.specs.Views.{streams_of, two_way_of}
+use Rattle.stream_tuples.specs.History.{IsNumberOf, IsPrefix}
 use Rattle.rpq_text.specs.declared.ends.Which.TheVariants.{Queries, Joins, Asks, From, Stream}
-use Rattle.rpq_text.specs.declared.ends.Which.TheVariants.{Replies, Save}
+use Rattle.rpq_text.specs.declared.ends.Which.TheVariants.{Replies, Save, AsksOf, RepliesOf}
 use Rattle.rpq_text.specs.declared.ends.StartFault.{StartFault}
 use Rattle.rpq_text.specs.declared.ends.StartFault.TheVariants.{Words, Queries as QueriesFault}
 use Rattle.rpq_text.specs.declared.ends.StartFault.TheVariants.{Joins as JoinsFaulty}
@@ -31,7 +32,8 @@ use Rattle.run_start.specs.Files.{ForQueries, IsTooLong, IsFaultyFile, IsFaultle
 use Rattle.run_start.specs.Files.{AreFaultyJoins, AreFaultlessJoins, HasJoinsFault}
 use Rattle.run_start.specs.Files.{AreFaultyAsks, AreFaultlessAsks, HasAskFault}
 use Rattle.run_start.specs.Files.{AreUnderstoodFiles, AreUnderstoodJoins, IsQueriesFile}
-use Rattle.run_start.specs.Given.{file_names, later_names, sink_names}
+use Rattle.run_start.specs.Given.{asks_names, file_names, later_names, name_numbered}
+use Rattle.run_start.specs.Given.{names_with_streams, own_sink_names, replies_names, sink_names}
 use Rattle.run_start.specs.Ready.{IsWordsCause}
 use Rattle.run_start.proofs.Using.{names_in_order}
 use Rattle.run_start.specs.Start.{IsRefusedFor, IsOpeningOf, IsMakingOf, AreSourcesOf}
@@ -92,6 +94,22 @@ all_behind : {X : Type 0} (P : X → Type 0) (front back : List X) → All P (fr
 all_behind P [] back all = all
 all_behind P (x ∷ front) back all = all_behind P front back (All-tail P x (front ++ back) all)
 
+-- what holds of all of a list before another
+all_front : {X : Type 0} (P : X → Type 0) (front back : List X) → All P (front ++ back)
+    → All P front
+all_front P [] back all = All-nil P
+all_front P (x ∷ front) back all = All-cons P x front (All-head P x (front ++ back) all)
+    (all_front P front back (All-tail P x (front ++ back) all))
+
+-- what holds of all names doesn't fail to hold of the one with a number
+numbered : (names : List (List ℕ)) (number : ℕ) (P : List ℕ → Type 0) → All (λ name. ¬ P name) names
+    → IsNumberOf (length names) number
+    → ((name : List ℕ) → name_numbered names number ≡ Some name → P name) → ⊥
+numbered names zero P none within some = omega (arith, within.first)
+numbered names (suc place) P none within some =
+    let inside : place < length names = omega (arith, within.last) in
+    none place [] inside (some (get_or names place []) (slice_get-get_or names place [] inside))
+
 -- what holds of the one name that there may be
 option_member : (P : List ℕ → Type 0) (option : Option (List ℕ)) (name : List ℕ)
     (rest : List (List ℕ)) → All P (option_to_list option ++ rest) → option ≡ Some name → P name
@@ -100,9 +118,12 @@ option_member P (Some other) name rest all is =
     let same : other ≡ name = cc is in
     subst P same (All-head P other rest all)
 
--- no opening of this name failed
+-- an opening of this name failed, and none did
+abbrev Risen : (List ℕ → ℕ) → (List ℕ → ℕ) → List ℕ → Type 0
+Risen before after name = Rose (before name) (after name)
+
 abbrev Quiet : (List ℕ → ℕ) → (List ℕ → ℕ) → List ℕ → Type 0
-Quiet before after name = ¬ Rose (before name) (after name)
+Quiet before after name = ¬ Risen before after name
 
 -- a run that doesn't begin with files that have no fault, and in which no count rose, wants memory
 pub wants_memory : {S K : Type 0} (means : Meanings S K) (given : Settings)
@@ -118,6 +139,33 @@ pub wants_memory : {S K : Type 0} (means : Meanings S K) (given : Settings)
 wants_memory {S} {K} means given holds openings sinks outcome start cause of opened made can none =
     by start cause of opened made
   where
+    -- the names of the files that are read, but those of what readers ask
+    own_names : All (Quiet openings.unread_old openings.unread_new)
+        ((option_to_list (joins_of given) ++ option_to_list (asks_of given))
+        ++ (option_to_list (from_of given) ++ streams_of given))
+    own_names = all_front (Quiet openings.unread_old openings.unread_new)
+        ((option_to_list (joins_of given) ++ option_to_list (asks_of given))
+        ++ (option_to_list (from_of given) ++ streams_of given)) (asks_names given)
+        (All-tail (Quiet openings.unread_old openings.unread_new) given.queries
+        (later_names given)
+        (subst (λ (names : List (List ℕ)).
+        All (Quiet openings.unread_old openings.unread_new) names)
+        (sym (names_in_order given)) none.unread))
+
+    -- and those
+    asked_names : All (Quiet openings.unread_old openings.unread_new) (asks_names given)
+    asked_names = all_behind (Quiet openings.unread_old openings.unread_new)
+        (names_with_streams given) (asks_names given) none.unread
+
+    -- the names of the sinks, but those of what readers are answered, and those
+    own_sinks : All (Quiet openings.unmade_old openings.unmade_new) (own_sink_names given)
+    own_sinks = all_front (Quiet openings.unmade_old openings.unmade_new) (own_sink_names given)
+        (replies_names given) none.unmade
+
+    answered_names : All (Quiet openings.unmade_old openings.unmade_new) (replies_names given)
+    answered_names = all_behind (Quiet openings.unmade_old openings.unmade_new)
+        (own_sink_names given) (replies_names given) none.unmade
+
     -- the names behind that of the queries
     later_ones : All (Quiet openings.unread_old openings.unread_new)
         (option_to_list (joins_of given) ++ (option_to_list (asks_of given)
@@ -125,12 +173,7 @@ wants_memory {S} {K} means given holds openings sinks outcome start cause of ope
     later_ones = subst (λ (names : List (List ℕ)).
         All (Quiet openings.unread_old openings.unread_new) names)
         (append_assoc (option_to_list (joins_of given)) (option_to_list (asks_of given))
-        (option_to_list (from_of given) ++ streams_of given))
-        (All-tail (Quiet openings.unread_old openings.unread_new) given.queries
-        (later_names given)
-        (subst (λ (names : List (List ℕ)).
-        All (Quiet openings.unread_old openings.unread_new) names)
-        (sym (names_in_order given)) none.unread))
+        (option_to_list (from_of given) ++ streams_of given)) own_names
 
     -- those behind that of the joins
     asks_on : All (Quiet openings.unread_old openings.unread_new)
@@ -216,7 +259,7 @@ wants_memory {S} {K} means given holds openings sinks outcome start cause of ope
     replies_made None is cause rose = cause
     replies_made (Some name) is cause rose =
         option_member (Quiet openings.unmade_old openings.unmade_new) (replies_of given) name
-        (option_to_list (save_of given)) none.unmade is (rose name is)
+        (option_to_list (save_of given)) own_sinks is (rose name is)
 
     save_made : (option : Option (List ℕ)) → save_of given ≡ option
         → IsSomeAnd option (λ name. AreUnderstoodFiles given holds)
@@ -225,7 +268,7 @@ wants_memory {S} {K} means given holds openings sinks outcome start cause of ope
     save_made None is cause rose = cause
     save_made (Some name) is cause rose =
         let quiet = all_behind (Quiet openings.unmade_old openings.unmade_new)
-        (option_to_list (replies_of given)) (option_to_list (save_of given)) none.unmade in
+        (option_to_list (replies_of given)) (option_to_list (save_of given)) own_sinks in
         option_member (Quiet openings.unmade_old openings.unmade_new) (save_of given) name []
         (subst (λ (names : List (List ℕ)).
         All (Quiet openings.unmade_old openings.unmade_new) names)
@@ -246,8 +289,8 @@ wants_memory {S} {K} means given holds openings sinks outcome start cause of ope
     by (AsksFault fault) cause of opened made = absurd (asks_fault (asks_of given) fault cause can.asks)
     by (Open Queries) cause of opened made =
         absurd (All-head (Quiet openings.unread_old openings.unread_new) given.queries
-        (((option_to_list (joins_of given) ++ option_to_list (asks_of given)) ++ option_to_list (from_of given))
-        ++ streams_of given) none.unread (opened given.queries refl))
+        ((((option_to_list (joins_of given) ++ option_to_list (asks_of given)) ++ option_to_list (from_of given))
+        ++ streams_of given) ++ asks_names given) none.unread (opened given.queries refl))
     by (Open Joins) cause of opened made = absurd (joins_opened (joins_of given) refl cause opened)
     by (Open Asks) cause of opened made = absurd (asks_opened (asks_of given) refl cause opened)
     by (Open From) cause of opened made = absurd (from_opened (from_of given) refl cause opened)
@@ -261,6 +304,14 @@ wants_memory {S} {K} means given holds openings sinks outcome start cause of ope
         absurd (names place [] inside
         (opened (get_or (streams_of given) place [])
         (slice_get-get_or (streams_of given) place [] inside)))
+    by (Open (AsksOf number)) cause of opened made = absurd (numbered (asks_names given) number
+        (Risen openings.unread_old openings.unread_new) asked_names
+        (subst (λ n. IsNumberOf n number) (sym (length-map (readers_of given)
+        (λ (files : ReaderFiles). files.asks))) cause.0) opened)
+    by (Open (RepliesOf number)) cause of opened made = absurd (numbered (replies_names given) number
+        (Risen openings.unmade_old openings.unmade_new) answered_names
+        (subst (λ n. IsNumberOf n number) (sym (length-map (readers_of given)
+        (λ (files : ReaderFiles). files.replies))) cause.0) made)
     by (ReadAtStart which) cause of opened made =
         absurd (All-head (λ source. ¬ Rose 0 (means.faults source)) of.0 []
         (subst (λ (ss : List S). All (λ source. ¬ Rose 0 (means.faults source)) ss) of.1
@@ -273,6 +324,8 @@ wants_memory {S} {K} means given holds openings sinks outcome start cause of ope
     by (Long Replies) cause of opened made = absurd cause
     by (Long Save) cause of opened made = absurd cause
     by (Long (Stream number)) cause of opened made = absurd cause
+    by (Long (AsksOf number)) cause of opened made = absurd cause
+    by (Long (RepliesOf number)) cause of opened made = absurd cause
     by Memory cause of opened made = inr refl
 
 -- a run that doesn't begin isn't done
@@ -288,6 +341,8 @@ never_done (Open From) done = omega (arith, done)
 never_done (Open (Stream number)) done = omega (arith, done)
 never_done (Open Replies) done = omega (arith, done)
 never_done (Open Save) done = omega (arith, done)
+never_done (Open (AsksOf number)) done = omega (arith, done)
+never_done (Open (RepliesOf number)) done = omega (arith, done)
 never_done (ReadAtStart which) done = omega (arith, done)
 never_done (Long which) done = omega (arith, done)
 never_done Memory done = omega (arith, done)

@@ -3,8 +3,9 @@ use Rattle.std.proofs.Common.{◌≡◌, ℕ, Bool, true, false, List, [], lengt
 use Rattle.std.proofs.Common.{Result, Ok, refl, ap, sym, subst, ◌∙◌, arith, inl, inr, ◌⊎◌}
 use Rattle.std.specs.Prelude.{◌<◌, ◌↔◌, ◌||◌, IfSome, MatchOption, Contains, is_some, map, slice_get}
 use Rattle.std.specs.Global.{Vec}
-use Rattle.std.specs.List.{All}
+use Rattle.std.specs.List.{All, AllZip}
 use Rattle.std.proofs.lemmas.List.{length-map}
+use Rattle.std.proofs.lemmas.Slice.Zip.{AllZip-long}
 use Rattle.rpq_base.specs.declared.data.Entry.{Entry}
 use Rattle.rpq_io.specs.Counts.{CountsFault}
 use Rattle.rpq_io.specs.Files.{IsNewSink}
@@ -15,7 +16,13 @@ use Rattle.join_file.specs.FileLaws.{JoinsAreSound}
 use Rattle.join_file.specs.Joins.{JoinValue}
 use Rattle.join_file.specs.Sound.{IsSound}
 use Rattle.rpq_words.specs.declared.settings.Settings.{Settings}
-use Rattle.rpq_words.specs.Views.{asks_of, cap_of, from_of, joins_of, streams_of, two_way_of}
+use Rattle.rpq_words.specs.declared.reader_names.ReaderFiles.{ReaderFiles}
+use Rattle.rpq_words.specs.Views.{asks_of, cap_of, from_of, joins_of, readers_of, streams_of}
+use Rattle.rpq_words.specs.Views.{two_way_of}
+use Rattle.live_asks.specs.declared.ends.ReaderEnd.{ReaderEnd}
+use Rattle.live_asks.specs.declared.ends.ReaderEnd.TheVariants as reader
+use Rattle.live_asks.specs.declared.reader.AskReader.{AskReader}
+use Rattle.live_asks.specs.declared.reader.ReaderOutcome.{ReaderOutcome}
 use Rattle.history_model.specs.declared.line.Why.{Why}
 use Rattle.history_model.specs.declared.line.Why.TheVariants.{Write, Memory}
 use Rattle.stream_tuples.specs.History.{IsNumberOf, AreStreamsOf}
@@ -41,10 +48,12 @@ use Rattle.standing.specs.Circles.{Parts, as_seen}
 use Rattle.standing.specs.Objects.{ObjectValue}
 use Rattle.rpq_threads.specs.declared.task.RunOutcome.{RunOutcome as ThreadsOutcome}
 use Rattle.rpq_threads.specs.declared.task.Task.{Task}
-use Rattle.rpq_threads.specs.Runs.{AreSessionsOf, Holds, asks_answered}
+use Rattle.rpq_threads.specs.Runs.{AreSessionsOf, HasAnswered, Holds, IsLiveOf, asks_answered}
+use Rattle.rpq_threads.specs.Runs.{asks_files}
 use Rattle.rpq_threads.specs.Told.{TellsObjects}
 use Rattle.rpq_run.specs.declared.fault.TextFault.{TextFault}
 use Rattle.rpq_run.specs.Asked.{IsAsked}
+use Rattle.rpq_run.specs.Beside.{AnswersReaders, CountsReader, asks_held}
 use Rattle.rpq_run.specs.Ending.{KeepsParts, SavesIfThere, failed_of, is_left_out, shortage_of}
 use Rattle.rpq_run.specs.declared.report.Report.{Report}
 use Rattle.rpq_run.specs.Failed.{is_failed, is_memory, is_write, lacks_memory}
@@ -52,7 +61,7 @@ use Rattle.rpq_run.specs.Options.{options_of}
 use Rattle.rpq_run.specs.Shortage.{Shortage, has_memory_end, is_short, is_short_before}
 use Rattle.rpq_run.specs.Sources.{stream_sources}
 use Rattle.rpq_run.specs.declared.streams.WrittenTexts.{WrittenTexts}
-use Rattle.rpq_run.specs.Outcome.{Meanings, Sinks, Objects, Outcome, objects, outcome}
+use Rattle.rpq_run.specs.Outcome.{Meanings, Sinks, Objects, Outcome, ends_of, objects, outcome}
 use Rattle.rpq_run.specs.Parts.{WritesIfThere}
 use Rattle.rpq_run.specs.Replies.{texts_of}
 use Rattle.rpq_run.specs.RunsCheck.{LeavesObjects}
@@ -60,12 +69,15 @@ use Rattle.rpq_run.specs.RunsStreams.{HoldsStreams, WritesEvents, AnswersSession
 use Rattle.rpq_run.specs.RunsStreams.{GotText, RunsStreams, SavesWindow, FrontsBind, FrontsHold}
 use Rattle.rpq_run.specs.RunsStreams.{IsUnsaved, nothing_told}
 use Rattle.rpq_run.specs.Written.{TellsLines, WritesWhere}
-use Rattle.rpq_run.proofs.Done.{all_at}
+use Rattle.rpq_run.proofs.Beside.{all_second, contains_at, end_at}
+use Rattle.rpq_run.proofs.Done.{all_at, all_by}
 use Rattle.rpq_run.proofs.Sinks.{some_sinks, in_replies, in_save, events_in, is_write_some}
 use Rattle.rpq_run.proofs.Sinks.{events_written, events_counted, in_events}
 use Rattle.rpq_run.proofs.Sinks.{replies_in, save_in, text_counted}
 use Rattle.rpq_run.proofs.Sinks.{text_written}
 use Rattle.rpq_run.proofs.Shortages.{either, left_out_by, neither, never_both, one_fault}
+use Rattle.rpq_run.proofs.Shortages.{short_by_engine, short_by_reader}
+use Rattle.rpq_run.proofs.Statuses.{short_at}
 use Rattle.rpq_run.proofs.Windows.{as_many_contents, none_lacking, none_written, same_sink}
 use Rattle.rpq_run.proofs.Windows.{there_by_count}
 use Rattle.rpq_run.proofs.Windows.{window_unwritten, window_written}
@@ -184,9 +196,20 @@ leaves_objects seen all left none = record { stayed = refl; none_left = ap (map 
 
 -- ---- the run over streams
 
+-- as many readers ended as were given
+pub many_readers : {T A K O : Type 0} (left : A → Option (List ℕ)) (faults : A → ℕ)
+    (written : K → Option (List ℕ)) (failures : K → ℕ) (task : Task T A K)
+    (threads : ThreadsOutcome T A K O)
+    → HasAnswered left faults written failures task threads
+    → length threads.readers.items ≡ length task.ask_readers.items
+many_readers {A = A} {K = K} left faults written failures task threads answers =
+    AllZip-long (IsLiveOf left faults written failures (definitions_of task.queries.items)
+    threads.history.items answers.last) (asks_files left task) threads.readers.items answers.readers
+    ∙ length-map task.ask_readers.items (λ (one : AskReader A K). left one.reader.source)
+
 -- what a run over streams answers, by what its threads gave, and the sources and sinks
-abbrev pub outcome_of : {T S K O : Type 0} → ℕ → ThreadsOutcome T O → Option S → List S → OwnSinks K
-    → Outcome S K
+abbrev pub outcome_of : {T S K O : Type 0} → ℕ → ThreadsOutcome T S K O → Option S → List S
+    → OwnSinks K → Outcome S K
 outcome_of status threads from sources own = record {
   status = status;
   history = threads.history.items;
@@ -195,22 +218,24 @@ outcome_of status threads from sources own = record {
   sources = sources;
   from = from;
   sessions = map (λ (each : Vec AnsweredValue). each.items) threads.sessions.items;
+  readers = threads.readers.items;
   replies = own.replies;
   save = own.save;
 }
 
 -- the objects that were handed to the threads, and as they gave them back
-abbrev pub objects_of : {T O : Type 0} → (O → ObjectValue) → Parts O → ThreadsOutcome T O → Objects
+abbrev pub objects_of : {T A K O : Type 0} → (O → ObjectValue) → Parts O
+    → ThreadsOutcome T A K O → Objects
 objects_of seen circle threads =
     objects seen circle.members threads.circle.members threads.circle.left
 
 -- the text of the replies
-abbrev pub replies_of : {T O : Type 0} → ThreadsOutcome T O → List ℕ
+abbrev pub replies_of : {T A K O : Type 0} → ThreadsOutcome T A K O → List ℕ
 replies_of threads =
     replies (texts_of (map (λ (each : Vec AnsweredValue). each.items) threads.sessions.items))
 
 -- the report has these in its lists
-pub answers_are : {T O F S K V : Type 0} {W : V → Type 0} (threads : ThreadsOutcome T O)
+pub answers_are : {T O F S K V : Type 0} {W : V → Type 0} (threads : ThreadsOutcome T S K O)
     (own : OwnSinks K) (report : Report F S K V W) → KeepsParts threads own report
     → outcome_of report.status threads report.from report.sources.items own ≡ outcome report
 answers_are threads own report parts = λ i. record {
@@ -221,18 +246,19 @@ answers_are threads own report parts = λ i. record {
   sources = report.sources.items;
   from = report.from;
   sessions = map (λ (each : Vec AnsweredValue). each.items) (sym parts.sessions i).items;
+  readers = (sym parts.readers i).items;
   replies = sym parts.replies i;
   save = sym parts.save i;
 }
 
 module _ {S K O : Type 0} (means : Meanings S K) (given : Settings)
-    (holds : List ℕ → Option (List ℕ)) (firsts : ℕ) (task : Task (TwoSources S))
+    (holds : List ℕ → Option (List ℕ)) (firsts : ℕ) (task : Task (TwoSources S) S K)
     (old new : OwnSinks K) (sinks : Sinks K) (seen : O → ObjectValue) (circle : Parts O)
-    (threads : ThreadsOutcome (TwoSources S) O) (from : Option S) (sources : List S)
+    (threads : ThreadsOutcome (TwoSources S) S K O) (from : Option S) (sources : List S)
     (written : WrittenTexts) (status : ℕ)
     (asked : IsAsked means.left means.written means.failures given holds firsts task old)
-    (held : Holds (left_of_both means.left) (faults_of_both means.faults) means.written
-    means.failures seen task
+    (held : Holds (left_of_both means.left) (faults_of_both means.faults) means.left means.faults
+    means.written means.failures seen task
     sinks.events_old sinks.events_new circle threads)
     (replied : WritesIfThere means.written means.failures (replies_of threads) old.replies
     new.replies written.replied)
@@ -241,9 +267,10 @@ module _ {S K O : Type 0} (means : Meanings S K) (given : Settings)
     (is_left_out threads.why threads.short_of_memory threads.ends.items written.replied) old.save
     new.save written.saved)
     (parts : stream_sources from sources ≡ threads.sources.items) (from_is : count_of from ≡ firsts)
-    (memory : (status ≡ 8) ↔ (is_short threads.ends.items
+    (memory : (status ≡ 8) ↔ (is_short threads.ends.items (ends_of threads.readers.items)
     (shortage_of threads.why threads.short_of_memory written) ≡ true))
-    (status_is : IsStatusOf threads.ends.items (failed_of threads.why written) status) where
+    (status_is : IsStatusOf threads.ends.items (ends_of threads.readers.items)
+    (failed_of threads.why written) status) where
   -- the sinks of which a write failed
   abbrev pub failed_in : List SinkName
   failed_in = failed_of threads.why written
@@ -401,6 +428,54 @@ module _ {S K O : Type 0} (means : Meanings S K) (given : Settings)
         new.replies written.replied none replied;
   }
 
+  -- ---- the readers
+
+  abbrev HasAsked : List Query → Option (List ℕ) → ReaderOutcome S K → Type 0
+  HasAsked queries = IsLiveOf means.left means.faults means.written means.failures queries
+      threads.history.items held.answers.last
+
+  -- a reader that found the history shut did so for the reason that the engine had
+  shut_for : (why : Why) (place : ℕ) (one : ReaderOutcome S K)
+      → slice_get threads.readers.items place ≡ Some one → one.end ≡ reader.Closed why
+      → threads.why ≡ Some why
+  shut_for why place one at is = held.answers.closed why
+      (contains_at (ends_of threads.readers.items) place one.end (reader.Closed why)
+      (end_at threads.readers.items place one at) is)
+
+  -- the status tells that memory ran out for it
+  short_for : (place : ℕ) (one : ReaderOutcome S K)
+      → slice_get threads.readers.items place ≡ Some one
+      → (one.end ≡ reader.Closed Memory) ⊎ (one.end ≡ reader.Memory) → status ≡ 8
+  short_for place one at (inl is) = memory.1
+      (short_by_engine threads.ends.items (ends_of threads.readers.items) short_in
+      (ap is_memory (shut_for Memory place one at is)))
+  short_for place one at (inr is) = memory.1
+      (short_by_reader threads.ends.items (ends_of threads.readers.items) short_in
+      (short_at (ends_of threads.readers.items) place
+      (end_at threads.readers.items place one at ∙ ap (λ (end : ReaderEnd). Some end) is)))
+
+  answers_readers : AnswersReaders means given holds failed_in held.answers.last answer
+  answers_readers = record {
+    as_many = AllZip-long (HasAsked queries_in) (asks_files means.left task) threads.readers.items
+        held.answers.readers
+        ∙ (ap (λ (files : List (Option (List ℕ))). length files)
+        (sym {A = List (Option (List ℕ))} asked.beside)
+        ∙ length-map (readers_of given) (λ (files : ReaderFiles). holds files.asks));
+    each = for_queries (two_way_of given) (holds given.queries) queries_in
+        (λ queries. AllZip (HasAsked queries) (asks_held given holds) threads.readers.items)
+        asked.has (subst (λ (files : List (Option (List ℕ))).
+        AllZip (HasAsked queries_in) files threads.readers.items)
+        (sym {A = List (Option (List ℕ))} asked.beside) held.answers.readers);
+    counted = all_second (HasAsked queries_in) (CountsReader means)
+        (λ file one live. record { read = live.read; write = live.write })
+        (asks_files means.left task) threads.readers.items held.answers.readers;
+    closed = all_by (λ (one : ReaderOutcome S K). one.end ≡ reader.Closed Write
+        → Contains failed_in Events) threads.readers.items
+        (λ place one at is. write_told (shut_for Write place one at is));
+    memory = all_by (λ (one : ReaderOutcome S K). (one.end ≡ reader.Closed Memory)
+        ⊎ (one.end ≡ reader.Memory) → status ≡ 8) threads.readers.items short_for;
+  }
+
   -- ---- the saved window
 
   abbrev window_in : List ℕ
@@ -555,9 +630,11 @@ module _ {S K O : Type 0} (means : Meanings S K) (given : Settings)
 
   -- the run over streams
   streams_run : FrontsHoldAnswers → JoinsAreSound → FrontsHoldBindings
-      → TellsLines means.written means.failures (run_lines threads.ends.items failed_in status)
+      → TellsLines means.written means.failures
+      (run_lines threads.ends.items (ends_of threads.readers.items) failed_in status)
       sinks.errors_old sinks.errors_new
       → RunsStreams means given holds sinks (objects_of seen circle threads) answer
+  unfolding answers_sessions
   streams_run fronts sound binds told = record {
     understood = record {
       joins = for_options (λ queries options. Unit {0}) tt;
@@ -568,6 +645,7 @@ module _ {S K O : Type 0} (means : Meanings S K) (given : Settings)
     history = holds_streams;
     events = writes_events fronts sound binds;
     replies = answers_sessions;
+    readers = answers_readers;
     saves = saves_window;
     told = tells_history;
     causes = record {
@@ -593,7 +671,8 @@ module _ {S K O : Type 0} (means : Meanings S K) (given : Settings)
   pub runs_streams : (before stayed left : List O) → circle.members ≡ before
       → threads.circle.members ≡ stayed → threads.circle.left ≡ left → FrontsHoldAnswers
       → JoinsAreSound → FrontsHoldBindings
-      → TellsLines means.written means.failures (run_lines threads.ends.items failed_in status)
+      → TellsLines means.written means.failures
+      (run_lines threads.ends.items (ends_of threads.readers.items) failed_in status)
       sinks.errors_old sinks.errors_new
       → RunsStreams means given holds sinks (objects seen before stayed left) answer
   runs_streams before stayed left befores stays leaves fronts sound binds told =
@@ -604,12 +683,13 @@ module _ {S K O : Type 0} (means : Meanings S K) (given : Settings)
 
 -- the same of a report
 pub run_reported : {S K O F V : Type 0} {W : V → Type 0} (means : Meanings S K) (given : Settings)
-    (holds : List ℕ → Option (List ℕ)) (firsts : ℕ) (task : Task (TwoSources S))
+    (holds : List ℕ → Option (List ℕ)) (firsts : ℕ) (task : Task (TwoSources S) S K)
     (old new : OwnSinks K) (sinks : Sinks K) (seen : O → ObjectValue) (circle : Parts O)
-    (threads : ThreadsOutcome (TwoSources S) O) (report : Report F S K V W) (written : WrittenTexts)
+    (threads : ThreadsOutcome (TwoSources S) S K O) (report : Report F S K V W)
+    (written : WrittenTexts)
     → IsAsked means.left means.written means.failures given holds firsts task old
-    → Holds (left_of_both means.left) (faults_of_both means.faults) means.written means.failures
-    seen task sinks.events_old sinks.events_new circle threads
+    → Holds (left_of_both means.left) (faults_of_both means.faults) means.left means.faults
+    means.written means.failures seen task sinks.events_old sinks.events_new circle threads
     → WritesIfThere means.written means.failures (replies_of threads) old.replies new.replies
     written.replied
     → SavesIfThere means.written means.failures
@@ -618,15 +698,16 @@ pub run_reported : {S K O F V : Type 0} {W : V → Type 0} (means : Meanings S K
     new.save written.saved
     → stream_sources report.from report.sources.items ≡ threads.sources.items
     → count_of report.from ≡ firsts
-    → ((report.status ≡ 8) ↔ (is_short threads.ends.items
+    → ((report.status ≡ 8) ↔ (is_short threads.ends.items (ends_of threads.readers.items)
     (shortage_of threads.why threads.short_of_memory written) ≡ true))
-    → IsStatusOf threads.ends.items (failed_of threads.why written) report.status
+    → IsStatusOf threads.ends.items (ends_of threads.readers.items)
+    (failed_of threads.why written) report.status
     → KeepsParts threads new report
     → (before stayed left : List O) → circle.members ≡ before → threads.circle.members ≡ stayed
     → threads.circle.left ≡ left → FrontsHoldAnswers → JoinsAreSound → FrontsHoldBindings
     → TellsLines means.written means.failures
-    (run_lines threads.ends.items (failed_of threads.why written) report.status) sinks.errors_old
-    sinks.errors_new
+    (run_lines threads.ends.items (ends_of threads.readers.items) (failed_of threads.why written)
+    report.status) sinks.errors_old sinks.errors_new
     → RunsStreams means given holds sinks (objects seen before stayed left) (outcome report)
 run_reported means given holds firsts task old new sinks seen circle threads report written asked
     held replied saved_is

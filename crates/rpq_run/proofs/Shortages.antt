@@ -1,15 +1,17 @@
 -- What memory ran out for, and what didn't.
 use Rattle.std.proofs.Common.{◌≡◌, Bool, true, false, ◌||◌, List, Option, Some, None, Result, Ok, Err}
-use Rattle.std.proofs.Common.{refl, inl, inr, ◌⊎◌}
+use Rattle.std.proofs.Common.{refl, ap, ◌∙◌, inl, inr, ◌⊎◌}
 use Rattle.std.specs.Prelude.{is_some}
 use Rattle.history_model.specs.declared.line.Why.{Why}
 use Rattle.history_model.specs.declared.line.Why.TheVariants.{Write, Memory}
+use Rattle.live_asks.specs.declared.ends.ReaderEnd.{ReaderEnd}
 use Rattle.stream_tuples.specs.declared.ends.StreamEnd.{StreamEnd}
 use Rattle.rpq_run.specs.declared.fault.TextFault.{TextFault}
 use Rattle.rpq_run.specs.declared.fault.TextFault.TheVariants.{Write as WriteOfText}
 use Rattle.rpq_run.specs.declared.fault.TextFault.TheVariants.{Memory as MemoryForText}
 use Rattle.rpq_run.specs.Failed.{is_failed, is_memory, is_write, lacks_memory}
-use Rattle.rpq_run.specs.Shortage.{Shortage, has_memory_end, is_short, is_short_before}
+use Rattle.rpq_run.specs.Shortage.{Shortage, has_memory_end, has_short_reader, is_short}
+use Rattle.rpq_run.specs.Shortage.{is_short_before}
 
 -- ---- either of two
 
@@ -36,18 +38,22 @@ grouped false b c = refl
 -- ---- none
 
 -- memory ran out for nothing
-pub record NoneShort (ends : List StreamEnd) (short : Shortage) : Type 0 where
+pub record NoneShort (ends : List StreamEnd) (asked : List ReaderEnd) (short : Shortage)
+    : Type 0 where
   pub before : is_short_before ends short ≡ false
   pub ends_fine : has_memory_end ends ≡ false
   pub engine : short.engine ≡ false
   pub session : short.session ≡ false
   pub replies : short.replies ≡ false
   pub save : short.save ≡ false
+  pub readers : has_short_reader asked ≡ false
 
-pub none_short : (ends : List StreamEnd) (short : Shortage) → (is_short ends short ≡ true → ⊥)
-    → NoneShort ends short
-none_short ends short never =
-    let all = neither (is_short_before ends short) short.save (not_so (is_short ends short) never) in
+pub none_short : (ends : List StreamEnd) (asked : List ReaderEnd) (short : Shortage)
+    → (is_short ends asked short ≡ true → ⊥) → NoneShort ends asked short
+none_short ends asked short never =
+    let run = neither (is_short_before ends short || short.save) (has_short_reader asked)
+    (not_so (is_short ends asked short) never) in
+    let all = neither (is_short_before ends short) short.save run.0 in
     let before = neither (has_memory_end ends) (short.engine || (short.session || short.replies)) all.0 in
     let others = neither short.engine (short.session || short.replies) before.1 in
     let texts = neither short.session short.replies others.1 in
@@ -58,7 +64,29 @@ none_short ends short never =
       session = texts.0;
       replies = texts.1;
       save = all.1;
+      readers = run.1;
     }
+
+-- ---- some
+
+or_true : (b : Bool) → (b || true) ≡ true
+or_true true = refl
+or_true false = refl
+
+-- memory ran out for the run where it did for the engine
+pub short_by_engine : (ends : List StreamEnd) (asked : List ReaderEnd) (short : Shortage)
+    → short.engine ≡ true → is_short ends asked short ≡ true
+short_by_engine ends asked short is =
+    ap (λ (b : Bool). (b || short.save) || has_short_reader asked)
+    (ap (λ (b : Bool). has_memory_end ends || (b || (short.session || short.replies))) is
+    ∙ or_true (has_memory_end ends))
+
+-- and where it did for a reader
+pub short_by_reader : (ends : List StreamEnd) (asked : List ReaderEnd) (short : Shortage)
+    → has_short_reader asked ≡ true → is_short ends asked short ≡ true
+short_by_reader ends asked short is =
+    ap (λ (b : Bool). (is_short_before ends short || short.save) || b) is
+    ∙ or_true (is_short_before ends short || short.save)
 
 -- ---- a text, and the window
 

@@ -6,25 +6,29 @@ use Rattle.std.specs.List.{All, list_any}
 use Rattle.std.proofs.lemmas.Bool.{cases_eq, ne_eqb}
 use Rattle.std.proofs.lemmas.List.Elements.{All-head, All-tail}
 use Rattle.rpq_io.specs.Counts.{CountsFault}
+use Rattle.history_model.specs.declared.line.Why.{Why}
 use Rattle.history_model.specs.declared.line.Why.TheVariants.{Write, Memory as MemoryOfAll}
 use Rattle.stream_tuples.specs.declared.ends.StreamEnd.{StreamEnd}
 use Rattle.stream_tuples.specs.declared.ends.StreamEnd.TheVariants.{Whole, Line, LongLine, LongStream}
 use Rattle.stream_tuples.specs.declared.ends.StreamEnd.TheVariants.{Read, Full, Closed, Memory}
+use Rattle.live_asks.specs.declared.ends.ReaderEnd.{ReaderEnd}
+use Rattle.live_asks.specs.declared.ends.ReaderEnd.TheVariants as reader
 use Rattle.rpq_text.specs.declared.ends.SinkName.{SinkName}
 use Rattle.rpq_text.specs.declared.ends.SinkName.TheVariants.{Events, Replies, Save}
-use Rattle.rpq_text.specs.Statuses.{status_of_end, status_of_sink, arose, first_status}
-use Rattle.rpq_text.specs.Statuses.{IsStatusOf}
+use Rattle.rpq_text.specs.Statuses.{status_of_end, status_of_reader, status_of_sink, arose}
+use Rattle.rpq_text.specs.Statuses.{first_status, IsStatusOf}
+use Rattle.rpq_run.specs.Beside.{IsServedEnd}
 use Rattle.rpq_run.specs.Ending.{is_any}
-use Rattle.rpq_run.specs.Shortage.{Shortage, has_memory_end, is_short}
+use Rattle.rpq_run.specs.Shortage.{Shortage, has_memory_end, has_short_reader, is_short}
 use Rattle.rpq_run.proofs.Shortages.{either, grouped, never_both}
 use Rattle.rpq_run.proofs.Sinks.{none_contained}
 
 -- ---- where all is done
 
 -- the first of the statuses, by which of them arose
-abbrev pub first_of : Bool → Bool → Bool → Bool → Bool → ℕ
-first_of memory write limit read line = unwrap_or (cond memory (Some 8) (cond write (Some 6)
-    (cond limit (Some 7) (cond read (Some 5) (cond line (Some 4) None))))) 0
+abbrev pub first_of : Bool → Bool → Bool → Bool → Bool → Bool → ℕ
+first_of memory write limit read line readers = unwrap_or (cond memory (Some 8) (cond write (Some 6)
+    (cond limit (Some 7) (cond read (Some 5) (cond line (Some 4) (cond readers (Some 9) None)))))) 0
 
 -- none of the statuses arose
 pub record NoneArose (p : ℕ → Bool) : Type 0 where
@@ -33,35 +37,50 @@ pub record NoneArose (p : ℕ → Bool) : Type 0 where
   pub limit : p 7 ≡ false
   pub read : p 5 ≡ false
   pub line : p 4 ≡ false
+  pub readers : p 9 ≡ false
 
-pub none_arose : (ends : List StreamEnd) (failed : List SinkName) → first_status ends failed ≡ 0
-    → NoneArose (arose ends failed)
-none_arose ends failed is =
-    let p = arose ends failed in
-    by (p 8) (p 6) (p 7) (p 5) (p 4) refl refl refl refl refl is
+pub none_arose : (ends : List StreamEnd) (asked : List ReaderEnd) (failed : List SinkName)
+    → first_status ends asked failed ≡ 0 → NoneArose (arose ends asked failed)
+none_arose ends asked failed is =
+    let p = arose ends asked failed in
+    by (p 8) (p 6) (p 7) (p 5) (p 4) (p 9) refl refl refl refl refl refl is
   where
-    by : (a b c d e : Bool) → arose ends failed 8 ≡ a → arose ends failed 6 ≡ b → arose ends failed 7 ≡ c
-        → arose ends failed 5 ≡ d → arose ends failed 4 ≡ e → first_of a b c d e ≡ 0
-        → NoneArose (arose ends failed)
-    by true b c d e eight six seven five four is = absurd (omega (arith, is))
-    by false true c d e eight six seven five four is = absurd (omega (arith, is))
-    by false false true d e eight six seven five four is = absurd (omega (arith, is))
-    by false false false true e eight six seven five four is = absurd (omega (arith, is))
-    by false false false false true eight six seven five four is = absurd (omega (arith, is))
-    by false false false false false eight six seven five four is =
-        record { memory = eight; write = six; limit = seven; read = five; line = four }
+    by : (a b c d e f : Bool) → arose ends asked failed 8 ≡ a → arose ends asked failed 6 ≡ b
+        → arose ends asked failed 7 ≡ c → arose ends asked failed 5 ≡ d → arose ends asked failed 4 ≡ e
+        → arose ends asked failed 9 ≡ f → first_of a b c d e f ≡ 0 → NoneArose (arose ends asked failed)
+    by true b c d e f eight six seven five four nine is = absurd (omega (arith, is))
+    by false true c d e f eight six seven five four nine is = absurd (omega (arith, is))
+    by false false true d e f eight six seven five four nine is = absurd (omega (arith, is))
+    by false false false true e f eight six seven five four nine is = absurd (omega (arith, is))
+    by false false false false true f eight six seven five four nine is = absurd (omega (arith, is))
+    by false false false false false true eight six seven five four nine is = absurd (omega (arith, is))
+    by false false false false false false eight six seven five four nine is = record {
+      memory = eight;
+      write = six;
+      limit = seven;
+      read = five;
+      line = four;
+      readers = nine;
+    }
 
 or_true : (b : Bool) → (b || true) ≡ true
 or_true true = refl
 or_true false = refl
 
--- where a stream ended for want of memory, so did the run
-memory_first : (ends : List StreamEnd) (failed : List SinkName) → has_memory_end ends ≡ true
-    → first_status ends failed ≡ 8
-memory_first ends failed is =
-    let p = arose ends failed in
-    ap (λ (memory : Bool). first_of memory (p 6) (p 7) (p 5) (p 4))
-    (ap (λ (b : Bool). b || list_any (λ sink. status_of_sink sink == 8) failed) is)
+ends_or : (a b c : Bool) → (a || c) ≡ true → ((a || b) || c) ≡ true
+ends_or true b c is = refl
+ends_or false true c is = refl
+ends_or false false c is = is
+
+-- where a stream ended for want of memory, or a reader did, so did the run
+memory_first : (ends : List StreamEnd) (asked : List ReaderEnd) (failed : List SinkName)
+    → (has_memory_end ends || has_short_reader asked) ≡ true → first_status ends asked failed ≡ 8
+memory_first ends asked failed is =
+    let p = arose ends asked failed in
+    let sinks = list_any (λ sink. status_of_sink sink == 8) failed in
+    ap (λ (memory : Bool). first_of memory (p 6) (p 7) (p 5) (p 4) (p 9))
+    (sym (grouped (has_memory_end ends) (has_short_reader asked) sinks)
+    ∙ ap (λ (b : Bool). b || sinks) is)
 
 -- a failed write of a sink is no want of memory
 no_sink_short : (failed : List SinkName) → list_any (λ sink. status_of_sink sink == 8) failed ≡ false
@@ -70,69 +89,92 @@ no_sink_short (Events ∷ rest) = no_sink_short rest
 no_sink_short (Replies ∷ rest) = no_sink_short rest
 no_sink_short (Save ∷ rest) = no_sink_short rest
 
--- so where a run ended for want of memory by these alone, a stream did
-memory_last : (ends : List StreamEnd) (failed : List SinkName) → first_status ends failed ≡ 8
-    → has_memory_end ends ≡ true
-memory_last ends failed is =
-    let p = arose ends failed in
-    let some = by (p 8) (p 6) (p 7) (p 5) (p 4) is in
-    elim (either (has_memory_end ends) (list_any (λ sink. status_of_sink sink == 8) failed) some) [
+-- so where a run ended for want of memory by these alone, a stream or a reader did
+memory_last : (ends : List StreamEnd) (asked : List ReaderEnd) (failed : List SinkName)
+    → first_status ends asked failed ≡ 8 → (has_memory_end ends || has_short_reader asked) ≡ true
+memory_last ends asked failed is =
+    let p = arose ends asked failed in
+    let sinks = list_any (λ sink. status_of_sink sink == 8) failed in
+    let some = by (p 8) (p 6) (p 7) (p 5) (p 4) (p 9) is in
+    elim (either (has_memory_end ends || has_short_reader asked) sinks
+    (grouped (has_memory_end ends) (has_short_reader asked) sinks ∙ some)) [
       | inl ended ↦ ended
-      | inr sink ↦ absurd (never_both (list_any (λ sink. status_of_sink sink == 8) failed)
-          (no_sink_short failed) sink)
+      | inr sink ↦ absurd (never_both sinks (no_sink_short failed) sink)
     ]
   where
-    by : (a b c d e : Bool) → first_of a b c d e ≡ 8 → a ≡ true
-    by true b c d e is = refl
-    by false true c d e is = absurd (omega (arith, is))
-    by false false true d e is = absurd (omega (arith, is))
-    by false false false true e is = absurd (omega (arith, is))
-    by false false false false true is = absurd (omega (arith, is))
-    by false false false false false is = absurd (omega (arith, is))
+    by : (a b c d e f : Bool) → first_of a b c d e f ≡ 8 → a ≡ true
+    by true b c d e f is = refl
+    by false true c d e f is = absurd (omega (arith, is))
+    by false false true d e f is = absurd (omega (arith, is))
+    by false false false true e f is = absurd (omega (arith, is))
+    by false false false false true f is = absurd (omega (arith, is))
+    by false false false false false true is = absurd (omega (arith, is))
+    by false false false false false false is = absurd (omega (arith, is))
 
 -- the status of a run is that of out of memory exactly where memory ran out
-pub status_short : (ends : List StreamEnd) (failed : List SinkName) (status : ℕ) (short : Shortage)
+pub status_short : (ends : List StreamEnd) (asked : List ReaderEnd) (failed : List SinkName)
+    (status : ℕ) (short : Shortage)
     → (is_any short ≡ true → status ≡ 8)
-    → (is_any short ≡ false → status ≡ first_status ends failed)
-    → (first_status ends failed ≡ 8 → status ≡ 8)
-    → (status ≡ 8) ↔ (is_short ends short ≡ true)
-status_short ends failed status short wanting fine first = (there, back)
+    → (is_any short ≡ false → status ≡ first_status ends asked failed)
+    → (first_status ends asked failed ≡ 8 → status ≡ 8)
+    → (status ≡ 8) ↔ (is_short ends asked short ≡ true)
+status_short ends asked failed status short wanting fine first = (there, back)
   where
-    same : is_short ends short ≡ (has_memory_end ends || is_any short)
-    same = grouped (has_memory_end ends) (short.engine || (short.session || short.replies)) short.save
+    same : is_short ends asked short
+        ≡ ((has_memory_end ends || is_any short) || has_short_reader asked)
+    same = ap (λ (b : Bool). b || has_short_reader asked)
+        (grouped (has_memory_end ends) (short.engine || (short.session || short.replies)) short.save)
 
-    by : (any : Bool) → is_any short ≡ any → status ≡ 8 → (has_memory_end ends || is_any short) ≡ true
-    by true is eight = ap (λ (b : Bool). has_memory_end ends || b) is ∙ or_true (has_memory_end ends)
-    by false is eight =
-        ap (λ (b : Bool). b || is_any short) (memory_last ends failed (sym (fine is) ∙ eight))
+    by : (any : Bool) → is_any short ≡ any → status ≡ 8
+        → ((has_memory_end ends || is_any short) || has_short_reader asked) ≡ true
+    by true is eight = ap (λ (b : Bool). b || has_short_reader asked)
+        (ap (λ (b : Bool). has_memory_end ends || b) is ∙ or_true (has_memory_end ends))
+    by false is eight = ends_or (has_memory_end ends) (is_any short) (has_short_reader asked)
+        (memory_last ends asked failed (sym (fine is) ∙ eight))
 
-    there : status ≡ 8 → is_short ends short ≡ true
+    there : status ≡ 8 → is_short ends asked short ≡ true
     there eight = same ∙ by (is_any short) refl eight
 
-    back : is_short ends short ≡ true → status ≡ 8
-    back is = elim (either (has_memory_end ends) (is_any short) (sym same ∙ is)) [
-      | inl ended ↦ first (memory_first ends failed ended)
-      | inr any ↦ wanting any
-    ]
+    back : is_short ends asked short ≡ true → status ≡ 8
+    back is = elim (either (has_memory_end ends || is_any short) (has_short_reader asked)
+        (sym same ∙ is)) [
+          | inl before ↦ elim (either (has_memory_end ends) (is_any short) before) [
+            | inl ended ↦ first (memory_first ends asked failed
+                (ap (λ (b : Bool). b || has_short_reader asked) ended))
+            | inr any ↦ wanting any
+          ]
+          | inr one ↦ first (memory_first ends asked failed
+              (ap (λ (b : Bool). has_memory_end ends || b) one ∙ or_true (has_memory_end ends)))
+        ]
 
 -- the status of a run that is done is the first that arose
-pub first_of_done : (ends : List StreamEnd) (failed : List SinkName) (status : ℕ)
-    → IsStatusOf ends failed status → status ≡ 0 → first_status ends failed ≡ 0
-first_of_done ends failed status is done =
+pub first_of_done : (ends : List StreamEnd) (asked : List ReaderEnd) (failed : List SinkName)
+    (status : ℕ) → IsStatusOf ends asked failed status → status ≡ 0
+    → first_status ends asked failed ≡ 0
+first_of_done ends asked failed status is done =
     sym (is.others (λ eight. absurd (omega (arith, eight, done)))) ∙ done
 
 -- a failed write of any sink arose
-pub sink_arose : (ends : List StreamEnd) (failed : List SinkName) (sink : SinkName) → Contains failed sink
-    → arose ends failed 6 ≡ true
-sink_arose ends [] sink has = absurd (none_contained sink has)
-sink_arose ends (Events ∷ rest) sink has = or_true (list_any (λ end. status_of_end end == 6) ends)
-sink_arose ends (Replies ∷ rest) sink has = or_true (list_any (λ end. status_of_end end == 6) ends)
-sink_arose ends (Save ∷ rest) sink has = or_true (list_any (λ end. status_of_end end == 6) ends)
+behind_others : (ends : List StreamEnd) (asked : List ReaderEnd)
+    → (list_any (λ end. status_of_end end == 6) ends
+    || (list_any (λ end. status_of_reader end == 6) asked || true)) ≡ true
+behind_others ends asked =
+    ap (λ (b : Bool). list_any (λ end. status_of_end end == 6) ends || b)
+    (or_true (list_any (λ end. status_of_reader end == 6) asked))
+    ∙ or_true (list_any (λ end. status_of_end end == 6) ends)
+
+pub sink_arose : (ends : List StreamEnd) (asked : List ReaderEnd) (failed : List SinkName)
+    (sink : SinkName) → Contains failed sink → arose ends asked failed 6 ≡ true
+sink_arose ends asked [] sink has = absurd (none_contained sink has)
+sink_arose ends asked (Events ∷ rest) sink has = behind_others ends asked
+sink_arose ends asked (Replies ∷ rest) sink has = behind_others ends asked
+sink_arose ends asked (Save ∷ rest) sink has = behind_others ends asked
 
 -- the status is then that of a failed write, or of out of memory
-pub sink_status : (ends : List StreamEnd) (failed : List SinkName) (status : ℕ) (sink : SinkName)
-    → IsStatusOf ends failed status → Contains failed sink → (status ≡ 8) ⊎ (status ≡ 6)
-sink_status ends failed status sink is has = elim (cases_eq status 8) [
+pub sink_status : (ends : List StreamEnd) (asked : List ReaderEnd) (failed : List SinkName)
+    (status : ℕ) (sink : SinkName) → IsStatusOf ends asked failed status → Contains failed sink
+    → (status ≡ 8) ⊎ (status ≡ 6)
+sink_status ends asked failed status sink is has = elim (cases_eq status 8) [
   | inl eight ↦ inl eight
   | inr other ↦ elim first [
     | inl eight ↦ inl (is.memory eight)
@@ -140,127 +182,196 @@ sink_status ends failed status sink is has = elim (cases_eq status 8) [
   ]
 ]
   where
-    by : (memory limit read line : Bool) → (first_of memory true limit read line ≡ 8)
-        ⊎ (first_of memory true limit read line ≡ 6)
-    by true limit read line = inl refl
-    by false limit read line = inr refl
+    by : (memory limit read line readers : Bool)
+        → (first_of memory true limit read line readers ≡ 8)
+        ⊎ (first_of memory true limit read line readers ≡ 6)
+    by true limit read line readers = inl refl
+    by false limit read line readers = inr refl
 
-    first : (first_status ends failed ≡ 8) ⊎ (first_status ends failed ≡ 6)
+    first : (first_status ends asked failed ≡ 8) ⊎ (first_status ends asked failed ≡ 6)
     first =
-        let p = arose ends failed in
-        subst (λ (write : Bool). (first_of (p 8) write (p 7) (p 5) (p 4) ≡ 8)
-        ⊎ (first_of (p 8) write (p 7) (p 5) (p 4) ≡ 6))
-        (sym {A = Bool} (sink_arose ends failed sink has)) (by (p 8) (p 7) (p 5) (p 4))
+        let p = arose ends asked failed in
+        subst (λ (write : Bool). (first_of (p 8) write (p 7) (p 5) (p 4) (p 9) ≡ 8)
+        ⊎ (first_of (p 8) write (p 7) (p 5) (p 4) (p 9) ≡ 6))
+        (sym {A = Bool} (sink_arose ends asked failed sink has))
+        (by (p 8) (p 7) (p 5) (p 4) (p 9))
 
 -- where all is done no write of a sink failed
-pub sink_quietly : (ends : List StreamEnd) (failed : List SinkName) (status : ℕ) (sink : SinkName)
-    → IsStatusOf ends failed status → status ≡ 0 → Contains failed sink → ⊥
-sink_quietly ends failed status sink is done has =
-    let yes : arose ends failed 6 ≡ true = sink_arose ends failed sink has in
-    let no : arose ends failed 6 ≡ false = (none_arose ends failed (first_of_done ends failed status is done)).write in
+pub sink_quietly : (ends : List StreamEnd) (asked : List ReaderEnd) (failed : List SinkName)
+    (status : ℕ) (sink : SinkName) → IsStatusOf ends asked failed status → status ≡ 0
+    → Contains failed sink → ⊥
+sink_quietly ends asked failed status sink is done has =
+    let yes : arose ends asked failed 6 ≡ true = sink_arose ends asked failed sink has in
+    let no : arose ends asked failed 6 ≡ false =
+    (none_arose ends asked failed (first_of_done ends asked failed status is done)).write in
     let both : true ≡ false = sym yes ∙ no in
     absurd (cc both)
 
-pub counted_quietly : (ends : List StreamEnd) (failed : List SinkName) (status : ℕ) (sink : SinkName)
-    (before after : ℕ) → IsStatusOf ends failed status → status ≡ 0
-    → CountsFault (Contains failed sink) before after → after ≡ before
-counted_quietly ends failed status sink before after is done counts =
-    counts.quiet (sink_quietly ends failed status sink is done)
+pub counted_quietly : (ends : List StreamEnd) (asked : List ReaderEnd) (failed : List SinkName)
+    (status : ℕ) (sink : SinkName) (before after : ℕ) → IsStatusOf ends asked failed status
+    → status ≡ 0 → CountsFault (Contains failed sink) before after → after ≡ before
+counted_quietly ends asked failed status sink before after is done counts =
+    counts.quiet (sink_quietly ends asked failed status sink is done)
 
 -- the end at a place arose
-end_arose : (ends : List StreamEnd) (place : ℕ) (end : StreamEnd) (status : ℕ)
-    → slice_get ends place ≡ Some end → (status_of_end end == status) ≡ true
-    → list_any (λ e. status_of_end e == status) ends ≡ true
-end_arose [] place end status is one = absurd (cc is)
-end_arose (first ∷ ends) zero end status is one =
+one_at : {E : Type 0} (status_of : E → ℕ) (ends : List E) (place : ℕ) (end : E) (status : ℕ)
+    → slice_get ends place ≡ Some end → (status_of end == status) ≡ true
+    → list_any (λ e. status_of e == status) ends ≡ true
+one_at status_of [] place end status is one = absurd (cc is)
+one_at {E} status_of (first ∷ ends) zero end status is one =
     let same : first ≡ end = cc is in
-    ap (λ (b : Bool). b || list_any (λ e. status_of_end e == status) ends)
-    (ap (λ (e : StreamEnd). status_of_end e == status) same ∙ one)
-end_arose (first ∷ ends) (suc place) end status is one =
-    ap (λ (b : Bool). (status_of_end first == status) || b) (end_arose ends place end status is one)
-    ∙ or_true (status_of_end first == status)
+    ap (λ (b : Bool). b || list_any (λ e. status_of e == status) ends)
+    (ap (λ (e : E). status_of e == status) same ∙ one)
+one_at status_of (first ∷ ends) (suc place) end status is one =
+    ap (λ (b : Bool). (status_of first == status) || b) (one_at status_of ends place end status is one)
+    ∙ or_true (status_of first == status)
+
+-- memory ran out for some reader, where it did for the one at a place
+pub short_at : (asked : List ReaderEnd) (place : ℕ) → slice_get asked place ≡ Some reader.Memory
+    → has_short_reader asked ≡ true
+short_at asked place at = one_at status_of_reader asked place reader.Memory 8 at refl
 
 -- no end has a status that didn't arise
-no_end : (ends : List StreamEnd) (failed : List SinkName) (place : ℕ) (end : StreamEnd) (status : ℕ)
+no_end : (ends : List StreamEnd) (asked : List ReaderEnd) (failed : List SinkName) (place : ℕ)
+    (end : StreamEnd) (status : ℕ)
     → slice_get ends place ≡ Some end → (status_of_end end == status) ≡ true
-    → arose ends failed status ≡ false → ⊥
-no_end ends failed place end status at one none =
-    let either : arose ends failed status ≡ true =
-    ap (λ (b : Bool). b || list_any (λ sink. status_of_sink sink == status) failed)
-    (end_arose ends place end status at one) in
-    let both : true ≡ false = sym either ∙ none in
+    → arose ends asked failed status ≡ false → ⊥
+no_end ends asked failed place end status at one none =
+    let some : arose ends asked failed status ≡ true =
+    ap (λ (b : Bool). b || (list_any (λ e. status_of_reader e == status) asked
+    || list_any (λ sink. status_of_sink sink == status) failed))
+    (one_at status_of_end ends place end status at one) in
+    let both : true ≡ false = sym some ∙ none in
+    absurd (cc both)
+
+no_reader_end : (ends : List StreamEnd) (asked : List ReaderEnd) (failed : List SinkName)
+    (place : ℕ) (end : ReaderEnd) (status : ℕ)
+    → slice_get asked place ≡ Some end → (status_of_reader end == status) ≡ true
+    → arose ends asked failed status ≡ false → ⊥
+no_reader_end ends asked failed place end status at one none =
+    let of_ends = list_any (λ e. status_of_end e == status) ends in
+    let some : arose ends asked failed status ≡ true =
+    ap (λ (b : Bool). of_ends || (b || list_any (λ sink. status_of_sink sink == status) failed))
+    (one_at status_of_reader asked place end status at one) ∙ or_true of_ends in
+    let both : true ≡ false = sym some ∙ none in
     absurd (cc both)
 
 -- where all is done every stream was read to its end
-pub whole_end : (ends : List StreamEnd) (failed : List SinkName) (place : ℕ) (end : StreamEnd)
-    → first_status ends failed ≡ 0 → slice_get ends place ≡ Some end → end ≡ Whole
-whole_end ends failed place Whole done at = refl
-whole_end ends failed place (Line number fault) done at =
-    absurd (no_end ends failed place (Line number fault) 4 at refl (none_arose ends failed done).line)
-whole_end ends failed place (LongLine number) done at =
-    absurd (no_end ends failed place (LongLine number) 4 at refl (none_arose ends failed done).line)
-whole_end ends failed place LongStream done at =
-    absurd (no_end ends failed place LongStream 7 at refl (none_arose ends failed done).limit)
-whole_end ends failed place Read done at =
-    absurd (no_end ends failed place Read 5 at refl (none_arose ends failed done).read)
-whole_end ends failed place Full done at =
-    absurd (no_end ends failed place Full 7 at refl (none_arose ends failed done).limit)
-whole_end ends failed place (Closed Write) done at =
-    absurd (no_end ends failed place (Closed Write) 6 at refl (none_arose ends failed done).write)
-whole_end ends failed place (Closed MemoryOfAll) done at =
-    absurd (no_end ends failed place (Closed MemoryOfAll) 8 at refl (none_arose ends failed done).memory)
-whole_end ends failed place Memory done at =
-    absurd (no_end ends failed place Memory 8 at refl (none_arose ends failed done).memory)
+pub whole_end : (ends : List StreamEnd) (asked : List ReaderEnd) (failed : List SinkName)
+    (place : ℕ) (end : StreamEnd) → first_status ends asked failed ≡ 0
+    → slice_get ends place ≡ Some end → end ≡ Whole
+whole_end ends asked failed place end done at = by end at
+  where
+    none : NoneArose (arose ends asked failed)
+    none = none_arose ends asked failed done
+
+    by : (e : StreamEnd) → slice_get ends place ≡ Some e → e ≡ Whole
+    by Whole here = refl
+    by (Line number fault) here =
+        absurd (no_end ends asked failed place (Line number fault) 4 here refl none.line)
+    by (LongLine number) here =
+        absurd (no_end ends asked failed place (LongLine number) 4 here refl none.line)
+    by LongStream here = absurd (no_end ends asked failed place LongStream 7 here refl none.limit)
+    by Read here = absurd (no_end ends asked failed place Read 5 here refl none.read)
+    by Full here = absurd (no_end ends asked failed place Full 7 here refl none.limit)
+    by (Closed Write) here =
+        absurd (no_end ends asked failed place (Closed Write) 6 here refl none.write)
+    by (Closed MemoryOfAll) here =
+        absurd (no_end ends asked failed place (Closed MemoryOfAll) 8 here refl none.memory)
+    by Memory here = absurd (no_end ends asked failed place Memory 8 here refl none.memory)
 
 -- and no read of a stream failed
-pub read_quietly : (ends : List StreamEnd) (failed : List SinkName) (status : ℕ) (place : ℕ)
-    (end : StreamEnd) → IsStatusOf ends failed status → status ≡ 0 → slice_get ends place ≡ Some end
-    → end ≡ Read → ⊥
-read_quietly ends failed status place end is done at read =
-    let whole = whole_end ends failed place end (first_of_done ends failed status is done) at in
+pub read_quietly : (ends : List StreamEnd) (asked : List ReaderEnd) (failed : List SinkName)
+    (status : ℕ) (place : ℕ) (end : StreamEnd) → IsStatusOf ends asked failed status → status ≡ 0
+    → slice_get ends place ≡ Some end → end ≡ Read → ⊥
+read_quietly ends asked failed status place end is done at read =
+    let whole = whole_end ends asked failed place end (first_of_done ends asked failed status is done) at in
     let both : Whole ≡ Read = sym whole ∙ read in
     absurd (cc both)
 
+-- every reader came to its end, unless it found the history shut
+abbrev pub IsServedOrShut : ReaderEnd → Type 0
+IsServedOrShut end = IsServedEnd end ⊎ ((why : Why) × (end ≡ reader.Closed why))
+
+pub served_end : (ends : List StreamEnd) (asked : List ReaderEnd) (failed : List SinkName)
+    (place : ℕ) (end : ReaderEnd) → first_status ends asked failed ≡ 0
+    → slice_get asked place ≡ Some end → IsServedOrShut end
+served_end ends asked failed place end done at = by end at
+  where
+    none : NoneArose (arose ends asked failed)
+    none = none_arose ends asked failed done
+
+    by : (e : ReaderEnd) → slice_get asked place ≡ Some e → IsServedOrShut e
+    by reader.Whole here = inl tt
+    by (reader.Left line) here = inl tt
+    by reader.LongText here =
+        absurd (no_reader_end ends asked failed place reader.LongText 9 here refl none.readers)
+    by reader.Read here =
+        absurd (no_reader_end ends asked failed place reader.Read 9 here refl none.readers)
+    by reader.Write here =
+        absurd (no_reader_end ends asked failed place reader.Write 9 here refl none.readers)
+    by (reader.Closed why) here = inr (why, refl)
+    by reader.Memory here =
+        absurd (no_reader_end ends asked failed place reader.Memory 8 here refl none.memory)
+
 -- ---- where only want of memory arose
+
+-- the status of an end is that of a run that is done, or of one for which memory ran out
+abbrev pub IsFineStatus : ℕ → Type 0
+IsFineStatus status = (status ≡ 0) ⊎ (status ≡ 8)
 
 -- the end is that of a stream read to its end, or of one for which memory ran out
 abbrev pub IsFine : StreamEnd → Type 0
-IsFine end = (status_of_end end ≡ 0) ⊎ (status_of_end end ≡ 8)
+IsFine end = IsFineStatus (status_of_end end)
 
-not_fine : (ends : List StreamEnd) (status : ℕ) → status ≢ 0 → status ≢ 8 → All IsFine ends
-    → list_any (λ end. status_of_end end == status) ends ≡ false
-not_fine [] status not_done not_memory fine = refl
-not_fine (end ∷ ends) status not_done not_memory fine =
-    let none : (status_of_end end == status) ≡ false =
-    ne_eqb (status_of_end end) status (λ is. elim (All-head IsFine end ends fine) [
+-- so is that of a reader, or the history was shut for it
+abbrev pub IsFineReader : ReaderEnd → Type 0
+IsFineReader end = IsFineStatus (status_of_reader end)
+
+none_fine : {E : Type 0} (status_of : E → ℕ) (ends : List E) (status : ℕ) → status ≢ 0 → status ≢ 8
+    → All (λ end. IsFineStatus (status_of end)) ends
+    → list_any (λ end. status_of end == status) ends ≡ false
+none_fine status_of [] status not_done not_memory fine = refl
+none_fine {E} status_of (end ∷ ends) status not_done not_memory fine =
+    let IsOne : E → Type 0 = λ e. IsFineStatus (status_of e) in
+    let none : (status_of end == status) ≡ false =
+    ne_eqb (status_of end) status (λ is. elim (All-head IsOne end ends fine) [
       | inl done ↦ not_done (sym is ∙ done)
       | inr memory ↦ not_memory (sym is ∙ memory)
     ]) in
-    ap (λ (b : Bool). b || list_any (λ e. status_of_end e == status) ends) none
-    ∙ not_fine ends status not_done not_memory (All-tail IsFine end ends fine)
+    ap (λ (b : Bool). b || list_any (λ e. status_of e == status) ends) none
+    ∙ none_fine status_of ends status not_done not_memory (All-tail IsOne end ends fine)
 
-or_none : (b : Bool) → b ≡ false → (b || false) ≡ false
-or_none b is = ap (λ (x : Bool). x || false) is
+none_of_three : (a b : Bool) → a ≡ false → b ≡ false → (a || (b || false)) ≡ false
+none_of_three true b first second = absurd (cc first)
+none_of_three false true first second = absurd (cc second)
+none_of_three false false first second = refl
 
 -- such ends leave a run done, or short of memory
-pub fine_or_memory : (ends : List StreamEnd) → All IsFine ends
-    → (first_status ends [] ≡ 0) ⊎ (first_status ends [] ≡ 8)
-fine_or_memory ends fine =
-    by (arose ends [] 8) (arose ends [] 6) (arose ends [] 7) (arose ends [] 5) (arose ends [] 4)
+pub fine_or_memory : (ends : List StreamEnd) (asked : List ReaderEnd) → All IsFine ends
+    → All IsFineReader asked → IsFineStatus (first_status ends asked [])
+fine_or_memory ends asked fine fine_asked =
+    let p = arose ends asked [] in
+    by (p 8) (p 6) (p 7) (p 5) (p 4) (p 9)
     (none 6 (λ is. absurd (omega (arith, is))) (λ is. absurd (omega (arith, is))))
     (none 7 (λ is. absurd (omega (arith, is))) (λ is. absurd (omega (arith, is))))
     (none 5 (λ is. absurd (omega (arith, is))) (λ is. absurd (omega (arith, is))))
     (none 4 (λ is. absurd (omega (arith, is))) (λ is. absurd (omega (arith, is))))
+    (none 9 (λ is. absurd (omega (arith, is))) (λ is. absurd (omega (arith, is))))
   where
-    none : (status : ℕ) → status ≢ 0 → status ≢ 8 → arose ends [] status ≡ false
-    none status not_done not_memory = or_none (list_any (λ end. status_of_end end == status) ends)
-        (not_fine ends status not_done not_memory fine)
+    none : (status : ℕ) → status ≢ 0 → status ≢ 8 → arose ends asked [] status ≡ false
+    none status not_done not_memory = none_of_three
+        (list_any (λ end. status_of_end end == status) ends)
+        (list_any (λ end. status_of_reader end == status) asked)
+        (none_fine status_of_end ends status not_done not_memory fine)
+        (none_fine status_of_reader asked status not_done not_memory fine_asked)
 
-    by : (a b c d e : Bool) → b ≡ false → c ≡ false → d ≡ false → e ≡ false
-        → (first_of a b c d e ≡ 0) ⊎ (first_of a b c d e ≡ 8)
-    by true b c d e six seven five four = inr refl
-    by false true c d e six seven five four = absurd (cc six)
-    by false false true d e six seven five four = absurd (cc seven)
-    by false false false true e six seven five four = absurd (cc five)
-    by false false false false true six seven five four = absurd (cc four)
-    by false false false false false six seven five four = inl refl
+    by : (a b c d e f : Bool) → b ≡ false → c ≡ false → d ≡ false → e ≡ false → f ≡ false
+        → IsFineStatus (first_of a b c d e f)
+    by true b c d e f six seven five four nine = inr refl
+    by false true c d e f six seven five four nine = absurd (cc six)
+    by false false true d e f six seven five four nine = absurd (cc seven)
+    by false false false true e f six seven five four nine = absurd (cc five)
+    by false false false false true f six seven five four nine = absurd (cc four)
+    by false false false false false true six seven five four nine = absurd (cc nine)
+    by false false false false false false six seven five four nine = inl refl

@@ -1,7 +1,8 @@
 -- What the top call hands on, and what it says of it.
-use Rattle.std.proofs.Common.{◌≡◌, ℕ, Bool, true, false, List, [], length, Option, Some, None, sym}
+use Rattle.std.proofs.Common.{◌≡◌, ℕ, Bool, true, false, List, [], ◌∷◌, length, Option, Some, None}
+use Rattle.std.proofs.Common.{sym}
 use Rattle.std.proofs.Common.{ap, subst, subst₂, ◌∙◌, arith, refl}
-use Rattle.std.specs.Prelude.{◌≤◌, IfSome, MatchOption, is_some}
+use Rattle.std.specs.Prelude.{◌≤◌, IfSome, MatchOption, is_some, map}
 use Rattle.std.specs.List.{All}
 use Rattle.std.proofs.lemmas.List.{length-map}
 use Rattle.rpq_io.specs.Reader.{ReaderState}
@@ -14,14 +15,18 @@ use Rattle.ask_text.specs.Ranges.{IsSession}
 use Rattle.generated_run.specs.declared.generation.Generation.{Generation}
 use Rattle.generated_run.specs.Generates.{IsGeneration}
 use Rattle.rpq_words.specs.declared.settings.RunMode.{RunMode}
-use Rattle.rpq_words.specs.declared.settings.RunMode.TheVariants.{Generate, Streams}
+use Rattle.live_asks.specs.declared.reader.AskReader.{AskReader}
+use Rattle.live_asks.specs.Readers.{IsNewAskReader}
+use Rattle.rpq_words.specs.declared.reader_names.ReaderFiles.{ReaderFiles}
+use Rattle.rpq_words.specs.declared.settings.RunMode.TheVariants.{Check, Generate, Streams}
+use Rattle.rpq_words.specs.declared.settings.StreamSettings.TheVariants.{BothWays, Forwards}
 use Rattle.rpq_words.specs.declared.settings.Directions.{Directions}
 use Rattle.rpq_words.specs.Modes.{AreSettings, IsMode, IsWithin}
 use Rattle.rpq_words.proofs.Modes.{is_cap}
 use Rattle.rpq_words.specs.declared.settings.Settings.{Settings}
 use Rattle.rpq_words.specs.Views.{is_both_ways}
-use Rattle.rpq_words.specs.Views.{asks_of, cap_of, from_of, mode_of, paths_of, streams_of}
-use Rattle.rpq_words.specs.Views.{two_way_in, two_way_of}
+use Rattle.rpq_words.specs.Views.{asks_of, cap_of, forwards_in, from_of, mode_of, paths_of}
+use Rattle.rpq_words.specs.Views.{readers_in, readers_of, streams_of, two_way_in, two_way_of}
 use Rattle.saved_window.specs.Then.{TwoSources, count_of, left_of_both, faults_of_both}
 use Rattle.rpq_text.specs.Definitions.{definitions_of}
 use Rattle.entry_steps.specs.Steps.{OptionsValue}
@@ -153,14 +158,33 @@ none_asked given holds queries sessions = by (asks_of given)
     by None is none = is
     by (Some name) is none = absurd (cc none)
 
+-- nor does anybody ask beside a run where edges may be taken backwards
+no_reader : (given : Settings) → two_way_of given ≡ true → readers_of given ≡ []
+no_reader given is = by (mode_of given) is
+  where
+    by : (mode : RunMode) → two_way_in mode ≡ true → readers_in (forwards_in mode) ≡ []
+    by (Check directions) is = refl
+    by (Generate directions count) is = refl
+    by (Streams (BothWays streams)) is = refl
+    by (Streams (Forwards forwards)) is = absurd (cc is)
+
+none_beside : {S K : Type 0} (left : S → Option (List ℕ)) (holds : List ℕ → Option (List ℕ))
+    (files : List ReaderFiles) (readers : List (AskReader S K))
+    → map (λ (each : ReaderFiles). holds each.asks) files
+    ≡ map (λ (one : AskReader S K). left one.reader.source) readers → files ≡ [] → readers ≡ []
+none_beside left holds files [] same none = refl
+none_beside left holds [] (one ∷ readers) same none = absurd (cc same)
+none_beside left holds (file ∷ files) (one ∷ readers) same none = absurd (cc none)
+
 -- a run over streams, by what it begins with: its queries, and what is read and answered
 module _ {S K : Type 0} (left : S → Option (List ℕ)) (faults : S → ℕ)
     (written : K → Option (List ℕ)) (failures : K → ℕ) (given : Settings)
     (holds : List ℕ → Option (List ℕ)) (queries : List CompiledValue)
     (work : Work S K) (reads : StreamsPlan S K) (there : work ≡ Reading reads)
     (opened : Readers S) (are : reads.readers ≡ opened)
-    (readers : List (ReaderState (TwoSources S))) (task : Task (TwoSources S))
-    (of : IsTaskOf given queries reads.joins.value.items readers reads.sessions.items task)
+    (readers : List (ReaderState (TwoSources S))) (task : Task (TwoSources S) S K)
+    (of : IsTaskOf given queries reads.joins.value.items readers reads.sessions.items
+    reads.ask_readers.items task)
     (settings : AreSettings given)
     (ready : IsReady left faults written failures given holds queries work)
     (lefts : contents_of left opened ≡ lefts_of left readers) where
@@ -217,7 +241,7 @@ module _ {S K : Type 0} (left : S → Option (List ℕ)) (faults : S → ℕ)
   -- what a run begins with is a task for its threads
   pub task_is : (AreNew (cap_of given) left faults opened
       → AreNewReaders (cap_of given) left faults readers)
-      → IsTask (left_of_both left) (faults_of_both faults) task
+      → IsTask (left_of_both left) (faults_of_both faults) left faults written failures task
   task_is fresh =
       let all = ready_queries.understood in
       record {
@@ -241,9 +265,22 @@ module _ {S K : Type 0} (left : S → Option (List ℕ)) (faults : S → ℕ)
         );
         sessions = subst (λ (ss : List (List Ask)). All (IsSession (length task.queries.items)) ss)
             (sym {A = List (List Ask)} of.sessions_are) ready_queries.asked_for.ranges;
-        unasked = λ both. none_asked given holds (definitions_of task.queries.items)
-            task.sessions.items asked_in
-            (unasked given (sym {A = Bool} two_way_is ∙ both));
+        few_readers = omega (
+          arith,
+          ready_queries.asked_for.ask_readers.few,
+          ap (λ (rs : List (AskReader S K)). length rs) of.ask_readers_are,
+        );
+        new_readers = subst (λ (rs : List (AskReader S K)).
+            All (IsNewAskReader left faults written failures) rs)
+            (sym {A = List (AskReader S K)} of.ask_readers_are)
+            ready_queries.asked_for.ask_readers.new;
+        unasked = λ both. (
+          none_asked given holds (definitions_of task.queries.items) task.sessions.items asked_in
+              (unasked given (sym {A = Bool} two_way_is ∙ both)),
+          of.ask_readers_are ∙ none_beside left holds (readers_of given) reads.ask_readers.items
+              ready_queries.asked_for.ask_readers.contents
+              (no_reader given (sym {A = Bool} two_way_is ∙ both)),
+        );
         forwards = λ told. two_way_is ∙ forwards_alone given (sym {A = Bool} paths_is ∙ told);
         few_joins = omega (
           arith,
@@ -269,6 +306,9 @@ module _ {S K : Type 0} (left : S → Option (List ℕ)) (faults : S → ℕ)
     contents = contents_left;
     behind = named behind_is;
     asked = asked_in;
+    beside = ready_queries.asked_for.ask_readers.contents
+        ∙ ap (λ (rs : List (AskReader S K)). map (λ (one : AskReader S K). left one.reader.source) rs)
+        (sym {A = List (AskReader S K)} of.ask_readers_are);
     options = options_in;
     limit = of.limit_is;
     capped = settings.cap;

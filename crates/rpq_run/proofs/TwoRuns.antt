@@ -26,7 +26,7 @@ use Rattle.run_start.specs.Files.{HasQueries, stream_contents}
 use Rattle.run_start.specs.Texts.{tuples_within}
 use Rattle.rpq_run.specs.Continued.{StreamRun, IsToldRun, GoesOn, StandsFor, WritesOn, Continues, no_paths, without_paths}
 use Rattle.rpq_run.specs.Headline.{Told, Headline, AreJoined, behind_text, options_told}
-use Rattle.rpq_run.specs.Outcome.{Meanings}
+use Rattle.rpq_run.specs.Outcome.{Meanings, ends_of}
 use Rattle.rpq_run.specs.Sources.{stream_sources}
 use Rattle.rpq_run.proofs.ContinuedFirst.{HasSaved, forwards_with, has_saved}
 use Rattle.rpq_run.proofs.ContinuedHistories.{one_stream_alone, saved_from_stream}
@@ -145,8 +145,9 @@ is_one_stream means run bytes is done begins =
     let at = stream_at (left_of_both means.left) (faults_of_both means.faults) (cap_of run.given)
     (stream_contents run.given run.holds) (stream_sources outcome.from outcome.sources) outcome.history outcome.ends
     runs.history.each_stream 0 (Some text) file in
-    let whole : at.end ≡ Whole = whole_end outcome.ends runs.failed 0 at.end
-    (first_of_done outcome.ends runs.failed outcome.status runs.causes.status_is done) at.end_is in
+    let whole : at.end ≡ Whole = whole_end outcome.ends (ends_of outcome.readers) runs.failed 0 at.end
+    (first_of_done outcome.ends (ends_of outcome.readers) runs.failed outcome.status runs.causes.status_is done)
+    at.end_is in
     let tied = subst (λ (end : StreamEnd).
     AreTuplesOfEnd (byte_limit_of (cap_of run.given)) text (left_of_both means.left at.source) (own_tuples 1 outcome.history) end) whole at.stream.tied in
     record {

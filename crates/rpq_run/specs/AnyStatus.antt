@@ -1,6 +1,7 @@
 -- What a run over streams comes to with any status, in one piece.
 use Rattle.std.specs.Prelude.{◌≡◌, ◌≢◌, ℕ, ◌+◌, ◌≤◌, ◌↔◌, Bool, true, false, List, [], ◌++◌, length}
 use Rattle.std.specs.Prelude.{map, All, Some, slice_get, IfSome}
+use Rattle.std.specs.List.{AllZip}
 use Rattle.ask_text.specs.declared.ask.Ask.{Ask}
 use Rattle.ask_text.specs.Replies.{replies}
 use Rattle.join_file.specs.Joins.{JoinValue}
@@ -9,14 +10,14 @@ use Rattle.rpq_text.specs.Statuses.{memory_status, write_status}
 use Rattle.rpq_text.specs.Text.{IsText}
 use Rattle.run_start.specs.Files.{HasQueries}
 use Rattle.run_start.specs.Texts.{tuples_within}
-use Rattle.rpq_threads.specs.Runs.{AreSessionsOf, asks_answered}
+use Rattle.rpq_threads.specs.Runs.{AreSessionsOf, IsLiveOf, asks_answered}
 use Rattle.saved_window.specs.Saved.{saved}
 use Rattle.saved_window.specs.SavedText.{saved_text}
 use Rattle.stream_tuples.specs.declared.ends.StreamEnd.TheVariants.{Read}
 use Rattle.stream_tuples.specs.History.{IsNumberOf, IsPrefix, own_tuples}
 use Rattle.rpq_run.specs.Headline.{Told, AreAsked, AreJoined, options_told, stream_texts}
-use Rattle.rpq_run.specs.Outcome.{Meanings, Sinks, Outcome}
-use Rattle.rpq_run.specs.Shortage.{Shortage, has_memory_end, is_short}
+use Rattle.rpq_run.specs.Outcome.{Meanings, Sinks, Outcome, ends_of}
+use Rattle.rpq_run.specs.Shortage.{Shortage, has_memory_end, has_short_reader, is_short}
 
 -- no write failed, and memory didn't run out
 abbrev pub IsUncut : ℕ → Type 0
@@ -35,11 +36,13 @@ pub record IsFrontOf (failed uncut : Type 0) (short : Bool) (text front : List �
 -- be; all of it is in memory, unless the run goes on as long as its streams do. Behind what stood
 -- on the sink of the events a front of its text was written. Each session has its first asks
 -- answered, each by the answers at a position of the history that never falls within the session;
--- and a front of these replies was written, where they are to be. Where a window is to be saved, a
--- front of that of the history was: nothing of it where a stream ended for want of memory. All of
--- this is whole unless the status is that of a failed write or of out of memory. The status is that
--- of out of memory exactly where memory ran out for a stream, for the engine, for a session, or for
--- one of the texts; a failed write of the window isn't told so
+-- and a front of these replies was written, where they are to be. Each reader beside the run has
+-- what it asked answered up to its end, at such positions, and its own sink has the text. Where a
+-- window is to be saved, a front of that of the history was: nothing of it where a stream ended for
+-- want of memory. All of this, but what the readers' own ends say, is whole unless the status is
+-- that of a failed write or of out of memory. The status is that of out of memory exactly where
+-- memory ran out for a stream, for the engine, for a session, for one of the texts, or for a
+-- reader; a failed write of the window isn't told so, unless memory ran out for a reader
 pub record AnyStatus {S K : Type 0} (means : Meanings S K) (told : Told) (sinks : Sinks K)
     (outcome : Outcome S K) : Type 0 where
   pub queries : List Query
@@ -55,7 +58,8 @@ pub record AnyStatus {S K : Type 0} (means : Meanings S K) (told : Told) (sinks 
   pub few : length outcome.history ≤ told.limit
   pub whole : told.endless ≡ false → outcome.base ≡ 0
   pub short : Shortage
-  pub memory : (outcome.status ≡ memory_status) ↔ (is_short outcome.ends short ≡ true)
+  pub memory : (outcome.status ≡ memory_status)
+      ↔ (is_short outcome.ends (ends_of outcome.readers) short ≡ true)
   pub text : List ℕ
   pub of_history : IsText (options_told told joins) queries outcome.history text
   pub front : List ℕ
@@ -70,12 +74,15 @@ pub record AnyStatus {S K : Type 0} (means : Meanings S K) (told : Told) (sinks 
   pub replied : IfSome outcome.replies (λ sink. IfSome (means.written sink)
       (IsFrontOf (means.failures sink ≢ 0) (IsUncut outcome.status) short.replies
       (replies (map (λ own. map (λ one. one.text) own) outcome.sessions))))
+  pub beside : AllZip (IsLiveOf means.left means.faults means.written means.failures queries
+      outcome.history last) (map (λ bytes. Some bytes) told.readers) outcome.readers
   pub saved_is : IfSome outcome.save (λ sink. IfSome (means.written sink)
       (IsFrontOf (means.failures sink ≢ 0) (IsUncut outcome.status) short.save
       (saved_text (saved queries outcome.history))))
   pub none_saved : has_memory_end outcome.ends ≡ true
       → IfSome outcome.save (λ sink. IfSome (means.written sink) (λ bytes. bytes ≡ []))
-  pub window_failed : IfSome outcome.save (λ sink.
+  pub window_failed : has_short_reader (ends_of outcome.readers) ≡ false
+      → IfSome outcome.save (λ sink.
       means.failures sink ≢ 0 → outcome.status ≡ write_status)
   pub no_replies : told.replies ≡ false → short.replies ≡ false
   pub no_window : told.save ≡ false → short.save ≡ false

@@ -1,13 +1,17 @@
 -- When all is done.
 use Rattle.std.specs.Prelude.{◌≡◌, ℕ, ◌≤◌, List, length, map, sum, All, Option, option_map}
-use Rattle.std.specs.Prelude.{unwrap_or, IfSome, IsSomeAnd}
+use Rattle.std.specs.Prelude.{unwrap_or, Bool, IfSome, IsSomeAnd}
 use Rattle.rpq_io.specs.Counts.{Rose}
 use Rattle.rpq_words.specs.Modes.{count_of}
+use Rattle.rpq_words.specs.declared.reader_names.ReaderFiles.{ReaderFiles}
 use Rattle.rpq_words.specs.declared.settings.Settings.{Settings}
-use Rattle.rpq_words.specs.Views.{asks_of, cap_of, joins_of, mode_of, two_way_of}
+use Rattle.rpq_words.specs.Views.{asks_of, cap_of, joins_of, mode_of, readers_of}
+use Rattle.rpq_words.specs.Views.{two_way_of}
+use Rattle.live_asks.specs.Items.{asked_items}
+use Rattle.text_items.specs.declared.ends.TextEnd.TheVariants.{LongText}
 use Rattle.stream_tuples.specs.declared.ends.StreamEnd.TheVariants.{Whole}
 use Rattle.run_start.specs.Files.{IsFaultless, AreFaultlessAsks, AreFaultlessJoins}
-use Rattle.run_start.specs.Files.{stream_contents}
+use Rattle.run_start.specs.Files.{ForQueries, stream_contents}
 use Rattle.run_start.specs.Given.{file_names, sink_names}
 use Rattle.run_start.specs.Ready.{AreReadWhole}
 use Rattle.run_start.specs.Texts.{tuples_within}
@@ -22,6 +26,12 @@ abbrev pub tuple_count : ℕ → Option (List ℕ) → ℕ
 tuple_count cap file =
     unwrap_or (option_map (λ text. length (tuples_within cap text).tuples) file) 0
 
+-- the asks of a reader don't have too many bytes, or have a line that ends it before, by the
+-- queries of this queries file
+abbrev pub AreFewAsks : Bool → Option (List ℕ) → List ℕ → Type 0
+AreFewAsks two_way queries_file bytes =
+    ForQueries two_way queries_file (λ queries. (asked_items queries bytes).end ≡ LongText) → ⊥
+
 -- the bytes of all files are told and have no fault, and the history can hold the streams' tuples,
 -- or those that are generated
 pub record CanBeDone (given : Settings) (holds : List ℕ → Option (List ℕ)) : Type 0 where
@@ -32,10 +42,12 @@ pub record CanBeDone (given : Settings) (holds : List ℕ → Option (List ℕ))
       IsSomeAnd (holds name) (AreFaultlessAsks (two_way_of given) (holds given.queries)))
   pub whole : All (IsWholeStream (cap_of given)) (stream_contents given holds)
   pub few : sum (map (tuple_count (cap_of given)) (stream_contents given holds)) ≤ cap_of given
+  pub readers : All (λ (files : ReaderFiles). IsSomeAnd (holds files.asks)
+      (AreFewAsks (two_way_of given) (holds given.queries))) (readers_of given)
   pub made : IfSome (count_of (mode_of given)) (λ count. count ≤ cap_of given)
 
 -- no count rose that shows a failure: of an opening of one of the files, of a read of a source, or
--- of a write of the events, the replies or the saved window
+-- of a write of the events, the replies, the saved window or what a reader is answered
 pub record NothingRose {S K : Type 0} (means : Meanings S K) (given : Settings)
     (openings : Openings) (sinks : Sinks K) (outcome : Outcome S K) : Type 0 where
   pub unread : All (λ name. ¬ Rose (openings.unread_old name) (openings.unread_new name))
@@ -47,9 +59,11 @@ pub record NothingRose {S K : Type 0} (means : Meanings S K) (given : Settings)
   pub writes : ¬ Rose (means.failures sinks.events_old) (means.failures sinks.events_new)
   pub replies : IfSome outcome.replies (λ sink. ¬ Rose 0 (means.failures sink))
   pub save : IfSome outcome.save (λ sink. ¬ Rose 0 (means.failures sink))
+  pub asked : All (λ one. ¬ Rose 0 (means.faults one.source)) outcome.readers
+  pub answered : All (λ one. ¬ Rose 0 (means.failures one.replies)) outcome.readers
 
--- nothing failed: no opening of a file, no read of a file, and no write of the events, the replies
--- or the saved window
+-- nothing failed: no opening of a file, no read of a file, and no write of the events, the replies,
+-- the saved window or what a reader is answered
 pub record NothingFails {S K : Type 0} (means : Meanings S K) (words : Option Settings)
     (holds : List ℕ → Option (List ℕ)) (openings : Openings) (sinks : Sinks K)
     (outcome : Outcome S K) : Type 0 where
@@ -61,3 +75,5 @@ pub record NothingFails {S K : Type 0} (means : Meanings S K) (words : Option Se
   pub writes : means.failures sinks.events_new ≡ means.failures sinks.events_old
   pub replies : IfSome outcome.replies (λ sink. means.failures sink ≡ 0)
   pub save : IfSome outcome.save (λ sink. means.failures sink ≡ 0)
+  pub asked : All (λ one. means.faults one.source ≡ 0) outcome.readers
+  pub answered : All (λ one. means.failures one.replies ≡ 0) outcome.readers

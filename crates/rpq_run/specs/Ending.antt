@@ -56,10 +56,11 @@ entries_left (Some kept) history = kept.items
 entries_left None history = drop history.base history.items
 
 -- the report has what the threads gave, and the sinks
-pub record KeepsParts {T O F S K V : Type 0} {W : V → Type 0} (threads : ThreadsOutcome T O)
+pub record KeepsParts {T O F S K V : Type 0} {W : V → Type 0} (threads : ThreadsOutcome T S K O)
     (own : OwnSinks K) (report : Report F S K V W) : Type 0 where
   pub history : report.history ≡ threads.history
   pub ends : report.streams ≡ threads.ends
   pub sessions : report.sessions ≡ threads.sessions
+  pub readers : report.readers ≡ threads.readers
   pub replies : report.replies ≡ own.replies
   pub save : report.save ≡ own.save

@@ -2,7 +2,7 @@
 use Rattle.std.specs.Prelude.{◌≡◌, ℕ, ◌+◌, ◌≤◌, ◌↔◌, ⊤, Bool, false, List, [], ◌∷◌, ◌++◌, length}
 use Rattle.std.specs.Prelude.{map, take, All, Option, Some, option_map, unwrap_or, slice_get}
 use Rattle.std.specs.Prelude.{is_some, IfSome, MatchOption}
-use Rattle.std.specs.List.{flat_map}
+use Rattle.std.specs.List.{AllZip, flat_map}
 use Rattle.join_bindings.specs.declared.event.JoinEvent.{JoinEvent}
 use Rattle.join_bindings.specs.Histories.{AreJoinEventsOn, IsBindingOver, IsJoinHeld}
 use Rattle.join_file.specs.Joins.{JoinValue}
@@ -27,13 +27,14 @@ use Rattle.rpq_text.specs.Text.{blocks_from}
 use Rattle.run_start.specs.Files.{HasJoins, HasQueries, HasSessions}
 use Rattle.run_start.specs.Texts.{tuples_within}
 use Rattle.rpq_threads.specs.Runs.{AreSessionsOf, asks_answered}
+use Rattle.rpq_run.specs.Beside.{IsServed, asks_held}
 use Rattle.rpq_run.specs.Outcome.{Meanings, Sinks, Objects, Outcome}
 
 -- whether edges are taken backwards, and whether paths are told; whether replies are to be written,
 -- and whether a window is to be saved; whether the run goes on as long as its streams do, and how
 -- many entries the history may have; the bytes of the queries file; of the joins file, of the asks
--- file and of the saved window with which the run begins, if there are such; of the streams' files;
--- and those that stood on the events before
+-- file and of the saved window with which the run begins, if there are such; of the streams' files
+-- and of those by which readers ask; and those that stood on the events before
 pub record Told : Type 0 where
   pub two_way : Bool
   pub paths : Bool
@@ -46,6 +47,7 @@ pub record Told : Type 0 where
   pub asks : Option (List ℕ)
   pub from : Option (List ℕ)
   pub streams : List (List ℕ)
+  pub readers : List (List ℕ)
   pub events : List ℕ
 
 -- the texts of the streams: those of their files, and in front of the first one that of the saved
@@ -71,6 +73,7 @@ pub record IsTold {S K : Type 0} (means : Meanings S K) (given : Settings)
   pub asks : option_map holds (asks_of given) ≡ option_map (λ bytes. Some bytes) told.asks
   pub from : option_map holds (from_of given) ≡ option_map (λ bytes. Some bytes) told.from
   pub streams : map holds (streams_of given) ≡ map (λ bytes. Some bytes) told.streams
+  pub readers : asks_held given holds ≡ map (λ bytes. Some bytes) told.readers
   pub events : means.written sinks.events_old ≡ Some told.events
 
 -- the joins over these queries: those of the joins file, or none
@@ -111,9 +114,9 @@ AreAsked queries file sessions =
 -- may be taken backwards. Where edges are taken forwards alone, the bindings of a join emitted and
 -- not retracted are exactly those over the answers. Each session has exactly its asks answered,
 -- each by the answers at a position of the history that never falls within the session; and these
--- replies were written, where they are to be. Each object that stayed heard all events that it
--- wants, and one that left a front of them. Where a window is to be saved, it was, and it is that
--- of the history. On the errors nothing was written
+-- replies were written, where they are to be. Each reader beside the run was served. Each object
+-- that stayed heard all events that it wants, and one that left a front of them. Where a window is
+-- to be saved, it was, and it is that of the history. On the errors nothing was written
 pub record Headline {S K : Type 0} (means : Meanings S K) (told : Told) (sinks : Sinks K)
     (objects : Objects) (outcome : Outcome S K) : Type 0 where
   pub queries : List Query
@@ -142,6 +145,7 @@ pub record Headline {S K : Type 0} (means : Meanings S K) (told : Told) (sinks :
   pub readers : AreSessionsOf queries outcome.history (length outcome.history)
       sessions outcome.sessions
   pub all_answered : asks_answered outcome.sessions ≡ sessions
+  pub served : AllZip (IsServed means queries outcome.history) told.readers outcome.readers
   pub replies_there : is_some outcome.replies ≡ told.replies
   pub replied : IfSome outcome.replies (λ sink. IfSome (means.written sink) (λ bytes.
       bytes ≡ replies (map (λ own. map (λ one. one.text) own) outcome.sessions)))

@@ -4,6 +4,7 @@ pub mod Sources
 pub mod Written
 pub mod Shortage
 pub mod Causes
+pub mod Beside
 pub mod RunsStreams
 pub mod RunsCheck
 pub mod RunsGenerated

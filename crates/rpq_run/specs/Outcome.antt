@@ -4,6 +4,8 @@ use Rattle.std.specs.Global.{Vec}
 use Rattle.rpq_base.specs.declared.data.Entry.{Entry}
 use Rattle.stream_tuples.specs.declared.ends.StreamEnd.{StreamEnd}
 use Rattle.ask_text.specs.Answered.{AnsweredValue}
+use Rattle.live_asks.specs.declared.ends.ReaderEnd.{ReaderEnd}
+use Rattle.live_asks.specs.declared.reader.ReaderOutcome.{ReaderOutcome}
 use Rattle.standing.specs.Objects.{ObjectValue}
 use Rattle.standing.specs.Circles.{CircleValue}
 use Rattle.rpq_run.specs.declared.report.Report.{Report}
@@ -45,8 +47,13 @@ pub record Outcome (S K : Type 0) : Type 0 where
   pub sources : List S
   pub from : Option S
   pub sessions : List (List AnsweredValue)
+  pub readers : List (ReaderOutcome S K)
   pub replies : Option K
   pub save : Option K
+
+-- how readers ended, in order
+abbrev pub ends_of : {S K : Type 0} → List (ReaderOutcome S K) → List ReaderEnd
+ends_of readers = map (λ one. one.end) readers
 
 -- these parts, in these records
 abbrev pub meanings : {S K : Type 0} → (S → Option (List ℕ)) → (S → ℕ) → (K → Option (List ℕ))
@@ -86,6 +93,7 @@ outcome report = record {
   sources = report.sources.items;
   from = report.from;
   sessions = map (λ (own : Vec AnsweredValue). own.items) report.sessions.items;
+  readers = report.readers.items;
   replies = report.replies;
   save = report.save;
 }

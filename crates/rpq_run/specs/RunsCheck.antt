@@ -15,6 +15,7 @@ pub record TakesNothing {S K : Type 0} (outcome : Outcome S K) : Type 0 where
   pub none_gone : outcome.base ≡ 0
   pub no_stream : outcome.ends ≡ []
   pub no_session : outcome.sessions ≡ []
+  pub no_reader : outcome.readers ≡ []
   pub no_replies : outcome.replies ≡ None
   pub no_window : (outcome.from ≡ None) × (outcome.save ≡ None)
 

@@ -56,6 +56,7 @@ pub record RunsGenerated {S K : Type 0} (means : Meanings S K) (two_way : Bool) 
   pub understood : IsQueriesFile two_way file
   pub no_source : outcome.sources ≡ []
   pub no_session : outcome.sessions ≡ []
+  pub no_reader : outcome.readers ≡ []
   pub no_replies : outcome.replies ≡ None
   pub no_window : (outcome.from ≡ None) × (outcome.save ≡ None)
   pub failed : List SinkName

@@ -31,6 +31,7 @@ use Rattle.run_start.specs.Files.{ForQueries, ForJoined, ForAsked, AreUnderstood
 use Rattle.run_start.specs.Files.{stream_contents}
 use Rattle.rpq_threads.specs.Runs.{AreSessionsOf}
 use Rattle.rpq_threads.specs.Told.{TellsObjects}
+use Rattle.rpq_run.specs.Beside.{AnswersReaders}
 use Rattle.rpq_run.specs.Causes.{HasCauses}
 use Rattle.rpq_run.specs.Options.{options_of}
 use Rattle.rpq_run.specs.Outcome.{Meanings, Sinks, Objects, Outcome}
@@ -168,6 +169,7 @@ pub record RunsStreams {S K : Type 0} (means : Meanings S K) (given : Settings)
   pub history : HoldsStreams means given holds outcome
   pub events : WritesEvents means given holds failed short sinks outcome
   pub replies : AnswersSessions means given holds failed short outcome
+  pub readers : AnswersReaders means given holds failed replies.last outcome
   pub saves : SavesWindow means given holds failed short outcome
   pub told : TellsHistory means given holds failed short sinks objects outcome
   pub causes : HasCauses means failed short sinks outcome

@@ -39,9 +39,9 @@ pub fn run_check<F: Files>(
 {
     let written = write_verdicts(events, queries);
     let failed = failed_sinks(written.is_err(), false, false);
-    let status = first_status(&[], failed);
+    let status = first_status(&[], &[], failed);
     // A fault of the errors changes no status.
-    let _ = tell_end(errors, &[], failed, status);
+    let _ = tell_end(errors, &[], &[], failed, status);
     Report {
         status,
         start: None,
@@ -50,6 +50,7 @@ pub fn run_check<F: Files>(
         sources: Vec::new(alloc),
         from: None,
         sessions: Vec::new(alloc),
+        readers: Vec::new(alloc),
         replies: None,
         save: None,
         left: Vec::new(alloc),

@@ -5,25 +5,28 @@ ghost use Rattle.std.specs.Prelude.{◌≤◌, ◌++◌, codes, length};
 ghost use Rattle.std.specs.List.{flat_map};
 ghost use Rattle.query_file.specs.FaultTexts.{query_kind_text};
 ghost use Rattle.rpq_text.specs.ErrorLines.{query_text, start_line, end_lines, write_line};
-ghost use Rattle.rpq_text.specs.ErrorLines.{run_lines};
+ghost use Rattle.rpq_text.specs.ErrorLines.{reader_lines, run_lines};
 ghost use Rattle.rpq_text.specs.Limits.{stream_limit};
 ghost use Rattle.rpq_text.specs.WordTexts.{not_contained_front, spaced_word};
+ghost use Rattle.rpq_run.specs.Beside.{reader_limit};
 ghost use Rattle.rpq_run.specs.Written.{Tells};
 
 use crate::word_texts::end_with_words;
 use itoa::Buffer;
+use live_asks::ReaderEnd;
 use query_file::{QueryFault, QueryKind};
 use rpq_base::Word;
 use rpq_io::{Failed, Sink, put_all};
 use rpq_text::{
     Line, SinkName, StartFault, ask_fault_line, end_line, expr_line, file_line, joins_fault_line,
-    line_of, memory_line, not_contained_front, opening_line, query_line, read_line, write_line,
+    line_of, memory_line, not_contained_front, opening_line, query_line, read_line, reader_line,
+    write_line,
 };
 use rpq_words::usage_line;
 use stream_tuples::StreamEnd;
 
-/// The number of the first stream.
-const FIRST_STREAM: u32 = 1;
+/// The number of the first stream, and of the first reader.
+const FIRST: u32 = 1;
 
 /// Writes the line of a run that didn't begin.
 pub fn tell_start<S: Sink>(errors: &mut S, fault: &StartFault) -> Result<(), Failed>
@@ -79,19 +82,22 @@ fn tell_not_contained<S: Sink>(errors: &mut S, line: u64, words: &[&Word]) -> Re
 }
 
 /// Writes the lines of a run that began: those of its streams' ends, those of the sinks of which a
-/// write failed, and that of out of memory.
+/// write failed, those of its readers' ends, and that of out of memory.
 pub fn tell_end<S: Sink>(
     errors: &mut S,
     ends: &[StreamEnd],
+    readers: &[ReaderEnd],
     failed: &[SinkName],
     status: u8,
 ) -> Result<(), Failed>
-    requires { length ends.now ≤ stream_limit }
-    ensures { Tells S.written S.faults (run_lines ends.now failed.now status)
+    requires few { length ends.now ≤ stream_limit }
+    requires few_readers { length readers.now ≤ reader_limit }
+    ensures { Tells S.written S.faults (run_lines ends.now readers.now failed.now status)
         errors.old errors.new result }
 {
     tell_ends(errors, ends)?;
     tell_writes(errors, failed)?;
+    tell_readers(errors, readers)?;
     put_line(errors, &memory_line(status))
 }
 
@@ -101,7 +107,7 @@ fn tell_ends<S: Sink>(errors: &mut S, ends: &[StreamEnd]) -> Result<(), Failed>
     ensures { Tells S.written S.faults (end_lines 1 ends.now) errors.old errors.new result }
 {
     for (place, end) in ends.iter().enumerate() {
-        put_line(errors, &end_line(FIRST_STREAM + place as u32, *end))?;
+        put_line(errors, &end_line(FIRST + place as u32, *end))?;
     }
     Ok(())
 }
@@ -113,6 +119,17 @@ fn tell_writes<S: Sink>(errors: &mut S, failed: &[SinkName]) -> Result<(), Faile
 {
     for sink in failed {
         put_line(errors, &write_line(*sink))?;
+    }
+    Ok(())
+}
+
+/// Writes the lines of the readers' ends.
+fn tell_readers<S: Sink>(errors: &mut S, readers: &[ReaderEnd]) -> Result<(), Failed>
+    requires { length readers.now ≤ reader_limit }
+    ensures { Tells S.written S.faults (reader_lines 1 readers.now) errors.old errors.new result }
+{
+    for (place, end) in readers.iter().enumerate() {
+        put_line(errors, &reader_line(FIRST + place as u32, *end))?;
     }
     Ok(())
 }

@@ -58,9 +58,9 @@ pub fn run_generated<R: Threads + RandomSource + Sync, G: Gate, F: Files>(
     let is_done = summary.is_some();
     ends.push_reserved(end_of(is_done, fits));
     let failed = failed_sinks(write_summary(events, &summary).is_err(), false, false);
-    let status = run_status(&ends, failed, !is_done);
+    let status = run_status(&ends, &[], failed, !is_done);
     // A fault of the errors changes no status.
-    let _ = tell_end(errors, &ends, failed, status);
+    let _ = tell_end(errors, &ends, &[], failed, status);
     Ok(Report {
         status,
         start: None,
@@ -69,6 +69,7 @@ pub fn run_generated<R: Threads + RandomSource + Sync, G: Gate, F: Files>(
         sources: Vec::new(alloc),
         from: None,
         sessions: Vec::new(alloc),
+        readers: Vec::new(alloc),
         replies: None,
         save: None,
         left,

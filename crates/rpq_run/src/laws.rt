@@ -23,8 +23,9 @@ use saved_window::saved_text_is_read;
 /// the events written are those of one history that holds each stream's tuples once, in order;
 /// where paths are told, one that shows it stands behind each gained pair; after each entry the
 /// pairs emitted and not retracted are the answers, and the bindings emitted and not retracted are
-/// those over the answers; each object that stayed heard all events that it wants; each reader is
-/// told the answers at positions that never fall; the window that is saved is that of the history;
+/// those over the answers; each object that stayed heard all events that it wants; each session is
+/// told the answers at positions that never fall, and so is each reader beside the run, up to the
+/// end of what its file asks; the window that is saved is that of the history;
 /// nothing is written on the errors; and unless the run goes on as long as its streams do, the
 /// whole history is in memory.
 pub fn headline<F: Files>()
@@ -46,7 +47,8 @@ pub fn headline<F: Files>()
 /// A run over streams that ends with any status, where the files and the sink of the events tell
 /// their bytes: what is written is a front of what [`headline`] says, and all of it unless the
 /// status is that of a failed write or of out of memory. Where a stream ended for want of memory no
-/// window is saved, and a failed write of the window isn't told as want of memory.
+/// window is saved, and a failed write of the window isn't told as want of memory, unless memory
+/// ran out for a reader.
 pub fn any_status<F: Files>()
     ensures { (given : Settings) (holds : List ℕ → Option (List ℕ)) (sinks : Sinks F.Sink)
         (objects : Objects) (outcome : Outcome F.Source F.Sink) (told : Told)

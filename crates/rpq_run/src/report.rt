@@ -2,6 +2,7 @@
 
 use ask_text::Answered;
 use kept_list::KeptList;
+use live_asks::ReaderOutcome;
 use rpq_base::Entry;
 use rpq_io::Files;
 use rpq_text::StartFault;
@@ -12,19 +13,20 @@ use stream_tuples::StreamEnd;
 ///
 /// | Status | Where |
 /// |---|---|
-/// | 0 | every stream was read to its end, all tuples were generated, or the queries were checked |
+/// | 0 | every stream was read to its end and every reader served, all tuples were generated, or the queries were checked |
 /// | 1 | the words have no settings |
 /// | 2 | the queries file has a fault |
 /// | 3 | the asks file has a fault |
 /// | 4 | a line of a stream is faulty or too long |
-/// | 5 | a file to be read couldn't be opened or read |
-/// | 6 | a write of the events, the replies or the saved window failed, or one of the last two files couldn't be opened |
-/// | 7 | the history is full, or a file has too many bytes |
+/// | 5 | a file to be read couldn't be opened or read; of a reader's asks, the opening alone |
+/// | 6 | a write of the events, the replies or the saved window failed, or a file to be written couldn't be opened |
+/// | 7 | the history is full, or a file other than a reader's asks has too many bytes |
 /// | 8 | memory ran out |
+/// | 9 | the asks of a reader couldn't be read to their end, or its replies not be written |
 /// | 10 | the joins file has a fault |
 ///
-/// After the start it is the first of 8, 6, 7, 5 and 4 that arose, else 0. The numbers have names
-/// in [`status`](crate::status).
+/// After the start it is the first of 8, 6, 7, 5, 4 and 9 that arose, else 0. The numbers have
+/// names in [`status`](crate::status).
 #[derive(Drop)]
 pub struct Report<F: Files> {
     pub status: u8,
@@ -44,6 +46,9 @@ pub struct Report<F: Files> {
     pub from: Option<F::Source>,
     /// The asks of each session that were answered, in order.
     pub sessions: Vec<Vec<Answered>>,
+    /// The readers that asked beside the run, in order: how each ended, and its source and its
+    /// sink, as the run leaves them.
+    pub readers: Vec<ReaderOutcome<F::Source, F::Sink>>,
     /// The sink of the replies, if there is one, as the run leaves it.
     pub replies: Option<F::Sink>,
     /// The sink of the saved window, if there is one, as the run leaves it.

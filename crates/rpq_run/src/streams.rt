@@ -2,7 +2,6 @@
 
 ghost use Rattle.std.specs.Prelude.{◌≡◌, ◌≤◌, ◌⊎◌, ◌↔◌, List, [], ℕ, Option, None, Some, Err, true};
 ghost use Rattle.std.specs.Prelude.{length, map, All, IfOk, OnErr};
-ghost use Rattle.std.specs.Vec.{vec_capacity};
 ghost use Rattle.rpq_base.specs.Plain.{IsPlain};
 ghost use Rattle.ask_text.specs.Replies.{replies};
 ghost use Rattle.rpq_words.specs.declared.settings.Settings.{Settings};
@@ -14,12 +13,14 @@ ghost use Rattle.saved_window.specs.SavedText.{saved_text};
 ghost use Rattle.saved_window.specs.Then.{count_of, left_of_both, faults_of_both};
 ghost use Rattle.rpq_threads.specs.Runs.{IsTask};
 ghost use Rattle.rpq_run.specs.Asked.{IsAsked};
+ghost use Rattle.rpq_run.specs.Beside.{reader_limit};
 ghost use Rattle.rpq_run.specs.Ending.{KeepsParts, SavesIfThere, entries_left, failed_of, is_any};
 ghost use Rattle.rpq_run.specs.Ending.{is_left_out, shortage_of};
 ghost use Rattle.rpq_run.specs.Failed.{failed_sinks, is_failed, is_memory, is_write, lacks_memory};
-ghost use Rattle.rpq_run.specs.Outcome.{meanings, objects, outcome, sinks};
+ghost use Rattle.rpq_run.specs.Outcome.{ends_of, meanings, objects, outcome, sinks};
 ghost use Rattle.rpq_run.specs.Parts.{WritesIfThere};
 ghost use Rattle.rpq_run.specs.Replies.{session_limit, texts_of};
+ghost use Rattle.rpq_run.specs.Room.{IsEndRoom};
 ghost use Rattle.rpq_run.specs.RunsStreams.{RunsStreams};
 ghost use Rattle.rpq_run.specs.Shortage.{is_short};
 ghost use Rattle.rpq_run.specs.Sources.{stream_sources};
@@ -28,8 +29,10 @@ ghost use Rattle.rpq_run.specs.Written.{TellsLines};
 use crate::errors::tell_end;
 use crate::fault::TextFault;
 use crate::objects::{circle_of, put_back};
+use crate::reader_ends::ends_of;
 use crate::replies::write_replies;
 use crate::report::Report;
+use crate::room::EndRoom;
 use crate::saving::{can_save, save_window};
 use crate::sources::parted;
 use entry_steps::{fronts_hold_answers, fronts_hold_bindings};
@@ -50,21 +53,22 @@ use std::sync::Wait;
 use std::thread::Threads;
 
 /// The run over streams: takes their tuples, tells the objects of the events, and answers the
-/// sessions; writes the replies and then the saved window, and tells what went wrong. The only
-/// error is [`Memory`], before anything is written or told.
+/// sessions and the readers; writes the replies and then the saved window, and tells what went
+/// wrong. The only error is [`Memory`], before anything is written or told.
 ///
 /// Where edges may be taken backwards, an entry's events are the difference that it and its inverse
 /// bring together, and nothing is asked. Where there are joins, the changes of their bindings stand
 /// at the end of each block.
 pub fn run_streams<R: Threads + Wait + RandomSource + Sync, G: Gate, F: Files, P: Prefix + Send>(
     context: &Context<'_, R, G>,
-    task: Task<Then<F::Source, P>>,
+    task: Task<Then<F::Source, P>, F::Source, F::Sink>,
     mut own: OwnSinks<F::Sink>,
     standing: &mut Vec<Box<dyn Standing>>,
     events: &mut F::Sink,
     errors: &mut F::Sink,
 ) -> Result<Report<F>, Memory>
-    requires task { IsTask (left_of_both F.Source.left) (faults_of_both F.Source.faults) task }
+    requires task { IsTask (left_of_both F.Source.left) (faults_of_both F.Source.faults)
+        F.Source.left F.Source.faults F.Sink.written F.Sink.faults task }
     requires alone { (P.COUNT ≡ 0) ⊎ (length task.readers.items ≡ 1) }
     ensures start { IfOk result (λ report. report.start ≡ None) }
     ensures runs { IfOk result (λ report. (given : Settings) (holds : List ℕ → Option (List ℕ))
@@ -81,7 +85,7 @@ pub fn run_streams<R: Threads + Wait + RandomSource + Sync, G: Gate, F: Files, P
     fronts_hold_bindings();
     joins_are_sound();
     let definitions = copied_definitions(context.alloc, &task.queries)?;
-    let room = Vec::with_capacity(context.alloc, task.readers.len())?;
+    let room = EndRoom::new(context.alloc, task.readers.len(), task.ask_readers.len())?;
     let circle = circle_of(context.alloc, standing)?;
     let outcome = match run_threads(context, task, events, circle) {
         Ok(outcome) => outcome,
@@ -102,10 +106,10 @@ struct WrittenTexts {
 }
 
 /// Writes the replies and then the saved window, as far as there are sinks for them.
-fn write_own<K: Sink, S: Source, O: Standing>(
+fn write_own<K: Sink, S: Source, A: Source, O: Standing>(
     alloc: Global,
     own: &mut OwnSinks<K>,
-    outcome: &RunOutcome<S, O>,
+    outcome: &RunOutcome<S, A, K, O>,
     definitions: &[QueryDef],
 ) -> WrittenTexts
     requires few { length outcome.now.sessions.items ≤ session_limit }
@@ -134,7 +138,7 @@ fn write_own<K: Sink, S: Source, O: Standing>(
 }
 
 /// The entries in memory of which the window is saved.
-fn entries_left<S, O>(outcome: &RunOutcome<S, O>) -> &[Entry]
+fn entries_left<S, A, K, O>(outcome: &RunOutcome<S, A, K, O>) -> &[Entry]
     ensures { result.now ≡ entries_left outcome.now.window outcome.now.history }
 {
     match &outcome.window {
@@ -146,23 +150,27 @@ fn entries_left<S, O>(outcome: &RunOutcome<S, O>) -> &[Entry]
 /// The report of a run that ended so. Puts the objects back, and tells on the errors what went
 /// wrong.
 fn end_run<F: Files, P: Prefix>(
-    outcome: RunOutcome<Then<F::Source, P>, Box<dyn Standing>>,
+    outcome: RunOutcome<Then<F::Source, P>, F::Source, F::Sink, Box<dyn Standing>>,
     written: WrittenTexts,
     own: OwnSinks<F::Sink>,
-    room: Vec<F::Source>,
+    room: EndRoom<F::Source>,
     standing: &mut Vec<Box<dyn Standing>>,
     errors: &mut F::Sink,
 ) -> Report<F>
-    requires room { (room.items ≡ []) × (length outcome.sources.items ≤ vec_capacity room) }
+    requires room { IsEndRoom (length outcome.sources.items) (length outcome.readers.items) room }
     requires some { 1 ≤ length outcome.sources.items }
     requires alone { (P.COUNT ≡ 0) ⊎ (length outcome.sources.items ≡ 1) }
     requires few { length outcome.ends.items ≤ stream_limit }
+    requires few_readers { length outcome.readers.items ≤ reader_limit }
     ensures start { result.start ≡ None }
-    ensures status { IsStatusOf outcome.ends.items (failed_of outcome.why written) result.status }
-    ensures memory { (result.status ≡ memory_status) ↔ (is_short outcome.ends.items
+    ensures status { IsStatusOf outcome.ends.items (ends_of outcome.readers.items)
+        (failed_of outcome.why written) result.status }
+    ensures memory { (result.status ≡ memory_status)
+        ↔ (is_short outcome.ends.items (ends_of outcome.readers.items)
         (shortage_of outcome.why outcome.short_of_memory written) ≡ true) }
     ensures told { TellsLines F.Sink.written F.Sink.faults
-        (run_lines outcome.ends.items (failed_of outcome.why written) result.status)
+        (run_lines outcome.ends.items (ends_of outcome.readers.items)
+        (failed_of outcome.why written) result.status)
         errors.old errors.new }
     ensures objects { (standing.new.items ≡ outcome.circle.members)
         × (result.left.items ≡ outcome.circle.left) }
@@ -176,18 +184,20 @@ fn end_run<F: Files, P: Prefix>(
         ends,
         sources,
         sessions,
+        readers,
         why,
         short_of_memory,
         circle,
     } = outcome;
     let OwnSinks { replies, save } = own;
     let left = put_back(standing, circle);
-    let (from, sources) = parted(sources, room);
+    let (from, sources) = parted(sources, room.sources);
+    let asked = ends_of(&readers, room.ends);
     let failed = failed_of(why, written);
     let is_short = is_short_of_memory(why, short_of_memory, written);
-    let status = run_status(&ends, failed, is_short);
+    let status = run_status(&ends, &asked, failed, is_short);
     // A fault of the errors changes no status.
-    let _ = tell_end(errors, &ends, failed, status);
+    let _ = tell_end(errors, &ends, &asked, failed, status);
     Report {
         status,
         start: None,
@@ -196,6 +206,7 @@ fn end_run<F: Files, P: Prefix>(
         sources,
         from,
         sessions,
+        readers,
         replies,
         save,
         left,

@@ -26,9 +26,10 @@ use entry_steps::Options;
 use generated_run::Generation;
 use join_file::JoinDef;
 use kept_list::KeptList;
+use live_asks::AskReader;
 use query_file::Compiled;
 use rpq_base::Memory;
-use rpq_io::{Context, Files, Gate, LineReader, Source};
+use rpq_io::{Context, Files, Gate, LineReader, Sink, Source};
 use rpq_text::StartFault;
 use rpq_threads::Task;
 use rpq_words::{Directions, Settings};
@@ -69,6 +70,10 @@ use std::thread::Threads;
 /// With `--endless` the run goes on as long as its streams do, in memory that goes by what the
 /// queries still see: then the first entries of the history may have left the memory. What the
 /// clauses say of the history they say of all its entries.
+///
+/// With `--reader ASKS REPLIES`, once or more often, each reader has a thread of its own, too: it
+/// reads the lines of its asks, and answers each on its replies before it reads the next one. The
+/// run ends where all streams and all readers have ended.
 ///
 /// The objects that stayed are in `standing` afterwards, in their order, and those that left in the
 /// report.
@@ -174,15 +179,16 @@ fn run_begun<R: Threads + Wait + RandomSource + Sync, G: Gate, F: Files>(
                 readers,
                 joins,
                 sessions,
+                ask_readers,
                 sinks,
             } = reads;
             match readers {
                 Readers::Alone(readers) => {
-                    let task = task_of(chosen, queries, joins, readers, sessions);
+                    let task = task_of(chosen, queries, joins, readers, sessions, ask_readers);
                     run_streams(context, task, sinks, standing, events, errors)
                 }
                 Readers::Behind(readers) => {
-                    let task = task_of(chosen, queries, joins, readers, sessions);
+                    let task = task_of(chosen, queries, joins, readers, sessions, ask_readers);
                     run_streams(context, task, sinks, standing, events, errors)
                 }
             }
@@ -210,16 +216,17 @@ fn generation_of(
 }
 
 /// What the threads of a run with these settings are given: its queries, the joins over them, the
-/// readers of its streams, and what is asked.
-fn task_of<S: Source>(
+/// readers of its streams, what is asked, and the readers that ask beside it.
+fn task_of<S: Source, A: Source, K: Sink>(
     chosen: &Settings,
     queries: Vec<Compiled>,
     joins: Arc<Vec<JoinDef>>,
     readers: Vec<LineReader<S>>,
     sessions: Vec<Session>,
-) -> Task<S>
+    ask_readers: Vec<AskReader<A, K>>,
+) -> Task<S, A, K>
     ensures { IsTaskOf chosen.now queries.items joins.value.items readers.items sessions.items
-        result }
+        ask_readers.items result }
 {
     let options = Options {
         two_way: chosen.is_two_way(),
@@ -233,6 +240,7 @@ fn task_of<S: Source>(
         limit: chosen.history_cap(),
         readers,
         sessions,
+        ask_readers,
     }
 }
 
@@ -248,7 +256,7 @@ fn report_of_refusal<F: Files>(
     ensures history { (result.history.items ≡ []) × (result.history.base ≡ 0) }
     ensures streams { result.streams.items ≡ [] }
     ensures sources { result.sources.items ≡ sources.items }
-    ensures sessions { result.sessions.items ≡ [] }
+    ensures asked { (result.sessions.items ≡ []) × (result.readers.items ≡ []) }
     ensures own { (result.from ≡ None) × (result.replies ≡ None) × (result.save ≡ None) }
     ensures left { result.left.items ≡ [] }
     ensures errors { TellsLines F.Sink.written F.Sink.faults (start_line fault)
@@ -264,6 +272,7 @@ fn report_of_refusal<F: Files>(
         sources,
         from: None,
         sessions: Vec::new(alloc),
+        readers: Vec::new(alloc),
         replies: None,
         save: None,
         left: Vec::new(alloc),

@@ -1,9 +1,9 @@
 -- The statuses of runs and their lines, computed.
 use Rattle.std.proofs.Common.{refl}
 use Rattle.std.specs.Fmt.{digits}
-use Rattle.rpq_text.specs.ErrorLines.{line_text, end_line, memory_line, run_lines}
-use Rattle.rpq_text.specs.StatusExamples.{StartStatuses, EndStatuses, StatusOrder}
-use Rattle.rpq_text.specs.StatusExamples.{StartLines, EndLines, LinesInOrder}
+use Rattle.rpq_text.specs.ErrorLines.{line_text, end_line, reader_line, memory_line, run_lines}
+use Rattle.rpq_text.specs.StatusExamples.{StartStatuses, EndStatuses, ReaderStatuses, StatusOrder}
+use Rattle.rpq_text.specs.StatusExamples.{StartLines, EndLines, ReaderLines, LinesInOrder}
 
 pub start_statuses : StartStatuses
 start_statuses = record {
@@ -18,6 +18,8 @@ start_statuses = record {
   no_stream = λ number. refl;
   no_replies = refl;
   no_save = refl;
+  no_asks_of = λ number. refl;
+  no_replies_of = λ number. refl;
   unread = λ which. refl;
   long = λ which. refl;
   memory = refl;
@@ -39,8 +41,27 @@ end_statuses = record {
   save = refl;
 }
 
+pub reader_statuses : ReaderStatuses
+reader_statuses = record {
+  whole = refl;
+  left = λ line. refl;
+  long = refl;
+  unread = refl;
+  unwritten = refl;
+  shut = λ why. refl;
+  memory = refl;
+}
+
 pub status_order : StatusOrder
-status_order = record { memory = refl; write = refl; limit = refl; read = refl; line = refl }
+status_order = record {
+  memory = refl;
+  write = refl;
+  limit = refl;
+  read = refl;
+  line = refl;
+  readers = refl;
+  short_reader = refl;
+}
 
 pub start_lines : StartLines
 unfolding digits
@@ -52,6 +73,8 @@ start_lines = record {
   unread_asks = refl;
   long = refl;
   long_asks = refl;
+  no_asks_of = refl;
+  no_replies_of = refl;
   memory = refl;
 }
 
@@ -68,6 +91,18 @@ end_lines = record {
   memory = refl;
 }
 
+pub reader_lines : ReaderLines
+unfolding reader_line digits
+reader_lines = record {
+  whole = refl;
+  left = λ line. refl;
+  long = refl;
+  unread = refl;
+  unwritten = refl;
+  shut = λ why. refl;
+  memory = refl;
+}
+
 pub lines_in_order : LinesInOrder
-unfolding line_text end_line memory_line run_lines digits
+unfolding line_text end_line reader_line memory_line run_lines digits
 lines_in_order = record { all = refl; others = refl }

@@ -12,7 +12,9 @@ use Rattle.stream_tuples.specs.declared.ends.StreamEnd.TheVariants.{LongStream, 
 use Rattle.stream_tuples.specs.declared.ends.StreamEnd.TheVariants.{Memory}
 use Rattle.rpq_text.specs.declared.ends.Which.{Which}
 use Rattle.rpq_text.specs.declared.ends.Which.TheVariants.{Queries, Joins, Asks, From, Stream}
-use Rattle.rpq_text.specs.declared.ends.Which.TheVariants.{Replies, Save}
+use Rattle.live_asks.specs.declared.ends.ReaderEnd.{ReaderEnd}
+use Rattle.live_asks.specs.declared.ends.ReaderEnd.TheVariants as reader
+use Rattle.rpq_text.specs.declared.ends.Which.TheVariants.{Replies, Save, AsksOf, RepliesOf}
 use Rattle.rpq_text.specs.declared.ends.SinkName.{SinkName}
 use Rattle.rpq_text.specs.declared.ends.SinkName.TheVariants.{Events, Replies as RepliesSink}
 use Rattle.rpq_text.specs.declared.ends.SinkName.TheVariants.{Save as SaveSink}
@@ -33,6 +35,8 @@ file_text From = codes "from"
 file_text (Stream number) = codes "stream " ++ decimal number
 file_text Replies = codes "replies"
 file_text Save = codes "save"
+file_text (AsksOf number) = codes "reader " ++ decimal number
+file_text (RepliesOf number) = codes "reader " ++ decimal number
 
 -- what is said of the line of the queries file with this number
 unfoldable pub query_text : ℕ → List ℕ → List ℕ
@@ -59,8 +63,12 @@ write_line Events = codes "rpq: write failed: events\n"
 write_line RepliesSink = codes "rpq: write failed: replies\n"
 write_line SaveSink = codes "rpq: write failed: save\n"
 
--- the line of a file that couldn't be opened: the replies and the saved window were to be written,
--- and the others to be read
+-- the line of a file that couldn't be written, or not be opened to be written
+abbrev pub unwritten_line : Which → List ℕ
+unwritten_line which = codes "rpq: write failed: " ++ file_text which ++ codes "\n"
+
+-- the line of a file that couldn't be opened: the replies, the saved window and the replies of a
+-- reader were to be written, and the others to be read
 abbrev pub opening_line : Which → List ℕ
 opening_line Queries = read_line Queries
 opening_line Joins = read_line Joins
@@ -69,6 +77,8 @@ opening_line From = read_line From
 opening_line (Stream number) = read_line (Stream number)
 opening_line Replies = write_line RepliesSink
 opening_line Save = write_line SaveSink
+opening_line (AsksOf number) = read_line (AsksOf number)
+opening_line (RepliesOf number) = unwritten_line (RepliesOf number)
 
 -- the line of a run that didn't begin; where the words are refused, a second one says how the
 -- command is used
@@ -105,12 +115,30 @@ abbrev pub end_lines : ℕ → List StreamEnd → List ℕ
 end_lines number [] = []
 end_lines number (end ∷ ends) = end_line number end ++ end_lines (number + 1) ends
 
+-- the line of the reader with this number by its end; an end that tells no fault of the reader has
+-- none
+unfoldable pub reader_line : ℕ → ReaderEnd → List ℕ
+reader_line number reader.Whole = []
+reader_line number (reader.Left line) = []
+reader_line number reader.LongText =
+    codes "rpq: " ++ file_text (AsksOf number) ++ codes ": too long\n"
+reader_line number reader.Read = read_line (AsksOf number)
+reader_line number reader.Write = unwritten_line (RepliesOf number)
+reader_line number (reader.Closed why) = []
+reader_line number reader.Memory = []
+
+-- the lines of readers by their ends; the first reader has this number
+abbrev pub reader_lines : ℕ → List ReaderEnd → List ℕ
+reader_lines number [] = []
+reader_lines number (end ∷ ends) = reader_line number end ++ reader_lines (number + 1) ends
+
 -- the line for out of memory, on the status of that
 unfoldable pub memory_line : ℕ → List ℕ
 memory_line status = if status == memory_status then codes "rpq: memory\n" else []
 
 -- the lines of a run that began: those of its streams, those of the sinks of which a write failed,
--- and that of out of memory
-unfoldable pub run_lines : List StreamEnd → List SinkName → ℕ → List ℕ
-run_lines ends failed status =
-    end_lines 1 ends ++ (flat_map write_line failed ++ memory_line status)
+-- those of its readers, and that of out of memory
+unfoldable pub run_lines : List StreamEnd → List ReaderEnd → List SinkName → ℕ → List ℕ
+run_lines ends readers failed status =
+    end_lines 1 ends
+    ++ (flat_map write_line failed ++ (reader_lines 1 readers ++ memory_line status))

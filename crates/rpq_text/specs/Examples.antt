@@ -85,7 +85,7 @@ pub record LineExamples : Type 0 where
   pub words : start_line Words ≡ codes "rpq: words\nusage: rpq [--workers N] [--history N] "
       ++ codes "[--asks FILE --replies FILE] [--check] [--generate N] "
       ++ codes "[--two-way] [--paths] [--joins FILE] [--save FILE] [--from FILE] [--endless] "
-      ++ codes "QUERIES [STREAM...]\n"
+      ++ codes "[--reader ASKS REPLIES]... QUERIES [STREAM...]\n"
   pub twice : start_line (JoinsFaulty (record { line = 2; kind = Twice (codes "j") }))
       ≡ codes "rpq: joins line 2: name twice\n"
   pub joins : start_line (Open Joins) ≡ codes "rpq: read failed: joins\n"
@@ -97,6 +97,6 @@ pub record LineExamples : Type 0 where
   pub stream : start_line (Open (Stream 2)) ≡ codes "rpq: read failed: stream 2\n"
   pub from : start_line (Open From) ≡ codes "rpq: read failed: from\n"
   pub save : start_line (Open Save) ≡ codes "rpq: write failed: save\n"
-  pub writes : run_lines [] (Events ∷ RepliesSink ∷ SaveSink ∷ []) 6
+  pub writes : run_lines [] [] (Events ∷ RepliesSink ∷ SaveSink ∷ []) 6
       ≡ codes "rpq: write failed: events\nrpq: write failed: replies\n"
       ++ codes "rpq: write failed: save\n"

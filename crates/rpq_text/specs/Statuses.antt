@@ -1,4 +1,5 @@
--- The status of a run, by why it didn't begin, or by how its streams ended and which writes failed.
+-- The status of a run, by why it didn't begin, or by how its streams and readers ended and which
+-- writes failed.
 use Rattle.std.specs.Prelude.{◌≡◌, ◌≢◌, ℕ, Bool, ◌==◌, ◌||◌, List, [], ◌∷◌, find, filter, unwrap_or}
 use Rattle.std.specs.List.{list_any}
 use Rattle.history_model.specs.declared.line.Why.TheVariants.{Write, Memory as MemoryOfAll}
@@ -8,7 +9,9 @@ use Rattle.stream_tuples.specs.declared.ends.StreamEnd.TheVariants.{LongStream, 
 use Rattle.stream_tuples.specs.declared.ends.StreamEnd.TheVariants.{Memory}
 use Rattle.rpq_text.specs.declared.ends.Which.{Which}
 use Rattle.rpq_text.specs.declared.ends.Which.TheVariants.{Queries, Joins, Asks, From, Stream}
-use Rattle.rpq_text.specs.declared.ends.Which.TheVariants.{Replies, Save}
+use Rattle.live_asks.specs.declared.ends.ReaderEnd.{ReaderEnd}
+use Rattle.live_asks.specs.declared.ends.ReaderEnd.TheVariants as reader
+use Rattle.rpq_text.specs.declared.ends.Which.TheVariants.{Replies, Save, AsksOf, RepliesOf}
 use Rattle.rpq_text.specs.declared.ends.SinkName.{SinkName}
 use Rattle.rpq_text.specs.declared.ends.SinkName.TheVariants.{Events, Replies as RepliesSink}
 use Rattle.rpq_text.specs.declared.ends.SinkName.TheVariants.{Save as SaveSink}
@@ -55,12 +58,16 @@ limit_status = 7
 abbrev pub memory_status : ℕ
 memory_status = 8
 
+-- the asks of a reader couldn't be read to their end, or its replies not be written
+abbrev pub reader_status : ℕ
+reader_status = 9
+
 -- the joins file has a fault
 abbrev pub joins_status : ℕ
 joins_status = 10
 
--- the status of a run that couldn't open this file: the replies and the saved window were to be
--- written, and the others to be read
+-- the status of a run that couldn't open this file: the replies, the saved window and the replies
+-- of a reader were to be written, and the others to be read
 abbrev pub status_of_opening : Which → ℕ
 status_of_opening Queries = read_status
 status_of_opening Joins = read_status
@@ -69,6 +76,8 @@ status_of_opening From = read_status
 status_of_opening (Stream number) = read_status
 status_of_opening Replies = write_status
 status_of_opening Save = write_status
+status_of_opening (AsksOf number) = read_status
+status_of_opening (RepliesOf number) = write_status
 
 -- the status of a run that didn't begin
 abbrev pub status_of_start : StartFault → ℕ
@@ -93,6 +102,17 @@ status_of_end (Closed Write) = write_status
 status_of_end (Closed MemoryOfAll) = memory_status
 status_of_end Memory = memory_status
 
+-- the status of a run in which nothing but this end of a reader arose; a history that was shut for
+-- it has its own cause
+abbrev pub status_of_reader : ReaderEnd → ℕ
+status_of_reader reader.Whole = done_status
+status_of_reader (reader.Left line) = done_status
+status_of_reader reader.LongText = reader_status
+status_of_reader reader.Read = reader_status
+status_of_reader reader.Write = reader_status
+status_of_reader (reader.Closed why) = done_status
+status_of_reader reader.Memory = memory_status
+
 -- the status of a run in which nothing but a failed write of this sink arose
 abbrev pub status_of_sink : SinkName → ℕ
 status_of_sink Events = write_status
@@ -108,24 +128,27 @@ all_sinks = Events ∷ RepliesSink ∷ SaveSink ∷ []
 abbrev pub AreSomeSinks : List SinkName → Type 0
 AreSomeSinks sinks = (chosen : SinkName → Bool) × (sinks ≡ filter chosen all_sinks)
 
--- whether the status is that of an end of a stream, or that of a failed write of a sink
-abbrev pub arose : List StreamEnd → List SinkName → ℕ → Bool
-arose ends failed status =
+-- whether the status is that of an end of a stream or of a reader, or that of a failed write of a
+-- sink
+abbrev pub arose : List StreamEnd → List ReaderEnd → List SinkName → ℕ → Bool
+arose ends readers failed status =
     list_any (λ end. status_of_end end == status) ends
-    || list_any (λ sink. status_of_sink sink == status) failed
+    || (list_any (λ end. status_of_reader end == status) readers
+    || list_any (λ sink. status_of_sink sink == status) failed)
 
 -- the statuses of what can go wrong after the start, in the order in which they count
 abbrev pub status_order : List ℕ
 status_order =
-    memory_status ∷ write_status ∷ limit_status ∷ read_status ∷ line_status ∷ []
+    memory_status ∷ write_status ∷ limit_status ∷ read_status ∷ line_status ∷ reader_status ∷ []
 
 -- the first status of the order that arose, else that all was done
-abbrev pub first_status : List StreamEnd → List SinkName → ℕ
-first_status ends failed = unwrap_or (find (arose ends failed) status_order) done_status
+abbrev pub first_status : List StreamEnd → List ReaderEnd → List SinkName → ℕ
+first_status ends readers failed =
+    unwrap_or (find (arose ends readers failed) status_order) done_status
 
--- the status of a run whose streams ended so, and in which writes of these sinks failed: that of
--- out of memory, which can arise by itself, or else the first that arose
-pub record IsStatusOf (ends : List StreamEnd) (failed : List SinkName) (status : ℕ)
-    : Type 0 where
-  pub memory : first_status ends failed ≡ memory_status → status ≡ memory_status
-  pub others : status ≢ memory_status → status ≡ first_status ends failed
+-- the status of a run whose streams and readers ended so, and in which writes of these sinks
+-- failed: that of out of memory, which can arise by itself, or else the first that arose
+pub record IsStatusOf (ends : List StreamEnd) (readers : List ReaderEnd) (failed : List SinkName)
+    (status : ℕ) : Type 0 where
+  pub memory : first_status ends readers failed ≡ memory_status → status ≡ memory_status
+  pub others : status ≢ memory_status → status ≡ first_status ends readers failed

@@ -12,8 +12,8 @@ use query_file::QueryFault;
 use std::error::Error;
 use std::fmt;
 
-/// One of the files that a run opens: the replies and the saved window to be written, and the others
-/// to be read. Streams are numbered from 1.
+/// One of the files that a run opens: the replies, the saved window and the replies of a reader to
+/// be written, and the others to be read. Streams and readers are numbered from 1.
 #[derive(Clone, Copy, Debug, PartialEq, Eq)]
 pub enum Which {
     Queries,
@@ -26,6 +26,10 @@ pub enum Which {
     Replies,
     /// The window that this run saves.
     Save,
+    /// What this reader asks.
+    AsksOf(u32),
+    /// The replies to this reader.
+    RepliesOf(u32),
 }
 
 impl fmt::Display for Which {
@@ -40,6 +44,8 @@ impl fmt::Display for Which {
             Which::Stream(number) => write!(f, "stream {number}"),
             Which::Replies => f.write_str("replies"),
             Which::Save => f.write_str("save"),
+            Which::AsksOf(number) => write!(f, "reader {number}"),
+            Which::RepliesOf(number) => write!(f, "reader {number}"),
         }
     }
 }
@@ -98,7 +104,7 @@ impl StartFault {
             StartFault::Queries(_) => status::QUERIES,
             StartFault::Joins(_) => status::JOINS,
             StartFault::Asks(_) => status::ASKS,
-            StartFault::Open(Which::Replies | Which::Save) => status::WRITE,
+            StartFault::Open(Which::Replies | Which::Save | Which::RepliesOf(_)) => status::WRITE,
             StartFault::Open(_) | StartFault::Read(_) => status::READ,
             StartFault::Long(_) => status::LIMIT,
             StartFault::Memory => status::MEMORY,
@@ -115,7 +121,7 @@ impl fmt::Display for StartFault {
             StartFault::Queries(fault) => write!(f, "queries {fault}"),
             StartFault::Joins(fault) => write!(f, "joins {fault}"),
             StartFault::Asks(fault) => write!(f, "asks {fault}"),
-            StartFault::Open(which @ (Which::Replies | Which::Save)) => {
+            StartFault::Open(which @ (Which::Replies | Which::Save | Which::RepliesOf(_))) => {
                 write!(f, "write failed: {which}")
             }
             StartFault::Open(which) | StartFault::Read(which) => write!(f, "read failed: {which}"),

@@ -1,14 +1,14 @@
 //! The text of the lines on errors, each in room of a fixed size, so that none takes memory.
 
-ghost use Rattle.std.specs.Prelude.{◌≡◌, ◌+◌, ◌≤◌, ◌++◌, length, decimal};
+ghost use Rattle.std.specs.Prelude.{◌≡◌, ◌+◌, ◌≤◌, ◌++◌, length, codes, decimal};
 ghost use Rattle.std.specs.List.{flat_map};
 ghost use Rattle.path_syntax.specs.FaultTexts.{bad_expr_text};
 ghost use Rattle.tuple_text.specs.FaultTexts.{fault_text};
 ghost use Rattle.ask_text.specs.FaultTexts.{ask_kind_text};
 ghost use Rattle.join_file.specs.FaultTexts.{joins_kind_text};
 ghost use Rattle.rpq_text.specs.ErrorLines.{file_text, query_text, joins_text, asks_text};
-ghost use Rattle.rpq_text.specs.ErrorLines.{line_text, end_line, read_line, write_line};
-ghost use Rattle.rpq_text.specs.ErrorLines.{opening_line, memory_line};
+ghost use Rattle.rpq_text.specs.ErrorLines.{line_text, end_line, reader_line, read_line};
+ghost use Rattle.rpq_text.specs.ErrorLines.{write_line, unwritten_line, opening_line, memory_line};
 ghost use Rattle.rpq_text.specs.WordTexts.{not_contained_front};
 
 use crate::ends::{SinkName, Which};
@@ -17,6 +17,7 @@ use arrayvec::ArrayString;
 use ask_text::AskFault;
 use itoa::Buffer;
 use join_file::JoinFileFault;
+use live_asks::ReaderEnd;
 use path_syntax::BadExpr;
 use stream_tuples::StreamEnd;
 use tuple_text::BadLine;
@@ -40,6 +41,20 @@ pub fn end_line(stream: u32, end: StreamEnd) -> Line
     }
 }
 
+/// The line of a reader's end, if it has one.
+#[tactic(auto, unfolding(crate::specs::ErrorLines::reader_line))]
+pub fn reader_line(reader: u32, end: ReaderEnd) -> Line
+    ensures { result.bytes ≡ reader_line reader end }
+{
+    match end {
+        ReaderEnd::LongText => file_line("rpq: ", Which::AsksOf(reader), ": too long\n"),
+        ReaderEnd::Read => read_line(Which::AsksOf(reader)),
+        ReaderEnd::Write => unwritten_line(Which::RepliesOf(reader)),
+        ReaderEnd::Whole | ReaderEnd::Left { .. } | ReaderEnd::Closed(_) | ReaderEnd::Memory =>
+            Line::new(),
+    }
+}
+
 /// The line of a failed write of a sink.
 pub fn write_line(sink: SinkName) -> Line
     ensures { result.bytes ≡ write_line sink }
@@ -58,16 +73,27 @@ pub fn read_line(which: Which) -> Line
     file_line("rpq: read failed: ", which, "\n")
 }
 
+/// The line of a file that couldn't be written.
+fn unwritten_line(which: Which) -> Line
+    ensures { result.bytes ≡ unwritten_line which }
+{
+    file_line("rpq: write failed: ", which, "\n")
+}
+
 /// The line of a failed opening of a file.
 pub fn opening_line(which: Which) -> Line
     ensures { result.bytes ≡ opening_line which }
 {
     match which {
-        Which::Queries | Which::Joins | Which::Asks | Which::From | Which::Stream(_) => {
-            read_line(which)
-        }
+        Which::Queries
+        | Which::Joins
+        | Which::Asks
+        | Which::From
+        | Which::Stream(_)
+        | Which::AsksOf(_) => read_line(which),
         Which::Replies => write_line(SinkName::Replies),
         Which::Save => write_line(SinkName::Save),
+        Which::RepliesOf(_) => unwritten_line(which),
     }
 }
 
@@ -208,7 +234,19 @@ pub fn file_line(before: &str, which: Which, after: &str) -> Line
             let number = digits.format(u64::from(number));
             line_of(&[before, "stream ", number, after])
         }
+        Which::AsksOf(number) => line_of_reader(before, number, after),
+        Which::RepliesOf(number) => line_of_reader(before, number, after),
     }
+}
+
+/// A file of the reader with this number between two texts.
+fn line_of_reader(before: &str, number: u32, after: &str) -> Line
+    requires { length before.now + length after.now ≤ 100 }
+    ensures { result.bytes ≡ before.now ++ (codes "reader " ++ decimal number) ++ after.now }
+{
+    let mut digits = Buffer::new();
+    let number = digits.format(u64::from(number));
+    line_of(&[before, "reader ", number, after])
 }
 
 /// The pieces, one after another.

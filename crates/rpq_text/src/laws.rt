@@ -10,8 +10,9 @@ ghost use Rattle.rpq_text.specs.Laws.{EveryHistoryHasAText, OneVerdictText, With
 ghost use Rattle.rpq_text.specs.Laws.{LimitsAreThese};
 ghost use Rattle.rpq_text.specs.Orders.{ChangesAreInOrder, LatestIsFound, LeastAreShortest};
 ghost use Rattle.rpq_text.specs.Orders.{WordOrderExamples};
-ghost use Rattle.rpq_text.specs.StatusExamples.{StartStatuses, EndStatuses, StatusOrder};
-ghost use Rattle.rpq_text.specs.StatusExamples.{StartLines, EndLines, LinesInOrder};
+ghost use Rattle.rpq_text.specs.StatusExamples.{StartStatuses, EndStatuses, ReaderStatuses};
+ghost use Rattle.rpq_text.specs.StatusExamples.{StatusOrder, StartLines, EndLines, ReaderLines};
+ghost use Rattle.rpq_text.specs.StatusExamples.{LinesInOrder};
 ghost use Rattle.rpq_text.specs.VerdictExample.{VerdictExample};
 
 use entry_steps::every_entry_has_a_step;
@@ -61,11 +62,12 @@ pub fn start_lines_tell_faults()
     ensures { StartLinesTellFaults }
 {}
 
-/// The lines of runs that don't begin and of streams by their ends, and in which order those of a
-/// run stand.
+/// The lines of runs that don't begin and of streams and readers by their ends, and in which order
+/// those of a run stand.
 pub fn error_line_examples()
     ensures start { StartLines }
     ensures ends { EndLines }
+    ensures readers { ReaderLines }
     ensures order { LinesInOrder }
 {}
 
@@ -73,6 +75,7 @@ pub fn error_line_examples()
 pub fn status_examples()
     ensures start { StartStatuses }
     ensures ends { EndStatuses }
+    ensures readers { ReaderStatuses }
     ensures order { StatusOrder }
 {}
 

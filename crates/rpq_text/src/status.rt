@@ -18,8 +18,8 @@ pub const LINE: u8 = 4;
 /// A file couldn't be opened to be read, or a read of it failed.
 pub const READ: u8 = 5;
 
-/// A write of the events, of the replies or of the saved window failed, or the file of the replies
-/// or of the saved window couldn't be opened.
+/// A write of the events, of the replies or of the saved window failed, or the file of the replies,
+/// of a reader's replies or of the saved window couldn't be opened.
 pub const WRITE: u8 = 6;
 
 /// The history is full, or a file has too many bytes.
@@ -27,6 +27,9 @@ pub const LIMIT: u8 = 7;
 
 /// Memory ran out.
 pub const MEMORY: u8 = 8;
+
+/// The asks of a reader couldn't be read to their end, or its replies not be written.
+pub const READER: u8 = 9;
 
 /// The joins file has a fault.
 pub const JOINS: u8 = 10;

@@ -1,7 +1,7 @@
 -- The engine's loop has ended.
 use Rattle.std.proofs.Common.{◌≡◌, ℕ, ◌-◌, ◌<◌, ◌≤◌, ◌^◌, All, true, false, List, [], ◌∷◌, ◌++◌}
 use Rattle.std.proofs.Common.{length, take, drop, Option, Some, None, Result, Ok, Err, refl, sym}
-use Rattle.std.proofs.Common.{ap, subst, ◌∙◌, ⊎_elim, arith}
+use Rattle.std.proofs.Common.{ap, subst, ◌∙◌, inl, ⊎_elim, arith}
 use Rattle.std.specs.Prelude.{Contains, OnOk, OnErr, IfErr}
 use Rattle.std.specs.Result.{result_err}
 use Rattle.std.proofs.lemmas.List.{append-nil, take-append-drop, take_all}
@@ -32,7 +32,7 @@ use Rattle.stream_history.proofs.Turns.{first_entries}
 use Rattle.stream_history.specs.History.{HistoryValue, IsFeedingPass, HasAdded}
 use Rattle.turn_lock.specs.Lines.{StartsWith}
 use Rattle.rpq_threads.specs.Blocks.{WritesBlocks}
-use Rattle.rpq_threads.specs.Entries.{FeedsFrom}
+use Rattle.rpq_threads.specs.Entries.{FeedsFrom, IsNoted}
 use Rattle.rpq_threads.specs.Fed.{IsFed, HasFed}
 use Rattle.rpq_threads.specs.Past.{IsPastOf, window_of}
 use Rattle.rpq_threads.specs.Window.{IsLeftOf, ServesAs}
@@ -74,7 +74,14 @@ feeds_first history evaluator pass was = record {
   unread = was.unread;
   few = was.few;
   place = omega (arith, was.stands.fed.counted);
-  told = λ some. ap published was.none_added ∙ sym was.stands.fed.counted;
+  told = λ some.
+      let same : published pass.mine ≡ evaluator.position =
+      ap published was.none_added ∙ sym was.stands.fed.counted in
+      record {
+        within = omega (arith, same);
+        near = omega (arith, same);
+        goes_on = inl same;
+      };
   plain = subst (λ (seen : List Line). All IsPlain (entries seen)) (sym was.none_seen)
       (All-nil IsPlain);
   rest_comes = record {
@@ -83,6 +90,16 @@ feeds_first history evaluator pass was = record {
     plain = All-nil IsPlain;
     short = omega arith;
   };
+}
+
+-- and nothing is noted
+pub noted_first : (history : HistoryValue) (evaluator : EvaluatorValue) (pass : Each)
+    (shown known : ℕ) → IsFed history evaluator pass → shown ≡ 0 → known ≡ 0 →
+    IsNoted history pass shown known
+noted_first history evaluator pass shown known was shown_is known_is = record {
+  is_published = λ some. ap published was.none_added ∙ sym shown_is;
+  shown_there = omega (arith, shown_is);
+  known_there = omega (arith, known_is);
 }
 
 -- ---- the end

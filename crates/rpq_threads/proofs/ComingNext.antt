@@ -3,7 +3,7 @@ use Rattle.std.proofs.Common.{◌≡◌, ℕ, zero, suc, ◌+◌, ◌-◌, ◌<�
 use Rattle.std.proofs.Common.{List}
 use Rattle.std.proofs.Common.{[], ◌∷◌, ◌++◌}
 use Rattle.std.proofs.Common.{length, map, take, drop, length-append, length-drop, append_assoc}
-use Rattle.std.proofs.Common.{refl, sym, ap, subst, ◌∙◌, arith}
+use Rattle.std.proofs.Common.{refl, sym, ap, subst, ◌∙◌, inl, inr, ⊎_elim, arith}
 use Rattle.std.proofs.lemmas.List.{length-take, length-take-le, take-append-le, take-append-drop}
 use Rattle.std.proofs.lemmas.List.{drop_at, take-take}
 use Rattle.std.proofs.lemmas.List.Elements.{All-take, All-drop, All-same}
@@ -33,7 +33,7 @@ use Rattle.stream_history.specs.History.{HistoryValue, IsPassOf, IsFeedingPass, 
 use Rattle.stream_history.specs.Journal.{ShowsFront}
 use Rattle.turn_lock.specs.Lines.{StartsWith}
 use Rattle.two_way.specs.TwoWay.{walked}
-use Rattle.rpq_threads.specs.Entries.{ComeBehind, FeedsFrom}
+use Rattle.rpq_threads.specs.Entries.{ComeBehind, IsToldOf, IsNoted, FeedsFrom}
 
 -- the first entries of a list begin it
 taken_starts : (n : ℕ) (all : List Entry) → StartsWith all (take n all)
@@ -174,6 +174,76 @@ module _ (before after : Each) (starts : StartsWith after.seen before.seen) (cou
     short = come.short;
   }
 
+-- ---- what is published
+
+-- what was told stays so, after a call that added no line
+pub told_still : (history : HistoryValue) (before after : Each) → HasSeen history before after →
+    (count : ℕ) → IsToldOf history before count → IsToldOf history after count
+told_still history before after seen count was =
+    let same : published after.mine ≡ published before.mine = ap published seen.mine in
+    record {
+      within = omega (arith, same, was.within);
+      near = omega (arith, same, was.near);
+      goes_on = ⊎_elim (λ is. inl (same ∙ is))
+          (λ more. inr (omega (arith, more, entries_grow after.seen before.seen seen.seen)))
+          was.goes_on;
+    }
+
+-- and so of as many entries
+pub told_at : (history : HistoryValue) (pass : Each) (count other : ℕ) → other ≡ count →
+    IsToldOf history pass count → IsToldOf history pass other
+told_at history pass count other is was = subst (IsToldOf history pass) (sym is) was
+
+-- all are published where no more entries are there
+pub all_told : (history : HistoryValue) (pass : Each) (count : ℕ) →
+    count ≡ length (entries pass.seen) → IsToldOf history pass count →
+    published pass.mine ≡ count
+all_told history pass count all was =
+    ⊎_elim (λ is. is) (λ more. absurd (omega (arith, all, more))) was.goes_on
+
+-- what was noted stays so, after a call that added no line
+pub noted_still : (history : HistoryValue) (before after : Each) → HasSeen history before after →
+    (shown known : ℕ) → IsNoted history before shown known → IsNoted history after shown known
+noted_still history before after seen shown known was = record {
+  is_published = λ some. ap published seen.mine ∙ was.is_published some;
+  shown_there = omega (
+    arith,
+    was.shown_there,
+    entries_grow after.seen before.seen seen.seen,
+  );
+  known_there = omega (
+    arith,
+    was.known_there,
+    entries_grow after.seen before.seen seen.seen,
+  );
+}
+
+-- and how many entries there are then is noted
+pub noted_heard : (history : HistoryValue) (before after : Each) → HasSeen history before after →
+    (shown known heard : ℕ) → heard ≡ length (entries after.seen) →
+    IsNoted history before shown known → IsNoted history after shown heard
+noted_heard history before after seen shown known heard is was =
+    let still = noted_still history before after seen shown known was in
+    record {
+      is_published = still.is_published;
+      shown_there = still.shown_there;
+      known_there = omega (arith, is);
+    }
+
+-- nothing was put off where, later on, no more entries are there
+pub none_put_off : (history : HistoryValue) (first before after : Each) (count : ℕ) →
+    StartsWith before.seen first.seen → HasSeen history before after →
+    count ≡ length (entries after.seen) → IsToldOf history first count →
+    published first.mine ≡ count
+none_put_off history first before after count starts seen all was =
+    ⊎_elim (λ is. is) (λ more. absurd (omega (
+      arith,
+      all,
+      more,
+      entries_grow before.seen first.seen starts,
+      entries_grow after.seen before.seen seen.seen,
+    ))) was.goes_on
+
 -- after a call that added no line the pass feeds whom it fed, with what came anew or with the same
 module _ (history : HistoryValue) (before after : Each) (seen : HasSeen history before after)
     (count : ℕ) (rest : List Entry) (evaluator : EvaluatorValue)
@@ -186,7 +256,8 @@ module _ (history : HistoryValue) (before after : Each) (seen : HasSeen history 
     unread = was.unread;
     few = was.few;
     place = was.place;
-    told = λ some. ap published seen.mine ∙ was.told some;
+    told = λ some.
+        told_still history before after seen evaluator.position (was.told some);
     plain = seen.plain;
     rest_comes = come;
   }
@@ -230,7 +301,7 @@ feeds_as_far history pass count rest evaluator other far was = record {
       (sym (ap (λ (options : OptionsValue). options.two_way) far.setup.options) ∙ is);
   few = was.few;
   place = omega (arith, far.place, was.place);
-  told = λ some. was.told some ∙ sym far.place;
+  told = λ some. told_at history pass evaluator.position other.position far.place (was.told some);
   plain = was.plain;
   rest_comes = was.rest_comes;
 }
@@ -302,7 +373,7 @@ module _ (history : HistoryValue) (pass : Each) (count : ℕ) (rest : List Entry
 
   -- what was published last is behind it
   pub is_ahead : 0 < history.readers → published pass.mine < now.position
-  is_ahead some = omega (arith, was.told some, on.further)
+  is_ahead some = omega (arith, (was.told some).within, on.further)
 
   -- its view is one of the history
   module _ (some : 0 < history.readers) (view : ViewValue)
@@ -348,22 +419,50 @@ module _ (history : HistoryValue) (pass : Each) (count : ℕ) (rest : List Entry
     queries_new : queries_of new ≡ history.terms.queries
     queries_new = ap (map (λ (each : CompiledValue). each.def)) keeps.queries ∙ queries_now
 
-    -- nobody reads
-    pub feeds_unread : history.readers ≡ 0 → FeedsFrom history pass count rest new
-    feeds_unread none = record {
+    -- no view was published
+    feeds_untold : (0 < history.readers → IsToldOf history pass new.position) →
+        FeedsFrom history pass count rest new
+    feeds_untold told = record {
       feeds = was.feeds;
       queries = queries_new;
       unread = unread_new;
       few = was.few;
       place = omega (arith, place, place_now);
-      told = λ some. absurd (omega (arith, none, some));
+      told = told;
       plain = was.plain;
       rest_comes = was.rest_comes;
     }
 
+    -- nobody reads
+    pub feeds_unread : history.readers ≡ 0 → FeedsFrom history pass count rest new
+    feeds_unread none = feeds_untold (λ some. absurd (omega (arith, none, some)))
+
+    -- the view was put off
+    pub feeds_put_off : (shown known : ℕ) → IsNoted history pass shown known → count < known →
+        count ≤ shown + history.lag → FeedsFrom history pass count rest new
+    feeds_put_off shown known noted more near = feeds_untold (λ some. record {
+      within = omega (arith, (was.told some).within, on.further, place);
+      near = omega (arith, near, noted.is_published some, place, place_now);
+      goes_on = inr (omega (arith, more, noted.known_there, place, place_now));
+    })
+
     -- a view was published
     module _ (after : Each) (number : ℕ) (is : number ≡ count)
         (added : HasAdded history pass (publish_line number) after) where
+      is_told : published after.mine ≡ count
+      is_told = ap published added.mine ∙ (published_push pass.mine (publish_line number) ∙ is)
+
+      pub noted_published : (shown known : ℕ) → IsNoted history pass shown known →
+          IsNoted history after count known
+      noted_published shown known noted =
+          let more = entries_grow after.seen pass.seen
+          (added_starts history pass after (publish_line number) added) in
+          record {
+            is_published = λ some. is_told;
+            shown_there = omega (arith, more, was.rest_comes.there);
+            known_there = omega (arith, more, noted.known_there);
+          }
+
       pub feeds_published : FeedsFrom history after count rest new
       feeds_published =
           let starts = added_starts history pass after (publish_line number) added in
@@ -377,9 +476,14 @@ module _ (history : HistoryValue) (pass : Each) (count : ℕ) (rest : List Entry
             unread = unread_new;
             few = was.few;
             place = omega (arith, place, place_now);
-            told = λ some. ap published added.mine
-                ∙ (published_push pass.mine (publish_line number)
-                ∙ (is ∙ (sym place_now ∙ sym place)));
+            told = λ some.
+                let all : published after.mine ≡ new.position =
+                is_told ∙ (sym place_now ∙ sym place) in
+                record {
+                  within = omega (arith, all);
+                  near = omega (arith, all);
+                  goes_on = inl all;
+                };
             plain = added.plain;
             rest_comes = still_come pass after starts count rest was.rest_comes;
           }

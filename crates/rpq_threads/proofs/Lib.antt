@@ -8,4 +8,6 @@ mod Keeping
 mod KeptFronts
 mod Closing
 mod Starting
+mod Returned
+mod Answering
 mod Finishing

@@ -1,6 +1,6 @@
 -- What a run begins with.
-use Rattle.std.proofs.Common.{◌≡◌, ℕ, suc, ◌<◌, Bool, true, false, List, [], ◌∷◌, length, refl, sym}
-use Rattle.std.proofs.Common.{ap, subst, ◌∙◌}
+use Rattle.std.proofs.Common.{◌≡◌, ℕ, suc, ◌+◌, ◌<◌, Bool, true, false, List, [], ◌∷◌, length}
+use Rattle.std.proofs.Common.{refl, sym, ap, subst, ◌∙◌}
 use Rattle.std.proofs.Common.{Option, get_or, arith, ◌≤◌, ◌^◌, ⊎_elim}
 use Rattle.std.specs.List.{All}
 use Rattle.std.proofs.lemmas.List.Elements.{All-map, All-same}
@@ -23,6 +23,7 @@ use Rattle.stream_history.specs.Journal.{empty_view}
 use Rattle.stream_history.specs.Laws.{FirstView}
 use Rattle.ask_text.specs.declared.ask.Ask.{Ask}
 use Rattle.ask_text.specs.Ranges.{IsInRange, IsSession}
+use Rattle.live_asks.specs.declared.reader.AskReader.{AskReader}
 use Rattle.stream_threads.specs.Started.{new_pass}
 use Rattle.rpq_threads.specs.declared.task.Task.{Task}
 use Rattle.rpq_threads.specs.Fed.{IsFed}
@@ -59,7 +60,7 @@ abbrev pub Moves : Query → Type 0
 Moves query = 0 < query.window.slide
 
 -- what a history is made with for a task
-abbrev pub terms_of : {S : Type 0} → Task S → Terms
+abbrev pub terms_of : {S A K : Type 0} → Task S A K → Terms
 terms_of task = record {
   queries = definitions_of task.queries.items;
   streams = length task.readers.items;
@@ -74,8 +75,11 @@ at_least limit is = ⊎_elim (λ within. omega (arith, within.0)) (λ same. omeg
 pub at_most : (limit : ℕ) → IsLimit limit → limit ≤ 2 ^ 61
 at_most limit is = ⊎_elim (λ within. omega (arith, within.1)) (λ same. omega (arith, same)) is
 
-module _ {S : Type 0} (left : S → Option (List ℕ)) (faults : S → ℕ) (task : Task S)
-    (given : IsTask left faults task) (history : HistoryValue)
+module _ {S A K : Type 0} (left : S → Option (List ℕ)) (faults : S → ℕ)
+    (asks_left : A → Option (List ℕ)) (asks_faults : A → ℕ) (written : K → Option (List ℕ))
+    (failures : K → ℕ) (task : Task S A K)
+    (given : IsTask left faults asks_left asks_faults written failures task)
+    (history : HistoryValue)
     (terms : history.terms ≡ terms_of task) where
   same_queries : history.terms.queries ≡ definitions_of task.queries.items
   same_queries = ap (λ (t : Terms). t.queries) terms
@@ -101,7 +105,7 @@ module _ {S : Type 0} (left : S → Option (List ℕ)) (faults : S → ℕ) (tas
   pub begun_fed : (evaluator : EvaluatorValue) →
       compiled_of evaluator ≡ task.queries.items →
       evaluator.options ≡ task.options →
-      history.readers ≡ length task.sessions.items →
+      history.readers ≡ length task.sessions.items + length task.ask_readers.items →
       All Moves (definitions_of task.queries.items) → StandsAfter evaluator [] →
       IsFed history evaluator (new_pass history 0)
   begun_fed evaluator queries options readers move stands =
@@ -110,8 +114,13 @@ module _ {S : Type 0} (left : S → Option (List ℕ)) (faults : S → ℕ) (tas
       first_fed history evaluator (ap definitions_of queries ∙ sym same_queries)
       (subst (λ (o : OptionsValue). CanRun o history.terms.queries) (sym options)
       (begun_can_run move))
-      (λ is. readers ∙ ap (λ (sessions : List (List Ask)). length sessions)
-      (given.unasked (sym two_way ∙ is)))
+      (λ is. let none = given.unasked (sym two_way ∙ is) in
+      omega (
+        arith,
+        readers,
+        ap (λ (sessions : List (List Ask)). length sessions) none.0,
+        ap (λ (asking : List (AskReader A K)). length asking) none.1,
+      ))
       (λ told. two_way ∙ given.forwards (sym paths ∙ told))
       (omega (arith, ap (λ (t : Terms). t.cap) terms, at_most task.limit given.limit)) stands
 

@@ -214,7 +214,8 @@ module _ (queries : List Query) (position : ℕ) (entries : List Entry) (steps :
 
 -- of all the blocks of these entries a part was written, where nobody hears of their events
 front_stops : {S : Type 0} (seen : S → ObjectValue) (circle : Parts S) (entries : List Entry)
-    (steps : List StepValue) (queries : List Query) (position : ℕ) (before after : Option (List ℕ)) →
+    (steps : List StepValue) (queries : List Query) (position : ℕ)
+    (before after : Option (List ℕ)) →
     circle.members ≡ [] → length steps ≡ length entries →
     WritesProperPrefix (blocks_from queries position entries steps) before after →
     WritesBlocks queries position entries steps (Some Write) before after (as_seen seen circle)

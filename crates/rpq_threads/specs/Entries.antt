@@ -1,6 +1,6 @@
 -- How the entries of a history are given to the engine. Only private contracts cite this file.
-use Rattle.std.specs.Prelude.{◌≡◌, ℕ, ◌+◌, ◌-◌, ◌<◌, ◌≤◌, ◌^◌, true, List, ◌++◌, [], length, take}
-use Rattle.std.specs.Prelude.{drop, All}
+use Rattle.std.specs.Prelude.{◌≡◌, ℕ, ◌+◌, ◌-◌, ◌<◌, ◌≤◌, ◌^◌, ◌⊎◌, true, List, ◌++◌, [], length}
+use Rattle.std.specs.Prelude.{take, drop, All}
 use Rattle.entry_steps.specs.Evaluator.{EvaluatorValue, queries_of}
 use Rattle.history_model.specs.Lines.{entries, published}
 use Rattle.history_model.specs.World.{Terms}
@@ -22,9 +22,17 @@ pub record ComeBehind (seen : List Entry) (count : ℕ) (rest : List Entry) : Ty
   pub plain : All IsPlain rest
   pub short : count + length rest ≤ 2 ^ 61
 
+-- so many first entries are published, but for the last ones of them, as many as the lag of the
+-- history says at most; and for these only while more entries are seen
+pub record IsToldOf (history : HistoryValue) (pass : PassValue Line Terms) (count : ℕ) : Type 0
+  where
+    pub within : published pass.mine ≤ count
+    pub near : count ≤ published pass.mine + history.lag
+    pub goes_on : (published pass.mine ≡ count) ⊎ (count < length (entries pass.seen))
+
 -- the pass is the engine's, and may give the evaluator, which has the queries of the history, what
--- comes behind so many entries; as many answers are published as the evaluator has, if the history
--- has readers, and then no edge is taken backwards
+-- comes behind so many entries; the answers that the evaluator has are published, or may be put
+-- off, if the history has readers, and then no edge is taken backwards
 pub record FeedsFrom (history : HistoryValue) (pass : PassValue Line Terms) (count : ℕ)
     (rest : List Entry) (evaluator : EvaluatorValue) : Type 0 where
   pub feeds : IsFeedingPass history pass
@@ -32,7 +40,7 @@ pub record FeedsFrom (history : HistoryValue) (pass : PassValue Line Terms) (cou
   pub unread : evaluator.options.two_way ≡ true → history.readers ≡ 0
   pub few : history.terms.cap ≤ 2 ^ 61
   pub place : evaluator.position ≤ count
-  pub told : 0 < history.readers → published pass.mine ≡ evaluator.position
+  pub told : 0 < history.readers → IsToldOf history pass evaluator.position
   pub plain : All IsPlain (entries pass.seen)
   pub rest_comes : ComeBehind (entries pass.seen) count rest
 
@@ -85,10 +93,20 @@ pub record FeedsOn (history : HistoryValue) (pass : PassValue Line Terms) (past 
   pub behind : count - (to - from) ≤ evaluator.position
   pub feeds_from : FeedsFrom history pass count (drop to buffer) evaluator
 
--- the source may
-abbrev pub MayFeed : {R : Type 0} → HistoryEntries R → EvaluatorValue → Type 0
-MayFeed source evaluator = FeedsOn source.history.now source.pass source.past source.buffer.items
-    source.from source.to source.count evaluator
+-- so many first entries are published, if the history has readers, and so many are known of those
+-- that were seen
+pub record IsNoted (history : HistoryValue) (pass : PassValue Line Terms) (shown known : ℕ) : Type 0
+  where
+    pub is_published : 0 < history.readers → published pass.mine ≡ shown
+    pub shown_there : shown ≤ length (entries pass.seen)
+    pub known_there : known ≤ length (entries pass.seen)
+
+-- the source may, and has noted how far it is
+pub record MayFeed {R : Type 0} (source : HistoryEntries R) (evaluator : EvaluatorValue) : Type 0
+  where
+    pub on : FeedsOn source.history.now source.pass source.past source.buffer.items source.from
+        source.to source.count evaluator
+    pub noted : IsNoted source.history.now source.pass source.shown source.known
 
 -- the source is as it was, but that its pass may have seen more
 abbrev pub StaysSo : {R : Type 0} → HistoryEntries R → HistoryEntries R → Type 0

@@ -1,14 +1,14 @@
 //! The entries of the history, front after front.
 
-ghost use Rattle.std.specs.Prelude.{◌≡◌, ◌<◌, ◌≤◌, ◌-◌, ◌++◌, [], take, drop, length};
-ghost use Rattle.std.specs.Prelude.{IfOk, OnOk, OnErr};
+ghost use Rattle.std.specs.Prelude.{◌≡◌, ◌+◌, ◌<◌, ◌≤◌, ◌-◌, ◌++◌, [], take, drop, length};
+ghost use Rattle.std.specs.Prelude.{IsTrue, IfOk, OnOk, OnErr};
 ghost use Rattle.entry_steps.specs.Evaluator.{EvaluatorValue};
-ghost use Rattle.history_model.specs.Lines.{entries, published, AllEnded};
+ghost use Rattle.history_model.specs.Lines.{entries, AllEnded};
 ghost use Rattle.stream_history.specs.History.{IsFeedingPass, HasSeen};
 ghost use Rattle.stream_history.specs.Journal.{KeepsAll};
 ghost use Rattle.engine_loop.specs.Sources.{Repeats};
-ghost use Rattle.rpq_threads.specs.Entries.{MayFeed, StaysSo, IsEmptied, entries_seen, given_by};
-ghost use Rattle.rpq_threads.specs.Entries.{front_of, kept_by, begun_by};
+ghost use Rattle.rpq_threads.specs.Entries.{MayFeed, StaysSo, IsEmptied, IsToldOf};
+ghost use Rattle.rpq_threads.specs.Entries.{entries_seen, given_by, front_of, kept_by, begun_by};
 ghost use Rattle.rpq_threads.specs.Past.{PastIsNew, window_of};
 
 use crate::past::Past;
@@ -38,6 +38,10 @@ pub struct HistoryEntries<'a, R> {
     to: usize,
     /// How many entries were given, up to the end of that front.
     count: u64,
+    /// How many of these were shown to the history's readers, or all if it has none.
+    shown: u64,
+    /// How many entries the history had when it was asked last.
+    known: u64,
 }
 
 impl<'a, R> HistoryEntries<'a, R> {
@@ -53,7 +57,7 @@ impl<'a, R> HistoryEntries<'a, R> {
         ensures pass { result.pass ≡ pass }
         ensures past { PastIsNew history.now.terms queries.now result.past }
         ensures none { (result.buffer.items ≡ []) × (result.from ≡ 0) × (result.to ≡ 0)
-            × (result.count ≡ 0) }
+            × (result.count ≡ 0) × (result.shown ≡ 0) × (result.known ≡ 0) }
     {
         HistoryEntries {
             rt,
@@ -65,6 +69,8 @@ impl<'a, R> HistoryEntries<'a, R> {
             from: 0,
             to: 0,
             count: 0,
+            shown: 0,
+            known: 0,
         }
     }
 
@@ -84,6 +90,8 @@ impl<'a, R> HistoryEntries<'a, R> {
             from: _,
             to: _,
             count: _,
+            shown: _,
+            known: _,
         } = self;
         (pass, past.into_window())
     }
@@ -96,12 +104,24 @@ impl<'a, R> HistoryEntries<'a, R> {
     {
         self.count - (self.to - self.from) as u64
     }
+
+    /// Whether the view of what was given may be put off: no reader asked since the last one, it
+    /// lags no further behind than the history allows, and more entries are there, so that the
+    /// engine won't sleep before it comes here again.
+    fn may_put_off(&self) -> bool
+        ensures { IsTrue result → (self.now.count < self.now.known)
+            × (self.now.count ≤ self.now.shown + self.now.history.now.lag) }
+    {
+        self.count < self.known
+            && self.count.saturating_sub(self.shown) <= self.history.lag()
+            && !self.history.is_view_wanted(self.count)
+    }
 }
 
 impl<R: Wait> HistoryEntries<'_, R> {
     /// Puts what was given last behind what was given before it, if nothing of what the history
-    /// gave is left. A history that forgets may then forget all of it. The only error is
-    /// [`Memory`].
+    /// gave is left. A history that forgets may then forget all of it that its readers were shown.
+    /// The only error is [`Memory`].
     fn settle(&mut self) -> Result<(), Memory>
         requires feeds { (evaluator : EvaluatorValue) × MayFeed self.old evaluator
             × (evaluator.position ≡ self.old.count) }
@@ -123,7 +143,7 @@ impl<R: Wait> HistoryEntries<'_, R> {
         self.from = 0;
         self.to = 0;
         if !self.history.keeps_all() {
-            self.history.forget(self.rt, &mut self.pass, self.count);
+            self.history.forget(self.rt, &mut self.pass, self.shown);
         }
         Ok(())
     }
@@ -147,7 +167,7 @@ impl<R: Wait> HistoryEntries<'_, R> {
             return Ok(());
         }
         self.settle()?;
-        let more = hear_more(
+        let (more, known) = hear_more(
             self.rt,
             self.alloc,
             self.history,
@@ -155,6 +175,7 @@ impl<R: Wait> HistoryEntries<'_, R> {
             self.count,
         )?;
         self.buffer = more;
+        self.known = known;
         Ok(())
     }
 
@@ -243,36 +264,45 @@ impl<R: Wait> EntrySource for HistoryEntries<'_, R> {
         Ok(self.past.shrink())
     }
 
-    /// Publishes the answers over all entries that were answered, if the history has readers.
+    /// Publishes the answers over all entries that were answered, if the history has readers, or
+    /// puts that off.
     fn publish<K: StepSink>(&mut self, evaluator: &mut Evaluator, _sink: &K) -> Result<(), Memory> {
         if self.history.readers() == 0 {
+            self.shown = self.count;
+            return Ok(());
+        }
+        if self.may_put_off() {
             return Ok(());
         }
         let view = evaluator.view()?;
         match self.history.publish(self.rt, &mut self.pass, view) {
-            Ok(()) => Ok(()),
+            Ok(()) => {
+                self.shown = self.count;
+                Ok(())
+            }
             Err(PublishFault::Memory(memory)) => Err(memory),
             Err(PublishFault::Behind(_)) => unreachable!(),
         }
     }
 }
 
-/// The entries behind so many first ones, at most 256, or none if all streams have ended. It sleeps
-/// until there are some. The only error is [`Memory`].
+/// The entries behind so many first ones, at most 256, or none if all streams have ended, and how
+/// many entries there are. It sleeps until there are some. The only error is [`Memory`].
 fn hear_more<R: Wait>(
     rt: &R,
     alloc: Global,
     history: &History,
     pass: &mut Pass,
     count: u64,
-) -> Result<Vec<Entry>, Memory>
+) -> Result<(Vec<Entry>, u64), Memory>
     requires feeds { IsFeedingPass history.now pass.old }
     requires there { count ≤ length (entries pass.old.seen) }
-    requires published { 0 < history.now.readers → published pass.old.mine ≡ count }
+    requires told { 0 < history.now.readers → IsToldOf history.now pass.old count }
     ensures seen { HasSeen history.now pass.old pass.new }
-    ensures more { IfOk result (λ more.
-        more.items ≡ take 256 (drop count (entries pass.new.seen))) }
-    ensures ended { IfOk result (λ more. more.items ≡ []
+    ensures more { IfOk result (λ heard.
+        heard.0.items ≡ take 256 (drop count (entries pass.new.seen))) }
+    ensures known { IfOk result (λ heard. heard.1 ≡ length (entries pass.new.seen)) }
+    ensures ended { IfOk result (λ heard. heard.0.items ≡ []
         → AllEnded history.now.terms.streams pass.new.seen) }
 {
     for _ in rt.forever() {
@@ -283,12 +313,12 @@ fn hear_more<R: Wait>(
         };
         let Front {
             entries,
-            length: _,
+            length,
             all_ended,
             heard,
         } = front;
         if all_ended || !entries.is_empty() {
-            return Ok(entries);
+            return Ok((entries, length));
         }
         history.sleep_until_entries(rt, pass, heard, count);
     }

@@ -1,10 +1,10 @@
 //! The run of threads over one history.
 
-ghost use Rattle.std.specs.Prelude.{◌≡◌, [], IfOk, IfErr, OnErr};
+ghost use Rattle.std.specs.Prelude.{◌≡◌, ◌≤◌, [], IfOk, IfErr, OnErr};
 ghost use Rattle.rpq_threads.specs.Runs.{IsTask, Holds};
 ghost use Rattle.rpq_threads.specs.Served.{IsBegun};
 
-use crate::room::{ResultRoom, ThreadResults};
+use crate::room::ResultRoom;
 use crate::serving::{Job, JobResult, serve};
 use crate::task::{RunOutcome, Task};
 use engine_loop::windows_move;
@@ -21,27 +21,32 @@ use std::thread::Threads;
 use stream_history::{History, first_view};
 use stream_threads::RunParts;
 
+/// The most entries by which a published view may stay behind the engine.
+const MOST_LAG: u64 = 4_096;
+
 /// Takes the tuples of all streams into one history, each stream by a thread of its own, as far as
 /// threads can be made. Meanwhile it answers the entries in the calling thread, writes their blocks
 /// on the events, tells the objects of the events of each block that was written whole, and answers
-/// the sessions, each by a thread of its own.
+/// the sessions and the readers, each by a thread of its own.
 ///
-/// It ends when all streams have ended, all entries are answered, and each session has its answers.
-/// A failed write and want of memory, also of an object that is told, end it early; but the first
-/// time that memory runs out while the engine answers entries, it is rebuilt, and the run goes on.
-/// The only error is [`Memory`], before any thread is started. It comes with the objects that were
-/// given.
-pub fn run_threads<R, G: Gate, S: Source + Send + Drop, K: Sink, O: Standing>(
+/// It ends when all streams have ended, all entries are answered, each session has its answers, and
+/// each reader has ended. A failed write of the events and want of memory, also of an object that
+/// is told, end it early; but the first time that memory runs out while the engine answers entries,
+/// it is rebuilt, and the run goes on. A reader whose replies can't be written, or who lacks
+/// memory, ends alone. The only error is [`Memory`], before any thread is started. It comes with
+/// the objects that were given.
+pub fn run_threads<R, G: Gate, S: Source + Send + Drop, A: Source + Send + Drop, K, O: Standing>(
     context: &Context<'_, R, G>,
-    task: Task<S>,
+    task: Task<S, A, K>,
     events: &mut K,
     circle: Circle<O>,
-) -> Result<RunOutcome<S, O>, (Circle<O>, Memory)>
+) -> Result<RunOutcome<S, A, K, O>, (Circle<O>, Memory)>
 where
     R: Threads + Wait + RandomSource + Sync,
-    requires task { IsTask S.left S.faults task }
+    K: Sink + Send + Drop,
+    requires task { IsTask S.left S.faults A.left A.faults K.written K.faults task }
     requires fresh { circle.left ≡ [] }
-    ensures ok { IfOk result (Holds S.left S.faults K.written K.faults O.seen task
+    ensures ok { IfOk result (Holds S.left S.faults A.left A.faults K.written K.faults O.seen task
         events.old events.new circle) }
     ensures untouched { OnErr result (events.new ≡ events.old) }
     ensures given_back { IfErr result (λ refused. refused.0 ≡ circle) }
@@ -70,19 +75,14 @@ where
         circle,
     } = serve(&shared, job, events, circle);
     take_back(back);
-    let ThreadResults {
-        passes,
-        sources,
-        ends,
-        answers,
-    } = gathered;
-    let journal = history.finish(passes);
+    let journal = history.finish(gathered.passes);
     Ok(RunOutcome {
         history: journal.into_entries(),
         window,
-        ends,
-        sources,
-        sessions: answers,
+        ends: gathered.ends,
+        sources: gathered.sources,
+        sessions: gathered.answers,
+        readers: gathered.readers,
         why,
         short_of_memory,
         circle,
@@ -97,20 +97,20 @@ fn take_back<T>(x: &mut T)
 
 /// A history, the definitions of its queries, and what its threads work with.
 #[derive(Drop)]
-pub struct NewRun<S: Source> {
+pub struct NewRun<S: Source, A: Source, K> {
     pub history: History,
     pub definitions: Arc<Vec<QueryDef>>,
-    pub job: Job<S>,
+    pub job: Job<S, A, K>,
 }
 
 /// A history for what was given, an engine that has answered no entry, and room for what the
 /// threads give. The only error is [`Memory`].
-fn begin<R: RandomSource, G: Gate, S: Source + Drop>(
+fn begin<R: RandomSource, G: Gate, S: Source + Drop, A: Source + Drop, K: Sink + Drop>(
     context: &Context<'_, R, G>,
-    task: Task<S>,
-) -> Result<NewRun<S>, Memory>
-    requires { IsTask S.left S.faults task }
-    ensures { IfOk result (IsBegun S.left S.faults task) }
+    task: Task<S, A, K>,
+) -> Result<NewRun<S, A, K>, Memory>
+    requires { IsTask S.left S.faults A.left A.faults K.written K.faults task }
+    ensures { IfOk result (IsBegun S.left S.faults A.left A.faults K.written K.faults task) }
 {
     first_view(); // called for its clause
     let Task {
@@ -120,6 +120,7 @@ fn begin<R: RandomSource, G: Gate, S: Source + Drop>(
         limit,
         readers,
         sessions,
+        ask_readers,
     } = task;
     let alloc = context.alloc;
     let definitions = Arc::new(alloc, copied_definitions(alloc, &queries)?)?;
@@ -127,15 +128,17 @@ fn begin<R: RandomSource, G: Gate, S: Source + Drop>(
     let mut evaluator = Evaluator::new(context.rt, alloc, queries, &definitions, options, workers)?;
     let first = evaluator.view()?;
     let streams = readers.len() as u32;
-    let asking = sessions.len() as u32;
+    let asking = (sessions.len() + ask_readers.len()) as u32;
     let given = Arc::try_clone(&definitions)?;
-    let (history, passes) = History::new(alloc, given, streams, asking, limit, first)?;
-    let room = ResultRoom::new(alloc, &history, readers.len(), sessions.len(), passes.len())?;
+    let lag = view_lag(sessions.len(), ask_readers.len());
+    let (history, passes) = History::new(alloc, given, streams, asking, lag, limit, first)?;
+    let room = ResultRoom::new(alloc, readers.len(), sessions.len(), ask_readers.len())?;
     let job = Job {
         passes,
         evaluator,
         readers,
         sessions,
+        ask_readers,
         room,
     };
     Ok(NewRun {
@@ -143,4 +146,17 @@ fn begin<R: RandomSource, G: Gate, S: Source + Drop>(
         definitions,
         job,
     })
+}
+
+/// By how many entries a published view may stay behind the engine. A reader that asks beside the
+/// run sleeps for the view that it wants, so views are made when somebody wants one. Where there
+/// are sessions they are published after each front.
+fn view_lag(sessions: usize, ask_readers: usize) -> u64
+    ensures { result ≤ 4096 }
+{
+    if sessions == 0 && ask_readers > 0 {
+        MOST_LAG
+    } else {
+        0
+    }
 }

@@ -4,6 +4,7 @@ use ask_text::{Answered, Session};
 use entry_steps::Options;
 use history_model::Why;
 use kept_list::KeptList;
+use live_asks::{AskReader, ReaderOutcome};
 use query_file::Compiled;
 use rpq_base::{Entry, Workers};
 use rpq_io::{LineReader, Source};
@@ -14,9 +15,10 @@ use stream_tuples::StreamEnd;
 /// 2^61 entries.
 pub const NO_LIMIT: u64 = 1 << 61;
 
-/// What the threads of a run are given.
+/// What the threads of a run are given: the sources of streams and those of asks may be of two
+/// types.
 #[derive(Drop)]
-pub struct Task<S: Source> {
+pub struct Task<S: Source, A: Source, K> {
     /// The queries, in the order of their file.
     pub queries: Vec<Compiled>,
     /// How the queries are evaluated, and what is told of them.
@@ -30,11 +32,13 @@ pub struct Task<S: Source> {
     pub readers: Vec<LineReader<S>>,
     /// What is asked while the streams are read.
     pub sessions: Vec<Session>,
+    /// Those who ask beside the streams, each with its replies. The first has the number 1.
+    pub ask_readers: Vec<AskReader<A, K>>,
 }
 
 /// What the threads of a run give.
 #[derive(Drop)]
-pub struct RunOutcome<S, O> {
+pub struct RunOutcome<S, A, K, O> {
     /// The entries, in the order in which they were taken. Those that a history forgets are gone.
     pub history: KeptList<Entry>,
     /// What was kept in the place of a history that forgets: what a later run needs of it is what
@@ -46,6 +50,8 @@ pub struct RunOutcome<S, O> {
     pub sources: Vec<S>,
     /// For each session its answered asks.
     pub sessions: Vec<Vec<Answered>>,
+    /// How each reader ended, with its source and its replies.
+    pub readers: Vec<ReaderOutcome<A, K>>,
     /// Why the history was shut, if it was.
     pub why: Option<Why>,
     /// Whether some session has asks that weren't answered, for want of memory.

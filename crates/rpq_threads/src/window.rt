@@ -17,8 +17,8 @@ const FRESH: usize = 1 << 16;
 /// The most entries that are copied at once for an engine that is rebuilt.
 const AT_ONCE: usize = 256;
 
-/// The entries that some query may still see, and others: at most as many as were still seen when it
-/// was looked last, and 65,536 more, and a front.
+/// The entries that some query may still see, and others: at most as many as were still seen when
+/// it was looked last, and 65,536 more, and a front.
 ///
 /// Who is fed these stands where the whole history led, and the same is saved of them. Contracts
 /// see the queries and the entries.

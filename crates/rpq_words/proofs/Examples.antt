@@ -4,16 +4,17 @@ use Rattle.clap.proofs.OnLiterals.{clap_on_literals}
 use Rattle.text_parts.specs.Numbers.{number_within}
 use Rattle.rpq_words.specs.Command.{found_in, is_taken, rpq_command}
 use Rattle.rpq_words.specs.Examples.{EndlessExamples, JoinsExamples, PathsExamples}
-use Rattle.rpq_words.specs.Examples.{SavedExamples}
+use Rattle.rpq_words.specs.Examples.{ReaderExamples, SavedExamples}
 use Rattle.rpq_words.specs.Examples.{SettingsExamples, TwoWayExamples}
-use Rattle.rpq_words.specs.Found.{number_from_one, optional_number, words_found}
+use Rattle.rpq_words.specs.Found.{number_from_one, optional_number, paired, words_found}
 use Rattle.rpq_words.specs.Settings.{asked_from, forwards_from, input_from, mode_from, names_from}
-use Rattle.rpq_words.specs.Settings.{settings, settings_from, settled, shown_from, streams_from}
+use Rattle.rpq_words.specs.Settings.{readers_from, settings, settings_from, settled, shown_from}
+use Rattle.rpq_words.specs.Settings.{streams_from}
 
 saved_examples : SavedExamples
 unfolding clap_on_literals number_within found_in is_taken rpq_command number_from_one
-    optional_number words_found asked_from forwards_from input_from mode_from names_from
-    settings settings_from settled shown_from streams_from
+    optional_number paired words_found asked_from forwards_from input_from mode_from names_from
+    readers_from settings settings_from settled shown_from streams_from
 saved_examples = record {
   saved = refl;
   begun = refl;
@@ -28,8 +29,8 @@ saved_examples = record {
 
 two_way_examples : TwoWayExamples
 unfolding clap_on_literals number_within found_in is_taken rpq_command number_from_one
-    optional_number words_found asked_from forwards_from input_from mode_from names_from
-    settings settings_from settled shown_from streams_from
+    optional_number paired words_found asked_from forwards_from input_from mode_from names_from
+    readers_from settings settings_from settled shown_from streams_from
 two_way_examples = record {
   over_stream = refl;
   checked = refl;
@@ -42,8 +43,8 @@ two_way_examples = record {
 
 paths_examples : PathsExamples
 unfolding clap_on_literals number_within found_in is_taken rpq_command number_from_one
-    optional_number words_found asked_from forwards_from input_from mode_from names_from
-    settings settings_from settled shown_from streams_from
+    optional_number paired words_found asked_from forwards_from input_from mode_from names_from
+    readers_from settings settings_from settled shown_from streams_from
 paths_examples = record {
   over_stream = refl;
   checked = refl;
@@ -53,8 +54,8 @@ paths_examples = record {
 
 joins_examples : JoinsExamples
 unfolding clap_on_literals number_within found_in is_taken rpq_command number_from_one
-    optional_number words_found asked_from forwards_from input_from mode_from names_from
-    settings settings_from settled shown_from streams_from
+    optional_number paired words_found asked_from forwards_from input_from mode_from names_from
+    readers_from settings settings_from settled shown_from streams_from
 joins_examples = record {
   over_stream = refl;
   all_files = refl;
@@ -67,8 +68,8 @@ joins_examples = record {
 
 endless_examples : EndlessExamples
 unfolding clap_on_literals number_within found_in is_taken rpq_command number_from_one
-    optional_number words_found asked_from forwards_from input_from mode_from names_from
-    settings settings_from settled shown_from streams_from
+    optional_number paired words_found asked_from forwards_from input_from mode_from names_from
+    readers_from settings settings_from settled shown_from streams_from
 endless_examples = record {
   over_stream = refl;
   all_files = refl;
@@ -80,10 +81,28 @@ endless_examples = record {
   twice = refl;
 }
 
+reader_examples : ReaderExamples
+unfolding clap_on_literals number_within found_in is_taken rpq_command number_from_one
+    optional_number paired words_found asked_from forwards_from input_from mode_from names_from
+    readers_from settings settings_from settled shown_from streams_from
+reader_examples = record {
+  two = refl;
+  behind = refl;
+  all_files = refl;
+  many = refl;
+  alone = refl;
+  attached = refl;
+  hyphen = refl;
+  no_queries = refl;
+  checked = refl;
+  made = refl;
+  backwards = refl;
+}
+
 pub examples : SettingsExamples
 unfolding clap_on_literals number_within found_in is_taken rpq_command number_from_one
-    optional_number words_found asked_from forwards_from input_from mode_from names_from
-    settings settings_from settled shown_from streams_from
+    optional_number paired words_found asked_from forwards_from input_from mode_from names_from
+    readers_from settings settings_from settled shown_from streams_from
 examples = record {
   defaults = refl;
   between = refl;
@@ -110,4 +129,5 @@ examples = record {
   paths = paths_examples;
   joins = joins_examples;
   without_end = endless_examples;
+  readers = reader_examples;
 }

@@ -1,4 +1,5 @@
 pub mod Arranging
 pub mod Examples
 pub mod Modes
+pub mod Pairs
 pub mod Parsing

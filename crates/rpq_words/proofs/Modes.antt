@@ -10,23 +10,25 @@ use Rattle.clap.specs.Walk.{Row, Text, all_of, first_of, is_empty}
 use Rattle.clap.proofs.WalkLemmas.{both}
 use Rattle.text_parts.specs.Numbers.{is_digit_text, number_of, number_within}
 use Rattle.rpq_words.specs.declared.parsed_words.ParsedWords.{ParsedWords}
+use Rattle.rpq_words.specs.declared.reader_names.ReaderFiles.{ReaderFiles}
 use Rattle.rpq_words.specs.declared.settings.Extent.{Extent}
 use Rattle.rpq_words.specs.declared.settings.Extent.TheVariants.{Capped, Endless}
 use Rattle.rpq_words.specs.declared.settings.RunMode.TheVariants.{Check, Generate, Streams}
 use Rattle.rpq_words.specs.declared.settings.StreamSettings.{StreamSettings}
 use Rattle.rpq_words.specs.declared.settings.StreamSettings.TheVariants.{Forwards, BothWays}
+use Rattle.rpq_words.specs.declared.settings.ForwardSettings.{ForwardSettings}
 use Rattle.rpq_words.specs.declared.settings.Input.{Input}
 use Rattle.rpq_words.specs.declared.settings.Input.TheVariants.{Fresh, Resumed}
 use Rattle.rpq_words.specs.Clash.{clash, is_one_alone, is_same_file}
 use Rattle.rpq_words.specs.Command.{found_in, is_taken}
-use Rattle.rpq_words.specs.Found.{has_flag, number_from_one, optional_number, words_found}
+use Rattle.rpq_words.specs.Found.{has_flag, number_from_one, optional_number, paired, words_found}
 use Rattle.rpq_words.specs.Modes.{AreSettings, IsCap, IsInput, IsMode, IsWithin}
 use Rattle.rpq_words.specs.Modes.{WordsAreSettings, history_in, words_of}
 use Rattle.rpq_words.specs.Options.{◌>>=◌, only_if}
 use Rattle.rpq_words.specs.declared.settings.Settings.{Settings}
 use Rattle.rpq_words.specs.Settings.{settings, settings_from, settled}
-use Rattle.rpq_words.specs.Views.{asks_in, cap_in, cap_of, from_in, has_paths, is_endless_in}
-use Rattle.rpq_words.specs.Views.{joins_in, mode_in, names_in, replies_in}
+use Rattle.rpq_words.specs.Views.{asks_in, cap_in, cap_of, forwards_in, from_in, has_paths}
+use Rattle.rpq_words.specs.Views.{is_endless_in, joins_in, mode_in, names_in, readers_in, replies_in}
 use Rattle.rpq_words.proofs.Arranging.{settings_are_found}
 
 -- ---- numbers in their ranges
@@ -91,25 +93,27 @@ record IsInRange (found : ParsedWords) : Type 0 where
   history_in_range : IfSome found.history (IsWithin 2000000)
   generate_in : IfSome found.generate (IsWithin 1000000)
 
-module _ (make : ℕ → Option ℕ → Option ℕ → Text → ParsedWords) where
+module _ (make : ℕ → Option ℕ → Option ℕ → Text → List ReaderFiles → ParsedWords) where
   made_by : (workers : Option ℕ) (history generate : Option (Option ℕ)) (queries : Option Text)
-      (found : ParsedWords) →
+      (readers : Option (List ReaderFiles)) (found : ParsedWords) →
       (workers >>= λ w. (history >>= λ h. (generate >>= λ g.
-      (queries >>= λ q. Some (make w h g q))))) ≡ Some found →
-      (w : ℕ) × (h : Option ℕ) × (g : Option ℕ) × (q : Text) × (workers ≡ Some w) × (history ≡ Some h)
-      × (generate ≡ Some g) × (make w h g q ≡ found)
-  made_by (Some w) (Some h) (Some g) (Some q) found is = (w, h, g, q, refl, refl, refl, cc)
-  made_by None history generate queries found is = absurd cc
-  made_by (Some w) None generate queries found is = absurd cc
-  made_by (Some w) (Some h) None queries found is = absurd cc
-  made_by (Some w) (Some h) (Some g) None found is = absurd cc
+      (queries >>= λ q. (readers >>= λ r. Some (make w h g q r)))))) ≡ Some found →
+      (w : ℕ) × (h : Option ℕ) × (g : Option ℕ) × (q : Text) × (r : List ReaderFiles)
+      × (workers ≡ Some w) × (history ≡ Some h) × (generate ≡ Some g) × (make w h g q r ≡ found)
+  made_by (Some w) (Some h) (Some g) (Some q) (Some r) found is =
+      (w, h, g, q, r, refl, refl, refl, cc)
+  made_by None history generate queries readers found is = absurd cc
+  made_by (Some w) None generate queries readers found is = absurd cc
+  made_by (Some w) (Some h) None queries readers found is = absurd cc
+  made_by (Some w) (Some h) (Some g) None readers found is = absurd cc
+  made_by (Some w) (Some h) (Some g) (Some q) None found is = absurd cc
 
 found_in_range : (rows : List Row) (found : ParsedWords) → words_found rows ≡ Some found
     → IsInRange found
 unfolding words_found
 found_in_range rows found is =
     let read = made_by
-    (λ workers history generate queries. record {
+    (λ workers history generate queries readers. record {
       workers = workers;
       history = history;
       check = has_flag (codes "check") rows;
@@ -124,19 +128,20 @@ found_in_range rows found is =
         replies = first_of (codes "replies") rows;
         save = first_of (codes "save") rows;
         from = first_of (codes "from") rows;
+        readers = readers;
         streams = unwrap_or (all_of (codes "streams") rows) [];
       };
     })
     (first_of (codes "workers") rows >>= number_from_one 64)
     (optional_number 2000000 (first_of (codes "history") rows))
     (optional_number 1000000 (first_of (codes "generate") rows))
-    (first_of (codes "queries") rows) found is in
-    subst IsInRange read.7 (record {
-      workers_in = needed_in_range 64 (first_of (codes "workers") rows) read.0 read.4;
+    (first_of (codes "queries") rows) (paired (unwrap_or (all_of (codes "reader") rows) [])) found is in
+    subst IsInRange read.8 (record {
+      workers_in = needed_in_range 64 (first_of (codes "workers") rows) read.0 read.5;
       history_in_range =
-          optional_in_range 2000000 (first_of (codes "history") rows) read.1 read.5;
+          optional_in_range 2000000 (first_of (codes "history") rows) read.1 read.6;
       generate_in =
-          optional_in_range 1000000 (first_of (codes "generate") rows) read.2 read.6;
+          optional_in_range 1000000 (first_of (codes "generate") rows) read.2 read.7;
     })
 
 -- ---- the settings of it
@@ -180,13 +185,27 @@ input_is : (save : Option Text) (input : Input)
 input_is save (Fresh streams) is = within_by streams _ is
 input_is save (Resumed from stream) is = another_file save from is
 
+-- what doesn't clash behind what is asked and shown
+abbrev behind_clashes : ForwardSettings → Bool
+behind_clashes run = nat_lt 64 (length run.readers) || (is_empty (names_in run.input)
+    || (nat_lt 64 (length (names_in run.input))
+    || ((is_some (from_in run.input) && not (length (names_in run.input) == 1))
+    || is_same_file run.save (from_in run.input))))
+
+behind_shown : (given : Settings) (run : ForwardSettings)
+    → clash (words_of (record given { extent = Endless (Forwards run) })) ≡ false
+    → behind_clashes run ≡ false
+unfolding clash
+behind_shown given run agrees =
+    second_fails (has_paths run.shown && is_some (joins_in run.shown)) _
+    (second_fails (is_one_alone (asks_in run.asked) (replies_in run.asked)) _ agrees)
+
 streams_are : (given : Settings) (run : StreamSettings)
     → clash (words_of (record given { extent = Endless run })) ≡ false → IsMode (Streams run)
 unfolding clash
 streams_are given (BothWays streams) agrees = within_by streams _ agrees
 streams_are given (Forwards run) agrees = input_is run.save run.input
-    (second_fails (has_paths run.shown && is_some (joins_in run.shown)) _
-    (second_fails (is_one_alone (asks_in run.asked) (replies_in run.asked)) _ agrees))
+    (second_fails (nat_lt 64 (length run.readers)) _ (behind_shown given run agrees))
 
 mode_is : (given : Settings) (extent : Extent)
     → clash (words_of (record given { extent = extent })) ≡ false
@@ -197,6 +216,25 @@ mode_is given (Capped history (Check directions)) agrees made = tt
 mode_is given (Capped history (Generate directions count)) agrees made = made
 mode_is given (Capped history (Streams run)) agrees made = streams_are given run agrees
 mode_is given (Endless run) agrees made = streams_are given run agrees
+
+few_readers : (given : Settings) (run : ForwardSettings) → behind_clashes run ≡ false
+    → length run.readers ≤ 64
+few_readers given run agrees =
+    ltb-false 64 (length run.readers) (first_fails (nat_lt 64 (length run.readers)) _ agrees)
+
+-- at most 64 readers ask beside the run
+readers_are : (given : Settings) (extent : Extent)
+    → clash (words_of (record given { extent = extent })) ≡ false
+    → length (readers_in (forwards_in (mode_in extent))) ≤ 64
+unfolding clash
+readers_are given (Capped history (Check directions)) agrees = omega arith
+readers_are given (Capped history (Generate directions count)) agrees = omega arith
+readers_are given (Capped history (Streams (BothWays streams))) agrees = omega arith
+readers_are given (Capped history (Streams (Forwards run))) agrees =
+    few_readers given run (behind_shown given run agrees)
+readers_are given (Endless (BothWays streams)) agrees = omega arith
+readers_are given (Endless (Forwards run)) agrees =
+    few_readers given run (behind_shown given run agrees)
 
 cap_is : (history : Option ℕ) → IfSome history (IsWithin 2000000)
     → IsWithin 2000000 (unwrap_or history 1000000)
@@ -214,11 +252,12 @@ are_settings found given is ranges =
     let kept = guarded (not (clash found)) found (words_of given)
     (sym (settings_are_found found) ∙ ap (option_map words_of) is) in
     let own = subst IsInRange kept.1 ranges in
+    let agrees = ap clash (sym kept.1) ∙ fails (clash found) kept.0 in
     record {
       workers = own.workers_in;
       cap = capped_is given.extent own.history_in_range;
-      mode = mode_is given given.extent (ap clash (sym kept.1) ∙ fails (clash found) kept.0)
-          own.generate_in;
+      mode = mode_is given given.extent agrees own.generate_in;
+      readers = readers_are given given.extent agrees;
     }
 
 -- how many tuples the history of settings may hold

@@ -19,7 +19,8 @@ is_one_alone _ _ = false
 abbrev pub names_file : StreamWords → Bool
 names_file words =
     is_some words.asks
-    || (is_some words.joins || (is_some words.save || is_some words.from))
+    || (is_some words.joins
+    || (is_some words.save || (is_some words.from || not (is_empty words.readers))))
 
 -- paths are written, but no stream is read, edges may be taken backwards, or there is a file of
 -- joins
@@ -38,6 +39,10 @@ from_clashes words =
     (is_some words.from && not (length words.streams == 1))
     || is_same_file words.save words.from
 
+-- there are more readers beside the run than are taken
+abbrev pub readers_clash : ParsedWords → Bool
+readers_clash found = nat_lt 64 (length found.words.readers)
+
 -- no stream is there where some are to be read, or more than are taken, or a file to begin with
 -- clashes
 abbrev pub streams_clash : ParsedWords → Bool
@@ -51,12 +56,12 @@ abbrev pub endless_clashes : ParsedWords → Bool
 endless_clashes found = found.endless && (is_some found.history || reads_none found)
 
 -- what can't stand together does: one of the asks and the replies without the other; a check and
--- generated tuples; one of these and asks, joins, a file to save to or to begin with, or a stream;
--- edges taken backwards and asks, joins, or a file to save to or to begin with; paths and a check,
--- generated tuples, edges taken backwards, or joins; neither a check nor generated tuples, and no
--- stream; more streams than are taken; a file to begin with and not exactly one stream, or the same
--- file to save to; or a run as long as its streams and a number of tuples that its history holds, a
--- check, or generated tuples
+-- generated tuples; one of these and asks, joins, a file to save to or to begin with, a reader, or
+-- a stream; edges taken backwards and asks, joins, a file to save to or to begin with, or a reader;
+-- paths and a check, generated tuples, edges taken backwards, or joins; neither a check nor
+-- generated tuples, and no stream; more readers or streams than are taken; a file to begin with and
+-- not exactly one stream, or the same file to save to; or a run as long as its streams and a number
+-- of tuples that its history holds, a check, or generated tuples
 unfoldable pub clash : ParsedWords → Bool
 clash found =
     endless_clashes found
@@ -64,4 +69,4 @@ clash found =
     || ((found.check && is_some found.generate)
     || ((reads_none found && (names_file found.words || not (is_empty found.words.streams)))
     || ((found.two_way && names_file found.words)
-    || (paths_clash found || streams_clash found)))))
+    || (paths_clash found || (readers_clash found || streams_clash found))))))

@@ -9,6 +9,14 @@ use Rattle.clap.specs.declared.builder.action.ArgAction.TheVariants.{Set, SetTru
 abbrev pub option_with_value : Text → Rule
 option_with_value name = record (new_rule name) { long = Some name; action = Some Set }
 
+-- an option `--NAME` with two values, which may be given again
+abbrev pub option_with_two : Text → Rule
+option_with_two name = record (new_rule name) {
+  long = Some name;
+  action = Some Append;
+  range = Some (record { start_inclusive = 2; end_inclusive = 2 });
+}
+
 -- an option that has this value where it isn't given
 abbrev pub option_or : Text → Text → Rule
 option_or name value =
@@ -26,7 +34,8 @@ one_word name = record (new_rule name) { action = Some Set; required = true }
 abbrev pub any_words : Text → Rule
 any_words name = record (new_rule name) { action = Some Append }
 
--- eight options, four flags, the word for the queries file, and the words for the streams
+-- nine options, of which the last has two values, four flags, the word for the queries file, and
+-- the words for the streams
 abbrev pub rules : List Rule
 rules =
     option_or (codes "workers") (codes "4")
@@ -41,6 +50,7 @@ rules =
     ∷ option_with_value (codes "save")
     ∷ option_with_value (codes "from")
     ∷ flag (codes "endless")
+    ∷ option_with_two (codes "reader")
     ∷ one_word (codes "queries")
     ∷ any_words (codes "streams")
     ∷ []

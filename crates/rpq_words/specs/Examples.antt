@@ -1,6 +1,7 @@
 -- Some command lines with what they give.
-use Rattle.std.specs.Prelude.{◌≡◌, List, [], ◌∷◌, codes, Some, None}
+use Rattle.std.specs.Prelude.{◌≡◌, ℕ, zero, suc, List, [], ◌∷◌, codes, Some, None}
 use Rattle.clap.specs.Walk.{Text}
+use Rattle.rpq_words.specs.declared.reader_names.ReaderFiles.{ReaderFiles}
 use Rattle.rpq_words.specs.declared.settings.Extent.TheVariants.{Capped, Endless}
 use Rattle.rpq_words.specs.declared.settings.RunMode.{RunMode}
 use Rattle.rpq_words.specs.declared.settings.RunMode.TheVariants.{Check, Generate, Streams}
@@ -20,7 +21,13 @@ plain mode = record { queries = codes "q"; workers = 4; extent = Capped None mod
 
 -- a run over these streams, where nothing else is said
 abbrev pub over : List Text → ForwardSettings
-over streams = record { input = Fresh streams; shown = Pairs; asked = None; save = None }
+over streams = record {
+  input = Fresh streams;
+  shown = Pairs;
+  asked = None;
+  readers = [];
+  save = None;
+}
 
 -- a run over the stream `t` behind what the file `f` has, with asks, replies, and a file to save to
 abbrev pub resumed : ForwardSettings
@@ -28,6 +35,7 @@ resumed = record {
   input = Resumed (codes "f") (codes "t");
   shown = Pairs;
   asked = Some (record { asks = codes "a"; replies = codes "r" });
+  readers = [];
   save = Some (codes "s");
 }
 
@@ -133,13 +141,59 @@ pub record EndlessExamples : Type 0 where
   pub twice : settings (codes "rpq" ∷ codes "--endless" ∷ codes "--endless" ∷ codes "q"
       ∷ codes "t" ∷ []) ≡ None
 
+-- a reader of these files
+abbrev pub reader_of : Text → Text → ReaderFiles
+reader_of asks replies = record { asks = asks; replies = replies }
+
+-- a reader with the files `a` and `r` and one with `b` and `w`, beside a run over the stream `t`
+abbrev pub two_readers : ForwardSettings
+two_readers = record (over (codes "t" ∷ [])) {
+  readers = reader_of (codes "a") (codes "r") ∷ reader_of (codes "b") (codes "w") ∷ [];
+}
+
+-- these words behind so many readers
+abbrev pub with_readers : ℕ → List Text → List Text
+with_readers zero words = words
+with_readers (suc more) words = codes "--reader" ∷ codes "a" ∷ codes "r" ∷ with_readers more words
+
+-- Two readers beside a run; between the other words, in a run that goes on as long as its stream
+-- does; and one beside asks, replies, a file to save to, and one to begin with. Refused: a 65th; one
+-- with one word alone; one whose first word stands behind a `=`, or whose second begins with `-`;
+-- one that takes the word of the queries file; one in a check, over generated tuples, and where
+-- edges are taken backwards.
+pub record ReaderExamples : Type 0 where
+  pub two : settings (codes "rpq" ∷ codes "--reader" ∷ codes "a" ∷ codes "r" ∷ codes "--reader"
+      ∷ codes "b" ∷ codes "w" ∷ codes "q" ∷ codes "t" ∷ []) ≡ Some (forwards two_readers)
+  pub behind : settings (codes "rpq" ∷ codes "q" ∷ codes "--reader" ∷ codes "a" ∷ codes "r"
+      ∷ codes "t" ∷ codes "--endless" ∷ codes "--reader" ∷ codes "b" ∷ codes "w" ∷ [])
+      ≡ Some (endless (ForwardRun two_readers))
+  pub all_files : settings (codes "rpq" ∷ codes "--save=s" ∷ codes "--from=f" ∷ codes "--asks=a"
+      ∷ codes "--replies=r" ∷ codes "--reader" ∷ codes "b" ∷ codes "w" ∷ codes "q" ∷ codes "t"
+      ∷ [])
+      ≡ Some (forwards (record resumed { readers = reader_of (codes "b") (codes "w") ∷ [] }))
+  pub many : settings (codes "rpq" ∷ with_readers 65 (codes "q" ∷ codes "t" ∷ [])) ≡ None
+  pub alone : settings (codes "rpq" ∷ codes "q" ∷ codes "t" ∷ codes "--reader" ∷ codes "a" ∷ [])
+      ≡ None
+  pub attached : settings (codes "rpq" ∷ codes "--reader=a" ∷ codes "r" ∷ codes "q" ∷ codes "t"
+      ∷ []) ≡ None
+  pub hyphen : settings (codes "rpq" ∷ codes "--reader" ∷ codes "a" ∷ codes "-r" ∷ codes "q"
+      ∷ codes "t" ∷ []) ≡ None
+  pub no_queries : settings (codes "rpq" ∷ codes "--reader" ∷ codes "a" ∷ codes "q" ∷ codes "t"
+      ∷ []) ≡ None
+  pub checked : settings (codes "rpq" ∷ codes "--check" ∷ codes "--reader" ∷ codes "a" ∷ codes "r"
+      ∷ codes "q" ∷ []) ≡ None
+  pub made : settings (codes "rpq" ∷ codes "--generate=5" ∷ codes "--reader" ∷ codes "a"
+      ∷ codes "r" ∷ codes "q" ∷ []) ≡ None
+  pub backwards : settings (codes "rpq" ∷ codes "--two-way" ∷ codes "--reader" ∷ codes "a"
+      ∷ codes "r" ∷ codes "q" ∷ codes "t" ∷ []) ≡ None
+
 -- The defaults. An option between streams, and zeros in front of its number. Values that begin with
 -- `-` or are empty behind `=`, and words behind `--`. A check; generated tuples. The greatest
 -- numbers. Refused: too many tuples to generate; no stream; no queries; a number above its range,
 -- below it, or with a sign; a flag given twice; asks without replies; a check with generated
 -- tuples, or with a stream; a value that begins with `-`; a name cut short; and `--help`.
 -- And the examples of files to save to and to begin with, of edges taken backwards, of paths, of
--- joins, and of runs as long as their streams.
+-- joins, of runs as long as their streams, and of readers beside a run.
 pub record SettingsExamples : Type 0 where
   pub defaults : settings (codes "rpq" ∷ codes "q" ∷ codes "s" ∷ [])
       ≡ Some (forwards (over (codes "s" ∷ [])))
@@ -181,3 +235,4 @@ pub record SettingsExamples : Type 0 where
   pub paths : PathsExamples
   pub joins : JoinsExamples
   pub without_end : EndlessExamples
+  pub readers : ReaderExamples

@@ -15,7 +15,7 @@ use Rattle.rpq_words.specs.Options.{only_if}
 use Rattle.rpq_words.specs.declared.settings.Settings.{Settings}
 use Rattle.rpq_words.specs.Settings.{settings, settings_from}
 use Rattle.rpq_words.specs.Views.{asks_of, cap_of, from_of, is_endless, joins_of, mode_of}
-use Rattle.rpq_words.specs.Views.{paths_of, replies_of, save_of, streams_of, two_way_of}
+use Rattle.rpq_words.specs.Views.{paths_of, readers_of, replies_of, save_of, streams_of, two_way_of}
 
 -- the queries are checked, and nothing is run
 abbrev pub is_check : RunMode → Bool
@@ -51,6 +51,7 @@ words_of given = record {
     replies = replies_of given;
     save = save_of given;
     from = from_of given;
+    readers = readers_of given;
     streams = streams_of given;
   };
 }
@@ -80,11 +81,13 @@ IsMode (Streams (Forwards run)) = IsInput run.save run.input
 abbrev pub IsCap : ℕ → Type 0
 IsCap cap = IsWithin 2000000 cap ⊎ (cap ≡ 2 ^ 61)
 
--- each number is in its range, and the files and the streams are such
+-- each number is in its range, the files and the streams are such, and there are at most 64 readers
+-- beside the run
 pub record AreSettings (given : Settings) : Type 0 where
   pub workers : IsWithin 64 given.workers
   pub cap : is_endless given ≡ false → IsWithin 2000000 (cap_of given)
   pub mode : IsMode (mode_of given)
+  pub readers : length (readers_of given) ≤ 64
 
 -- the settings of words are so
 abbrev pub WordsAreSettings : Type 0

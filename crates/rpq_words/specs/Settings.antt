@@ -8,6 +8,7 @@ use Rattle.rpq_words.specs.declared.parsed_words.ParsedWords.{ParsedWords}
 use Rattle.rpq_words.specs.declared.parsed_words.StreamWords.{StreamWords}
 use Rattle.rpq_words.specs.declared.settings.Extent.{Extent}
 use Rattle.rpq_words.specs.declared.settings.Extent.TheVariants.{Capped, Endless}
+use Rattle.rpq_words.specs.declared.reader_names.ReaderFiles.{ReaderFiles}
 use Rattle.rpq_words.specs.declared.settings.RunMode.{RunMode}
 use Rattle.rpq_words.specs.declared.settings.RunMode.TheVariants.{Check, Generate, Streams}
 use Rattle.rpq_words.specs.declared.settings.Directions.{Directions}
@@ -65,6 +66,10 @@ asked_from (Some asks) (Some replies) = Some (Some (record { asks = asks; replie
 asked_from None (Some replies) = None
 asked_from (Some asks) None = None
 
+-- the files of the readers beside a run, where there are at most 64
+unfoldable pub readers_from : List ReaderFiles → Option (List ReaderFiles)
+readers_from readers = if nat_lt 64 (length readers) then None else Some readers
+
 -- the file to save to is the one that a run begins with
 abbrev pub saves_over : Option Text → Input → Bool
 saves_over (Some save) (Resumed from stream) = bytes_eq save from
@@ -77,9 +82,16 @@ unfoldable pub forwards_from : StreamWords → Option ForwardSettings
 forwards_from words =
     asked_from words.asks words.replies >>= λ asked.
     shown_from words.paths words.joins >>= λ shown.
+    readers_from words.readers >>= λ readers.
     input_from words.from words.streams >>= λ input.
     if saves_over words.save input then None
-    else Some (record { input = input; shown = shown; asked = asked; save = words.save })
+    else Some (record {
+      input = input;
+      shown = shown;
+      asked = asked;
+      readers = readers;
+      save = words.save;
+    })
 
 -- something stands there that only a run over streams has that takes edges forwards alone
 abbrev pub has_forward_words : StreamWords → Bool

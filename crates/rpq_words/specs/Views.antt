@@ -22,6 +22,7 @@ use Rattle.rpq_words.specs.declared.settings.Input.TheVariants.{Fresh, Resumed}
 use Rattle.rpq_words.specs.declared.settings.OutputKind.{OutputKind}
 use Rattle.rpq_words.specs.declared.settings.OutputKind.TheVariants.{Pairs, Paths, Bindings}
 use Rattle.rpq_words.specs.declared.settings.AskFiles.{AskFiles}
+use Rattle.rpq_words.specs.declared.reader_names.ReaderFiles.{ReaderFiles}
 use Rattle.rpq_words.specs.Options.{◌>>=◌}
 
 -- what is done with the queries
@@ -116,6 +117,14 @@ replies_in (Some files) = Some files.replies
 
 abbrev pub replies_of : Settings → Option Text
 replies_of given = forwards_of given >>= λ run. replies_in run.asked
+
+-- the files of the readers beside the run, in their order
+abbrev pub readers_in : Option ForwardSettings → List ReaderFiles
+readers_in None = []
+readers_in (Some run) = run.readers
+
+abbrev pub readers_of : Settings → List ReaderFiles
+readers_of given = readers_in (forwards_of given)
 
 -- the file that gets what a later run needs
 abbrev pub save_of : Settings → Option Text

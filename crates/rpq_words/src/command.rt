@@ -3,8 +3,8 @@
 ghost use Rattle.std.specs.Prelude.{◌≡◌, IfOk, false};
 ghost use Rattle.clap.specs.Simple.{app_of};
 ghost use Rattle.clap.specs.Walk.{rule_of};
-ghost use Rattle.rpq_words.specs.Command.{any_words, flag, one_word, option_or, option_with_value};
-ghost use Rattle.rpq_words.specs.Command.{rpq_command};
+ghost use Rattle.rpq_words.specs.Command.{any_words, flag, one_word, option_or, option_with_two};
+ghost use Rattle.rpq_words.specs.Command.{option_with_value, rpq_command};
 
 use clap::{Arg, ArgAction, Command};
 use std::alloc::{AllocError, Global};
@@ -26,6 +26,7 @@ pub(crate) fn command<'a>(alloc: Global) -> Result<Command<'a>, AllocError>
         .arg(option_with_value(alloc, "save"))?
         .arg(option_with_value(alloc, "from"))?
         .arg(flag(alloc, "endless"))?
+        .arg(option_with_two(alloc, "reader"))?
         .arg(one_word(alloc, "queries"))?
         .arg(any_words(alloc, "streams"))
 }
@@ -36,6 +37,17 @@ fn option_with_value<'a>(alloc: Global, name: &'a str) -> Arg<'a>
     ensures rule { rule_of result ≡ option_with_value name.entry.now }
 {
     Arg::new(alloc, name).long(name).action(ArgAction::Set)
+}
+
+/// An option `--NAME` with two values, which may be given again.
+fn option_with_two<'a>(alloc: Global, name: &'a str) -> Arg<'a>
+    ensures local { result.global ≡ false }
+    ensures rule { rule_of result ≡ option_with_two name.entry.now }
+{
+    Arg::new(alloc, name)
+        .long(name)
+        .action(ArgAction::Append)
+        .num_args(2usize)
 }
 
 /// An option that has the value `default` where it isn't given.

@@ -9,6 +9,7 @@ ghost use Rattle.rpq_words.specs.Settings.{mode_from, saves_over, settings_from,
 ghost use Rattle.rpq_words.specs.Settings.{streams_from};
 
 use crate::file_word::FileWord;
+use crate::reader_names::ReaderNames;
 use crate::settings::{
     AskFiles, Directions, Extent, ForwardSettings, Input, OutputKind, RunMode, Settings,
     StreamSettings,
@@ -38,6 +39,7 @@ pub struct StreamWords {
     pub replies: Option<FileWord>,
     pub save: Option<FileWord>,
     pub from: Option<FileWord>,
+    pub readers: ReaderNames,
     pub streams: StreamNames,
 }
 
@@ -141,10 +143,12 @@ fn forwards_of(words: StreamWords) -> Option<ForwardSettings>
         replies,
         save,
         from,
+        readers,
         streams,
     } = words;
     let asked = asked_of(asks, replies)?;
     let shown = shown_of(paths, joins)?;
+    let readers = readers.within_limits()?;
     let input = input_of(from, streams)?;
     if saves_over(&save, &input) {
         return None;
@@ -153,6 +157,7 @@ fn forwards_of(words: StreamWords) -> Option<ForwardSettings>
         input,
         shown,
         asked,
+        readers,
         save,
     })
 }
@@ -217,7 +222,11 @@ impl StreamWords {
     fn names_file(&self) -> bool
         ensures { result ≡ names_file self.now }
     {
-        self.asks.is_some() || self.joins.is_some() || self.save.is_some() || self.from.is_some()
+        self.asks.is_some()
+            || self.joins.is_some()
+            || self.save.is_some()
+            || self.from.is_some()
+            || !self.readers.is_empty()
     }
 }
 

@@ -14,6 +14,7 @@ use crate::file_word::{FileWord, file_words, optional_file_word};
 use crate::matches::{all_of, first_of, has_flag};
 use crate::numbers::{needed_workers, optional_number};
 use crate::parsed_words::{ParsedWords, StreamWords};
+use crate::reader_names::ReaderNames;
 use crate::settings::Settings;
 use crate::stream_names::StreamNames;
 use clap::ArgMatches;
@@ -95,6 +96,7 @@ fn read_found(alloc: Global, matches: &ArgMatches<'_>) -> Result<ParsedWords, Wo
         WordsFault::Refused,
     )?;
     let queries = first_of(matches, "queries").ok_or(WordsFault::Refused)?;
+    let readers = ReaderNames::of_pairs(alloc, all_of(matches, "reader"))?;
     Ok(ParsedWords {
         workers,
         history,
@@ -110,6 +112,7 @@ fn read_found(alloc: Global, matches: &ArgMatches<'_>) -> Result<ParsedWords, Wo
             replies: optional_file_word(alloc, first_of(matches, "replies"))?,
             save: optional_file_word(alloc, first_of(matches, "save"))?,
             from: optional_file_word(alloc, first_of(matches, "from"))?,
+            readers,
             streams: StreamNames::new(file_words(alloc, all_of(matches, "streams"))?),
         },
     })

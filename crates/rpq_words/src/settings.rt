@@ -4,10 +4,11 @@ ghost use Rattle.std.specs.Prelude.{◌≡◌, option_copied};
 ghost use Rattle.rpq_words.specs.declared.settings.RunMode.{RunMode};
 ghost use Rattle.rpq_words.specs.Views.{asks_of, cap_of, forwards_in, forwards_of, from_of};
 ghost use Rattle.rpq_words.specs.Views.{is_both_ways, is_endless, joins_of, mode_of, mode_told};
-ghost use Rattle.rpq_words.specs.Views.{paths_of};
+ghost use Rattle.rpq_words.specs.Views.{paths_of, readers_of};
 ghost use Rattle.rpq_words.specs.Views.{replies_of, save_of, two_way_in, two_way_of};
 
 use crate::file_word::FileWord;
+use crate::reader_names::{ReaderFiles, ReaderNames};
 use crate::stream_names::StreamNames;
 use rpq_base::Workers;
 
@@ -15,7 +16,7 @@ use rpq_base::Workers;
 const USUAL_CAP: u64 = 1_000_000;
 
 /// How many tuples an endless run would take.
-const ENDLESS_CAP: u64 = 1 << 61;
+pub const ENDLESS_CAP: u64 = 1 << 61;
 
 /// The settings of a run.
 #[derive(Debug, Drop)]
@@ -76,6 +77,8 @@ pub struct ForwardSettings {
     pub shown: OutputKind,
     /// The files of the asks and the replies, if readers ask.
     pub asked: Option<AskFiles>,
+    /// The files of the readers beside the run, of which there are at most 64.
+    pub readers: ReaderNames,
     /// The file that gets what a later run needs, if there is one.
     pub save: Option<FileWord>,
 }
@@ -285,6 +288,16 @@ impl Settings {
         match &self.forwards()?.asked {
             Some(files) => Some(&files.replies),
             None => None,
+        }
+    }
+
+    /// The files of the readers beside the run.
+    pub fn readers(&self) -> &[ReaderFiles]
+        ensures { result.now ≡ readers_of self.now }
+    {
+        match self.forwards() {
+            Some(run) => run.readers.as_slice(),
+            None => &[],
         }
     }
 

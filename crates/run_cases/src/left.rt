@@ -3,8 +3,8 @@
 use crate::outside::RunArguments;
 use kept_list::KeptList;
 use rpq_base::Entry;
-use rpq_io::{MemoryFiles, MemorySink};
-use rpq_run::{Answered, Report};
+use rpq_io::{MemoryFiles, MemorySink, MemorySource};
+use rpq_run::{Answered, ReaderEnd, ReaderOutcome, Report};
 use standing::Standing;
 use std::alloc::{AllocError, Global};
 use std::mem;
@@ -25,12 +25,22 @@ pub struct RunOutput {
     pub replies: Option<Vec<u8>>,
     /// The line of each session, and behind it what its asks were answered.
     pub answers: Vec<u8>,
+    /// What the run left of each reader.
+    pub readers: Vec<ReaderLeft>,
     /// The window that the run saved, if it has a sink for it.
     pub saved: Option<Vec<u8>>,
     /// What each of the objects says that stayed.
     pub stayed: Vec<Vec<u8>>,
     /// What each of the objects says that left.
     pub gone: Vec<Vec<u8>>,
+}
+
+/// What a run leaves of a reader.
+#[derive(Drop)]
+pub struct ReaderLeft {
+    pub end: ReaderEnd,
+    /// What the run wrote on the reader's replies.
+    pub replies: Vec<u8>,
 }
 
 /// What a run leaves behind with this report, these sinks and these objects.
@@ -59,6 +69,7 @@ impl RunOutput {
             errors: Vec::new(alloc),
             replies: None,
             answers: Vec::new(alloc),
+            readers: Vec::new(alloc),
             saved: None,
             stayed: Vec::new(alloc),
             gone: Vec::new(alloc),
@@ -80,6 +91,7 @@ impl RunOutput {
         self.replies = bytes_of(alloc, &report.replies)?;
         self.saved = bytes_of(alloc, &report.save)?;
         put_sessions(&mut self.answers, &report.sessions)?;
+        put_readers(alloc, &mut self.readers, &report.readers)?;
         put_said(&mut self.stayed, standing)?;
         put_said(&mut self.gone, &report.left)
     }
@@ -91,6 +103,22 @@ fn bytes_of(alloc: Global, sink: &Option<MemorySink>) -> Result<Option<Vec<u8>>,
         Some(sink) => Ok(Some(Vec::from_slice(alloc, sink.bytes())?)),
         None => Ok(None),
     }
+}
+
+/// Puts what is left of each reader.
+fn put_readers(
+    alloc: Global,
+    left: &mut Vec<ReaderLeft>,
+    readers: &[ReaderOutcome<MemorySource, MemorySink>],
+) -> anyhow::Result<()> {
+    for reader in readers {
+        let replies = Vec::from_slice(alloc, reader.replies.bytes())?;
+        left.push(ReaderLeft {
+            end: reader.end,
+            replies,
+        })?;
+    }
+    Ok(())
 }
 
 /// Puts the line of each session, and behind it what its asks were answered.

@@ -39,6 +39,15 @@
 //!   says how many events gained and lost a pair in the blocks that were written whole, else `no`;
 //!   the list that it is in, `standing` or `left`; and behind `|` what was told on the errors. How
 //!   much is `none` for no byte, `whole`, `part` for a proper front, and else `other`.
+//! - `live PIECE OPENING FILE READ EVENT WRITE WORDS QUERIES ASKS STREAM ASKS ASKS`: a run over the
+//!   files `q`, `a`, `s`, `t` and `u`, of which the last two are what readers beside the run ask,
+//!   and in which some calls fail: the opening of this number, this read of the file of this name,
+//!   this write of the events, and this write of each sink that the run opens. Numbers count from
+//!   1, and 0 is no failure. What is printed is the status, what it writes on the events, behind
+//!   `|` what it tells on the errors, behind `|` what it writes on the replies to sessions, if it
+//!   has a sink for them, and behind `|` for each reader how it ended and what it was answered. So
+//!   that it's the same however the reader and the stream come, a reader waits for the last tuple
+//!   first.
 //!
 //! `WORDS` are words with `;` between them, the program's name first, and `TUPLES` lines of a
 //! stream with `;` between them: a name with such a byte has it as `%` and two digits.
@@ -49,6 +58,7 @@ mod engines;
 mod faults;
 mod given;
 mod left;
+mod live;
 mod made;
 mod outside;
 mod readers;
@@ -79,6 +89,7 @@ fn answer<R: RandomSource + Threads + Wait + Sync>(
         RunRequest::Calls => runs::answer_calls(rt, alloc, out, fields),
         RunRequest::Readers => readers::answer_readers(rt, alloc, out, fields),
         RunRequest::Faults => faults::answer_faults(rt, alloc, out, fields),
+        RunRequest::Live => live::answer_live(rt, alloc, out, fields),
     }
 }
 

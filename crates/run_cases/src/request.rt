@@ -10,6 +10,7 @@ pub enum RunRequest {
     Calls,
     Readers,
     Faults,
+    Live,
 }
 
 impl RunRequest {
@@ -23,6 +24,7 @@ impl RunRequest {
             b"calls" => Some(RunRequest::Calls),
             b"readers" => Some(RunRequest::Readers),
             b"faults" => Some(RunRequest::Faults),
+            b"live" => Some(RunRequest::Live),
             _ => None,
         }
     }

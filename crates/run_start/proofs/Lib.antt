@@ -1,3 +1,4 @@
+pub mod AskReaders
 pub mod Modes
 pub mod Using
 pub mod Opening

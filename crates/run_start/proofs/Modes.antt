@@ -1,6 +1,6 @@
 -- What settings say of a run over streams.
-use Rattle.std.proofs.Common.{arith, ◌≡◌, true, false, List, [], ◌∷◌, length, refl, subst, sym}
-use Rattle.std.specs.Prelude.{◌^◌, Option, Some, None, is_some}
+use Rattle.std.proofs.Common.{arith, ◌≡◌, true, false, [], length, refl, sym}
+use Rattle.std.specs.Prelude.{◌^◌, Option, None, is_some}
 use Rattle.rpq_words.specs.declared.settings.Extent.{Extent}
 use Rattle.rpq_words.specs.declared.settings.Extent.TheVariants.{Capped, Endless}
 use Rattle.rpq_words.specs.declared.settings.RunMode.{RunMode}
@@ -14,7 +14,7 @@ use Rattle.rpq_words.specs.declared.settings.Settings.{Settings}
 use Rattle.rpq_words.specs.Options.{◌>>=◌}
 use Rattle.rpq_words.specs.Views.{asks_in, asks_of, cap_in, cap_of, forwards_in, from_in, from_of}
 use Rattle.rpq_words.specs.Views.{is_endless, is_endless_in, mode_of, names_in, paths_in, paths_of}
-use Rattle.rpq_words.specs.Views.{streams_in, streams_of, two_way_in, two_way_of}
+use Rattle.rpq_words.specs.Views.{streams_in, streams_of, readers_in, readers_of, two_way_in, two_way_of}
 use Rattle.stream_tuples.specs.Limits.{byte_limit, byte_limit_of, endless_byte_limit}
 use Rattle.stream_tuples.proofs.ByteLimits.{endless_limit, kept_limit}
 
@@ -56,6 +56,16 @@ pub unasked : (given : Settings) → two_way_of given ≡ true → asks_of given
 unasked given is = by (mode_of given) is
   where
     by : (mode : RunMode) → two_way_in mode ≡ true → (forwards_in mode >>= λ run. asks_in run.asked) ≡ None
+    by (Check directions) is = refl
+    by (Generate directions count) is = refl
+    by (Streams (BothWays streams)) is = refl
+    by (Streams (Forwards forwards)) is = absurd (cc is)
+
+-- nor does a reader beside the run
+pub no_readers : (given : Settings) → two_way_of given ≡ true → readers_of given ≡ []
+no_readers given is = by (mode_of given) is
+  where
+    by : (mode : RunMode) → two_way_in mode ≡ true → readers_in (forwards_in mode) ≡ []
     by (Check directions) is = refl
     by (Generate directions count) is = refl
     by (Streams (BothWays streams)) is = refl

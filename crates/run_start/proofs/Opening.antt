@@ -1,7 +1,7 @@
 -- What the opening of one file to read does to the files.
 use Rattle.std.proofs.Common.{◌≡◌, ◌≢◌, inl, inr, ℕ, List, [], ◌∷◌, ◌++◌, take}
 use Rattle.std.proofs.Common.{drop, Option, Some, None, refl, ap, sym, subst, ◌∙◌, append-nil, map}
-use Rattle.std.proofs.Common.{append_assoc, suc, ap₂, length, arith}
+use Rattle.std.proofs.Common.{append_assoc, suc, ap₂}
 use Rattle.std.specs.Prelude.{IfSome, IsSomeAnd, option_to_list, option_map, unwrap_or, slice_get}
 use Rattle.std.proofs.lemmas.List.{map-append, take-append-drop}
 use Rattle.std.proofs.lemmas.Option.{get_or_from_slice_get, slice_get_within}
@@ -14,7 +14,7 @@ use Rattle.rpq_words.specs.Views.{asks_of, from_of, joins_of, streams_of}
 use Rattle.stream_tuples.specs.History.{IsPrefix}
 use Rattle.rpq_text.specs.declared.ends.Which.{Which}
 use Rattle.rpq_text.specs.declared.ends.Which.TheVariants.{Queries, Joins, Asks, From}
-use Rattle.rpq_text.specs.declared.ends.Which.TheVariants.{Stream, Replies, Save}
+use Rattle.rpq_text.specs.declared.ends.Which.TheVariants.{Stream, Replies, Save, AsksOf, RepliesOf}
 use Rattle.rpq_text.specs.declared.ends.StartFault.{StartFault}
 use Rattle.rpq_text.specs.declared.ends.StartFault.TheVariants.{Words, Queries as QueriesFault}
 use Rattle.rpq_text.specs.declared.ends.StartFault.TheVariants.{Joins as JoinsFaulty}
@@ -22,7 +22,8 @@ use Rattle.rpq_text.specs.declared.ends.StartFault.TheVariants.{Asks as AsksFaul
 use Rattle.rpq_text.specs.declared.ends.StartFault.TheVariants.{Memory}
 use Rattle.saved_window.specs.Then.{join_known}
 use Rattle.run_start.specs.Files.{stream_contents, with_first}
-use Rattle.run_start.specs.Given.{file_names, first_names, names_before, names_up_to}
+use Rattle.run_start.specs.Given.{asks_names, file_names, first_names, names_before, names_up_to}
+use Rattle.run_start.specs.Given.{names_with_streams}
 use Rattle.run_start.specs.Given.{understood_names, whole_names}
 use Rattle.run_start.specs.Start.{AreOpened, IsOpeningOf}
 use Rattle.run_start.specs.Steps.{AreNamesOfFile, AreOpenedBehind, IsFaultOfFile, OpensFile, UsesMore}
@@ -39,11 +40,12 @@ pub record IsPlace (given : Settings) (which : Which) (before : List (List ℕ))
   pub names : IsOpeningOf given name (Open which)
   pub no_replies : which ≢ Replies
   pub no_save : which ≢ Save
+  pub no_replies_of : (number : ℕ) → which ≢ RepliesOf number
 
 -- the names of all files that are read behind that of the queries
 abbrev behind_queries : Settings → List (List ℕ)
-behind_queries given = ((option_to_list (joins_of given) ++ option_to_list (asks_of given))
-    ++ option_to_list (from_of given)) ++ (streams_of given)
+behind_queries given = (((option_to_list (joins_of given) ++ option_to_list (asks_of given))
+    ++ option_to_list (from_of given)) ++ streams_of given) ++ asks_names given
 
 -- the queries file
 pub queries_place : (given : Settings) (name : List ℕ) → name ≡ given.queries
@@ -59,6 +61,7 @@ queries_place given name is = record {
   names = is;
   no_replies = λ other. cc other;
   no_save = λ other. cc other;
+  no_replies_of = λ number other. cc other;
 }
 
 -- the joins file
@@ -70,9 +73,10 @@ joins_place given name is =
       behind = refl;
       up_to = ap (λ (ns : List (List ℕ)). given.queries ∷ ns) only;
       front = record {
-        rest = (option_to_list (asks_of given) ++ option_to_list (from_of given)) ++ streams_of given;
-        cut = ap (λ (ns : List (List ℕ)). given.queries ∷ (((ns ++ option_to_list (asks_of given))
-            ++ option_to_list (from_of given)) ++ streams_of given)) only;
+        rest = ((option_to_list (asks_of given) ++ option_to_list (from_of given)) ++ streams_of given)
+            ++ asks_names given;
+        cut = ap (λ (ns : List (List ℕ)). given.queries ∷ ((((ns ++ option_to_list (asks_of given))
+            ++ option_to_list (from_of given)) ++ streams_of given) ++ asks_names given)) only;
       };
       named = λ any opening.
           let found : ◌≡◌ {A = Option (List ℕ)} (Some any) (Some name) = sym opening ∙ is in
@@ -80,6 +84,7 @@ joins_place given name is =
       names = is;
       no_replies = λ other. cc other;
       no_save = λ other. cc other;
+      no_replies_of = λ number other. cc other;
     }
 
 -- the asks file
@@ -92,11 +97,13 @@ asks_place given name is =
       behind = refl;
       up_to = ap (λ (ns : List (List ℕ)). understood_names given ++ ns) only;
       front = record {
-        rest = option_to_list (from_of given) ++ streams_of given;
-        cut = ap (λ (ns : List (List ℕ)). given.queries ∷ (((option_to_list (joins_of given) ++ ns)
-            ++ option_to_list (from_of given)) ++ streams_of given)) only
+        rest = (option_to_list (from_of given) ++ streams_of given) ++ asks_names given;
+        cut = ap (λ (ns : List (List ℕ)). given.queries ∷ ((((option_to_list (joins_of given) ++ ns)
+            ++ option_to_list (from_of given)) ++ streams_of given) ++ asks_names given)) only
             ∙ ap (λ (ns : List (List ℕ)). given.queries ∷ ns)
-            (append_assoc front (option_to_list (from_of given)) (streams_of given));
+            (ap (λ (ns : List (List ℕ)). ns ++ asks_names given)
+            (append_assoc front (option_to_list (from_of given)) (streams_of given))
+            ∙ append_assoc front (option_to_list (from_of given) ++ streams_of given) (asks_names given));
       };
       named = λ any opening.
           let found : ◌≡◌ {A = Option (List ℕ)} (Some any) (Some name) = sym opening ∙ is in
@@ -104,6 +111,7 @@ asks_place given name is =
       names = is;
       no_replies = λ other. cc other;
       no_save = λ other. cc other;
+      no_replies_of = λ number other. cc other;
     }
 
 -- the saved window
@@ -115,8 +123,10 @@ from_place given name is =
       behind = refl;
       up_to = ap (λ (ns : List (List ℕ)). whole_names given ++ ns) only;
       front = record {
-        rest = streams_of given;
-        cut = ap (λ (ns : List (List ℕ)). (whole_names given ++ ns) ++ streams_of given) only;
+        rest = streams_of given ++ asks_names given;
+        cut = ap (λ (ns : List (List ℕ)). ((whole_names given ++ ns) ++ streams_of given)
+            ++ asks_names given) only
+            ∙ append_assoc (whole_names given ++ name ∷ []) (streams_of given) (asks_names given);
       };
       named = λ any opening.
           let found : ◌≡◌ {A = Option (List ℕ)} (Some any) (Some name) = sym opening ∙ is in
@@ -124,34 +134,45 @@ from_place given name is =
       names = is;
       no_replies = λ other. cc other;
       no_save = λ other. cc other;
+      no_replies_of = λ number other. cc other;
     }
 
--- one stream more
-pub one_stream_more : (given : Settings) (place : ℕ) (name : List ℕ)
-    → slice_get (streams_of given) place ≡ Some name
-    → take (suc place) (streams_of given) ≡ take place (streams_of given) ++ name ∷ []
-one_stream_more given place name is =
-    take-suc (streams_of given) place name (slice_get_within (streams_of given) place name is)
-    ∙ ap (λ (n : List ℕ). take place (streams_of given) ++ n ∷ [])
-    (get_or_from_slice_get (streams_of given) place name name is)
+-- one name more
+pub one_more : (names : List (List ℕ)) (place : ℕ) (name : List ℕ)
+    → slice_get names place ≡ Some name → take (suc place) names ≡ take place names ++ name ∷ []
+one_more names place name is =
+    take-suc names place name (slice_get_within names place name is)
+    ∙ ap (λ (n : List ℕ). take place names ++ n ∷ []) (get_or_from_slice_get names place name name is)
+
+-- the names of a list stand at the front of some with the same in front, and one more does
+front_with : (front names rest : List (List ℕ)) (place : ℕ)
+    → (front ++ names) ++ rest ≡ (front ++ take place names) ++ (drop place names ++ rest)
+front_with front names rest place =
+    ap (λ (ns : List (List ℕ)). (front ++ ns) ++ rest) (sym (take-append-drop place names))
+    ∙ (ap (λ (ns : List (List ℕ)). ns ++ rest)
+    (sym (append_assoc front (take place names) (drop place names)))
+    ∙ append_assoc (front ++ take place names) (drop place names) rest)
+
+pub up_to_one_more : (front names : List (List ℕ)) (place : ℕ) (name : List ℕ)
+    → slice_get names place ≡ Some name
+    → front ++ take (suc place) names ≡ (front ++ take place names) ++ name ∷ []
+up_to_one_more front names place name is =
+    ap (λ (ns : List (List ℕ)). front ++ ns) (one_more names place name is)
+    ∙ sym (append_assoc front (take place names) (name ∷ []))
 
 -- a stream
 pub stream_place : (given : Settings) (place : ℕ) (name : List ℕ) → slice_get (streams_of given) place ≡ Some name
     → IsPlace given (Stream (suc place)) (first_names given ++ take place (streams_of given)) name
 stream_place given place name is =
-    let up_to : first_names given ++ take (suc place) (streams_of given)
-    ≡ (first_names given ++ take place (streams_of given)) ++ name ∷ [] =
-    ap (λ (ns : List (List ℕ)). first_names given ++ ns) (one_stream_more given place name is)
-    ∙ sym (append_assoc (first_names given) (take place (streams_of given)) (name ∷ [])) in
+    let up_to = up_to_one_more (first_names given) (streams_of given) place name is in
     record {
       behind = refl;
       up_to = up_to;
       front = record {
-        rest = drop (suc place) (streams_of given);
-        cut = ap (λ (ns : List (List ℕ)). first_names given ++ ns) (sym (take-append-drop (suc place) (streams_of given)))
-            ∙ (sym (append_assoc (first_names given) (take (suc place) (streams_of given))
-            (drop (suc place) (streams_of given)))
-            ∙ ap (λ (ns : List (List ℕ)). ns ++ drop (suc place) (streams_of given)) up_to);
+        rest = drop (suc place) (streams_of given) ++ asks_names given;
+        cut = front_with (first_names given) (streams_of given) (asks_names given) (suc place)
+            ∙ ap (λ (ns : List (List ℕ)). ns ++ (drop (suc place) (streams_of given) ++ asks_names given))
+            up_to;
       };
       named = λ any opening.
           let found : ◌≡◌ {A = Option (List ℕ)} (Some any) (Some name) = sym opening ∙ is in
@@ -159,6 +180,39 @@ stream_place given place name is =
       names = is;
       no_replies = λ other. cc other;
       no_save = λ other. cc other;
+      no_replies_of = λ number other. cc other;
+    }
+
+-- the names of what some readers ask stand behind those of the streams
+front_of_all : (given : Settings) (place : ℕ) → file_names given
+    ≡ (names_with_streams given ++ take place (asks_names given)) ++ drop place (asks_names given)
+front_of_all given place =
+    ap (λ (ns : List (List ℕ)). names_with_streams given ++ ns)
+    (sym (take-append-drop place (asks_names given)))
+    ∙ sym (append_assoc (names_with_streams given) (take place (asks_names given))
+    (drop place (asks_names given)))
+
+-- what a reader beside the run asks
+pub asks_of_place : (given : Settings) (place : ℕ) (name : List ℕ)
+    → slice_get (asks_names given) place ≡ Some name
+    → IsPlace given (AsksOf (suc place)) (names_with_streams given ++ take place (asks_names given)) name
+asks_of_place given place name is =
+    let up_to = up_to_one_more (names_with_streams given) (asks_names given) place name is in
+    record {
+      behind = refl;
+      up_to = up_to;
+      front = record {
+        rest = drop (suc place) (asks_names given);
+        cut = front_of_all given (suc place)
+            ∙ ap (λ (ns : List (List ℕ)). ns ++ drop (suc place) (asks_names given)) up_to;
+      };
+      named = λ any opening.
+          let found : ◌≡◌ {A = Option (List ℕ)} (Some any) (Some name) = sym opening ∙ is in
+          cc found;
+      names = is;
+      no_replies = λ other. cc other;
+      no_save = λ other. cc other;
+      no_replies_of = λ number other. cc other;
     }
 
 -- a fault of the reading of a file is none of the opening to write
@@ -256,6 +310,8 @@ uses_file {F} {holds} {opened} {made} {unread} {unmade} given which before name 
     reads (Some fault) is = record {
       no_replies = other_than which Replies file fault at.no_replies is;
       no_save = other_than which Save file fault at.no_save is;
+      no_replies_of = λ number.
+          other_than which (RepliesOf number) file fault (at.no_replies_of number) is;
     }
 
     kind : (s : Option StartFault) → IfSome s (IsFaultOfFile which file) → (names : List (List ℕ))
@@ -351,7 +407,7 @@ uses_stream {F} {holds} {opened} {made} {unread} {unmade} given place number nam
     subst (λ (n : ℕ). IsPlace given (Stream n) (first_names given ++ take place (streams_of given)) name) (sym next)
     (stream_place given place name is) in
     let names : take place (streams_of given) ++ name ∷ [] ≡ take number (streams_of given) =
-    sym (one_stream_more given place name is) ∙ ap (λ (n : ℕ). take n (streams_of given)) (sym next) in
+    sym (one_more (streams_of given) place name is) ∙ ap (λ (n : ℕ). take n (streams_of given)) (sym next) in
     subst (λ (ns : List (List ℕ)). UsesMore holds opened made unread unmade given (first_names given) ns [] start old new)
     names (one_by_one before (uses_file given (Stream number) (first_names given ++ take place (streams_of given)) name
     None start between new at cause opens))
@@ -360,10 +416,40 @@ uses_stream {F} {holds} {opened} {made} {unread} {unmade} given place number nam
 pub front_of_streams : (given : Settings) (place : ℕ)
     → AreOpened given (Some Memory) (first_names given ++ take place (streams_of given))
 front_of_streams given place = record {
-  rest = drop place (streams_of given);
-  cut = ap (λ (ns : List (List ℕ)). first_names given ++ ns) (sym (take-append-drop place (streams_of given)))
-      ∙ sym (append_assoc (first_names given) (take place (streams_of given)) (drop place (streams_of given)));
+  rest = drop place (streams_of given) ++ asks_names given;
+  cut = front_with (first_names given) (streams_of given) (asks_names given) place;
 }
+
+-- what one reader more asks was opened, or not, behind what those before it do
+pub uses_asks_of : {F : Type 0} {holds : F → List ℕ → Option (List ℕ)}
+    {opened made : F → List (List ℕ)} {unread unmade : F → List ℕ → ℕ} (given : Settings)
+    (place number : ℕ) (name : List ℕ) (start : Option StartFault) (old between new : F)
+    → number ≡ suc place → slice_get (asks_names given) place ≡ Some name
+    → UsesMore holds opened made unread unmade given (names_with_streams given)
+    (take place (asks_names given)) [] None old between
+    → IfSome start (IsFaultOfFile (AsksOf number) None)
+    → OpensFile holds opened made unread unmade (AsksOf number) name start between new
+    → UsesMore holds opened made unread unmade given (names_with_streams given)
+    (take number (asks_names given)) [] start old new
+uses_asks_of {F} {holds} {opened} {made} {unread} {unmade} given place number name start old between
+    new next is before cause opens =
+    let behind = names_with_streams given ++ take place (asks_names given) in
+    let at : IsPlace given (AsksOf number) behind name =
+    subst (λ (n : ℕ). IsPlace given (AsksOf n) behind name) (sym next)
+    (asks_of_place given place name is) in
+    let names : take place (asks_names given) ++ name ∷ [] ≡ take number (asks_names given) =
+    sym (one_more (asks_names given) place name is)
+    ∙ ap (λ (n : ℕ). take n (asks_names given)) (sym next) in
+    subst (λ (ns : List (List ℕ)). UsesMore holds opened made unread unmade given
+    (names_with_streams given) ns [] start old new)
+    names (one_by_one before (uses_file given (AsksOf number) behind name None start between new at
+    cause opens))
+
+-- where memory ran out behind what some readers ask, their names stand at the front of all
+pub front_of_asks : (given : Settings) (place : ℕ)
+    → AreOpened given (Some Memory) (names_with_streams given ++ take place (asks_names given))
+front_of_asks given place =
+    record { rest = drop place (asks_names given); cut = front_of_all given place }
 
 -- behind no byte stands all that a file holds
 pub join_nothing : (file : Option (List ℕ)) → join_known (Some []) file ≡ file
@@ -393,7 +479,7 @@ pub one_content_more : {S : Type 0} (left : S → Option (List ℕ)) (holds now 
 one_content_more {S} left holds now given place number name readers more reader next is same before content
     pushed =
     ap (λ (n : ℕ). map holds (take n (streams_of given))) next
-    ∙ (ap (λ (ns : List (List ℕ)). map holds ns) (one_stream_more given place name is)
+    ∙ (ap (λ (ns : List (List ℕ)). map holds ns) (one_more (streams_of given) place name is)
     ∙ (map-append holds (take place (streams_of given)) (name ∷ [])
     ∙ (ap (λ (fs : List (Option (List ℕ))). fs ++ holds name ∷ []) before
     ∙ (ap (λ (f : Option (List ℕ)). map (λ (r : ReaderState S). left r.source) readers ++ f ∷ [])

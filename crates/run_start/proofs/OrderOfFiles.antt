@@ -19,7 +19,10 @@ read_in_order = record {
   faulty_asks = λ fault. refl;
   from = refl;
   stream = refl;
+  asks_of = refl;
+  second_asks = refl;
   replies = refl;
+  replies_of = refl;
   second = refl;
 }
 
@@ -34,7 +37,15 @@ read_whole_in_order = record {
 }
 
 pub written_in_order : WrittenInOrder
-written_in_order = record { all = refl; stream = refl; replies = refl; save = refl }
+written_in_order = record {
+  all = refl;
+  stream = refl;
+  replies = refl;
+  save = refl;
+  asks_of = refl;
+  replies_of = refl;
+  second_replies = refl;
+}
 
 pub saved_comes_first : SavedTextIsRead → SavedComesFirst
 saved_comes_first are_read given holds tuples text begins =

@@ -1,18 +1,21 @@
 -- What the opening of the sinks does to the files.
 use Rattle.std.proofs.Common.{◌≡◌, inl, inr, ◌⊎◌, ℕ, List, [], ◌∷◌, ◌++◌, Option, Some, None}
-use Rattle.std.proofs.Common.{refl, ap, sym, subst, ◌∙◌, append-nil, append_assoc, arith}
-use Rattle.std.specs.Prelude.{IfSome, IsSomeAnd, Contains, option_to_list}
-use Rattle.std.proofs.lemmas.List.{append_cancel_left}
+use Rattle.std.proofs.Common.{refl, ap, sym, subst, ◌∙◌, append-nil, append_assoc, arith, suc, take}
+use Rattle.std.proofs.Common.{drop, ◌+◌}
+use Rattle.std.specs.Prelude.{IfSome, IsSomeAnd, Contains, option_to_list, slice_get}
+use Rattle.std.proofs.lemmas.List.{append_cancel_left, take-append-drop}
 use Rattle.std.proofs.lemmas.List.Elements.{Contains-append_left, Contains-append_right}
 use Rattle.rpq_io.specs.Counts.{CountsFault}
 use Rattle.rpq_io.proofs.Counting.{counts_as}
 use Rattle.rpq_words.specs.declared.settings.Settings.{Settings}
 use Rattle.rpq_words.specs.Views.{replies_of, save_of}
 use Rattle.rpq_text.specs.declared.ends.Which.{Which}
-use Rattle.rpq_text.specs.declared.ends.Which.TheVariants.{Replies, Save}
+use Rattle.rpq_text.specs.declared.ends.Which.TheVariants.{Replies, Save, RepliesOf}
 use Rattle.rpq_text.specs.declared.ends.StartFault.{StartFault}
 use Rattle.rpq_text.specs.declared.ends.StartFault.TheVariants.{Open, Memory}
-use Rattle.run_start.specs.Given.{file_names, sink_names}
+use Rattle.run_start.specs.Given.{file_names, own_sink_names, replies_names, sink_names}
+use Rattle.run_start.proofs.Opening.{one_more, up_to_one_more}
+use Rattle.stream_tuples.specs.History.{IsPrefix}
 use Rattle.run_start.specs.Start.{AreMade, AreOpened, IsMakingOf, IsOpeningOf, sinks_before}
 use Rattle.run_start.specs.Steps.{AreMadeThen, AreNamesOfSink, AreOpenedBehind, OpensSink, UsesMore}
 
@@ -33,7 +36,11 @@ pub record IsSink (given : Settings) (which : Which) (before : List (List ℕ)) 
 pub replies_sink : (given : Settings) → IsSink given Replies [] (replies_of given)
 replies_sink given = record {
   behind = refl;
-  front = (option_to_list (save_of given), refl);
+  front = (
+    option_to_list (save_of given) ++ replies_names given,
+    append_assoc (option_to_list (replies_of given)) (option_to_list (save_of given))
+        (replies_names given),
+  );
   making = λ any is. is;
   named = λ any is. is;
   none_read = λ any opening. opening;
@@ -43,12 +50,45 @@ replies_sink given = record {
 pub save_sink : (given : Settings) → IsSink given Save (option_to_list (replies_of given)) (save_of given)
 save_sink given = record {
   behind = refl;
-  front = ([], ap (λ (ns : List (List ℕ)). option_to_list (replies_of given) ++ ns) (sym (append-nil (option_to_list (save_of given)))));
+  front = (
+    replies_names given,
+    append_assoc (option_to_list (replies_of given)) (option_to_list (save_of given))
+        (replies_names given),
+  );
   making = λ any is. is;
   named = λ any is. is;
   none_read = λ any opening. opening;
   opened = refl;
 }
+
+pub reader_sink : (given : Settings) (place : ℕ) (name : List ℕ)
+    → slice_get (replies_names given) place ≡ Some name
+    → IsSink given (RepliesOf (suc place)) (own_sink_names given ++ take place (replies_names given))
+    (Some name)
+reader_sink given place name is = record {
+  behind = refl;
+  front = (drop (suc place) (replies_names given), front);
+  making = λ any same. is ∙ same;
+  named = λ any making. sym is ∙ making;
+  none_read = λ any opening. opening;
+  opened = refl;
+}
+  where
+    own : List (List ℕ)
+    own = own_sink_names given
+
+    before : List (List ℕ)
+    before = take place (replies_names given)
+
+    behind : List (List ℕ)
+    behind = drop (suc place) (replies_names given)
+
+    front : sink_names given ≡ (own ++ before) ++ name ∷ behind
+    front = ap (λ (ns : List (List ℕ)). own ++ ns)
+        (sym (take-append-drop (suc place) (replies_names given))
+        ∙ (ap (λ (ns : List (List ℕ)). ns ++ behind) (one_more (replies_names given) place name is)
+        ∙ append_assoc before (name ∷ []) behind))
+        ∙ sym (append_assoc own before (name ∷ behind))
 
 -- the names that were opened to read are all
 opened_all : (given : Settings) (which : Which) (before : List (List ℕ)) (name : Option (List ℕ))
@@ -194,3 +234,78 @@ uses_sink {F} {holds} {opened} {made} {unread} {unmade} given which before name 
     making (Some fault) is any counts = counts_as ((fault ≡ Open which) × (name ≡ Some any))
         (IsMakingOf given any fault) (unmade between any) (unmade new any)
         (is_making given which before name fault any at) (making_is given which before name fault any at is) counts
+
+-- the sink of the replies to one reader more was opened, or not
+pub uses_replies : {F : Type 0} {holds : F → List ℕ → Option (List ℕ)}
+    {opened made : F → List (List ℕ)} {unread unmade : F → List ℕ → ℕ} (given : Settings)
+    (place many : ℕ) (name : List ℕ) (start : Option StartFault) (old between new : F)
+    → place ≡ many → slice_get (replies_names given) place ≡ Some name
+    → IfSome start (IsSinkCause (RepliesOf (place + 1)))
+    → UsesMore holds opened made unread unmade given (file_names given) []
+    (own_sink_names given ++ take many (replies_names given)) None old between
+    → OpensSink holds opened made unread unmade (RepliesOf (place + 1)) (Some name) start between new
+    → UsesMore holds opened made unread unmade given (file_names given) []
+    (own_sink_names given ++ take (place + 1) (replies_names given)) start old new
+uses_replies {F} {holds} {opened} {made} {unread} {unmade} given place many name start old between new
+    at is cause first second =
+    let next : place + 1 ≡ suc place = omega arith in
+    let before = own_sink_names given ++ take place (replies_names given) in
+    let sink : IsSink given (RepliesOf (place + 1)) before (Some name) =
+    subst (λ (n : ℕ). IsSink given (RepliesOf n) before (Some name)) (sym next)
+    (reader_sink given place name is) in
+    let all : before ++ name ∷ [] ≡ own_sink_names given ++ take (place + 1) (replies_names given) =
+    sym (up_to_one_more (own_sink_names given) (replies_names given) place name is)
+    ∙ ap (λ (n : ℕ). own_sink_names given ++ take n (replies_names given)) (sym next) in
+    subst (λ (ns : List (List ℕ)). UsesMore holds opened made unread unmade given (file_names given)
+    [] ns start old new) all
+    (uses_sink given (RepliesOf (place + 1)) before (Some name) start old between new sink cause
+    (subst (λ (n : ℕ). UsesMore holds opened made unread unmade given (file_names given) []
+    (own_sink_names given ++ take n (replies_names given)) None old between) (sym at) first)
+    second)
+
+-- memory ran out behind some sinks
+pub memory_behind : {F : Type 0} {holds : F → List ℕ → Option (List ℕ)}
+    {opened made : F → List (List ℕ)} {unread unmade : F → List ℕ → ℕ} (given : Settings)
+    (own more : List (List ℕ)) (old new : F) → IsPrefix own (sink_names given)
+    → UsesMore holds opened made unread unmade given (file_names given) [] own None old new
+    → UsesMore holds opened made unread unmade given (file_names given) [] more (Some Memory) old new
+memory_behind given own more old new front uses = record {
+  opens = record {
+    names = uses.opens.names;
+    of_kind = record {
+      rest = [];
+      cut = sym (append-nil (file_names given))
+          ∙ (ap (λ (ns : List (List ℕ)). file_names given ++ ns) (sym uses.opens.of_kind)
+          ∙ sym (append-nil (file_names given ++ uses.opens.names)));
+    };
+    more = uses.opens.more;
+  };
+  makes = record {
+    names = uses.makes.names;
+    of_kind = subst (λ (ns : List (List ℕ)). AreMade given (Some Memory) ns) (sym uses.makes.of_kind)
+        front;
+    more = uses.makes.more;
+  };
+  kept = uses.kept;
+  openings = λ any. record {
+    never_falls = (uses.openings any).never_falls;
+    rose = λ is. absurd is;
+    quiet = λ _. (uses.openings any).quiet (λ none. none);
+  };
+  makings = λ any. record {
+    never_falls = (uses.makings any).never_falls;
+    rose = λ is. absurd is;
+    quiet = λ _. (uses.makings any).quiet (λ none. none);
+  };
+}
+
+-- the names of the replies to some readers stand behind the other sinks
+pub front_of_replies : (given : Settings) (place : ℕ)
+    → IsPrefix (own_sink_names given ++ take place (replies_names given)) (sink_names given)
+front_of_replies given place = record {
+  rest = drop place (replies_names given);
+  cut = ap (λ (ns : List (List ℕ)). own_sink_names given ++ ns)
+      (sym (take-append-drop place (replies_names given)))
+      ∙ sym (append_assoc (own_sink_names given) (take place (replies_names given))
+      (drop place (replies_names given)));
+}

@@ -1,6 +1,6 @@
 -- What the steps of a beginning do to the files, one behind the other.
 use Rattle.std.proofs.Common.{◌≡◌, ◌≢◌, ◌⊎◌, inl, inr, ℕ, List, [], ◌∷◌, ◌++◌, Option, Some, None}
-use Rattle.std.proofs.Common.{refl, ap, sym, subst, ◌∙◌, append-nil, append_assoc, arith}
+use Rattle.std.proofs.Common.{refl, ap, sym, subst, ◌∙◌, append-nil, append_assoc, arith, length}
 use Rattle.std.specs.Prelude.{IfSome, IfErr, IsSomeAnd, MatchOption, Result, Ok, Err, option_to_list}
 use Rattle.std.specs.Result.{IsErrAnd}
 use Rattle.rpq_io.specs.Counts.{CountsFault}
@@ -9,10 +9,11 @@ use Rattle.rpq_model.specs.Query.{Query}
 use Rattle.join_file.specs.Joins.{JoinValue}
 use Rattle.ask_text.specs.declared.ask.Ask.{Ask}
 use Rattle.rpq_words.specs.declared.settings.Settings.{Settings}
-use Rattle.rpq_words.specs.Views.{asks_of, from_of, joins_of, streams_of, two_way_of}
+use Rattle.rpq_words.specs.Views.{asks_of, from_of, joins_of, readers_of, streams_of, two_way_of}
+use Rattle.stream_tuples.specs.History.{IsNumberOf}
 use Rattle.rpq_text.specs.declared.ends.Which.{Which}
 use Rattle.rpq_text.specs.declared.ends.Which.TheVariants.{Queries, Joins, Asks, From}
-use Rattle.rpq_text.specs.declared.ends.Which.TheVariants.{Stream, Replies, Save}
+use Rattle.rpq_text.specs.declared.ends.Which.TheVariants.{Stream, Replies, Save, AsksOf, RepliesOf}
 use Rattle.rpq_text.specs.declared.ends.StartFault.{StartFault}
 use Rattle.rpq_text.specs.declared.ends.StartFault.TheVariants.{Words, Queries as QueriesFault}
 use Rattle.rpq_text.specs.declared.ends.StartFault.TheVariants.{Joins as JoinsFaulty}
@@ -20,17 +21,19 @@ use Rattle.rpq_text.specs.declared.ends.StartFault.TheVariants.{Asks as AsksFaul
 use Rattle.rpq_text.specs.declared.ends.StartFault.TheVariants.{Memory}
 use Rattle.run_start.specs.Files.{AreUnderstoodFiles, AreUnderstoodJoins, ForJoins, ForQueries}
 use Rattle.run_start.specs.Files.{ForSessions, HasJoins, HasQueries, HasSessions}
-use Rattle.run_start.specs.Given.{file_names, later_names, sink_names}
+use Rattle.run_start.specs.Given.{asks_names, file_names, later_names, names_with_streams, sink_names}
 use Rattle.run_start.specs.Ready.{fault_of}
 use Rattle.run_start.specs.Start.{AreMade, AreOpened, AreSourcesOf, IsMakingOf, IsOpeningOf, IsRefusedFor, Opens}
 use Rattle.run_start.specs.Start.{UsesFiles, file_held}
-use Rattle.run_start.specs.Steps.{AreMadeThen, AreOpenedBehind, IsRefusal, IsRefusalOfOpening, UsesMore}
+use Rattle.run_start.specs.Steps.{AreMadeThen, AreOpenedBehind, IsRefusal, IsRefusalOfOpening}
+use Rattle.run_start.specs.Steps.{IsRefusalOfReplies, UsesMore}
 use Rattle.run_start.specs.declared.refusal.Refusal.{Refusal}
 
 -- a fault that isn't that of an opening to write
 pub record IsToRead (fault : StartFault) : Type 0 where
   pub no_replies : fault ≢ Open Replies
   pub no_save : fault ≢ Open Save
+  pub no_replies_of : (number : ℕ) → fault ≢ Open (RepliesOf number)
 
 -- no name was opened to write
 none_made : (given : Settings) (fault : StartFault) → IsToRead fault → AreMade given (Some fault) []
@@ -45,6 +48,8 @@ none_made given (Open From) reads = refl
 none_made given (Open (Stream number)) reads = refl
 none_made given (Open Replies) reads = refl
 none_made given (Open Save) reads = absurd (reads.no_save refl)
+none_made given (Open (AsksOf number)) reads = refl
+none_made given (Open (RepliesOf number)) reads = absurd (reads.no_replies_of number refl)
 none_made given (Read which) reads = refl
 none_made given (Long which) reads = refl
 none_made given Memory reads = record { rest = sink_names given; cut = refl }
@@ -54,7 +59,7 @@ none_made_then : (given : Settings) (start : Option StartFault) → IfSome start
 none_made_then given None reads = refl
 none_made_then given (Some fault) reads = none_made given fault reads
 
--- only the replies and the saved window are opened to write
+-- only the replies, the saved window and the replies to readers are opened to write
 no_making : (given : Settings) (name : List ℕ) (fault : StartFault) → IsToRead fault
     → IsMakingOf given name fault → ⊥
 no_making given name Words other making = making
@@ -68,6 +73,8 @@ no_making given name (Open From) other making = making
 no_making given name (Open (Stream number)) other making = making
 no_making given name (Open Replies) other making = other.no_replies refl
 no_making given name (Open Save) other making = other.no_save refl
+no_making given name (Open (AsksOf number)) other making = making
+no_making given name (Open (RepliesOf number)) other making = other.no_replies_of number refl
 no_making given name (Read which) other making = making
 no_making given name (Long which) other making = making
 no_making given name Memory other making = making
@@ -169,6 +176,7 @@ to_read_later : (fault : StartFault) → IsFoundLater fault → IsToRead fault
 to_read_later fault later = record {
   no_replies = λ is. subst (λ (f : StartFault). IsFoundLater f) is later;
   no_save = λ is. subst (λ (f : StartFault). IsFoundLater f) is later;
+  no_replies_of = λ number is. subst (λ (f : StartFault). IsFoundLater f) is later;
 }
 
 -- a step after which the run doesn't begin
@@ -246,12 +254,36 @@ refused_as other other_write uses = record {
   makings = uses.makings;
 }
 
--- the names of the files that are read, by the steps that open them
-pub names_in_order : (given : Settings)
-    → given.queries ∷ later_names given ≡ file_names given
-names_in_order given = ap (λ (ns : List (List ℕ)). given.queries ∷ ns)
+-- the names of the files that are read up to the streams, by the steps that open them
+abbrev pub names_to_streams : Settings → List (List ℕ)
+names_to_streams given = (option_to_list (joins_of given) ++ option_to_list (asks_of given))
+    ++ (option_to_list (from_of given) ++ streams_of given)
+
+streams_in_order : (given : Settings)
+    → given.queries ∷ names_to_streams given ≡ names_with_streams given
+streams_in_order given = ap (λ (ns : List (List ℕ)). given.queries ∷ ns)
     (sym (append_assoc (option_to_list (joins_of given) ++ option_to_list (asks_of given))
     (option_to_list (from_of given)) (streams_of given)))
+
+-- and of all of them
+pub names_in_order : (given : Settings)
+    → given.queries ∷ later_names given ≡ file_names given
+names_in_order given =
+    ap (λ (ns : List (List ℕ)). ns ++ asks_names given) (streams_in_order given)
+
+-- the step behind the streams
+pub behind_streams : {F : Type 0} {holds : F → List ℕ → Option (List ℕ)}
+    {opened made : F → List (List ℕ)} {unread unmade : F → List ℕ → ℕ} {given : Settings}
+    {own to_write : List (List ℕ)} {start : Option StartFault} {old new : F}
+    → UsesMore holds opened made unread unmade given (names_with_streams given) own to_write start
+    old new
+    → UsesMore holds opened made unread unmade given (given.queries ∷ names_to_streams given) own
+    to_write start old new
+behind_streams {F} {holds} {opened} {made} {unread} {unmade} {given} {own} {to_write} {start} {old}
+    {new} uses =
+    subst (λ (ns : List (List ℕ)). UsesMore holds opened made unread unmade given ns own to_write
+    start old new)
+    (sym (streams_in_order given)) uses
 
 -- the step behind all files that are read
 pub behind_all : {F : Type 0} {holds : F → List ℕ → Option (List ℕ)} {opened made : F → List (List ℕ)}
@@ -358,6 +390,20 @@ opening_refuses {S} left faults given holds which refusal may is = record {
         (option_to_list refusal.source)) (sym opening) none
     by_sources (inr memory) = subst (λ (f : StartFault). AreSourcesOf left faults (file_held (Some given) holds) f
         (option_to_list refusal.source)) (sym memory) none
+
+-- so is one of the replies to a reader
+pub replies_refuse : {S : Type 0} (left : S → Option (List ℕ)) (faults : S → ℕ) (given : Settings)
+    (holds : List ℕ → Option (List ℕ)) (refusal : Refusal S) → AreUnderstoodFiles given holds
+    → IsRefusalOfReplies given refusal → IsRefusal left faults given holds refusal
+replies_refuse {S} left faults given holds refusal understood is = by is.cause
+  where
+    by : ((number : ℕ) × IsNumberOf (length (readers_of given)) number
+        × (refusal.fault ≡ Open (RepliesOf number))) ⊎ (refusal.fault ≡ Memory)
+        → IsRefusal left faults given holds refusal
+    by (inl (number, within, opening)) = opening_refuses left faults given holds (RepliesOf number)
+        refusal (within, understood) (record { no_source = is.no_source; cause = inl opening })
+    by (inr memory) = opening_refuses left faults given holds Queries refusal tt
+        (record { no_source = is.no_source; cause = inr memory })
 
 -- the queries file and the joins file that were read whole are understood
 pub joins_understood : (given : Settings) (holds : List ℕ → Option (List ℕ)) (queries : List Query)

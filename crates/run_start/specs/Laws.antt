@@ -10,7 +10,7 @@ use Rattle.join_file.specs.declared.fault.JoinFileFault.{JoinFileFault}
 use Rattle.ask_text.specs.declared.fault.AskFault.{AskFault}
 use Rattle.rpq_words.specs.declared.settings.Settings.{Settings}
 use Rattle.rpq_words.specs.declared.settings.OutputKind.TheVariants.{Bindings}
-use Rattle.rpq_words.specs.Examples.{forwards, over, resumed}
+use Rattle.rpq_words.specs.Examples.{forwards, over, reader_of, resumed}
 use Rattle.rpq_words.specs.Views.{cap_of, from_of, streams_of}
 use Rattle.rpq_text.specs.declared.ends.StartFault.TheVariants as start
 use Rattle.rpq_text.specs.declared.ends.Which.TheVariants as file
@@ -19,9 +19,12 @@ use Rattle.run_start.specs.Files.{stream_contents}
 use Rattle.run_start.specs.Start.{AreOpened, AreMade}
 use Rattle.run_start.specs.Texts.{tuples_within}
 
--- the settings of `rpq --joins=j --asks=a --replies=r --save=s --from=f q t`
+-- the settings of `rpq --joins=j --asks=a --replies=r --reader b w --reader c v --save=s --from=f q t`
 abbrev pub all_files : Settings
-all_files = forwards (record resumed { shown = Bindings (codes "j") })
+all_files = forwards (record resumed {
+  shown = Bindings (codes "j");
+  readers = reader_of (codes "b") (codes "w") ∷ reader_of (codes "c") (codes "v") ∷ [];
+})
 
 -- the settings of `rpq q t u`
 abbrev pub two_streams : Settings
@@ -31,7 +34,7 @@ two_streams = forwards (over (codes "t" ∷ codes "u" ∷ []))
 -- and those that come before the one for which it doesn't, and that one itself where it was opened
 pub record ReadInOrder : Type 0 where
   pub all : AreOpened all_files None
-      (codes "q" ∷ codes "j" ∷ codes "a" ∷ codes "f" ∷ codes "t" ∷ [])
+      (codes "q" ∷ codes "j" ∷ codes "a" ∷ codes "f" ∷ codes "t" ∷ codes "b" ∷ codes "c" ∷ [])
   pub words : AreOpened all_files (Some start.Words) []
   pub queries : AreOpened all_files (Some (start.Open file.Queries)) []
   pub faulty_queries : (fault : QueryFault) →
@@ -46,8 +49,14 @@ pub record ReadInOrder : Type 0 where
       (codes "q" ∷ codes "j" ∷ codes "a" ∷ [])
   pub stream : AreOpened all_files (Some (start.Open (file.Stream 1)))
       (codes "q" ∷ codes "j" ∷ codes "a" ∷ codes "f" ∷ [])
-  pub replies : AreOpened all_files (Some (start.Open file.Replies))
+  pub asks_of : AreOpened all_files (Some (start.Open (file.AsksOf 1)))
       (codes "q" ∷ codes "j" ∷ codes "a" ∷ codes "f" ∷ codes "t" ∷ [])
+  pub second_asks : AreOpened all_files (Some (start.Open (file.AsksOf 2)))
+      (codes "q" ∷ codes "j" ∷ codes "a" ∷ codes "f" ∷ codes "t" ∷ codes "b" ∷ [])
+  pub replies : AreOpened all_files (Some (start.Open file.Replies))
+      (codes "q" ∷ codes "j" ∷ codes "a" ∷ codes "f" ∷ codes "t" ∷ codes "b" ∷ codes "c" ∷ [])
+  pub replies_of : AreOpened all_files (Some (start.Open (file.RepliesOf 1)))
+      (codes "q" ∷ codes "j" ∷ codes "a" ∷ codes "f" ∷ codes "t" ∷ codes "b" ∷ codes "c" ∷ [])
   pub second : AreOpened two_streams (Some (start.Open (file.Stream 2)))
       (codes "q" ∷ codes "t" ∷ [])
 
@@ -63,12 +72,18 @@ pub record ReadWholeInOrder : Type 0 where
       (codes "q" ∷ codes "j" ∷ codes "a" ∷ [])
 
 -- the files of such a run that are opened to write: none where it doesn't begin for one that is
--- read, and those of the replies and of the window to be saved, in this order
+-- read, and those of the replies, of the window to be saved and of the replies to each reader, in
+-- this order
 pub record WrittenInOrder : Type 0 where
-  pub all : AreMade all_files None (codes "r" ∷ codes "s" ∷ [])
+  pub all : AreMade all_files None (codes "r" ∷ codes "s" ∷ codes "w" ∷ codes "v" ∷ [])
   pub stream : AreMade all_files (Some (start.Open (file.Stream 1))) []
   pub replies : AreMade all_files (Some (start.Open file.Replies)) []
   pub save : AreMade all_files (Some (start.Open file.Save)) (codes "r" ∷ [])
+  pub asks_of : AreMade all_files (Some (start.Open (file.AsksOf 2))) []
+  pub replies_of : AreMade all_files (Some (start.Open (file.RepliesOf 1)))
+      (codes "r" ∷ codes "s" ∷ [])
+  pub second_replies : AreMade all_files (Some (start.Open (file.RepliesOf 2)))
+      (codes "r" ∷ codes "s" ∷ codes "w" ∷ [])
 
 -- a run with these settings, over files that hold this, begins with the text of these tuples, and
 -- its stream has this text

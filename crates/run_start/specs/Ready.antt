@@ -1,17 +1,19 @@
 -- What a run begins with, and why its words alone begin none.
-use Rattle.std.specs.Prelude.{◌≡◌, ℕ, ◌≤◌, List, [], length, All, Option, Some}
+use Rattle.std.specs.Prelude.{◌≡◌, ℕ, ◌≤◌, List, [], length, map, All, Option, Some}
 use Rattle.std.specs.Prelude.{None, is_some, option_map, IfSome, Result, Ok, Err}
 use Rattle.containment_laws.specs.Accepted.{IsAccepted}
 use Rattle.rpq_io.specs.Files.{IsNewSink}
 use Rattle.query_file.specs.Compiled.{CompiledValue, IsCompiled}
 use Rattle.join_file.specs.Sound.{IsSound}
 use Rattle.ask_text.specs.Ranges.{IsSession}
+use Rattle.live_asks.specs.declared.reader.AskReader.{AskReader}
+use Rattle.live_asks.specs.Readers.{IsNewAskReader}
 use Rattle.rpq_words.specs.declared.settings.Directions.{Directions}
 use Rattle.rpq_words.specs.declared.settings.RunMode.TheVariants.{Check, Generate, Streams}
 use Rattle.rpq_words.specs.declared.settings.StreamSettings.{StreamSettings}
 use Rattle.rpq_words.specs.declared.settings.Settings.{Settings}
 use Rattle.rpq_words.specs.Views.{asks_of, cap_of, from_of, joins_of, mode_of, replies_of, save_of}
-use Rattle.rpq_words.specs.Views.{two_way_of}
+use Rattle.rpq_words.specs.Views.{readers_of, two_way_of}
 use Rattle.rpq_text.specs.Definitions.{definitions_of}
 use Rattle.rpq_text.specs.Limits.{query_limit}
 use Rattle.rpq_text.specs.declared.ends.StartFault.{StartFault}
@@ -54,9 +56,20 @@ pub record AreNewSinks {K : Type 0} (written : K → Option (List ℕ)) (failure
   pub save : is_some sinks.save ≡ is_some (save_of given)
   pub new_save : IfSome sinks.save (IsNewSink written failures)
 
+-- the readers beside a run, in order and not too many: each is new, and what it asks is what its
+-- file holds
+pub record AreAskReaders {S K : Type 0} (left : S → Option (List ℕ)) (faults : S → ℕ)
+    (written : K → Option (List ℕ)) (failures : K → ℕ) (given : Settings)
+    (holds : List ℕ → Option (List ℕ)) (readers : List (AskReader S K)) : Type 0 where
+  pub few : length readers ≤ 64
+  pub new : All (IsNewAskReader left faults written failures) readers
+  pub contents : map (λ files. holds files.asks) (readers_of given)
+      ≡ map (λ one. left one.reader.source) readers
+
 -- what is read and answered in a run over streams: a new reader of each stream, in order, with the
 -- saved window in front of it where one is named; the joins of the joins file and the sessions of
--- the asks file, not too many of each, and each about the queries; and the sinks
+-- the asks file, not too many of each, and each about the queries; the readers beside the run; and
+-- the sinks
 pub record IsReading {S K : Type 0} (left : S → Option (List ℕ)) (faults : S → ℕ)
     (written : K → Option (List ℕ)) (failures : K → ℕ) (given : Settings)
     (holds : List ℕ → Option (List ℕ)) (queries : List CompiledValue) (reading : StreamsPlan S K)
@@ -74,6 +87,7 @@ pub record IsReading {S K : Type 0} (left : S → Option (List ℕ)) (faults : S
       (λ asked. reading.sessions.items ≡ asked)
   pub few : length reading.sessions.items ≤ 64
   pub ranges : All (IsSession (length queries)) reading.sessions.items
+  pub ask_readers : AreAskReaders left faults written failures given holds reading.ask_readers.items
   pub sinks : AreNewSinks written failures given reading.sinks
 
 -- the work that the settings ask for: a check, the evaluation over so many generated tuples, or

@@ -1,13 +1,14 @@
 -- Why a run doesn't begin, and what its beginning does to the files.
-use Rattle.std.specs.Prelude.{◌≡◌, ℕ, ◌⊎◌, List, [], ◌∷◌, ◌++◌, length, Option, Some, None}
+use Rattle.std.specs.Prelude.{◌≡◌, ℕ, zero, suc, ◌⊎◌, List, [], ◌∷◌, ◌++◌, length, take, Option}
+use Rattle.std.specs.Prelude.{Some, None}
 use Rattle.std.specs.Prelude.{IsSomeAnd, Contains, option_and_then, option_to_list}
 use Rattle.rpq_io.specs.Counts.{Rose, CountsFault}
 use Rattle.rpq_words.specs.declared.settings.Settings.{Settings}
 use Rattle.rpq_words.specs.Views.{asks_of, from_of, joins_of, replies_of, save_of, streams_of}
-use Rattle.rpq_words.specs.Views.{two_way_of}
+use Rattle.rpq_words.specs.Views.{readers_of, two_way_of}
 use Rattle.rpq_text.specs.declared.ends.Which.{Which}
 use Rattle.rpq_text.specs.declared.ends.Which.TheVariants.{Queries, Joins, Asks, From}
-use Rattle.rpq_text.specs.declared.ends.Which.TheVariants.{Stream, Replies, Save}
+use Rattle.rpq_text.specs.declared.ends.Which.TheVariants.{Stream, Replies, Save, AsksOf, RepliesOf}
 use Rattle.rpq_text.specs.declared.ends.StartFault.{StartFault}
 use Rattle.rpq_text.specs.declared.ends.StartFault.TheVariants.{Words, Queries as QueriesFault}
 use Rattle.rpq_text.specs.declared.ends.StartFault.TheVariants.{Joins as JoinsFaulty}
@@ -18,6 +19,7 @@ use Rattle.run_start.specs.Files.{AreFaultyAsks, AreFaultyJoins, AreUnderstoodFi
 use Rattle.run_start.specs.Files.{AreUnderstoodJoins, IsFaultyFile, IsQueriesFile, IsRestOf}
 use Rattle.run_start.specs.Files.{IsTooLong}
 use Rattle.run_start.specs.Given.{stream_name, understood_names, whole_names, file_names}
+use Rattle.run_start.specs.Given.{asks_names, name_numbered, own_sink_names, replies_names}
 use Rattle.run_start.specs.Given.{sink_names, names_before, names_up_to}
 
 -- where each cause of a refusal may come that isn't one of the words, by what the files hold: a
@@ -46,6 +48,10 @@ IsRefusedFor given holds (Open Replies) =
     IsSomeAnd (replies_of given) (λ name. AreUnderstoodFiles given holds)
 IsRefusedFor given holds (Open Save) =
     IsSomeAnd (save_of given) (λ name. AreUnderstoodFiles given holds)
+IsRefusedFor given holds (Open (AsksOf number)) =
+    IsNumberOf (length (readers_of given)) number × AreUnderstoodFiles given holds
+IsRefusedFor given holds (Open (RepliesOf number)) =
+    IsNumberOf (length (readers_of given)) number × AreUnderstoodFiles given holds
 IsRefusedFor given holds (Read Queries) = Unit {0}
 IsRefusedFor given holds (Read Joins) =
     IsSomeAnd (joins_of given) (λ name. IsQueriesFile (two_way_of given) (holds given.queries))
@@ -55,6 +61,8 @@ IsRefusedFor given holds (Read From) = ⊥
 IsRefusedFor given holds (Read (Stream number)) = ⊥
 IsRefusedFor given holds (Read Replies) = ⊥
 IsRefusedFor given holds (Read Save) = ⊥
+IsRefusedFor given holds (Read (AsksOf number)) = ⊥
+IsRefusedFor given holds (Read (RepliesOf number)) = ⊥
 IsRefusedFor given holds (Long Queries) = IsTooLong (holds given.queries)
 IsRefusedFor given holds (Long Joins) =
     IsSomeAnd (joins_of given) (λ name.
@@ -65,6 +73,8 @@ IsRefusedFor given holds (Long From) = ⊥
 IsRefusedFor given holds (Long (Stream number)) = ⊥
 IsRefusedFor given holds (Long Replies) = ⊥
 IsRefusedFor given holds (Long Save) = ⊥
+IsRefusedFor given holds (Long (AsksOf number)) = ⊥
+IsRefusedFor given holds (Long (RepliesOf number)) = ⊥
 IsRefusedFor given holds Memory = Unit {0}
 
 -- why a run doesn't begin, by the settings of its words, if they have any: they have none, or a
@@ -86,6 +96,9 @@ IsOpeningOf given name (Open From) = from_of given ≡ Some name
 IsOpeningOf given name (Open (Stream number)) = stream_name given number ≡ Some name
 IsOpeningOf given name (Open Replies) = ⊥
 IsOpeningOf given name (Open Save) = ⊥
+IsOpeningOf given name (Open (AsksOf number)) =
+    name_numbered (asks_names given) number ≡ Some name
+IsOpeningOf given name (Open (RepliesOf number)) = ⊥
 IsOpeningOf given name (Read which) = ⊥
 IsOpeningOf given name (Long which) = ⊥
 IsOpeningOf given name Memory = ⊥
@@ -103,6 +116,9 @@ IsMakingOf given name (Open From) = ⊥
 IsMakingOf given name (Open (Stream number)) = ⊥
 IsMakingOf given name (Open Replies) = replies_of given ≡ Some name
 IsMakingOf given name (Open Save) = save_of given ≡ Some name
+IsMakingOf given name (Open (AsksOf number)) = ⊥
+IsMakingOf given name (Open (RepliesOf number)) =
+    name_numbered (replies_names given) number ≡ Some name
 IsMakingOf given name (Read which) = ⊥
 IsMakingOf given name (Long which) = ⊥
 IsMakingOf given name Memory = ⊥
@@ -117,6 +133,9 @@ file_held (Some given) holds From = option_and_then holds (from_of given)
 file_held (Some given) holds (Stream number) = option_and_then holds (stream_name given number)
 file_held (Some given) holds Replies = None
 file_held (Some given) holds Save = None
+file_held (Some given) holds (AsksOf number) =
+    option_and_then holds (name_numbered (asks_names given) number)
+file_held (Some given) holds (RepliesOf number) = None
 
 -- the sources that a refusal leaves: that of the file that is read whole and of which a read
 -- failed, as its count shows, with a rest of the file left; else none
@@ -158,6 +177,10 @@ sinks_before given From = []
 sinks_before given (Stream number) = []
 sinks_before given Replies = []
 sinks_before given Save = option_to_list (replies_of given)
+sinks_before given (AsksOf number) = []
+sinks_before given (RepliesOf zero) = own_sink_names given
+sinks_before given (RepliesOf (suc place)) =
+    own_sink_names given ++ take place (replies_names given)
 
 -- the names of the files that a run opened to write, by why it didn't begin, if it didn't
 abbrev pub AreMade : Settings → Option StartFault → List (List ℕ) → Type 0

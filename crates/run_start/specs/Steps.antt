@@ -1,5 +1,6 @@
 -- What the steps of a run's beginning do. Only private contracts cite this file.
-use Rattle.std.specs.Prelude.{◌≡◌, ◌≢◌, ◌⊎◌, ℕ, List, [], ◌∷◌, ◌++◌, option_to_list}
+use Rattle.std.specs.Prelude.{◌≡◌, ◌≢◌, ◌⊎◌, ℕ, Bool, false, List, [], ◌∷◌, ◌++◌, length}
+use Rattle.std.specs.Prelude.{option_to_list}
 use Rattle.std.specs.Prelude.{Option, Some, None, IsSomeAnd, Contains, Err}
 use Rattle.rpq_model.specs.Query.{Query}
 use Rattle.join_file.specs.declared.fault.JoinFileFaultKind.TheVariants.{Memory as MemoryOfJoins}
@@ -9,8 +10,10 @@ use Rattle.ask_text.specs.Asks.{asks}
 use Rattle.rpq_io.specs.Counts.{CountsFault, CountsOpening}
 use Rattle.rpq_io.specs.Files.{KeepsFiles}
 use Rattle.rpq_words.specs.declared.settings.Settings.{Settings}
-use Rattle.stream_tuples.specs.History.{IsPrefix}
+use Rattle.rpq_words.specs.Views.{readers_of}
+use Rattle.stream_tuples.specs.History.{IsNumberOf, IsPrefix}
 use Rattle.rpq_text.specs.declared.ends.Which.{Which}
+use Rattle.rpq_text.specs.declared.ends.Which.TheVariants.{RepliesOf}
 use Rattle.rpq_text.specs.declared.ends.StartFault.{StartFault}
 use Rattle.rpq_text.specs.declared.ends.StartFault.TheVariants.{Words, Queries, Joins, Asks}
 use Rattle.rpq_text.specs.declared.ends.StartFault.TheVariants.{Open, Read, Long, Memory}
@@ -112,6 +115,19 @@ pub record IsRefusal {S : Type 0} (left : S → Option (List ℕ)) (faults : S �
 pub record IsRefusalOfOpening {S : Type 0} (which : Which) (refusal : Refusal S) : Type 0 where
   pub no_source : refusal.source ≡ None
   pub cause : (refusal.fault ≡ Open which) ⊎ (refusal.fault ≡ Memory)
+
+-- nothing of a source was read: it didn't tell its end, and no read of it failed
+pub record IsUnread {S : Type 0} (has_told_end : S → Bool) (faults : S → ℕ) (source : S)
+    : Type 0 where
+  pub untold : has_told_end source ≡ false
+  pub no_fault : faults source ≡ 0
+
+-- why the replies to the readers beside a run aren't opened: the opening of those of one of them
+-- failed, or memory ran out; no source is left
+pub record IsRefusalOfReplies {S : Type 0} (given : Settings) (refusal : Refusal S) : Type 0 where
+  pub no_source : refusal.source ≡ None
+  pub cause : ((number : ℕ) × IsNumberOf (length (readers_of given)) number
+      × (refusal.fault ≡ Open (RepliesOf number))) ⊎ (refusal.fault ≡ Memory)
 
 -- the names that a step opened to read, before which the run opened others: its own, or those that
 -- make the names of a run that doesn't begin for this

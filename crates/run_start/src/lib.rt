@@ -2,13 +2,14 @@
 //!
 //! The contract for the layer above is that of [`begin`]: the queries file is read whole and
 //! understood, then the joins file, and then the asks file; then the saved window with which the run
-//! begins and the streams in their order are opened, and the files to be written last, each of them
-//! once. [`begin`] hands over what a run needs of all that (`specs/Ready`), or says which of them is
-//! at fault (`specs/Start`), with the source of which a read failed. Before it, [`settings_of`] says
-//! which words begin a run. A file that is read whole is held in memory until it is understood;
-//! nothing is read of a stream.
+//! begins, the streams in their order and what the readers beside the run ask are opened, and the
+//! files to be written last, each of them once. [`begin`] hands over what a run needs of all that
+//! (`specs/Ready`), or says which of them is at fault (`specs/Start`), with the source of which a
+//! read failed. Before it, [`settings_of`] says which words begin a run. A file that is read whole
+//! is held in memory until it is understood; nothing is read of a stream, nor of what a reader asks.
 #![tactic(auto)]
 
+mod asking;
 mod joins;
 mod laws;
 mod limits;

@@ -13,6 +13,7 @@ ghost use Rattle.run_start.specs.Ready.{IsReadWhole, fault_of};
 ghost use Rattle.run_start.specs.Start.{AreSourcesOf, IsRefusedFor, UsesFiles, file_held};
 ghost use Rattle.run_start.specs.Steps.{IsRefusal, UsesMore};
 
+use crate::asking::{open_ask_readers, open_asks};
 use crate::joins::joins_of_file;
 use crate::queries::queries_of_file;
 use crate::refusal::Refusal;
@@ -21,6 +22,7 @@ use crate::sinks::{OwnSinks, open_sinks};
 use crate::streams::{Readers, open_readers};
 use ask_text::Session;
 use join_file::JoinDef;
+use live_asks::AskReader;
 use query_file::Compiled;
 use rpq_io::{Files, Sink, Source};
 use rpq_words::{Directions, ModeRef, Settings, StreamSettings};
@@ -55,14 +57,17 @@ pub struct StreamsPlan<S: Source, K: Sink> {
     pub joins: Arc<Vec<JoinDef>>,
     /// What each session asks, in order.
     pub sessions: Vec<Session>,
-    /// Where the replies and the saved window go.
+    /// The readers beside the run, in order, of which nothing was read.
+    pub ask_readers: Vec<AskReader<S, K>>,
+    /// Where the replies to the sessions and the saved window go.
     pub sinks: OwnSinks<K>,
 }
 
 /// Reads the queries file whole and understands it; then the joins file, if there is one, and the
 /// asks file, if there is one; opens the saved window with which the run begins, if there is one,
-/// and the streams in their order; and opens the sinks of the replies and of the window to be saved,
-/// as far as there are such. For a check, and for generated tuples, only the queries file is opened.
+/// the streams in their order, and the asks of the readers beside the run in theirs; and opens the
+/// sinks of the replies and of the window to be saved, as far as there are such, and those of the
+/// readers. For a check, and for generated tuples, only the queries file is opened.
 /// The first of these that fails ends it.
 pub fn begin<F: Files>(
     alloc: Global,
@@ -103,8 +108,8 @@ pub fn begin<F: Files>(
     }
 }
 
-/// Reads the joins file and the asks file, and opens the streams and the sinks, in a run over
-/// streams with these queries, which are those of its queries file.
+/// Reads the joins file and the asks file, and opens the streams, the asks of the readers beside the
+/// run, and the sinks, in a run over streams with these queries, which are those of its queries file.
 fn begin_reading<F: Files>(
     alloc: Global,
     files: &mut F,
@@ -132,11 +137,14 @@ fn begin_reading<F: Files>(
     let joins = joins_of_file(alloc, files, chosen, queries)?;
     let sessions = sessions_of_file(alloc, files, chosen, queries)?;
     let readers = open_readers(alloc, files, chosen, run)?;
+    let asks = open_asks(alloc, files, chosen)?;
     let sinks = open_sinks(files, chosen)?;
+    let ask_readers = open_ask_readers(alloc, files, chosen, asks)?;
     Ok(StreamsPlan {
         readers,
         joins,
         sessions,
+        ask_readers,
         sinks,
     })
 }

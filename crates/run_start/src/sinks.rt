@@ -1,9 +1,10 @@
 //! The sinks that are written beside the events are opened.
 
-ghost use Rattle.std.specs.Prelude.{◌≡◌, [], is_some, option_copied, IfOk, IfErr, IfSome, IsSome};
+ghost use Rattle.std.specs.Prelude.{◌≡◌, [], is_some, option_copied, Some, IfOk, IfErr, IfSome};
+ghost use Rattle.std.specs.Prelude.{IsSome};
 ghost use Rattle.rpq_io.specs.Files.{IsNewSink};
 ghost use Rattle.run_start.specs.Files.{AreUnderstoodFiles};
-ghost use Rattle.run_start.specs.Given.{file_names, sink_names};
+ghost use Rattle.run_start.specs.Given.{file_names, own_sink_names};
 ghost use Rattle.run_start.specs.Ready.{AreNewSinks, fault_of};
 ghost use Rattle.run_start.specs.Steps.{IsRefusal, IsRefusalOfOpening, OpensSink, UsesMore};
 
@@ -31,16 +32,16 @@ pub fn open_sinks<F: Files>(
     ensures refused { IfErr result
         (IsRefusal F.Source.left F.Source.faults chosen.now (F.holds files.old)) }
     ensures files { UsesMore F.holds F.opened F.made F.unread F.unmade chosen.now
-        (file_names chosen.now) [] (sink_names chosen.now) (fault_of result)
+        (file_names chosen.now) [] (own_sink_names chosen.now) (fault_of result)
         files.old files.new }
 {
-    let replies = open_sink(files, chosen.replies(), Which::Replies)?;
-    let save = open_sink(files, chosen.save(), Which::Save)?;
+    let replies = open_optional_sink(files, chosen.replies(), Which::Replies)?;
+    let save = open_optional_sink(files, chosen.save(), Which::Save)?;
     Ok(OwnSinks { replies, save })
 }
 
 /// A new sink for the file of this name, where there is one.
-fn open_sink<F: Files>(
+fn open_optional_sink<F: Files>(
     files: &mut F,
     name: Option<&FileWord>,
     which: Which,
@@ -56,8 +57,22 @@ fn open_sink<F: Files>(
     let Some(name) = name else {
         return Ok(None);
     };
+    Ok(Some(open_sink(files, name, which)?))
+}
+
+/// A new sink for the file of this name, which is written as this one.
+pub fn open_sink<F: Files>(
+    files: &mut F,
+    name: &FileWord,
+    which: Which,
+) -> Result<F::Sink, Refusal<F::Source>>
+    ensures unwritten { IfOk result (IsNewSink F.Sink.written F.Sink.faults) }
+    ensures cause { IfErr result (IsRefusalOfOpening which) }
+    ensures files { OpensSink F.holds F.opened F.made F.unread F.unmade which
+        (Some name.now) (fault_of result) files.old files.new }
+{
     match files.sink(name.as_str()) {
-        Ok(sink) => Ok(Some(sink)),
+        Ok(sink) => Ok(sink),
         Err(OpenFault::Failed) => Err(without_source(StartFault::Open(which))),
         Err(OpenFault::Memory) => Err(without_source(StartFault::Memory)),
     }

@@ -176,7 +176,7 @@ fn byte_limit(chosen: &Settings) -> u64
 }
 
 /// A new source of the file of this name, which is read as this one.
-fn open_file<F: Files>(
+pub fn open_file<F: Files>(
     files: &mut F,
     name: &str,
     which: Which,

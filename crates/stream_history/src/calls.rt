@@ -1,6 +1,6 @@
 //! What threads do with a history.
 
-ghost use Rattle.std.specs.Prelude.{◌≡◌, ℕ, ◌<◌, ◌≤◌, ◌↔◌, Some, None, Err, length, take, drop};
+ghost use Rattle.std.specs.Prelude.{◌≡◌, ℕ, ◌+◌, ◌<◌, ◌≤◌, ◌↔◌, Some, None, Err, length, take, drop};
 ghost use Rattle.std.specs.Prelude.{IsTrue, IfOk, IfErr, IfSome, IsSome, OnOk, OnErr};
 ghost use Rattle.rpq_base.specs.Plain.{IsPlainTuple};
 ghost use Rattle.history_model.specs.declared.line.Why.{Why as Reason};
@@ -147,9 +147,10 @@ impl History {
     /// The entries behind so many first ones, all of them or the first 256. Answers none where some
     /// of these are gone, which a history that keeps all its entries never does.
     ///
-    /// The engine of a history with readers has to publish what it got before it asks for more. The
-    /// only error is [`Memory`]. It costs a turn, in which the entries are copied. With the first
-    /// call the engine begins, so that streams wait for room from there on.
+    /// The engine of a history with readers has to publish what it got before it asks for more, but
+    /// for the last entries, as many as [`History::lag`] says. The only error is [`Memory`]. It
+    /// costs a turn, in which the entries are copied. With the first call the engine begins, so
+    /// that streams wait for room from there on.
     pub fn after<R: Wait>(
         &self,
         rt: &R,
@@ -159,7 +160,8 @@ impl History {
     ) -> Result<Option<Front>, Memory>
         requires engine { IsEnginePass self.now pass.old }
         requires there { from ≤ length (entries pass.old.seen) }
-        requires published { 0 < self.now.readers → from ≤ published pass.old.mine }
+        requires published { 0 < self.now.readers
+            → from ≤ published pass.old.mine + self.now.lag }
         ensures pass { HasSeen self.now pass.old pass.new }
         ensures entries { IfOk result (λ found. IfSome found (λ front.
             front.entries.items ≡ take 256 (drop from (entries pass.new.seen)))) }
@@ -272,6 +274,13 @@ impl History {
         let _ = pass;
         let _ = answered;
         self.entry_bell.sleep(rt, heard);
+    }
+
+    /// Whether a reader sleeps until a view at this position or an earlier one is published. It is
+    /// one atomic read, and no turn. No clause says what it answers: a view may be published that
+    /// nobody waits for.
+    pub fn is_view_wanted(&self, position: u64) -> bool {
+        self.view_bell.is_waited_for(position)
     }
 
     /// Sleeps until a view at this position or a later one is published, a stream ends, the last

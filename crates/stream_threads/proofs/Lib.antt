@@ -3,3 +3,6 @@ pub mod Seen
 pub mod Numbering
 pub mod Replying
 mod Serving
+mod Live
+mod ReaderWorks
+mod Crossing

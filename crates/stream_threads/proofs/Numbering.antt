@@ -1,6 +1,8 @@
 -- Lists side by side, and passes in their order.
 use Rattle.std.proofs.Common.{◌≡◌, ℕ, zero, suc, ◌+◌, ◌<◌, List, [], ◌∷◌, ◌++◌, length, get_or}
 use Rattle.std.proofs.Common.{refl, sym, ap, subst, ◌∙◌, arith, append_assoc, length-append}
+use Rattle.std.specs.List.{All, range_with_len}
+use Rattle.std.proofs.lemmas.List.Elements.{All-map}
 use Rattle.std.proofs.lemmas.List.FromFn.{length-map-range_with_len, map-range_with_len_more}
 use Rattle.turn_lock.specs.Passes.{PassValue, AreAll}
 use Rattle.history_model.specs.declared.line.Line.{Line}
@@ -103,6 +105,12 @@ order_append from (pass ∷ rest) then are more = (
 -- a new pass of a stream
 pub new_is : (history : HistoryValue) (number : ℕ) → IsPassOf history (new_pass history number)
 new_is history number = record { rest = (refl, refl); terms = refl }
+
+-- new passes are passes of their history
+pub new_are : (history : HistoryValue) (from n : ℕ) → All (IsPassOf history) (new_passes history from n)
+new_are history from n =
+    All-map (IsPassOf history) (new_pass history) (range_with_len from n)
+    (λ i d below. new_is history (get_or (range_with_len from n) i d))
 
 pub new_is_open : (history : HistoryValue) (number : ℕ) → IsStream history.terms.streams number →
     IsNewPass history (new_pass history number)

@@ -54,7 +54,7 @@ asks_more works after one yielded asks were ends is =
 
 -- ---- what the workers gave, by places and side by side
 
-by_place : {A B : Type 0} (R : ℕ → A → B → Type 0) (from : ℕ) (xs : List A) (ys : List B) →
+pub by_place : {A B : Type 0} (R : ℕ → A → B → Type 0) (from : ℕ) (xs : List A) (ys : List B) →
     length ys ≡ length xs →
     ((i : ℕ) (a : A) (b : B) → i < length xs → R (from + i) (get_or xs i a) (get_or ys i b)) →
     AllNumbered R from xs ys
@@ -68,7 +68,7 @@ by_place R from (x ∷ xs) (y ∷ ys) many each = (
       (each (suc i) a b (omega (arith, below)))),
 )
 
-of_map : {A B C : Type 0} (f : A → B) (R : ℕ → B → C → Type 0) (from : ℕ) (xs : List A)
+pub of_map : {A B C : Type 0} (f : A → B) (R : ℕ → B → C → Type 0) (from : ℕ) (xs : List A)
     (ys : List C) → AllNumbered (λ n x y. R n (f x) y) from xs ys →
     AllNumbered R from (map f xs) ys
 of_map f R from [] [] all = tt

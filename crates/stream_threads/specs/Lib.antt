@@ -4,3 +4,5 @@ pub mod Numbered
 pub mod Started
 pub mod Sessions
 pub mod Readers
+pub mod Live
+pub mod Serving

@@ -1,6 +1,6 @@
 //! The sessions of a run, as their workers are given them and give them back.
 
-ghost use Rattle.std.specs.Prelude.{◌≡◌, ◌≤◌, ◌+◌, [], false, length, map, All};
+ghost use Rattle.std.specs.Prelude.{◌≡◌, ◌≤◌, ◌+◌, ◌-◌, [], false, length, map, All};
 ghost use Rattle.std.specs.Vec.{vec_len, vec_capacity};
 ghost use Rattle.std.specs.Vec.Iter.{into_iter_items};
 ghost use Rattle.ask_text.specs.Ranges.{IsInRange};
@@ -28,23 +28,26 @@ pub struct SessionWork {
     pub told: GhostList<u64>,
 }
 
-/// The sessions with their passes, which are new. The list of them is empty, and has room for them.
+/// The sessions with their passes, which are new: the first of those that are left, which are those
+/// of the history's readers. The list of them is empty, and has room for them.
 pub fn session_works(
     alloc: Global,
     history: &History,
-    mut passes: IntoIter<Pass>,
+    passes: &mut IntoIter<Pass>,
     sessions: Vec<Session>,
     mut works: Vec<SessionWork>,
 ) -> Vec<SessionWork>
-    requires passes { into_iter_items passes ≡ new_passes history.now
-        (1 + history.now.terms.streams) (length sessions.items) }
-    requires few { length sessions.items ≤ 64 }
+    requires passes { into_iter_items passes.old ≡ new_passes history.now
+        (1 + history.now.terms.streams) history.now.readers }
+    requires few { (length sessions.items ≤ 64) × (length sessions.items ≤ history.now.readers) }
     requires asks { All (All (IsInRange (length history.now.terms.queries))) sessions.items }
-    requires none { works.items ≡ [] }
-    requires room { vec_len sessions ≤ vec_capacity works }
+    requires room { (works.items ≡ []) × (vec_len sessions ≤ vec_capacity works) }
     ensures new { AreNewWorks history.now result.items }
     ensures asks { map (λ work. work.asks.items) result.items ≡ sessions.items }
     ensures many { vec_len result ≡ vec_len sessions }
+    ensures passes { into_iter_items passes.new ≡ new_passes history.now
+        (1 + history.now.terms.streams + length sessions.items)
+        (history.now.readers - length sessions.items) }
 {
     let _ = history;
     let mut number = 0;

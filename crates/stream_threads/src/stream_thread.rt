@@ -3,13 +3,12 @@
 ghost use Rattle.std.specs.Prelude.{◌≡◌, ◌≤◌, ◌+◌, [], length, All};
 ghost use Rattle.std.specs.Vec.{vec_len, vec_capacity};
 ghost use Rattle.std.specs.Vec.Iter.{into_iter_items};
-ghost use Rattle.std.specs.Thread.{IsSync};
-ghost use Rattle.stream_history.specs.contracts.history.History.{the_row};
 ghost use Rattle.stream_tuples.specs.Progress.{IsNewReader};
 ghost use Rattle.stream_threads.specs.Streams.{IsNewPass, HasStreamed};
 ghost use Rattle.stream_threads.specs.Started.{IsStarted, AreStarted, Gives, Give, new_passes};
 
 use crate::run_parts::RunParts;
+use crate::sharing::threads_share_histories;
 use crate::stream_worker::{StreamResult, serve_stream};
 use rpq_io::{Context, Gate, LineReader, Source};
 use std::snapshot::Snapshot;
@@ -108,21 +107,6 @@ fn start_stream<'s, 'e, S: Source + Send + Drop + 's, G: Gate, R: Threads + Wait
         Ok(handle) => StreamThread::Running(handle),
         Err(refused) => StreamThread::Done((refused.value)()),
     }
-}
-
-/// Does nothing. It says that threads may share values of this type, which is found more easily for
-/// a type alone than for all that a closure captures.
-fn threads_share<T: Sync>(value: &T)
-    ensures { IsSync T.row }
-{
-    let _ = value;
-}
-
-/// Does nothing. It says that threads may share a history.
-fn threads_share_histories(history: &History)
-    ensures { IsSync the_row }
-{
-    threads_share(history)
 }
 
 /// What the workers give, in their order. The list of it is empty, and has room for it.

@@ -26,14 +26,14 @@ returns-clause-runs g c = λ two_way file kept leaves has.
     let failed = failed_sinks (is_err result) false false in
     let failed_are : c.failed_sinks-failed.result.now ≡ failed =
     c.failed_sinks-failed.ensures ∙ ap (λ e. failed_sinks e false false) c.is_err.ensures.value in
-    let status_is : status ≡ first_status [] failed =
-    c.first_status-status.ensures ∙ ap (λ (fs : List SinkName). first_status [] fs) failed_are in
-    let told = subst (λ (fs : List SinkName). TellsLines written failures (run_lines [] fs status) errors errors')
-    failed_are (told_lines written failures (run_lines [] c.failed_sinks-failed.result.now status)
+    let status_is : status ≡ first_status [] [] failed =
+    c.first_status-status.ensures ∙ ap (λ (fs : List SinkName). first_status [] [] fs) failed_are in
+    let told = subst (λ (fs : List SinkName). TellsLines written failures (run_lines [] [] fs status) errors errors')
+    failed_are (told_lines written failures (run_lines [] [] c.failed_sinks-failed.result.now status)
     errors errors' c.tell_end.result c.tell_end.ensures) in
     runs_check (meanings left faults written failures) two_way file c.args.queries.now all result status kept
     c.new.result.items c.new.result.base c.new-2.result.items c.new-3.result.items
-    (map (λ (own : Vec AnsweredValue). own.items) c.new-4.result.items)
+    (map (λ (own : Vec AnsweredValue). own.items) c.new-4.result.items) c.new-5.result.items
     c.new.ensures.items c.new.ensures.base c.new-2.ensures.items c.new-3.ensures.items
-    (ap (map (λ (own : Vec AnsweredValue). own.items)) c.new-4.ensures.items) leaves
+    (ap (map (λ (own : Vec AnsweredValue). own.items)) c.new-4.ensures.items) c.new-5.ensures.items leaves
     has c.requires.compiled c.write_verdicts-written.ensures status_is told

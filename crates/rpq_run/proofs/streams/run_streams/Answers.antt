@@ -13,7 +13,7 @@ use Rattle.saved_window.specs.Then.{TwoSources, left_of_both}
 use Rattle.rpq_threads.specs.Runs.{IsSessionOf}
 use Rattle.rpq_run.specs.Ending.{SavesIfThere, entries_left, is_left_out}
 use Rattle.rpq_run.specs.Outcome.{meanings, sinks}
-use Rattle.rpq_run.proofs.Running.{run_reported}
+use Rattle.rpq_run.proofs.Running.{many_readers, run_reported}
 use Rattle.rpq_run.proofs.Windows.{plain_as_left, saves_as_left, saves_of_history}
 use Rattle.rpq_run.proofs.streams.run_streams.Goals as goal
 
@@ -36,16 +36,34 @@ write_own-written-requires-clause-plain g c =
 pub end_run-requires-clause-room : goal.end_run-requires-clause-room
 end_run-requires-clause-room g c κs within =
     let readers = c.args.task.readers.items in
-    let left = left_of_both g.F.Source.Source.left in (
-      c.in_ok-room.ensures.items,
-      omega (
+    let left = left_of_both g.F.Source.Source.left in
+    let room = c.in_ok-room.ensures in
+    record {
+      no_source = room.no_source;
+      sources = omega (
         arith,
         c.in-Ok.ensures.ok.streams.as_many_sources,
         length-map readers (λ (reader : ReaderState (TwoSources _)). left reader.source),
-        c.in_ok-room.ensures.capacity,
+        room.sources,
         c.len.ensures,
-      ),
-    )
+      );
+      no_end = room.no_end;
+      ends = omega (
+        arith,
+        many_readers g.F.Source.Source.left g.F.Source.Source.faults g.F.Sink.Sink.written
+            g.F.Sink.Sink.faults c.args.task c.in-Ok.outcome c.in-Ok.ensures.ok.answers,
+        room.ends,
+        c.len-2.ensures,
+      );
+    }
+
+pub end_run-requires-clause-few_readers : goal.end_run-requires-clause-few_readers
+end_run-requires-clause-few_readers g c κs within = omega (
+  arith,
+  many_readers g.F.Source.Source.left g.F.Source.Source.faults g.F.Sink.Sink.written
+      g.F.Sink.Sink.faults c.args.task c.in-Ok.outcome c.in-Ok.ensures.ok.answers,
+  c.requires.task.few_readers,
+)
 
 pub end_run-requires-clause-alone : goal.end_run-requires-clause-alone
 end_run-requires-clause-alone g c κs within =

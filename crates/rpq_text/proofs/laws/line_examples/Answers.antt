@@ -35,7 +35,7 @@ a_block = rw (
   decimal_digit 9 (omega arith),
 ) refl
 
-all_writes : run_lines [] (Events ∷ Replies ∷ Save ∷ []) 6
+all_writes : run_lines [] [] (Events ∷ Replies ∷ Save ∷ []) 6
     ≡ codes "rpq: write failed: events\nrpq: write failed: replies\nrpq: write failed: save\n"
 unfolding run_lines memory_line
 all_writes = refl

@@ -4,7 +4,7 @@ use Rattle.std.proofs.lemmas.Bool.{eqb-true}
 use Rattle.history_model.specs.Lines.{entries, published}
 use Rattle.stream_history.specs.declared.calls.Front.{Front}
 use Rattle.stream_threads.proofs.Seen.{entries_grow}
-use Rattle.rpq_threads.proofs.ComingNext.{none_comes_then, of_found}
+use Rattle.rpq_threads.proofs.ComingNext.{none_comes_then, none_put_off, of_found}
 use Rattle.rpq_threads.proofs.entries.hear_more.Goals as goal
 
 pub after-requires-clause-engine : goal.after-requires-clause-engine
@@ -23,7 +23,7 @@ after-requires-clause-there g c =
 
 pub after-requires-clause-published : goal.after-requires-clause-published
 after-requires-clause-published g c = λ some.
-    omega (arith, c.requires.published some, ap published c.loop.invariant.own)
+    omega (arith, (c.requires.told some).near, ap published c.loop.invariant.own)
 
 pub sleep_until_entries-requires-clause-answered :
     goal.sleep_until_entries-requires-clause-answered
@@ -42,3 +42,12 @@ sleep_until_entries-requires-clause-answered g c =
     (λ (front : Front). front.entries.items
     ≡ take 256 (drop c.args.count (entries c.after.new.pass.seen))) c.in-Some-2.is
     c.in_ok-front.ensures.entries) none
+
+pub sleep_until_entries-requires-clause-published :
+    goal.sleep_until_entries-requires-clause-published
+sleep_until_entries-requires-clause-published g c = λ some.
+    let all = sleep_until_entries-requires-clause-answered g c in
+    ap published c.after.ensures.pass.mine
+    ∙ (ap published c.loop.invariant.own
+    ∙ none_put_off c.args.history.now c.args.pass.now c.loop.pass c.after.new.pass c.args.count
+    c.loop.invariant.starts c.after.ensures.pass all (c.requires.told some))

@@ -16,11 +16,12 @@ use Rattle.stream_history.specs.History.{HistoryValue, IsFeedingPass}
 use Rattle.stream_threads.proofs.Numbering.{Each}
 use Rattle.rpq_threads.specs.Fed.{HasFed}
 use Rattle.rpq_threads.proofs.AllWritten.{HaveWritten}
-use Rattle.rpq_threads.specs.Entries.{FeedsOn, front_of, given_by, kept_by}
+use Rattle.rpq_threads.specs.Entries.{FeedsOn, IsNoted, front_of, given_by, kept_by}
 use Rattle.rpq_threads.specs.Past.{window_of}
 use Rattle.rpq_threads.specs.Window.{IsLeftOf}
 use Rattle.rpq_threads.proofs.Closing.{has_fed, have_written, either, both_ok, where_ok, leaves}
-use Rattle.rpq_threads.proofs.Closing.{all_given, feeds_first}
+use Rattle.rpq_threads.proofs.Closing.{all_given, feeds_first, noted_first}
+use Rattle.rpq_threads.proofs.ComingNext.{all_told, told_at}
 use Rattle.rpq_threads.proofs.Keeping.{feeds_at_first, keeps_at_first}
 use Rattle.rpq_threads.proofs.feeding.feed_all.Goals as goal
 
@@ -44,13 +45,19 @@ answer_all-ended-requires-after_bounds g c κs within =
     let no_entries : kept ++ front ≡ [] =
     ap (λ (all : List Entry). all ++ front) first.0 ∙ first.1 in
     record {
-      is_fed = subst (λ (h : HistoryValue). FeedsOn h source.pass source.past buffer source.from
-          source.to source.count evaluator) (sym new.history)
-          (subst (λ (pass : Each). FeedsOn history pass source.past buffer source.from source.to
-          source.count evaluator) (sym new.pass)
-          (feeds_at_first history work.pass queries source.past buffer source.from source.to
-          source.count evaluator new.past c.requires.same none.0 none.1 none.2 none.3
-          (feeds_first history evaluator work.pass fed)));
+      is_fed = record {
+        on = subst (λ (h : HistoryValue). FeedsOn h source.pass source.past buffer source.from
+            source.to source.count evaluator) (sym new.history)
+            (subst (λ (pass : Each). FeedsOn history pass source.past buffer source.from source.to
+            source.count evaluator) (sym new.pass)
+            (feeds_at_first history work.pass queries source.past buffer source.from source.to
+            source.count evaluator new.past c.requires.same none.0 none.1 none.2 none.3
+            (feeds_first history evaluator work.pass fed)));
+        noted = subst (λ (h : HistoryValue). IsNoted h source.pass source.shown source.known)
+            (sym new.history)
+            (subst (λ (pass : Each). IsNoted history pass source.shown source.known) (sym new.pass)
+            (noted_first history evaluator work.pass source.shown source.known fed none.4 none.5));
+      };
       runs = record {
         can_run = subst (CanRun evaluator.options) (sym fed.queries) fed.accepted;
         forwards = fed.forwards;
@@ -80,8 +87,8 @@ returns-clause-fed g c =
     let home : source.history.now ≡ history = did.home ∙ c.new-source.ensures.history in
     let feeds : IsFeedingPass history source.pass =
     subst (λ (h : HistoryValue). IsFeedingPass h source.pass) home
-    (either ended (on_ok_weaker ended (λ along. along.is_fed.feeds_from.feeds) did.along)
-    (on_err_weaker ended (λ last. last.1.feeds_from.feeds) did.feeds)) in
+    (either ended (on_ok_weaker ended (λ along. along.is_fed.on.feeds_from.feeds) did.along)
+    (on_err_weaker ended (λ last. last.1.on.feeds_from.feeds) did.feeds)) in
     let took = did.takes in
     let before = c.new-source.result in
     let wrote = have_written work.evaluator.options (queries_of work.evaluator)
@@ -94,12 +101,16 @@ returns-clause-fed g c =
     let whole = both_ok ended (λ along over. (
       over.0,
       over.1,
-      λ some. along.is_fed.feeds_from.told some ∙ (along.stands.fed.counted
-          ∙ length-take-le source.count (entries source.pass.seen)
-          along.is_fed.feeds_from.rest_comes.there),
+      λ some.
+          let fed = along.is_fed.on.feeds_from in
+          let place = along.stands.fed.counted
+          ∙ length-take-le source.count (entries source.pass.seen) fed.rest_comes.there in
+          all_told source.history.now source.pass source.count over.1
+          (told_at source.history.now source.pass c.answer_all-ended.new.evaluator.position
+          source.count (sym place) (fed.told some)),
     )) did.along did.over in
-    let last_past = either ended (on_ok_weaker ended (λ along. along.is_fed.past_is) did.along)
-    (on_err_weaker ended (λ last. last.1.past_is) did.feeds) in
+    let last_past = either ended (on_ok_weaker ended (λ along. along.is_fed.on.past_is) did.along)
+    (on_err_weaker ended (λ last. last.1.on.past_is) did.feeds) in
     let own : Option (Vec Entry) = window_of source.past in
     let first_given = take (source.count - (source.to - source.from)) (entries source.pass.seen) in
     let left = subst (λ (window : Option (Vec Entry)). IsLeftOf history.terms (entries going.seen)

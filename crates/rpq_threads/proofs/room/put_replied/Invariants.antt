@@ -16,3 +16,5 @@ invariant-loop-one l =
     × (vec_items l.passes ≡ vec_items l.initial.passes ++ map (λ r. r.pass) l.yielded)
     × (vec_items l.answers ≡ vec_items l.initial.answers ++ map (λ r. r.answers) l.yielded)
     × (l.short_of_memory ≡ list_any (λ r. r.memory) l.yielded)
+    × (vec_capacity l.passes ≡ vec_capacity l.initial.passes)
+    × (vec_len l.passes ≡ vec_len l.initial.passes + length l.yielded)

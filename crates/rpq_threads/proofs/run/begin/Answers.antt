@@ -1,9 +1,10 @@
-use Rattle.std.proofs.Common.{◌≡◌, [], All, length, refl, sym, ap, subst, ◌∙◌, arith, rules}
+use Rattle.std.proofs.Common.{◌≡◌, ℕ, ◌+◌, [], All, length, refl, sym, ap, subst, ◌∙◌, arith, rules}
+use Rattle.std.specs.Global.{Vec}
 use Rattle.history_model.specs.World.{Terms}
 use Rattle.rpq_text.specs.Definitions.{definitions_of}
 use Rattle.stream_tuples.specs.Progress.{IsNewReader}
-use Rattle.stream_threads.proofs.Numbering.{new_length}
 use Rattle.rpq_threads.proofs.Starting.{first_shown, Moves, terms_of, begun_fed, begun_asks}
+use Rattle.rpq_threads.specs.Served.{HasRoom}
 use Rattle.rpq_threads.proofs.Starting.{at_least, at_most, length-definitions}
 use Rattle.rpq_threads.proofs.run.begin.Goals as goal
 
@@ -39,39 +40,43 @@ new-requires-3-clause-terms g c =
       few_entries = at_most task.limit c.requires.limit;
     }
 
-pub new-requires-4-clause-passes : goal.new-requires-4-clause-passes
-new-requires-4-clause-passes g c =
-    let history = c.in_ok-history.history in
-    omega (
-      arith,
-      c.len-3.ensures,
-      c.in_ok-history.passes.ok.0,
-      ap length c.in_ok-history.ensures.passes ∙ new_length history 0 history.turns.passes,
-      c.in_ok-history.ensures.count,
-    )
-
 pub returns : goal.returns
 returns g c =
+    let left = g.S.Source.left in
+    let faults = g.S.Source.faults in
+    let asks_left = g.A.Source.left in
+    let asks_faults = g.A.Source.faults in
+    let written = g.K.Sink.written in
+    let failures = g.K.Sink.faults in
     let task = c.args.task in
     let history = c.in_ok-history.history in
     let made = c.in_ok-history.ensures in
+    let room = c.in_ok-room.room in
     let streams : c.len-streams.result ≡ length task.readers.items = omega (
       arith,
       c.len-streams.ensures,
       task.readers.ok.0,
       c.requires.streams.1,
     ) in
-    let asking : c.len-asking.result ≡ length task.sessions.items = omega (
+    let asking : c.len.result + c.len-2.result
+    ≡ length task.sessions.items + length task.ask_readers.items = omega (
       arith,
-      c.len-asking.ensures,
+      c.len.ensures,
+      c.len-2.ensures,
       task.sessions.ok.0,
+      task.ask_readers.ok.0,
       c.requires.few,
+      c.requires.few_readers,
     ) in
     let kept = c.view.ensures in
     let evaluator = c.view.new.self in
+    let own : c.in_ok-definitions.definitions.value.items ≡ definitions_of task.queries.items =
+    ap (λ (all : Vec _). all.items) c.in_ok-definitions.ensures.ok
+    ∙ (c.in_ok-copied_definitions.ensures ∙ ap definitions_of c.deref.ensures.value) in
     let queries : c.in_ok-given.given.value.items ≡ definitions_of task.queries.items =
-    search rules in
-    let slice : c.as_slice.result.now ≡ definitions_of task.queries.items = search rules in
+    ap (λ (all : Vec _). all.items) c.in_ok-given.ensures ∙ own in
+    let slice : c.as_slice.result.now ≡ definitions_of task.queries.items =
+    c.as_slice.ensures.value ∙ (ap (λ (all : Vec _). all.items) c.deref-2.ensures ∙ own) in
     let move : All Moves (definitions_of task.queries.items) =
     subst (All Moves) slice c.windows_move.ensures in
     let terms : history.terms ≡ terms_of task =
@@ -79,22 +84,38 @@ returns g c =
     record {
       terms = terms;
       job = record {
-        queries = search rules;
+        queries = own ∙ sym (ap (λ (t : Terms). t.queries) terms);
+        few_queries = omega (
+          arith,
+          ap length own ∙ length-definitions task.queries.items,
+          c.requires.understood.few,
+        );
         passes = made.passes;
         count = made.count;
-        fed = begun_fed g.S.Source.left g.S.Source.faults task c.requires history terms
-            evaluator (kept.keeps.queries ∙ c.in_ok-evaluator.ensures.queries_are)
+        fed = begun_fed left faults asks_left asks_faults written failures task c.requires history
+            terms evaluator (kept.keeps.queries ∙ c.in_ok-evaluator.ensures.queries_are)
             (kept.keeps.options ∙ c.in_ok-evaluator.ensures.options_are) (made.readers ∙ asking)
             move (kept.stands [] c.in_ok-evaluator.ensures.stands);
         streams = sym (ap (λ (t : Terms). t.streams) terms);
-        fresh = subst (λ (t : Terms). All (IsNewReader t.cap g.S.Source.left g.S.Source.faults)
-            task.readers.items) (sym terms) c.requires.fresh;
+        fresh = subst (λ (t : Terms). All (IsNewReader t.cap left faults) task.readers.items)
+            (sym terms) c.requires.fresh;
         readers = sym (made.readers ∙ asking);
-        few = omega (arith, made.readers, asking, c.requires.few);
-        asks = begun_asks g.S.Source.left g.S.Source.faults task c.requires history terms;
-        room = c.in_ok-room.ensures;
+        few = c.requires.few;
+        few_readers = c.requires.few_readers;
+        asks = begun_asks left faults asks_left asks_faults written failures task c.requires
+            history terms;
+        new_readers = c.requires.new_readers;
+        room = subst (λ (n : ℕ). HasRoom n (length task.sessions.items)
+            (length task.ask_readers.items) room) (sym (ap (λ (t : Terms). t.streams) terms))
+            (subst (λ (n : ℕ). HasRoom (length task.readers.items) n
+            (length task.ask_readers.items) room) (c.len-6.ensures ∙ task.sessions.ok.0)
+            (subst (λ (n : ℕ). HasRoom (length task.readers.items) c.len-6.result n room)
+            (c.len-7.ensures ∙ task.ask_readers.ok.0)
+            (subst (λ (n : ℕ). HasRoom n c.len-6.result c.len-7.result room)
+            (c.len-5.ensures ∙ task.readers.ok.0) c.in_ok-room.ensures)));
       };
       options = kept.keeps.options ∙ c.in_ok-evaluator.ensures.options_are;
       readers = refl;
       sessions = refl;
+      ask_readers = refl;
     }

@@ -13,6 +13,14 @@ scoped-requires g c = record {
         owned = c.type_bounds.send-S.owned;
         leaving = λ k. Quiet-if (k (of_param 0)) unseen unseen (λ x w. tt) (λ x w. tt);
       },
+      record {
+        owned = c.type_bounds.send-A.owned;
+        leaving = λ k. Quiet-if (k (of_param 1)) unseen unseen (λ x w. tt) (λ x w. tt);
+      },
+      record {
+        owned = c.type_bounds.send-K.owned;
+        leaving = λ k. Quiet-if (k (of_param 2)) unseen unseen (λ x w. tt) (λ x w. tt);
+      },
       record { shared = c.type_bounds.sync-G.shared },
       record { shared = c.type_bounds.sync-R.shared },
     ),

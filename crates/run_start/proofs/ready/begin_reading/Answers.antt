@@ -1,4 +1,4 @@
-use Rattle.std.proofs.Common.{◌≡◌, ◌∷◌, [], ℕ, List, Option, Some, None, sym, subst, ◌∙◌}
+use Rattle.std.proofs.Common.{◌≡◌, ◌∷◌, [], ℕ, List, Option, Some, None, refl, sym, subst, ◌∙◌}
 use Rattle.std.proofs.Common.{append-nil}
 use Rattle.std.specs.Prelude.{IfSome}
 use Rattle.rpq_text.specs.Definitions.{definitions_of}
@@ -6,10 +6,11 @@ use Rattle.run_start.specs.Files.{AreUnderstoodJoins, ForSessions, HasQueries, s
 use Rattle.run_start.specs.Given.{later_names, sink_names}
 use Rattle.run_start.specs.Ready.{IsReadWhole}
 use Rattle.run_start.specs.Readers.{contents_of}
-use Rattle.run_start.specs.Steps.{UsesMore}
-use Rattle.run_start.proofs.Using.{all_understood, behind_all, files_behind, holds_stays}
-use Rattle.run_start.proofs.Using.{joins_understood, one_by_one}
-use Rattle.run_start.proofs.Using.{refused_behind}
+use Rattle.run_start.specs.Steps.{IsRefusal, UsesMore}
+use Rattle.run_start.proofs.AskReaders.{as_many, ask_readers_are}
+use Rattle.run_start.proofs.Using.{all_understood, behind_all, behind_streams, files_behind}
+use Rattle.run_start.proofs.Using.{holds_stays, joins_understood, one_by_one, refused_behind}
+use Rattle.run_start.proofs.Using.{refused_by, replies_refuse}
 use Rattle.run_start.proofs.ready.begin_reading.Goals as goal
 use Rattle.rpq_words.specs.Views.{asks_of, two_way_of}
 
@@ -80,10 +81,10 @@ returns-in_err-readers-clause-files g c =
     (one_by_one {start = None} c.in_ok-joins.ensures.files c.in_ok-sessions.ensures.files)
     c.in_err-readers.ensures.files)
 
--- ---- the sinks
+-- ---- what the readers beside the run ask
 
-pub open_sinks-requires-after_bounds : goal.open_sinks-requires-after_bounds
-open_sinks-requires-after_bounds g c κs within =
+pub open_asks-requires-clause-understood : goal.open_asks-requires-clause-understood
+open_asks-requires-clause-understood g c κs within =
     all_understood c.args.chosen.now (g.F.Files.holds c.args.files.now)
     (g.F.Files.holds c.joins_of_file.new.files)
     (g.F.Files.holds c.open_readers.new.files) (definitions_of c.args.queries.now)
@@ -94,14 +95,49 @@ open_sinks-requires-after_bounds g c κs within =
     c.requires.has
     c.in_ok-joins.ensures.joins c.in_ok-sessions.ensures.sessions
 
+pub returns-in_err-asks-clause-refused : goal.returns-in_err-asks-clause-refused
+returns-in_err-asks-clause-refused g c =
+    refused_behind g.F.Source.Source.left g.F.Source.Source.faults c.args.chosen.now
+    (g.F.Files.holds c.args.files.now) (g.F.Files.holds c.open_readers.new.files)
+    c.from_residual-in_err-asks.result c.in_err-asks.field-0.0
+    c.from_residual-in_err-asks.ensures.1
+    (holds_stays c.in_ok-readers.ensures.files
+    ∙ (holds_stays c.in_ok-sessions.ensures.files ∙ holds_stays c.in_ok-joins.ensures.files))
+    c.in_err-asks.ensures.refused
+
+pub returns-in_err-asks-clause-files : goal.returns-in_err-asks-clause-files
+returns-in_err-asks-clause-files g c =
+    let given = c.args.chosen.now in
+    let refusal = c.in_err-asks.field-0.0 in
+    files_behind (later_names given) (sink_names given) c.from_residual-in_err-asks.result refusal
+    c.from_residual-in_err-asks.ensures.1
+    (one_by_one {start = Some refusal.fault}
+    (one_by_one {start = None}
+    (one_by_one {start = None} c.in_ok-joins.ensures.files c.in_ok-sessions.ensures.files)
+    c.in_ok-readers.ensures.files) (behind_streams c.in_err-asks.ensures.files))
+
+-- ---- the sinks
+
+pub open_sinks-requires-after_bounds : goal.open_sinks-requires-after_bounds
+open_sinks-requires-after_bounds g c κs within =
+    all_understood c.args.chosen.now (g.F.Files.holds c.args.files.now)
+    (g.F.Files.holds c.joins_of_file.new.files)
+    (g.F.Files.holds c.open_asks.new.files) (definitions_of c.args.queries.now)
+    c.in_ok-joins.joins.value.items c.in_ok-sessions.sessions.items
+    (holds_stays c.in_ok-joins.ensures.files)
+    (holds_stays c.in_ok-asks.ensures.files ∙ (holds_stays c.in_ok-readers.ensures.files
+    ∙ (holds_stays c.in_ok-sessions.ensures.files ∙ holds_stays c.in_ok-joins.ensures.files)))
+    c.requires.has
+    c.in_ok-joins.ensures.joins c.in_ok-sessions.ensures.sessions
+
 pub returns-in_err-sinks-clause-refused : goal.returns-in_err-sinks-clause-refused
 returns-in_err-sinks-clause-refused g c =
     refused_behind g.F.Source.Source.left g.F.Source.Source.faults c.args.chosen.now
-    (g.F.Files.holds c.args.files.now) (g.F.Files.holds c.open_readers.new.files)
+    (g.F.Files.holds c.args.files.now) (g.F.Files.holds c.open_asks.new.files)
     c.from_residual-in_err-sinks.result c.in_err-sinks.field-0.0
     c.from_residual-in_err-sinks.ensures.1
-    (holds_stays c.in_ok-readers.ensures.files
-    ∙ (holds_stays c.in_ok-sessions.ensures.files ∙ holds_stays c.in_ok-joins.ensures.files))
+    (holds_stays c.in_ok-asks.ensures.files ∙ (holds_stays c.in_ok-readers.ensures.files
+    ∙ (holds_stays c.in_ok-sessions.ensures.files ∙ holds_stays c.in_ok-joins.ensures.files)))
     c.in_err-sinks.ensures.refused
 
 pub returns-in_err-sinks-clause-files : goal.returns-in_err-sinks-clause-files
@@ -112,8 +148,48 @@ returns-in_err-sinks-clause-files g c =
     c.from_residual-in_err-sinks.ensures.1
     (one_by_one {start = Some refusal.fault}
     (one_by_one {start = None}
+    (one_by_one {start = None}
     (one_by_one {start = None} c.in_ok-joins.ensures.files c.in_ok-sessions.ensures.files)
-    c.in_ok-readers.ensures.files) (behind_all c.in_err-sinks.ensures.files))
+    c.in_ok-readers.ensures.files) (behind_streams c.in_ok-asks.ensures.files))
+    (behind_all c.in_err-sinks.ensures.files))
+
+-- ---- the readers beside the run
+
+pub open_ask_readers-requires-clause-all : goal.open_ask_readers-requires-clause-all
+open_ask_readers-requires-clause-all g c κs within =
+    as_many (g.F.Files.holds c.open_readers.new.files) g.F.Source.Source.left c.args.chosen.now
+    c.in_ok-asks.asks.items c.in_ok-asks.ensures.contents
+
+pub returns-in_err-ask_readers-clause-refused : goal.returns-in_err-ask_readers-clause-refused
+returns-in_err-ask_readers-clause-refused g c =
+    let given = c.args.chosen.now in
+    let holds = g.F.Files.holds c.args.files.now in
+    refused_by (IsRefusal g.F.Source.Source.left g.F.Source.Source.faults given holds)
+    c.from_residual-in_err-ask_readers.result c.in_err-ask_readers.field-0.0
+    c.from_residual-in_err-ask_readers.ensures.1
+    (replies_refuse g.F.Source.Source.left g.F.Source.Source.faults given holds
+    c.in_err-ask_readers.field-0.0
+    (all_understood given holds
+    (g.F.Files.holds c.joins_of_file.new.files) holds (definitions_of c.args.queries.now)
+    c.in_ok-joins.joins.value.items c.in_ok-sessions.sessions.items
+    (holds_stays c.in_ok-joins.ensures.files) refl c.requires.has
+    c.in_ok-joins.ensures.joins c.in_ok-sessions.ensures.sessions)
+    c.in_err-ask_readers.ensures.refused)
+
+pub returns-in_err-ask_readers-clause-files : goal.returns-in_err-ask_readers-clause-files
+returns-in_err-ask_readers-clause-files g c =
+    let given = c.args.chosen.now in
+    let refusal = c.in_err-ask_readers.field-0.0 in
+    files_behind (later_names given) (sink_names given) c.from_residual-in_err-ask_readers.result
+    refusal
+    c.from_residual-in_err-ask_readers.ensures.1
+    (one_by_one {start = Some refusal.fault}
+    (one_by_one {start = None}
+    (one_by_one {start = None}
+    (one_by_one {start = None} c.in_ok-joins.ensures.files c.in_ok-sessions.ensures.files)
+    c.in_ok-readers.ensures.files) (behind_streams c.in_ok-asks.ensures.files))
+    (behind_all (c.in_err-ask_readers.ensures.files c.open_asks.new.files
+    c.in_ok-sinks.ensures.files)))
 
 -- ---- all of it
 
@@ -141,6 +217,14 @@ returns-clause-reading g c = record {
       (holds_stays c.in_ok-joins.ensures.files) c.in_ok-sessions.ensures.sessions;
   few = c.in_ok-sessions.ensures.few;
   ranges = c.in_ok-sessions.ensures.ranges;
+  ask_readers = ask_readers_are g.F.Source.Source.left g.F.Source.Source.faults
+      g.F.Sink.Sink.written g.F.Sink.Sink.faults c.args.chosen.now
+      (g.F.Files.holds c.args.files.now) (g.F.Files.holds c.open_readers.new.files)
+      c.in_ok-asks.asks.items c.in_ok-ask_readers.ask_readers.items c.requires.settings
+      (holds_stays c.in_ok-readers.ensures.files
+      ∙ (holds_stays c.in_ok-sessions.ensures.files ∙ holds_stays c.in_ok-joins.ensures.files))
+      c.in_ok-asks.ensures.contents c.in_ok-ask_readers.ensures.sources
+      c.in_ok-ask_readers.ensures.new;
   sinks = c.in_ok-sinks.ensures.sinks;
 }
 
@@ -149,9 +233,12 @@ returns-clause-files g c =
     let given = c.args.chosen.now in
     subst (λ (names : List (List ℕ)). UsesMore g.F.Files.holds g.F.Files.opened g.F.Files.made
     g.F.Files.unread g.F.Files.unmade given (given.queries ∷ []) names (sink_names given) None
-    c.args.files.now c.open_sinks.new.files)
+    c.args.files.now c.open_ask_readers.new.files)
     (append-nil (later_names given))
     (one_by_one {start = None}
     (one_by_one {start = None}
+    (one_by_one {start = None}
     (one_by_one {start = None} c.in_ok-joins.ensures.files c.in_ok-sessions.ensures.files)
-    c.in_ok-readers.ensures.files) (behind_all c.in_ok-sinks.ensures.files))
+    c.in_ok-readers.ensures.files) (behind_streams c.in_ok-asks.ensures.files))
+    (behind_all (c.in_ok-ask_readers.ensures.files c.open_asks.new.files
+    c.in_ok-sinks.ensures.files)))

@@ -13,8 +13,8 @@ returns-clause-files g c =
     uses_sink given Save (option_to_list (replies_of given)) (save_of given) None c.args.files.now _ _ (save_sink given) tt
     (uses_sink given Replies [] (replies_of given) None c.args.files.now c.args.files.now _ (replies_sink given) tt
     (no_step given (file_names given) c.args.files.now) (subst (λ (name : Option (List ℕ)). OpensSink g.F.Files.holds g.F.Files.opened g.F.Files.made g.F.Files.unread
-    g.F.Files.unmade Replies name None c.args.files.now c.open_sink.new.files) c.replies.ensures
+    g.F.Files.unmade Replies name None c.args.files.now c.open_optional_sink.new.files) c.replies.ensures
     c.in_ok-replies.ensures.files))
     (subst (λ (name : Option (List ℕ)). OpensSink g.F.Files.holds g.F.Files.opened g.F.Files.made g.F.Files.unread
-    g.F.Files.unmade Save name None c.open_sink.new.files c.open_sink-2.new.files) c.save.ensures
+    g.F.Files.unmade Save name None c.open_optional_sink.new.files c.open_optional_sink-2.new.files) c.save.ensures
     c.in_ok-save.ensures.files)

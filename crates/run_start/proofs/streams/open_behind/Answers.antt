@@ -7,7 +7,7 @@ use Rattle.saved_window.specs.Then.{left_of_both}
 use Rattle.rpq_text.specs.declared.ends.StartFault.{StartFault}
 use Rattle.rpq_text.specs.declared.ends.StartFault.TheVariants.{Memory}
 use Rattle.rpq_text.specs.declared.ends.Which.TheVariants.{From, Stream}
-use Rattle.run_start.specs.Given.{first_names, whole_names}
+use Rattle.run_start.specs.Given.{asks_names, first_names, whole_names}
 use Rattle.run_start.specs.Ready.{fault_of}
 use Rattle.run_start.specs.Steps.{UsesMore}
 use Rattle.run_start.proofs.Opening.{behind_contents, from_opened, from_place, opening_refusal, uses_file}
@@ -26,10 +26,13 @@ returns-in_default-clause-files g c =
     c.args.files.now c.args.files.now) fault
     (then_refused (option_to_list (from_of given) ++ streams_of given) Memory tt
     (record {
-      rest = option_to_list (from_of given) ++ streams_of given;
-      cut = append_assoc (whole_names given) (option_to_list (from_of given)) (streams_of given)
-          ∙ ap (λ (ns : List (List ℕ)). ns ++ (option_to_list (from_of given) ++ streams_of given))
-          (sym (append-nil (whole_names given)));
+      rest = (option_to_list (from_of given) ++ streams_of given) ++ asks_names given;
+      cut = ap (λ (ns : List (List ℕ)). ns ++ asks_names given)
+          (append_assoc (whole_names given) (option_to_list (from_of given)) (streams_of given))
+          ∙ (append_assoc (whole_names given) (option_to_list (from_of given) ++ streams_of given)
+          (asks_names given)
+          ∙ ap (λ (ns : List (List ℕ)). ns ++ ((option_to_list (from_of given) ++ streams_of given)
+          ++ asks_names given)) (sym (append-nil (whole_names given))));
     })
     (no_step given (whole_names given) c.args.files.now))
 

@@ -1,9 +1,8 @@
-use Rattle.std.proofs.Common.{◌≡◌, ℕ, ◌+◌, [], ◌∷◌, length, map, refl, sym, ap, ap₂, ◌∙◌, arith}
-use Rattle.std.proofs.Common.{List, length-append}
+use Rattle.std.proofs.Common.{◌≡◌, ℕ, ◌+◌, ◌-◌, [], ◌∷◌, length, map, refl, sym, ap, ap₂, ◌∙◌, arith}
+use Rattle.std.proofs.Common.{length-append}
 use Rattle.std.specs.List.{All}
 use Rattle.std.specs.Vec.Iter.{into_iter_items}
 use Rattle.std.proofs.lemmas.List.Elements.{All-head, All-tail, All-same}
-use Rattle.ask_text.specs.declared.ask.Ask.{Ask}
 use Rattle.ask_text.specs.Ranges.{IsInRange}
 use Rattle.stream_threads.specs.declared.session_work.SessionWork.{SessionWork}
 use Rattle.stream_threads.specs.Started.{new_pass, new_passes}
@@ -16,7 +15,7 @@ loop-session-init c =
     let history = c.args.history.now in
     let from : ℕ = 1 + history.terms.streams in
     let items = c.requires.passes in
-    let n = new_length history from (length c.args.sessions.items) in
+    let n = new_length history from history.readers in
     let gives = c.into_iter-session-iterator.ensures.into_iter_gives in
     let many : length (into_iter_items c.into_iter-session-iterator.result)
     ≡ length c.args.sessions.items = ap length gives.0 in
@@ -26,15 +25,21 @@ loop-session-init c =
       finite = tt;
       whole = gives.0;
       left_over = omega (arith, gives.1, many);
-      given = items ∙ ap₂ (new_passes history) start (sym many);
-      passes = omega (arith, many, ap length items ∙ n, c.args.passes.rest.ok.0);
-      room = omega (arith, many, c.requires.room, ap length c.requires.none);
+      given = items ∙ ap₂ (new_passes history) start (omega (arith, many, c.requires.few.1));
+      passes = omega (
+        arith,
+        many,
+        ap length items ∙ n,
+        c.args.passes.now.rest.ok.0,
+        c.requires.few.1,
+      );
+      room = omega (arith, many, c.requires.room.1, ap length c.requires.room.0);
       new = λ i d below.
-          absurd (let no : ⊥ = omega (arith, below, ap length c.requires.none) in no);
-      asks = ap (map (λ (work : SessionWork). work.asks.items)) c.requires.none;
-      many = omega (arith, ap length c.requires.none);
+          absurd (let no : ⊥ = omega (arith, below, ap length c.requires.room.0) in no);
+      asks = ap (map (λ (work : SessionWork). work.asks.items)) c.requires.room.0;
+      many = omega (arith, ap length c.requires.room.0);
       count = refl;
-      few = omega (arith, many, c.requires.few);
+      few = omega (arith, many, c.requires.few.0);
       ranges = All-same (All (IsInRange (length history.terms.queries))) _ _ gives.0
           c.requires.asks;
     }
@@ -53,8 +58,9 @@ loop-session-preserved c =
     let rest = into_iter_items c.next.new.self in
     let n : length (into_iter_items c.loop-session.session-iterator) ≡ length rest + 1 =
     simp step.0 (omega arith) in
-    let new = next_new history from _ (length rest) _ _ _ was.given
-    c.in-Some-next.ensures.cases.0 n in
+    let behind : ℕ = history.readers - length c.args.sessions.items in
+    let new = next_new history from _ (length rest + behind) _ _ _ was.given
+    c.in-Some-next.ensures.cases.0 (omega (arith, n)) in
     let number : from ≡ history.terms.streams + c.new_work.result.number =
     omega (arith, made.number, was.count) in
     record {
@@ -62,7 +68,7 @@ loop-session-preserved c =
       finite = tt;
       whole = yields_more _ _ _ _ _ was.whole step.0;
       left_over = omega (arith, was.left_over, n);
-      given = new.1 ∙ ap (λ k. new_passes history k (length rest)) (omega (arith, more));
+      given = new.1 ∙ ap (λ k. new_passes history k (length rest + behind)) (omega (arith, more));
       passes = omega (arith, c.in-Some-next.ensures.cases.1, was.passes, n);
       room = omega (arith, was.room, n, pushed.len, pushed.capacity);
       new = new_more history _ _ c.new_work.result was.new pushed.items

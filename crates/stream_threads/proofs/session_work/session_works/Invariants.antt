@@ -1,4 +1,4 @@
-use Rattle.std.proofs.Common.{◌≡◌, ◌+◌, ◌≤◌, ◌++◌, length, map, All}
+use Rattle.std.proofs.Common.{◌≡◌, ◌+◌, ◌-◌, ◌≤◌, ◌++◌, length, map, All}
 use Rattle.std.specs.Vec.{vec_len, vec_items, vec_capacity}
 use Rattle.std.specs.Vec.Iter.{into_iter_items, into_iter_len}
 use Rattle.ask_text.specs.Ranges.{IsInRange}
@@ -15,8 +15,10 @@ invariant-loop-session l = record {
   left_over : into_iter_len l.session-iterator ≡ length (into_iter_items l.session-iterator);
   given : into_iter_items l.passes
       ≡ new_passes l.history (1 + l.history.terms.streams + length l.yielded)
-      (length (into_iter_items l.session-iterator));
-  passes : into_iter_len l.passes ≡ length (into_iter_items l.session-iterator);
+      (length (into_iter_items l.session-iterator)
+      + (l.history.readers - length (vec_items l.fn.sessions)));
+  passes : into_iter_len l.passes ≡ length (into_iter_items l.session-iterator)
+      + (l.history.readers - length (vec_items l.fn.sessions));
   room : vec_len l.works + length (into_iter_items l.session-iterator) ≤ vec_capacity l.works;
   new : AreNewWorks l.history (vec_items l.works);
   asks : map (λ work. work.asks.items) (vec_items l.works) ≡ l.yielded;

@@ -17,7 +17,7 @@ fill-requires g c =
       c.args.evaluator.now,
       c.requires.feeds,
       c.requires.done.0 ∙ length-take-le source.count (entries source.pass.seen)
-          c.requires.feeds.feeds_from.rest_comes.there,
+          c.requires.feeds.on.feeds_from.rest_comes.there,
     )
 
 pub returns-in_err-fill-clause-feeds : goal.returns-in_err-fill-clause-feeds
@@ -25,7 +25,7 @@ returns-in_err-fill-clause-feeds g c =
     let source = c.args.self.now in
     c.fill.ensures.feeds c.args.evaluator.now c.requires.feeds
     (c.requires.done.0 ∙ length-take-le source.count (entries source.pass.seen)
-    c.requires.feeds.feeds_from.rest_comes.there)
+    c.requires.feeds.on.feeds_from.rest_comes.there)
 
 pub returns-in_err-fill-clause-err : goal.returns-in_err-fill-clause-err
 returns-in_err-fill-clause-err g c =
@@ -43,7 +43,7 @@ returns-clause-feeds g c =
     let buffer = mid.buffer.items in
     let place : c.args.evaluator.now.position ≡ source.count = c.requires.done.0
     ∙ length-take-le source.count (entries source.pass.seen)
-    c.requires.feeds.feeds_from.rest_comes.there in
+    c.requires.feeds.on.feeds_from.rest_comes.there in
     let fed = c.fill.ensures.feeds c.args.evaluator.now c.requires.feeds place in
     let within : n ≤ length (drop mid.to buffer) = omega (
       arith,
@@ -52,8 +52,11 @@ returns-clause-feeds g c =
       c.len.ensures,
       mid.buffer.ok.0,
     ) in
-    feeds_next mid.history.now mid.pass mid.past buffer mid.from mid.to mid.count n
-    c.args.evaluator.now within (place ∙ sym c.fill.ensures.count) fed
+    record {
+      on = feeds_next mid.history.now mid.pass mid.past buffer mid.from mid.to mid.count n
+          c.args.evaluator.now within (place ∙ sym c.fill.ensures.count) fed.on;
+      noted = fed.noted;
+    }
 
 pub returns-clause-kept : goal.returns-clause-kept
 returns-clause-kept g c =
@@ -72,7 +75,7 @@ returns-clause-more g c = λ is.
     let rest = drop mid.to buffer in
     let fed = c.fill.ensures.feeds evaluator c.requires.feeds
     (c.requires.done.0 ∙ length-take-le source.count (entries source.pass.seen)
-    c.requires.feeds.feeds_from.rest_comes.there) in
+    c.requires.feeds.on.feeds_from.rest_comes.there) in
     let within : n ≤ length rest = omega (
       arith,
       c.min-more.ensures,
@@ -87,7 +90,7 @@ returns-clause-more g c = λ is.
     (sym (drop-take mid.to n buffer))
     (subst (λ (before : List Entry). ComesNext evaluator before (take (mid.count + n) seen)
     (take n rest)) c.fill.ensures.given
-    (these_come_next seen mid.count rest fed.feeds_from.rest_comes n within evaluator
+    (these_come_next seen mid.count rest fed.on.feeds_from.rest_comes n within evaluator
     (omega (arith, ltb-true 0 n told))
     (λ paths. omega (arith, c.min-more.ensures, c.at_once.ensures.one paths))))
 

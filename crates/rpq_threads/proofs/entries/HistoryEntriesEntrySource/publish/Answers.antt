@@ -3,7 +3,8 @@ use Rattle.history_model.specs.Lines.{entries}
 use Rattle.stream_history.specs.declared.fault.PublishFault.{PublishFault}
 use Rattle.stream_history.specs.declared.fault.PublishFault.TheVariants.{Behind}
 use Rattle.rpq_threads.proofs.ComingNext.{place_now, is_ahead, view_place, view_there, view_shows}
-use Rattle.rpq_threads.proofs.ComingNext.{feeds_published, given_published}
+use Rattle.rpq_threads.proofs.ComingNext.{feeds_published, given_published, noted_published}
+use Rattle.rpq_threads.proofs.ComingNext.{feeds_put_off}
 use Rattle.rpq_threads.proofs.Keeping.{feeds_with, kept_with}
 use Rattle.rpq_threads.proofs.entries.HistoryEntriesEntrySource.publish.Goals as goal
 
@@ -15,7 +16,7 @@ unreachable-requires g c =
     let rest = drop source.to source.buffer.items in
     let before = c.requires.feeds.0 in
     let now = c.args.evaluator.now in
-    let was = c.requires.feeds.1.feeds_from in
+    let was = c.requires.feeds.1.on.feeds_from in
     let on = c.requires.feeds.2 in
     let stands = c.requires.stands in
     let view = c.in_ok-view.view.value in
@@ -43,7 +44,7 @@ publish-requires-clause-there g c =
     let rest = drop source.to source.buffer.items in
     let before = c.requires.feeds.0 in
     let now = c.args.evaluator.now in
-    let was = c.requires.feeds.1.feeds_from in
+    let was = c.requires.feeds.1.on.feeds_from in
     let on = c.requires.feeds.2 in
     let stands = c.requires.stands in
     let view = c.in_ok-view.view.value in
@@ -60,7 +61,7 @@ publish-requires-clause-shows g c =
     let rest = drop source.to source.buffer.items in
     let before = c.requires.feeds.0 in
     let now = c.args.evaluator.now in
-    let was = c.requires.feeds.1.feeds_from in
+    let was = c.requires.feeds.1.on.feeds_from in
     let on = c.requires.feeds.2 in
     let stands = c.requires.stands in
     let view = c.in_ok-view.view.value in
@@ -77,7 +78,7 @@ returns-in-Ok-clause-has g c =
     let rest = drop source.to source.buffer.items in
     let before = c.requires.feeds.0 in
     let now = c.args.evaluator.now in
-    let was = c.requires.feeds.1.feeds_from in
+    let was = c.requires.feeds.1.on.feeds_from in
     let on = c.requires.feeds.2 in
     let stands = c.requires.stands in
     let view = c.in_ok-view.view.value in
@@ -104,7 +105,7 @@ returns-in-Ok-clause-ok g c =
     let rest = drop source.to source.buffer.items in
     let before = c.requires.feeds.0 in
     let now = c.args.evaluator.now in
-    let was = c.requires.feeds.1.feeds_from in
+    let was = c.requires.feeds.1.on.feeds_from in
     let on = c.requires.feeds.2 in
     let stands = c.requires.stands in
     let view = c.in_ok-view.view.value in
@@ -115,14 +116,47 @@ returns-in-Ok-clause-ok g c =
     c.view.new.self c.view.ensures.keeps c.view.ensures.position c.publish.new.pass view.position
     (view_place history pass source.count rest before now was on stands some view sees)
     c.in-Ok.ensures.line in
-    feeds_with history pass c.publish.new.pass source.past source.buffer.items source.from
-    source.to source.count before c.view.new.self c.requires.feeds.1 same
-    (omega (
-      arith,
-      c.view.ensures.position,
-      place_now history pass source.count rest before now was on stands,
-    ))
-    (feeds_published history pass source.count rest before now was on stands c.view.new.self
-    c.view.ensures.keeps c.view.ensures.position c.publish.new.pass view.position
-    (view_place history pass source.count rest before now was on stands some view sees)
-    c.in-Ok.ensures.line)
+    record {
+      on = feeds_with history pass c.publish.new.pass source.past source.buffer.items source.from
+          source.to source.count before c.view.new.self c.requires.feeds.1.on same
+          (omega (
+            arith,
+            c.view.ensures.position,
+            place_now history pass source.count rest before now was on stands,
+          ))
+          (feeds_published history pass source.count rest before now was on stands c.view.new.self
+          c.view.ensures.keeps c.view.ensures.position c.publish.new.pass view.position
+          (view_place history pass source.count rest before now was on stands some view sees)
+          c.in-Ok.ensures.line);
+      noted = noted_published history pass source.count rest before now was on stands
+          c.view.new.self c.view.ensures.keeps c.view.ensures.position c.publish.new.pass
+          view.position
+          (view_place history pass source.count rest before now was on stands some view sees)
+          c.in-Ok.ensures.line source.shown source.known c.requires.feeds.1.noted;
+    }
+
+-- the view is put off
+pub returns-then-may_put_off-clause-ok : goal.returns-then-may_put_off-clause-ok
+returns-then-may_put_off-clause-ok g c =
+    let source = c.args.self.now in
+    let history = source.history.now in
+    let pass = source.pass in
+    let rest = drop source.to source.buffer.items in
+    let before = c.requires.feeds.0 in
+    let now = c.args.evaluator.now in
+    let fed = c.requires.feeds.1 in
+    let on = c.requires.feeds.2 in
+    let stands = c.requires.stands in
+    let may = c.may_put_off.ensures c.if-may_put_off.true in
+    record {
+      on = feeds_with history pass pass source.past source.buffer.items source.from source.to
+          source.count before now fed.on refl
+          (omega (
+            arith,
+            place_now history pass source.count rest before now fed.on.feeds_from on stands,
+          ))
+          (feeds_put_off history pass source.count rest before now fed.on.feeds_from on stands now
+          (record { queries = refl; options = refl; workers = refl }) refl source.shown source.known
+          fed.noted may.0 may.1);
+      noted = fed.noted;
+    }

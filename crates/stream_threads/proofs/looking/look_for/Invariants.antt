@@ -1,7 +1,7 @@
 use Rattle.std.proofs.Common.{◌≡◌}
 use Rattle.turn_lock.specs.Lines.{StartsWith}
 use Rattle.stream_history.specs.History.{IsPassOf}
-use Rattle.stream_threads.proofs.session_worker.look_for.Given as goal
+use Rattle.stream_threads.proofs.looking.look_for.Given as goal
 
 -- the pass has seen what it had seen, and maybe more
 abbrev pub invariant-loop : goal.invariant-loop

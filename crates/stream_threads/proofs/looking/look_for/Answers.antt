@@ -3,7 +3,7 @@ use Rattle.history_model.specs.declared.line.Line.{Line}
 use Rattle.history_model.specs.Lines.{published}
 use Rattle.ask_text.specs.Ranges.{ended_at}
 use Rattle.stream_history.specs.History.{IsOver}
-use Rattle.stream_threads.proofs.session_worker.look_for.Goals as goal
+use Rattle.stream_threads.proofs.looking.look_for.Goals as goal
 
 pub returns-then-is_enough_for-clause-over : goal.returns-then-is_enough_for-clause-over
 returns-then-is_enough_for-clause-over g c = λ ended.

@@ -1,7 +1,7 @@
 use Rattle.std.proofs.Common.{◌≡◌, length, sym, ap, ◌∙◌, rules}
 use Rattle.answer_view.specs.View.{ViewValue}
 use Rattle.stream_threads.proofs.Replying.{as_many_rows, reply_is}
-use Rattle.stream_threads.proofs.session_worker.reply.Goals as goal
+use Rattle.stream_threads.proofs.looking.reply.Goals as goal
 
 pub reply_text-requires-clause-view : goal.reply_text-requires-clause-view
 reply_text-requires-clause-view g c =

@@ -1,0 +1,37 @@
+//! That threads may share a history, and the definitions of its queries.
+
+ghost use Rattle.std.specs.Thread.{IsSync};
+ghost use Rattle.stream_history.specs.contracts.history.History.{the_row as history_row};
+ghost use Rattle.rpq_model.specs.contracts.query.QueryDef.{the_row as query_row};
+
+use rpq_model::QueryDef;
+use stream_history::History;
+
+/// Does nothing. It says that threads may share values of this type, which is found more easily for
+/// a type alone than for all that a closure captures.
+fn threads_share<T: Sync>(value: &T)
+    ensures { IsSync T.row }
+{
+    let _ = value;
+}
+
+/// Does nothing. It says the same of the elements of a slice.
+fn threads_share_each<T: Sync>(values: &[T])
+    ensures { IsSync T.row }
+{
+    let _ = values;
+}
+
+/// Does nothing. It says that threads may share a history.
+pub(crate) fn threads_share_histories(history: &History)
+    ensures { IsSync history_row }
+{
+    threads_share(history)
+}
+
+/// Does nothing. It says that threads may share definitions of queries.
+pub(crate) fn threads_share_queries(queries: &[QueryDef])
+    ensures { IsSync query_row }
+{
+    threads_share_each(queries)
+}
