@@ -1,6 +1,6 @@
 #!/usr/bin/env bash
 # Measures rpq, outside the gate:
-#   bench/run.sh                      this text
+#   bench/run.sh [--help]             this text
 #   bench/run.sh [--fast] --times ..  times on streams of bench/workloads.py, as a table
 #   bench/run.sh [--fast] --FORM ..   a form of bench/measure.py, which says what they are: --beside
 #                                     OTHER, --attacks, --states, --hostile, --sqlite, --workers,
@@ -30,10 +30,13 @@ if [ "${1:-}" = --fast ]; then
     is_fast=yes
     shift
 fi
-if [ $# -eq 0 ]; then
-    sed -n '2,/^set -eu$/{/^set -eu$/d;s/^# \{0,1\}//;p}' "$0"
-    exit 1
-fi
+case "${1:-}" in
+    "" | -h | --help)
+        sed -n '2,/^set -eu$/{/^set -eu$/d;s/^# \{0,1\}//;p}' "$0"
+        [ $# -ne 0 ]
+        exit
+        ;;
+esac
 place="$(mktemp -d)"
 trap 'rm -rf "$place"' EXIT
 
@@ -93,6 +96,10 @@ case "$1" in
     *)
         name="$1"
         shift
+        if [ ! -e "$top/bench/$name.rattle" ]; then
+            echo "bench/run.sh: no program bench/$name.rattle; bench/run.sh --help has the words" >&2
+            exit 1
+        fi
         copy_with "$name"
         # edge_store takes no words, and passes these over
         build "$place" "${name}_bench" "$place/$name" "$queries" /dev/null 1 1

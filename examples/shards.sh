@@ -9,6 +9,8 @@
 set -eu
 [ $# -eq 3 ] || { echo "usage: shards.sh COUNT QUERIES STREAM" >&2; exit 1; }
 count="$1" queries="$2"
+# A run that doesn't begin would open no pipe, and all others would wait for it.
+rpq --check "$queries" > /dev/null
 exec 3< "$3"
 place="$(mktemp -d)"
 trap 'rm -rf "$place"' EXIT
@@ -17,7 +19,10 @@ trap 'rm -rf "$place"' EXIT
 awk -v count="$count" -v place="$place" '
     NF && $1 !~ /^#/ { line[total++] = $0 }
     END {
-        if (count < 1 || count > total) { print "shards.sh: " total " queries" > "/dev/stderr"; exit 1 }
+        if (count < 1 || count > total) {
+            print "shards.sh: there are " total " queries for COUNT parts" > "/dev/stderr"
+            exit 1
+        }
         for (i = 0; i < total; i++) print line[i] > (place "/queries." int(i * count / total))
     }' "$queries"
 

@@ -13,7 +13,7 @@ trap 'rm -rf "$place"' EXIT
 chmod 755 "$place"
 architecture="$(dpkg --print-architecture)"
 
-"$top/packaging/install.sh" "$place/usr" "$program"
+"$top/packaging/install.sh" "$place/usr" "$program" > /dev/null
 strip "$place/usr/bin/rpq"
 gzip -9n "$place/usr/share/man/man1/rpq.1"
 mkdir "$place/DEBIAN"

@@ -10,7 +10,7 @@ There is an object for each tuple, each pair that is gained or lost, and each bi
 path lasts, and the "path": the tuples that join it. With --joins the values of a binding stand under
 the names of their variables. A byte of a name that is no UTF-8 is written as \\xHH.
 
-The status is 0 if all lines were taken, and 2 if one isn't a line of rpq, which is reported.
+The status is 0 if all lines were taken, and 2 if one isn't a line of such a run, which is reported.
 """
 import argparse
 import collections
@@ -37,15 +37,23 @@ def parsed_words():
     return parser.parse_args()
 
 
+class Fault(Exception):
+    """Why a line isn't one of the run that the words tell of."""
+
+
 def variables_of(name):
     """The variables of each join of the file, in the order in which they are first named."""
     found = {}
-    with open(name, encoding="utf-8", errors="backslashreplace") as lines:
-        for line in lines:
-            fields = line.split()
-            if fields[:1] == ["join"]:
-                vertices = [field for field in fields[2:] if field.startswith("?")]
-                found[fields[1]] = [vertex[1:] for vertex in dict.fromkeys(vertices)]
+    try:
+        with open(name, encoding="utf-8", errors="backslashreplace") as lines:
+            for line in lines:
+                fields = line.split()
+                if fields[:1] == ["join"] and len(fields) > 1:
+                    vertices = [field for field in fields[2:] if field.startswith("?")]
+                    found[fields[1]] = [vertex[1:] for vertex in dict.fromkeys(vertices)]
+    except OSError as error:
+        print(f"rpq-json: {name}: {error.strerror}", file=sys.stderr)
+        sys.exit(2)
     return found
 
 
@@ -68,6 +76,7 @@ class Translator:
 
     def __init__(self, words):
         self.shows_paths = words.paths
+        self.joins = words.joins
         self.variables = variables_of(words.joins) if words.joins else {}
         self.keep = words.keep
         self.tuples = collections.OrderedDict()
@@ -78,6 +87,10 @@ class Translator:
         """The objects that are complete with this line."""
         fields = line.split(" ")
         sign = fields[0]
+        if sign == "=" and not self.shows_paths:
+            raise Fault("is a path: rpq-json needs --paths, too")
+        if sign != "=" and self.waiting:
+            raise Fault("is no path, and a pair was gained: rpq-json was given --paths, rpq wasn't")
         if sign == "=":
             yield self.with_path(fields)
         elif sign in ("+", "-"):
@@ -115,6 +128,8 @@ class Translator:
 
     def binding_of(self, fields):
         sign, join, *values = fields
+        if self.joins and join not in self.variables:
+            raise Fault(f"has a binding of {join}, and {self.joins} has no such join")
         names = self.variables.get(join) or [str(place) for place in range(1, len(values) + 1)]
         binding = dict(zip(names, values, strict=True))
         return self.head("binding", sign) | {"join": join, "binding": binding}
@@ -129,10 +144,16 @@ def main():
         try:
             for found in translator.objects_of(text):
                 sys.stdout.write(json.dumps(found, separators=(",", ":")) + "\n")
+        except Fault as fault:
+            print(f"rpq-json: line {number} {fault}: {text}", file=sys.stderr)
+            return 2
         except (ValueError, IndexError, KeyError, TypeError):
             print(f"rpq-json: line {number} isn't a line of rpq: {text}", file=sys.stderr)
             return 2
         sys.stdout.flush()
+    if translator.waiting:
+        print("rpq-json: no path behind the last pair: rpq wants --paths, too", file=sys.stderr)
+        return 2
     return 0
 
 

@@ -5,8 +5,9 @@
 
 A column is a name of the first row, or a number from 1; of a JSON line it is a key, or a path of
 keys such as user.id. Whether a file is JSON lines, and what separates its columns, its first line
-says. Files may be compressed with gzip, begin with a byte order mark, and end their lines as on
-Windows. Without a file the rows come from the standard input; each is written as it comes.
+says. Files may be compressed with gzip, begin with a byte order mark, be in UTF-16 if they do, and
+end their lines as on Windows. Without a file the rows come from the standard input; each is written
+as it comes.
 
 A time is a number, or a date and a time of ISO 8601, in UTC where it names no zone. Blanks and
 control characters of a name become %HH. A row that makes no tuple is reported on standard error
@@ -14,17 +15,21 @@ with its file and line, and left out. The status is 0 if every row was taken, 1 
 out, and 2 if the words or a file can't be read.
 """
 import argparse
+import codecs
 import csv
 import datetime
 import decimal
 import gzip
 import io
 import json
+import os
 import signal
 import sys
 
 UNITS = {"seconds": 1, "milliseconds": 1000, "microseconds": 1000000}
 GREATEST_TIME = 4611686018427387903
+# in seconds this is the year 5138, in milliseconds 1973
+MILLISECONDS_FROM = 100000000000
 LONGEST_NAME = 255
 DELETES = {"-", "delete"}
 INSERTS = {"", "+", "insert"}
@@ -32,6 +37,10 @@ INSERTS = {"", "+", "insert"}
 
 class Fault(Exception):
     """Why a row makes no tuple."""
+
+
+class FileFault(Exception):
+    """Why the rows of a file can't be read."""
 
 
 def parsed_words():
@@ -44,11 +53,11 @@ def parsed_words():
     add("--to", required=True, dest="target", metavar="COLUMN", help="where it ends")
     label = parser.add_mutually_exclusive_group(required=True)
     label.add_argument("--label", metavar="COLUMN", help="its label")
-    label.add_argument("--as", dest="constant", metavar="LABEL", help="one label for all")
+    label.add_argument("--as", dest="constant", type=not_empty, metavar="LABEL", help="one for all")
     add("--until", metavar="COLUMN", help="when it ends by itself; nothing where it is empty")
     add("--change", metavar="COLUMN", help="- or delete: a delete; +, insert or empty: an insert")
     add("--prefix", default="", help="what each vertex begins with, such as acct:")
-    add("--delimiter", help="what separates columns, if the first line doesn't say")
+    add("--delimiter", type=one_sign, help="what separates columns, if the first line doesn't say")
     add("--given", choices=UNITS, default="seconds", help="the unit of numbers (seconds)")
     add("--unit", choices=UNITS, default="seconds", help="the unit of the stream (seconds)")
     add("--sort", action="store_true", help="reads all rows, and writes them in order of time")
@@ -56,12 +65,29 @@ def parsed_words():
     return parser.parse_args()
 
 
+def not_empty(word):
+    """A word that isn't empty."""
+    if not word:
+        raise argparse.ArgumentTypeError("it is empty")
+    return word
+
+
+def one_sign(word):
+    """What separates columns."""
+    sign = "\t" if word == "\\t" else word
+    if len(sign) != 1:
+        raise argparse.ArgumentTypeError("it isn't one sign, nor \\t")
+    return sign
+
+
 def opened(name):
     """The text of the file of this name, or of the standard input for none."""
     raw = open(name, "rb") if name else sys.stdin.buffer
     if raw.peek(2)[:2] == b"\x1f\x8b":
         raw = gzip.open(raw)
-    return io.TextIOWrapper(raw, "utf-8-sig", errors="surrogateescape", newline="")
+    is_utf_16 = raw.peek(2)[:2] in (codecs.BOM_UTF16_LE, codecs.BOM_UTF16_BE)
+    encoding, errors = ("utf-16", "replace") if is_utf_16 else ("utf-8-sig", "surrogateescape")
+    return io.TextIOWrapper(raw, encoding, errors=errors, newline="")
 
 
 def delimiter_of(first):
@@ -71,24 +97,40 @@ def delimiter_of(first):
     return ";" if first.count(";") > first.count(",") else ","
 
 
-def rows_of(text, words):
-    """Each row with the number of its last line: its columns by name and by number."""
-    first = text.readline()
+def rows_of(file, words):
+    """Each row with the number of its first line: its columns by name and by number."""
+    first = file.readline()
     if first.lstrip().startswith("{"):
-        yield from json_rows(first, text)
+        yield from json_rows(first, file)
         return
+    if first.lstrip().startswith("["):
+        raise FileFault("a JSON array: make lines of its members, as by jq -c '.[]'")
     lines = csv.reader(
-        chained(first, text), delimiter=words.delimiter or delimiter_of(first)
+        chained(first, file), delimiter=words.delimiter or delimiter_of(first), strict=True
     )
     names = next(lines, [])
     for column in columns_of(words):
         if column not in names and not column.isdigit():
-            raise LookupError(f"no column {column} in the first line")
-    for fields in lines:
-        if fields:
+            raise FileFault(f"no column {column} in the first line, which has {', '.join(names)}")
+    for number, fields in fields_of(lines):
+        if isinstance(fields, Fault):
+            yield number, fields
+        elif fields:
             row = {str(place): field for place, field in enumerate(fields, 1)}
             row.update(zip(names, fields))
-            yield lines.line_num, row
+            yield number, row
+
+
+def fields_of(lines):
+    """The fields of each row of CSV, or why it has none, with the number of its first line."""
+    while True:
+        number = lines.line_num + 1
+        try:
+            yield number, next(lines)
+        except StopIteration:
+            return
+        except csv.Error as error:
+            yield number, Fault(f"not CSV: {error}, up to line {lines.line_num}")
 
 
 def columns_of(words):
@@ -97,13 +139,13 @@ def columns_of(words):
     return [column for column in columns if column]
 
 
-def chained(first, text):
+def chained(first, file):
     yield first
-    yield from text
+    yield from file
 
 
-def json_rows(first, text):
-    for number, line in enumerate(chained(first, text), 1):
+def json_rows(first, file):
+    for number, line in enumerate(chained(first, file), 1):
         if line.strip():
             try:
                 row = json.loads(line)
@@ -198,37 +240,54 @@ def tuple_of(words, row):
 
 def tuples_of(words, name, left_out):
     """The tuples of a file. Rows that make none are reported, and added to those left out."""
-    for number, row in rows_of(opened(name), words):
-        try:
-            yield tuple_of(words, row)
-        except Fault as fault:
-            left_out.append(number)
-            print(f"{name or 'standard input'}:{number}: left out: {fault}", file=sys.stderr)
+    try:
+        for number, row in rows_of(opened(name), words):
+            try:
+                yield tuple_of(words, row)
+            except Fault as fault:
+                left_out.append(number)
+                print(f"{name or 'standard input'}:{number}: left out: {fault}", file=sys.stderr)
+    except (EOFError, csv.Error, UnicodeError) as error:
+        raise FileFault(error) from None
+    except OSError as error:
+        raise FileFault(error.strerror or error) from None
 
 
 def write(line):
-    sys.stdout.buffer.write(line)
-    sys.stdout.buffer.flush()
+    try:
+        sys.stdout.buffer.write(line)
+        sys.stdout.buffer.flush()
+    except OSError as error:
+        end(f"write failed: {error.strerror}")
+
+
+def end(fault):
+    """Ends the program, which can't go on for this."""
+    print(f"rpq-to-stream: {fault}", file=sys.stderr)
+    # what is left of the output is given up
+    os._exit(2)
 
 
 def main():
     # a reader that ends, such as head, ends this program too
     signal.signal(signal.SIGPIPE, signal.SIG_DFL)
     words = parsed_words()
-    left_out, kept = [], []
+    left_out, kept, greatest = [], [], 0
     for name in words.files or [None]:
         try:
             for time, line in tuples_of(words, name, left_out):
+                greatest = max(greatest, time)
                 if words.sort:
                     kept.append((time, line))
                 else:
                     write(line)
-        except (OSError, EOFError, LookupError, csv.Error) as error:
-            print(f"to-stream: {name or 'standard input'}: {error}", file=sys.stderr)
-            return 2
+        except FileFault as fault:
+            end(f"{name or 'standard input'}: {fault}")
     # rows of one time stay in their order
-    for _, line in sorted(kept, key=lambda pair: pair[0]):
-        sys.stdout.buffer.write(line)
+    write(b"".join(line for _, line in sorted(kept, key=lambda pair: pair[0])))
+    if words.given == words.unit == "seconds" and greatest >= MILLISECONDS_FROM:
+        hint = "if these are milliseconds, say --given milliseconds"
+        print(f"rpq-to-stream: a time of {greatest} seconds; {hint}", file=sys.stderr)
     return 1 if left_out else 0
 
 

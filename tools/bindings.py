@@ -347,13 +347,17 @@ def blocks(queries, joins, history):
 def main():
     if len(sys.argv) != 4:
         sys.exit("usage: bindings.py QUERIES JOINS STREAM")
-    queries = read_queries(Path(sys.argv[1]).read_bytes())
     try:
-        joins = read_joins(Path(sys.argv[2]).read_bytes(), [query.name for query in queries])
+        texts = [Path(name).read_bytes() for name in sys.argv[1:]]
+    except OSError as error:
+        sys.exit("bindings.py: %s: %s" % (error.filename, error.strerror))
+    queries = read_queries(texts[0])
+    try:
+        joins = read_joins(texts[1], [query.name for query in queries])
     except Fault as fault:
         print("rpq: joins", fault, file=sys.stderr)
         return 10
-    history, is_whole = read_stream(Path(sys.argv[3]).read_bytes())
+    history, is_whole = read_stream(texts[2])
     for line in blocks(queries, joins, history):
         sys.stdout.buffer.write(line + b"\n")
     return 0 if is_whole else 4

@@ -7,9 +7,11 @@
 # `.ci/run` make the program that is proved.
 set -eu
 [ $# -ge 1 ] && [ $# -le 2 ] || { echo "usage: tools/fast-build.sh OUT [CRATE]" >&2; exit 1; }
+[ "${1#-}" = "$1" ] || { echo "usage: tools/fast-build.sh OUT [CRATE]" >&2; exit 1; }
 out="$(realpath -m "$1")"
 crate="${2:-rpq}"
 top="$(cd "$(dirname "$0")/.." && pwd)"
+[ -e "$top/crates/$crate/src/main.rt" ] || { echo "fast-build: no program $crate" >&2; exit 1; }
 command -v rt >/dev/null 2>&1 || PATH="$PATH:/opt/rattle/bin"
 command -v rt >/dev/null 2>&1 || { echo "fast-build: no rt on the path" >&2; exit 1; }
 kit="$(dirname "$(dirname "$(realpath "$(command -v rt)")")")"

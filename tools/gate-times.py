@@ -297,6 +297,8 @@ def main():
     if given.table:
         with open(given.table, encoding="utf-8") as it:
             seen = json.load(it)
+    elif not given.command:
+        parser.error("no command to run")
     else:
         seen, status = watched(given.command, file)
     print("\n".join(table_of(seen)))
