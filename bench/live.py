@@ -2,6 +2,7 @@
 """Times rpq with several streams and with readers, outside the gate.
 
     live.py PROGRAM [--before OTHER] [--kinds uniform,so] [--tuples 100000] [--runs 3]
+    live.py PROGRAM --beside [--kinds uniform,so] [--tuples 100000] [--runs 3]
     live.py PROGRAM --idle
     live.py PROGRAM --delay
 
@@ -11,6 +12,10 @@ streams; of one stream with a reader that waits for each thousandth position and
 and for what one vertex leads to; and with 64 readers of 100 asks each. The times of the last three
 are also told as a part of those of the one stream. With --before the one stream is run by another
 program of the same command line, too, in turn.
+
+--beside prints the seconds of processor time, the least of so many runs, of one stream; the same
+with a reader beside it that asks nothing; and with one that asks ten times a second for a count and
+for what one vertex leads to.
 
 --idle tells what processor time a run takes in 10 s in which its pipe says nothing, with two
 readers that wait. --delay tells how long it takes from a line that is written into a pipe until its
@@ -107,6 +112,64 @@ def table(program, before, kinds, tuples, times):
                 least([program, "--asks", path, *replies, queries, stream], times), one)
 
 
+def busy_time(number):
+    """The processor time that the process with this number has taken, in seconds."""
+    with open(f"/proc/{number}/stat", encoding="utf-8") as stat:
+        fields = stat.read().rsplit(")", 1)[1].split()
+    return (int(fields[11]) + int(fields[12])) / os.sysconf("SC_CLK_TCK")
+
+
+def with_reader(words, lines):
+    """The processor time of a run with a reader beside it. Each tenth of a second it is asked the
+    next of these lines, if there are any. It is ended once the run takes no more time."""
+    place = tempfile.mkdtemp(prefix="rpq-live")
+    pipes = [os.path.join(place, name) for name in ("asks", "replies")]
+    for pipe in pipes:
+        os.mkfifo(pipe)
+    held, taken = (os.open(pipe, os.O_RDWR | os.O_NONBLOCK) for pipe in pipes)
+    process = subprocess.Popen([*words, "--reader", *pipes], stdout=subprocess.DEVNULL)
+    asked, before, quiet = 0, -1.0, 0
+    while quiet < 5:
+        time.sleep(0.1)
+        now = busy_time(process.pid)
+        quiet = quiet + 1 if now - before < 0.02 else 0
+        before = now
+        if lines and quiet < 2:
+            os.write(held, lines[asked % len(lines)].encode())
+            asked += 1
+        try:
+            os.read(taken, 1 << 20)
+        except BlockingIOError:
+            pass
+    os.write(held, b"end\n")
+    _, status, used = os.wait4(process.pid, 0)
+    process.returncode = status
+    if status != 0:
+        raise SystemExit(f"{' '.join(words)}: status {status >> 8}")
+    os.close(held)
+    os.close(taken)
+    return used.ru_utime + used.ru_stime
+
+
+def beside(program, kinds, tuples, times):
+    """Prints what a reader beside a run costs."""
+    print("| stream, queries | no reader, s | one that asks nothing | one that asks |")
+    print("|---|---|---|---|")
+    for kind in kinds:
+        for query in ("q1", "all"):
+            queries, stream = files(kind, tuples, query)
+            with open(queries, encoding="utf-8") as lines:
+                names = [line.split()[1] for line in lines if line.startswith("query")]
+            asked = [f"count {name}\nfrom {name} {vertex}\n"
+                     for name, vertex in zip(names * 50, vertices(stream, 50))]
+            words = [program, queries, stream]
+            alone = min(run(words).busy for _ in range(times))
+            still = min(with_reader(words, []) for _ in range(times))
+            asking = min(with_reader(words, asked) for _ in range(times))
+            print(f"| `{kind}`, {query} | {alone:.2f} | {still / alone:.2f} |"
+                  f" {asking / alone:.2f} |", flush=True)
+
+
 def live(program, words, place):
     """Starts a run over a named pipe, and gives the process and the pipe's end to write on."""
     pipe = os.path.join(place, "pipe")
@@ -132,14 +195,10 @@ def idle(program):
     pipe.write(b"1 x a y\n")
     time.sleep(1)
 
-    def busy():
-        with open(f"/proc/{process.pid}/stat", encoding="utf-8") as stat:
-            fields = stat.read().rsplit(")", 1)[1].split()
-        return (int(fields[11]) + int(fields[12])) / os.sysconf("SC_CLK_TCK")
-
-    start = busy()
+    start = busy_time(process.pid)
     time.sleep(10)
-    print(f"processor time of 10 s in which nothing comes: {busy() - start:.2f} s")
+    taken = busy_time(process.pid) - start
+    print(f"processor time of 10 s in which nothing comes: {taken:.2f} s")
     pipe.write(b"2 y b z\n")
     pipe.close()
     process.stdout.read()
@@ -175,6 +234,7 @@ def main():
     parser.add_argument("--kinds", default=",".join(KINDS))
     parser.add_argument("--tuples", type=int, default=100_000)
     parser.add_argument("--runs", type=int, default=3)
+    parser.add_argument("--beside", action="store_true")
     parser.add_argument("--idle", action="store_true")
     parser.add_argument("--delay", action="store_true")
     given = parser.parse_args()
@@ -183,6 +243,8 @@ def main():
         idle(program)
     elif given.delay:
         delay(program)
+    elif given.beside:
+        beside(program, given.kinds.split(","), given.tuples, given.runs)
     else:
         before = os.path.abspath(given.before) if given.before else None
         table(program, before, given.kinds.split(","), given.tuples, given.runs)

@@ -2,7 +2,8 @@
 # packaging/install.sh PREFIX [PROGRAM | --proved]
 #
 # Installs rpq below PREFIX, such as /usr/local or ~/.local: the program, the scripts rpq-to-stream,
-# rpq-json, rpq-alerts and rpq-labels, the man page, the completion of bash, and the examples.
+# rpq-json, rpq-alerts, rpq-labels and rpq-ask, the man page, the completion of bash, and the
+# examples.
 #
 # PROGRAM is a built program. With --proved it is made by `rt run`, which proves it first and takes
 # half an hour; without a second word tools/fast-build.sh makes it unproved in three minutes. Both
@@ -30,6 +31,7 @@ install -m 755 "$top/scripts/to-stream.py" "$prefix/bin/rpq-to-stream"
 install -m 755 "$top/scripts/rpq-json.py" "$prefix/bin/rpq-json"
 install -m 755 "$top/scripts/alerts.py" "$prefix/bin/rpq-alerts"
 install -m 755 "$top/scripts/labels.py" "$prefix/bin/rpq-labels"
+install -m 755 "$top/scripts/ask.py" "$prefix/bin/rpq-ask"
 install -D -m 644 "$top/packaging/rpq.1" "$prefix/share/man/man1/rpq.1"
 install -D -m 644 "$top/packaging/rpq.bash" "$prefix/share/bash-completion/completions/rpq"
 mkdir -p "$prefix/share/doc/rpq"

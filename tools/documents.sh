@@ -4,9 +4,9 @@
 # Runs what the documents say, with PROGRAM as `rpq`, and compares what comes out. Where no program
 # is given, it is the proved one that `.ci/run`, or `rt run` in crates/rpq, left in crates/rpq/out.
 #
-# - Each command of README.md, docs/examples.md, docs/your-data.md, docs/formats.md and
-#   docs/scale.md, which is an indented line behind `$ `. What follows it, up to a blank line or the
-#   next command, is what it writes; a line `...` there is any further lines.
+# - Each command of README.md, docs/examples.md, docs/your-data.md, docs/formats.md, docs/scale.md
+#   and docs/service.md, which is an indented line behind `$ `. What follows it, up to a blank line
+#   or the next command, is what it writes; a line `...` there is any further lines.
 # - The example of the README's first screen, and the files *-events.txt of examples/, with their
 #   joins file where there is one, else with `--two-way` and, where the queries have no `^`, without
 #   it.
@@ -15,23 +15,32 @@
 #   or a saved window, of options with three streams and readers, of files that are too long, and of
 #   a closed output: no contract says it.
 # - That what packaging/ installs runs, and that its man page and completion have each option.
+# - What the scripts say where they are used in a wrong way (tools/wrong-uses.sh): none ends with 0,
+#   or waits for ever.
 # - That a file which a run reads, or which is one of its outputs, isn't opened to write by any of
 #   its names, that a name is taken as it is, that a file that is written is emptied first, what
 #   stands on the output where a signal ends the program, and that ten runs, each going on with the
 #   window of the one before, write what one run writes.
 # - That a run without end passes 2,000,000 tuples, and writes and saves what one that keeps all
 #   does, with each option.
-# - That 64 streams are read beside all options, that a run over 70,001 vertices has each answer,
-#   also where one tuple brings 70,001 of them, that a live run takes no processor time while no
-#   line comes, that each of its readers is woken, and that a run goes on when memory runs out for
-#   the first time. This last check wants a C compiler.
+# - That a reader beside a run whose replies nobody takes holds up the end alone, that one whose
+#   client is gone ends alone, that readers who ask nothing take no processor time, and which of
+#   their files are refused.
+# - That 64 streams are read beside all options and 64 readers, that a run over 70,001 vertices has
+#   each answer, also where one tuple brings 70,001 of them, that a live run takes no processor time
+#   while no line comes, that each of its sessions is woken, and that a run goes on when memory runs
+#   out for the first time. This last check wants a C compiler.
 #
 # The commands of a document run one after another in a copy of examples/, those of the README in
 # the folder above it. Small stand-ins are there for the packages of the machine, a collector, the
-# clock and `rt`. The last line is `N passed, M failed`; the status is 0 where none failed.
+# clock, `rt`, and `socat` if there is none. The last line is `N passed, M failed`; the status is 0
+# where none failed.
 set -u
 export LC_ALL=C
-[ $# -le 1 ] || { echo "usage: tools/documents.sh [PROGRAM]" >&2; exit 1; }
+case "$#${1:-}" in
+    0 | 1[!-]*) ;;
+    *) echo "usage: tools/documents.sh [PROGRAM]" >&2; exit 1 ;;
+esac
 top="$(cd "$(dirname "$0")/.." && pwd)"
 program="$(realpath -m "${1:-$top/crates/rpq/out/rpq}")"
 [ -x "$program" ] || { echo "documents: no program $program" >&2; exit 1; }
@@ -58,6 +67,7 @@ ln -s "$top/scripts/to-stream.py" "$place/bin/rpq-to-stream"
 ln -s "$top/scripts/rpq-json.py" "$place/bin/rpq-json"
 ln -s "$top/scripts/alerts.py" "$place/bin/rpq-alerts"
 ln -s "$top/scripts/labels.py" "$place/bin/rpq-labels"
+ln -s "$top/scripts/ask.py" "$place/bin/rpq-ask"
 cat > "$place/bin/rt" <<'END'
 #!/bin/sh
 case "$1 $2" in "try --" | "run --") shift 2; exec rpq "$@" ;; *) exit 1 ;; esac
@@ -70,19 +80,38 @@ cat > "$place/bin/date" <<'END'
 #!/bin/sh
 echo 1764205500
 END
-# The first sleep lasts until the guard has passed all lines on, and the second ends the loop.
+# The first sleep of the loop lasts until the guard has passed all lines on, and the second ends it.
 cat > "$place/bin/perl" <<END
 #!/bin/sh
 "$(command -v perl)" "\$@" && : > guarded
 END
 cat > "$place/bin/sleep" <<'END'
 #!/bin/sh
+[ "$1" = 10 ] || exec /bin/sleep "$@"
 [ -e slept ] && exit 1
 : > slept
 until [ -e guarded ]; do /bin/sleep 0.1; done
 END
-chmod +x "$place/bin/rt" "$place/bin/collector" "$place/bin/date" "$place/bin/perl" \
-    "$place/bin/sleep"
+# A socket whose clients have a command each, or a client of it.
+command -v socat > /dev/null || cat > "$place/bin/socat" <<'END'
+#!/usr/bin/env python3
+import os, socket, subprocess, sys
+first, second = sys.argv[3:5] if sys.argv[1] == "-t" else sys.argv[1:3]
+end = socket.socket(socket.AF_UNIX)
+if first == "-":
+    end.connect(second.split(":", 1)[1])
+    end.sendall(sys.stdin.buffer.read())
+    end.shutdown(socket.SHUT_WR)
+    sys.stdout.buffer.write(end.makefile("rb").read())
+    sys.exit()
+end.bind(first.split(":", 1)[1].split(",")[0])
+end.listen()
+while True:
+    client, _ = end.accept()
+    subprocess.Popen(second.split(":", 1)[1].split(" "), stdin=client, stdout=client)
+    client.close()
+END
+chmod +x "$place"/bin/*
 PATH="$place/bin:$PATH"
 
 # whether a text is as wanted, where a line `...` stands for any further lines
@@ -144,7 +173,8 @@ run_document() {
 }
 
 run_document README.md top
-for document in docs/examples.md docs/your-data.md docs/formats.md docs/scale.md; do
+for document in docs/examples.md docs/your-data.md docs/formats.md docs/scale.md \
+    docs/service.md; do
     run_document "$document" top/examples
 done
 
@@ -237,6 +267,13 @@ ends_with 1 "rpq: words" "a window saved with --two-way" \
     rpq --two-way --save "$place/unmade" "$queries" "$stream"
 ends_with 1 "rpq: words" "a saved window with --two-way" \
     rpq --two-way --from "$stream" "$queries" "$stream"
+ends_with 1 "rpq: words" "a reader with --two-way" \
+    rpq --two-way --reader reach-asks.txt "$place/unmade" "$queries" "$stream"
+ends_with 1 "rpq: words" "a reader with --check" \
+    rpq --check --reader reach-asks.txt "$place/unmade" "$queries"
+mapfile -t readers < <(for number in $(seq 65); do printf '%s\n' --reader a "$place/unmade"; done)
+ends_with 1 "rpq: words" "65 readers" rpq "${readers[@]}" "$queries" "$stream"
+ends_with 1 "rpq: words" "a reader without replies" rpq "$queries" "$stream" --reader reach-asks.txt
 ends_with 1 "rpq: words" "joins with --two-way" \
     rpq --two-way --joins firm-joins.txt firm-queries.txt "$stream"
 ends_with 1 "rpq: words" "joins with --paths" \
@@ -312,6 +349,29 @@ ends_with 6 "rpq: write failed: save" "a window saved on a full device" \
     saving /dev/full queries stream
 ends_with 5 "rpq: read failed: from" "no saved window" rpq --from nowhere queries stream
 ends_with 5 "rpq: read failed: joins" "no joins file" rpq --joins nowhere queries stream
+
+# So are the replies of a reader. A reader ends alone if a reply can't be written.
+for name in queries joins asks stream live; do
+    printf 'wait 2\n' > live
+    ends_with 6 "rpq: write failed: reader 2" "a reader's replies into the file $name" \
+        rpq --joins joins --asks asks --replies /dev/null --reader live replies \
+        --reader live "$name" queries stream
+    [ "$name" = live ] || cmp -s "$name" "$place/kept/$name"
+    count $? "a reader's replies into the file $name: the file is another one"
+done
+ends_with 6 "rpq: write failed: reader 2" "the replies of two readers into one file" \
+    rpq --reader live both --reader live ./both queries stream
+rm -f unmade
+ends_with 5 "rpq: read failed: reader 2" "no file of a reader's asks" \
+    rpq --reader live unmade --reader nowhere unmade queries stream
+[ ! -e unmade ]
+count $? "no file of a reader's asks: a file was made"
+answering() { rpq "$@" queries stream > events; }
+ends_with 9 "rpq: write failed: reader 1" "a reader's replies on a full device" \
+    answering --reader live /dev/full --reader live replies
+cmp -s events <(rpq queries stream) && grep -q '^@[0-9]* wait 2$' replies
+count $? "a reader's replies on a full device: other events, or other replies of another reader"
+rm live
 
 # So it is by another name of the file: a path, a link of either kind, and the system's own name of
 # an open file.
@@ -403,23 +463,26 @@ count $? "continue.sh: the status isn't 0"
 cmp -s one <(cat state/events.*)
 count $? "continue.sh: ten runs write another text than one"
 
-# All options that go together, and as many streams as may be: the last stream is read like the
-# first one, and nothing is missing behind the streams.
+# All options that go together, and as many streams and readers as may be: the last one is read like
+# the first one, and nothing is missing behind the streams.
 mkdir "$place/many"
 cd "$place/many" || exit 1
 cp "$place"/files/queries .
 printf 'session\nwait 640\ncount %s\n' "$(awk '/^query/ { print $2; exit }' queries)" > asks
-names=()
+names=() with_readers=()
+printf 'wait 640\nclock\n' > live
 for number in $(seq 64); do
-    names+=("stream$number")
+    names+=("stream$number") with_readers+=(--reader live "replies$number")
     for line in $(seq 10); do echo "$line from$number transfer to$line"; done > "stream$number"
 done
 rpq --workers 2 --history 640 --paths --asks asks --replies replies --save saved \
-    queries "${names[@]}" > events
+    "${with_readers[@]}" queries "${names[@]}" > events
 count $? "64 streams and all options: the status isn't 0"
 for number in 1 33 64; do
     cmp -s <(sed -n "s/^@[0-9]* $number \(.*\) +/\1/p" events) "stream$number"
     count $? "64 streams and all options: the tuples of stream $number aren't there"
+    cmp -s "replies$number" <(printf '@640 wait 640\n@640 clock 10\n')
+    count $? "64 streams and all options: reader $number has other replies"
 done
 [ "$(sed -n 1p replies)" = "session 1" ] && grep -q '^@640 wait 640$' replies && [ -s saved ]
 count $? "64 streams and all options: no reply at the end, or no saved window"
@@ -548,6 +611,80 @@ count $? "a live run of nine readers: the one that waits for the tenth tuple is 
 [ "$(grep -c '^@70001 wait 1000000 ended$' replies)" -eq 8 ]
 count $? "a live run of nine readers: the others aren't answered at the end"
 
+# Readers over named pipes. This script holds both ends of them, but not of the second one's replies,
+# whose client goes away. Nobody takes the replies of the first one, and they are more than a pipe
+# holds. The third asks nothing, and the fourth is answered all the same.
+mkdir "$place/readers"
+cd "$place/readers" || exit 1
+echo 'query edge window 1000000 slide 1 arbitrary: a' > queries
+seq 4000 | sed 's/.*/& s& a t&/' > stream
+with_readers=() asks=() replies=()
+for number in 1 2 3 4; do
+    mkfifo "asks$number" "replies$number"
+    with_readers+=(--reader "asks$number" "replies$number")
+    exec {pipe}<> "asks$number"
+    asks[number]="$pipe"
+    [ "$number" -eq 2 ] && continue
+    exec {pipe}<> "replies$number"
+    replies[number]="$pipe"
+done
+mkfifo feed
+exec {feed}<> feed
+(
+    for pipe in "$feed" "${asks[@]}" "${replies[@]}"; do exec {pipe}>&-; done
+    exec rpq --endless "${with_readers[@]}" queries feed > events 2> errors
+) &
+run=$!
+exec {client}< replies2
+# whether this line is answered to a reader whose replies come on this pipe
+is_answered() {
+    local reply
+    read -r -t 60 reply <&"$1" && [ "$reply" = "$2" ]
+    count $? "readers over pipes: no reply \`$2\` but \`$reply\`"
+}
+head -n 2000 stream >&"$feed"
+echo "wait 2000" >&"${asks[4]}"
+is_answered "${replies[4]}" "@2000 wait 2000"
+yes "answers edge" | head -n 20 >&"${asks[1]}"
+echo "to edge t7" >&"${asks[2]}"
+is_answered "$client" "@2000 to edge t7 1"
+is_answered "$client" "s7"
+exec {client}<&-
+echo "clock" >&"${asks[2]}"
+tail -n +2001 stream >&"$feed"
+printf 'wait 4000\nno ask\ncount edge\n' >&"${asks[4]}"
+is_answered "${replies[4]}" "@4000 wait 4000"
+is_answered "${replies[4]}" "error line 3: shape"
+is_answered "${replies[4]}" "@4000 count edge 4000"
+is_idle "$run"
+count $? "readers over pipes: a run that waits takes processor time"
+exec {feed}>&-
+printf 'wait 4611686018427387903\nend\n' >&"${asks[4]}"
+is_answered "${replies[4]}" "@4000 wait 4611686018427387903 ended"
+is_answered "${replies[4]}" "end"
+echo "end" >&"${asks[3]}"
+is_answered "${replies[3]}" "end"
+echo "end" >&"${asks[1]}"
+/bin/sleep 1
+kill -0 "$run"
+count $? "readers over pipes: the run doesn't wait for the replies that nobody took"
+exec {client}< replies1
+pipe="${replies[1]}"
+exec {pipe}>&-
+cat <&"$client" > taken &
+has_ended "$run"
+count $? "readers over pipes: the run doesn't end with its readers"
+wait "$run"
+[ $? -eq 9 ] && [ "$(cat errors)" = "rpq: write failed: reader 2" ]
+count $? "readers over pipes: no status 9, or another line than that of the second one"
+cmp -s events <(rpq queries stream)
+count $? "readers over pipes: the run writes another text"
+wait
+awk '/^@/ { heads++; wanted += $4; if ($0 != "@" $4 " answers edge " $4) exit 1 } END {
+    if (heads != 20 || NR != 20 + wanted + 1 || $0 != "end") exit 1 }' taken
+count $? "readers over pipes: the one whose replies came late has others"
+for pipe in "$client" "${asks[@]}" "${replies[3]}" "${replies[4]}"; do exec {pipe}>&-; done
+
 # Where one allocation is refused, a run ends with the same bytes or with 8. Most meet the engine,
 # which is rebuilt for the first one, and then the run goes on: more than half end with all bytes.
 refusing="$place/refusing.so"
@@ -595,6 +732,9 @@ for signal in INT TERM; do
     wait
 done
 
+# What the scripts say where they are used in a wrong way.
+. "$top/tools/wrong-uses.sh"
+
 # What packaging/install.sh installs runs, and a package has it.
 prefix="$place/prefix"
 cd "$place/files" || exit 1
@@ -602,7 +742,7 @@ cd "$place/files" || exit 1
 count $? "install.sh: the status isn't 0"
 "$prefix/bin/rpq" queries stream > events && cmp -s events <(rpq queries stream)
 count $? "install.sh: the installed program writes another text"
-for script in rpq-to-stream rpq-json rpq-alerts; do
+for script in rpq-to-stream rpq-json rpq-alerts rpq-ask; do
     "$prefix/bin/$script" --help > /dev/null
     count $? "install.sh: $script --help"
 done

@@ -5,9 +5,10 @@
 
 Each run takes a queries file, an asks file and one or two streams, of which some bytes are changed,
 left out, repeated or put in from elsewhere, or which are random altogether; sometimes it begins
-with a saved window, or has a joins file, which are such bytes too, or it checks or generates
-instead, or it may take edges backwards or tell paths. It is to end within 5 seconds, by no signal,
-with a status that docs/formats.md has, and with lines on standard error of the forms that it has. A
+with a saved window, or has a joins file, or readers, whose asks are such bytes too, or it checks
+or generates instead, or it may take edges backwards or tell paths. It is to end within 5 seconds,
+by no signal, with a status that docs/formats.md has, and with lines on standard error of the forms
+that it has. A reader is to have an answer to each line that asks for something, and no other. A
 window that it saves is to be taken by a further run over no stream, which is to end with status 0
 and save the same bytes. What runs ended with which status is printed, and the first runs that did
 otherwise, whose files stay. The last line is `N passed, M failed`; the status is 0 where none
@@ -37,6 +38,11 @@ ASKS = [
     b"# none\nsession\n",
     b"session\nstats\nclock\nends q x\nto q z\nwait 2\n",
 ]
+# What readers beside the run ask.
+LIVE_ASKS = [
+    b"wait 1\ncount q\nanswers q\nfrom q x\npair q x z\nuntil q x z\nwait 9\n",
+    b"stats\nclock\r\n# none\n\nends q x\nto q z\nwait 2\nend\nwait 1\n",
+]
 STREAMS = [
     b"1 x a y\n2 y b z\n3 x a w +\n7 y b z -\n200\n",
     b"5 u a v until 9\n4 v b u\n6 v b u -\n\n# a comment\n8\r\n9 w a w",
@@ -50,18 +56,23 @@ JOINS = [
 ]
 # Each file with how often it is left as it is.
 FILES = [("q", QUERIES, 0.7), ("j", JOINS, 0.5), ("a", ASKS, 0.5), ("s", STREAMS, 0.2),
-         ("t", STREAMS, 0.2), ("w", STREAMS, 0.4)]
+         ("t", STREAMS, 0.2), ("w", STREAMS, 0.4), ("l", LIVE_ASKS, 0.2), ("m", LIVE_ASKS, 0.2)]
 PIECES = [
     b"query ", b"window ", b"slide ", b"arbitrary: ", b"simple: ", b"session\n", b"wait ", b"until ",
     b"from ", b"join ", b"join b q ?a ?b ", b" q ?c ?d", b"(", b")", b"*", b"+", b"?", b"/", b"|", b"^",
     b'"', b"%", b"\n", b"\r\n", b"\0", b"\xff", b"0", b"-1", b"4611686018427387903",
     b"4611686018427387904", b"99999999999999999999999", b" ", b"\t", b"x" * 255, b"x" * 256,
-    b"x" * 1023, b"(" * 600, b"a/" * 70 + b"a", b"(a|b)*/a/" * 9 + b"a",
+    b"\nend\n", b"end", b"clock\n", b"stats\n", b"to q z\n", b"ends q x\n", b"x" * 1023, b"(" * 600,
+    b"a/" * 70 + b"a", b"(a|b)*/a/" * 9 + b"a",
 ]
 LINE = re.compile(
     rb"rpq: (words|memory|(queries|joins|asks) line \d+: .*|(queries|joins|asks): too long"
-    rb"|read failed: (queries|joins|asks|from|stream \d+)|write failed: (events|replies|save)"
+    rb"|read failed: (queries|joins|asks|from|(stream|reader) \d+)"
+    rb"|write failed: (events|replies|save|reader \d+)"
     rb"|stream \d+ line \d+: .*|stream \d+: (history full|too long))|usage: rpq .*")
+# the first line of a reply; those of these kinds say at its end how many lines follow
+HEAD = re.compile(rb"@\d+ (answers|from|ends|to|stats|pair|count|until|clock|wait) ?[^\n]*")
+WITH_LINES = (b"answers", b"from", b"ends", b"to", b"stats")
 
 
 def mutated(chance, base):
@@ -105,10 +116,51 @@ def words_of(chance, backwards):
     if plain:
         return words + ["q", "s"] + (["t"] if chance.random() < 0.4 else [])
     words += ["--asks", "a", "--replies", "r"] if chance.random() < 0.6 else []
+    words += ["--reader", "l", "o"] if chance.random() < 0.5 else []
+    words += ["--reader", "m", "p"] if chance.random() < 0.3 else []
+    words += ["--reader", "m", "/dev/full"] if chance.random() < 0.05 else []
     words += ["--save", "v"] if chance.random() < 0.4 else []
     if chance.random() < 0.3:
         return words + ["--from", "w", "q", "s"]
     return words + ["q", "s"] + (["t"] if chance.random() < 0.4 else [])
+
+
+def lines_that_ask(text):
+    """The lines of a reader's asks that are answered: the number of each, and its bytes."""
+    lines = text.split(b"\n")
+    for number, line in enumerate(lines[:-1] if lines[-1] == b"" else lines, 1):
+        is_long = len(line) > 1024
+        fields = re.split(rb"[ \t]+", line.removesuffix(b"\r").strip(b" \t"))
+        if is_long or not (fields == [b""] or fields[0].startswith(b"#")):
+            yield number, b"too long" if is_long else b" ".join(fields)
+        if fields == [b"end"]:
+            return
+
+
+def wrong_replies(folder, asks, replies):
+    """What is wrong with what a reader was answered, if anything is."""
+    with open(os.path.join(folder, asks), "rb") as file:
+        asking = lines_that_ask(file.read())
+    with open(os.path.join(folder, replies), "rb") as file:
+        told = file.read().split(b"\n")
+    if told.pop() != b"":
+        return "a last line without its end"
+    for number, line in asking:
+        if not told:
+            return f"no answer to line {number}"
+        head = told.pop(0)
+        if line == b"end" or head.startswith(b"error line %d: " % number):
+            if (line == b"end") != (head == b"end") or line == b"too long" and line not in head:
+                return f"line {number} is answered {head}"
+            continue
+        kind = HEAD.fullmatch(head)
+        if not kind or kind[1] != line.split(b" ")[0]:
+            return f"line {number} is answered {head}"
+        many = int(head.split(b" ")[-1]) if kind[1] in WITH_LINES else 0
+        if len(told) < many:
+            return f"the answer to line {number} has too few lines"
+        del told[:many]
+    return None if not told else f"an answer to nothing: {told[0]}"
 
 
 def taken_again(program, folder):
@@ -143,15 +195,21 @@ def one_run(program, seed, place):
     except subprocess.TimeoutExpired:
         return f"seed {seed}: {words} takes more than {SECONDS} s", None
     status = done.returncode
-    if not (0 <= status <= 7 or status == 10):
+    if not (0 <= status <= 7 or status in (9, 10)):
         return f"seed {seed}: {words} ends with {status}", status
     if (status == 0) != (done.stderr == b""):
         return f"seed {seed}: {words} ends with {status} and writes {done.stderr[:200]}", status
     for line in done.stderr.split(b"\n")[:-1]:
         if not LINE.fullmatch(line):
             return f"seed {seed}: {words} writes {line[:200]} on its errors", status
+    for asks, replies in (("l", "o"), ("m", "p")):
+        # a run that didn't begin answered nobody, whatever its status
+        if status in (0, 4, 7, 9) and replies in words and os.path.exists(folder + "/" + replies):
+            wrong = wrong_replies(folder, asks, replies)
+            if wrong:
+                return f"seed {seed}: {words}: {wrong}", status
     # A run that didn't begin has emptied no file but perhaps that of the replies.
-    if "--save" in words and status in (0, 4, 5, 7) and os.path.exists(os.path.join(folder, "v")):
+    if "--save" in words and status in (0, 4, 5, 7, 9) and os.path.exists(folder + "/v"):
         wrong = taken_again(program, folder)
         if wrong:
             return f"seed {seed}: {words} saves a window with which a run ends with {wrong}", status

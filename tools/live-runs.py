@@ -13,9 +13,11 @@ against the one history that its own `@` lines spell:
 - the window that it saves is what the history leaves;
 - each reply is what the history has at the reply's position, positions never fall within a session,
   and a wait is answered as ended exactly where the history ended before its position;
-- the status and the lines on errors are those of the streams' ends.
+- so it is of each reader beside the run, over files and over named pipes, who asks at any moment,
+  writes faulty lines too, ends, or goes away (tools/reader_clients.py);
+- the status and the lines on errors are those of the streams' and the readers' ends.
 
-A third of the runs, which neither answer readers nor save a window, may take edges backwards: their
+A third of the runs, which neither answer anybody nor save a window, may take edges backwards: their
 answers are those over the edges of the window and the same edges turned round. A quarter of the
 others have joins, and more than half of those that are left tell paths. With --joins each run has
 joins, and is made twice, with one worker and with four.
@@ -33,6 +35,7 @@ import threading
 import time
 
 import bindings
+import reader_clients
 
 NAMES = ["x", "y", "z", "u", "v", "w"]
 LABELS = ["a", "b", "c"]
@@ -340,8 +343,12 @@ def random_case(rng, has_joins):
         total += len(window["entries"])
     else:
         window = None
+    readers = [
+        reader_clients.random_reader(rng, lambda: random_ask(rng, queries, names, total))
+        for _ in range(0 if two_way else rng.choice([0, 0, 1, 2, 3, 4]))]
     limit = rng.randrange(1, total + 2) if rng.random() < 0.2 else None
     return {"queries": queries, "streams": streams, "sessions": sessions, "limit": limit,
+            "readers": readers,
             "window": window, "saves": not two_way and rng.random() < 0.5, "two_way": two_way,
             "joins": random_joins(rng, queries, names) if has_joins else None,
             "paths": not two_way and not has_joins and rng.random() < 0.6,
@@ -394,9 +401,12 @@ def run(program, case, folder, seed):
         words += ["--joins", "joins.txt"]
         with open(folder + "/joins.txt", "w") as out:
             out.write(case["joins"])
-    words.append("queries.txt")
     # A run that is refused opens no pipe.
     has_pipes, feeders = read_joins(case)[1] is None, []
+    clients = [reader_clients.Client(folder, number, reader, has_pipes, rng.random())
+               for number, reader in enumerate(case["readers"], 1)]
+    words += sum((client.words for client in clients), [])
+    words.append("queries.txt")
     for number, stream in enumerate(case["streams"], 1):
         name = "stream%d" % number
         data = "".join(line + "\n" for line in stream["lines"]).encode()
@@ -412,12 +422,13 @@ def run(program, case, folder, seed):
                           capture_output=True, timeout=60)
     for feeder in feeders:
         feeder.join(10)
+    told = [client.replies_at_end() for client in clients]
     replies = saved = None
     if case["sessions"] and os.path.exists(folder + "/replies.txt"):
         replies = open(folder + "/replies.txt").read()
     if case["saves"] and os.path.exists(folder + "/saved.txt"):
         saved = open(folder + "/saved.txt").read()
-    return done.returncode, done.stdout.decode(), done.stderr.decode(), replies, saved
+    return done.returncode, done.stdout.decode(), done.stderr.decode(), replies, saved, told
 
 
 # ---- what the run has to be
@@ -457,6 +468,10 @@ def expected_errors(case, history, numbers):
         elif stream["fault"] is not None:
             lines.append("rpq: stream %d line %d: operation\n" % (number, stream["fault"]))
             status = max(status, 4)
+    for number, reader in enumerate(case["readers"], 1):
+        if reader["way"] == "leaves":
+            lines.append("rpq: write failed: reader %d\n" % number)
+            status = status or 9
     return status, "".join(lines)
 
 
@@ -491,25 +506,62 @@ def expected_reply(ask, history, ends, names):
     return front + (" none\n" if end is None else " %d\n" % end)
 
 
-def check_replies(case, history, ends, replies):
-    names = [query["name"] for query in case["queries"]]
+class Replies:
+    """What of the replies to one who asks wasn't looked at yet, and the position of the last."""
+
+    def __init__(self, case, history, ends, text):
+        self.names = [query["name"] for query in case["queries"]]
+        self.history, self.ends, self.text, self.last = history, ends, text, 0
+
+    def fault_of(self, ask):
+        """What is wrong with the reply that comes next, if anything is."""
+        head = self.text.split(" ", 1)[0]
+        position = int(head[1:]) if head[:1] == "@" and head[1:].isdigit() else -1
+        if not self.last <= position <= len(self.history):
+            return "the position %s of %r" % (head, ask)
+        due = expected_reply(ask, self.history[:position], self.ends[position], self.names)
+        if ask[0] == "wait" and position < int(ask[1]) and position != len(self.history):
+            return "a wait that ended before the history"
+        self.last = position
+        return self.fault_of_text(due)
+
+    def fault_of_text(self, due):
+        if not self.text.startswith(due):
+            return "%r, due %r" % (self.text[:60], due)
+        self.text = self.text[len(due):]
+        return None
+
+
+def check_replies(case, history, ends, text):
     for number, asks in enumerate(case["sessions"], 1):
         front = "session %d\n" % number
-        if not replies.startswith(front):
+        if not text.startswith(front):
             return "the line of session %d" % number
-        replies, last = replies[len(front):], 0
+        replies = Replies(case, history, ends, text[len(front):])
         for ask in asks:
-            head = replies.split(" ", 1)[0]
-            position = int(head[1:]) if head[:1] == "@" and head[1:].isdigit() else -1
-            if not last <= position <= len(history):
-                return "the position %s of an ask of session %d" % (head, number)
-            due = expected_reply(ask, history[:position], ends[position], names)
-            if not replies.startswith(due):
-                return "session %d, %r: %r, due %r" % (number, ask, replies[:60], due)
-            if ask[0] == "wait" and position < int(ask[1]) and position != len(history):
-                return "a wait of session %d that ended before the history" % number
-            replies, last = replies[len(due):], position
-    return None if replies == "" else "text behind the last session"
+            wrong = replies.fault_of(ask)
+            if wrong:
+                return "session %d: %s" % (number, wrong)
+        text = replies.text
+    return None if text == "" else "text behind the last session"
+
+
+def check_reader(case, history, ends, reader, text):
+    """What is wrong with what a reader was told, if anything is."""
+    replies = Replies(case, history, ends, text)
+    for number, (_, item) in enumerate(reader["lines"], 1):
+        wrong = None
+        if item[0] == "ask":
+            wrong = replies.fault_of(item[1])
+        elif item[0] == "fault":
+            wrong = replies.fault_of_text("error line %d: %s\n" % (number, item[1]))
+        elif item[0] == "end":
+            wrong = replies.fault_of_text("end\n")
+        if wrong:
+            return "line %d: %s" % (number, wrong)
+        if item[0] == "end":
+            break
+    return None if replies.text == "" else "text behind the last line: %r" % replies.text[:60]
 
 
 def without_paths(case, history, block, ends):
@@ -536,11 +588,11 @@ def join_lines(joins, before, after):
     return [line.decode() for line in bindings.join_lines(joins, *pairs)]
 
 
-def check(case, status, events, errors, replies, saved):
+def check(case, status, events, errors, replies, saved, told):
     joins, fault = read_joins(case)
     if fault:
-        given = (status, events, errors, replies, saved)
-        due = (10, "", "rpq: joins %s\n" % fault, None, None)
+        given = (status, events, errors, replies, saved, told)
+        due = (10, "", "rpq: joins %s\n" % fault, None, None, [None] * len(told))
         return None if given == due else "%r, due %r" % (given, due)
     history, numbers, blocks = [], [], []
     for line in events.splitlines():
@@ -575,6 +627,10 @@ def check(case, status, events, errors, replies, saved):
         return "status %d, errors %r; due %d, %r" % (status, errors, due_status, due_errors)
     if case["saves"] and saved != saved_of(case["queries"], history):
         return "the saved window %r, due %r" % (saved, saved_of(case["queries"], history))
+    for number, (reader, text) in enumerate(zip(case["readers"], told), 1):
+        wrong = "no replies" if text is None else check_reader(case, history, ends, reader, text)
+        if wrong:
+            return "reader %d, %s: %s" % (number, reader["way"], wrong)
     if case["sessions"]:
         return "no replies" if replies is None else check_replies(case, history, ends, replies)
     return None
