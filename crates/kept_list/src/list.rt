@@ -107,14 +107,14 @@ impl<T: Drop> KeptList<T> {
     /// Gives up the first items, so many of them. No more than these are gone then, unless more
     /// were, and at most twice as many are there as are behind them. Takes no memory.
     ///
-    /// Items leave once they are half of those that are there, so that each call moves no more
-    /// items than it drops.
+    /// Items leave once they are a quarter of those that stay, so that a call moves at most four
+    /// times as many items as it drops, and little is held that is given up.
     pub fn forget_first(&mut self, count: u64)
         requires { count ≤ length self.old.items }
         ensures { Forgets _ count self.old self.new }
     {
         let gone = count.saturating_sub(self.base) as usize;
-        if gone >= self.there.len() - gone {
+        if gone >= (self.there.len() - gone) / 4 {
             let whole = Snapshot::of(&*self);
             drop(self.there.drain(..gone));
             self.base += gone as u64;

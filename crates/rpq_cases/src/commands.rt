@@ -59,7 +59,8 @@ fn put_files(out: &mut Output, chosen: &Settings) -> anyhow::Result<()> {
     put_file(out, chosen.replies())?;
     put_file(out, chosen.save())?;
     put_file(out, chosen.from())?;
-    put_readers(out, chosen.readers())
+    put_readers(out, chosen.readers())?;
+    put_faults(out, chosen.faults())
 }
 
 /// Puts the word of an option, or `-` where it isn't given.
@@ -85,11 +86,20 @@ fn put_readers(out: &mut Output, readers: &[ReaderFiles]) -> anyhow::Result<()> 
     Ok(())
 }
 
+/// Puts the words of the files of faulty lines, or `-` where there is none.
+fn put_faults(out: &mut Output, faults: &[FileWord]) -> anyhow::Result<()> {
+    out.put(" ")?;
+    if faults.is_empty() {
+        return out.put("-");
+    }
+    put_words(out, faults)
+}
+
 /// Puts the words of the streams, or `-` where none is read.
 fn put_streams(out: &mut Output, mode: ModeRef<'_>) -> anyhow::Result<()> {
     match mode {
         ModeRef::Check(_) | ModeRef::Generate(_, _) => out.put("-"),
-        ModeRef::Streams(StreamSettings::BothWays(names)) => put_words(out, names.as_slice()),
+        ModeRef::Streams(StreamSettings::BothWays(run)) => put_words(out, run.streams.as_slice()),
         ModeRef::Streams(StreamSettings::Forwards(run)) => match &run.input {
             Input::Fresh(names) => put_words(out, names.as_slice()),
             Input::Resumed {

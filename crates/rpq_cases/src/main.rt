@@ -1,5 +1,5 @@
 //! A program that asks the libraries below the engine, so that what they answer can be compared
-//! with what it should be. `stdin` has some 2,100 requests, and `stdout` the answers, which an
+//! with what it should be. `stdin` has some 2,200 requests, and `stdout` the answers, which an
 //! evaluator from outside gave. `run_cases` has the requests to the engine and to whole runs, and
 //! `case_lines` says what a line and its fields are.
 //!
@@ -12,7 +12,8 @@
 //! - `command WORDS`: the settings of a command line, the words with `;` between them: workers, the
 //!   cap of the history (2^61 for a run without end), `+` for a check, tuples to generate, `+` for
 //!   edges taken backwards, `+` for paths, joins, asks, replies, the window to save, the saved
-//!   window, the asks and the replies of each reader, queries, streams; or the fault.
+//!   window, the asks and the replies of each reader, the files of faulty lines, queries, streams; or
+//!   the fault.
 //! - `contained EXPR`: `yes` where its language has the property of containment, else `no` and the
 //!   least three words that show it; or the fault.
 //! - `file TEXT`: the queries of a queries file, `|` behind each: its name, the size and the slide

@@ -18,9 +18,11 @@ use Rattle.rpq_words.specs.Views.{cap_of, paths_of, streams_of, two_way_of}
 use Rattle.ask_text.specs.Replies.{replies}
 use Rattle.stream_tuples.specs.declared.ends.StreamEnd.{StreamEnd}
 use Rattle.stream_tuples.specs.declared.ends.StreamEnd.TheVariants.{Whole, Line, LongLine}
-use Rattle.stream_tuples.specs.declared.ends.StreamEnd.TheVariants.{LongStream, Read, Full}
+use Rattle.stream_tuples.specs.declared.ends.StreamEnd.TheVariants.{LongStream, Read, Faults, Full}
 use Rattle.stream_tuples.specs.declared.ends.StreamEnd.TheVariants.{Closed, Memory}
-use Rattle.stream_tuples.specs.History.{AreTuplesOfEnd, IsNumberOf, IsPrefix, own_tuples}
+use Rattle.stream_tuples.specs.declared.faults.FaultPolicy.{FaultPolicy}
+use Rattle.stream_tuples.specs.History.{AreTuplesOfEnd, IsNumberOf, IsPrefix, ReportsFaults}
+use Rattle.stream_tuples.specs.History.{own_tuples, policy_of_sink}
 use Rattle.stream_tuples.specs.Limits.{byte_limit_of}
 use Rattle.stream_tuples.specs.StreamText.{StreamTuples, tuples_with}
 use Rattle.rpq_text.specs.declared.ends.SinkName.{SinkName}
@@ -32,7 +34,8 @@ use Rattle.saved_window.specs.Saved.{saved}
 use Rattle.saved_window.specs.SavedText.{saved_text}
 use Rattle.saved_window.specs.Then.{left_of_both, faults_of_both}
 use Rattle.run_start.specs.Files.{HasQueries, ForQueries, stream_contents}
-use Rattle.run_start.specs.Texts.{tuples_within}
+use Rattle.run_start.specs.Given.{policy_of}
+use Rattle.run_start.specs.Texts.{reports_within, tuples_within}
 use Rattle.rpq_run.specs.AnyStatus.{AnyStatus, IsFrontOf, IsUncut}
 use Rattle.rpq_run.specs.Beside.{asks_held}
 use Rattle.rpq_run.specs.Failed.{failed_sinks}
@@ -44,12 +47,13 @@ use Rattle.rpq_run.specs.RunsStreams.{GotText, IsUnsaved, RunsStreams, nothing_t
 use Rattle.rpq_run.specs.Shortage.{has_memory_end, has_short_reader, is_short_before}
 use Rattle.rpq_run.specs.Sources.{stream_sources}
 use Rattle.rpq_run.specs.Written.{WritesWhere}
-use Rattle.rpq_run.proofs.Done.{stream_at}
+use Rattle.rpq_run.proofs.Done.{as_many_streams, stream_at}
 use Rattle.rpq_run.proofs.Headlines.{are_there, contents_are, either_way, from_asked, from_joined}
 use Rattle.rpq_run.proofs.Headlines.{from_queries, joins_there, telling}
 use Rattle.rpq_run.proofs.Shortages.{NoneShort, either, never_both, none_short, not_so}
 use Rattle.rpq_run.proofs.Sinks.{events_in, in_events, in_replies, in_save, replies_in, save_in}
 use Rattle.rpq_run.proofs.Statuses.{sink_status}
+use Rattle.rpq_run.proofs.Telling.{front_told}
 
 -- ---- which writes failed
 
@@ -107,27 +111,28 @@ failed_by P before after (inr none) counts changed = absurd (changed (counts.qui
 -- ---- fronts of a stream
 
 -- of which no read failed, where the history has at most so many entries
-front_taken : (cap : ℕ) (text : List ℕ) (left : Option (List ℕ)) (tuples : List Tuple)
+front_taken : (policy : FaultPolicy) (cap : ℕ) (text : List ℕ) (left : Option (List ℕ)) (tuples : List Tuple)
     (end : StreamEnd) → (end ≡ Read → ⊥)
-    → AreTuplesOfEnd (byte_limit_of cap) text left tuples end
-    → IsPrefix tuples (tuples_within cap text).tuples
-front_taken cap text left tuples end read tied = by end read tied
+    → AreTuplesOfEnd policy (byte_limit_of cap) text left tuples end
+    → IsPrefix tuples (tuples_within policy cap text).tuples
+front_taken policy cap text left tuples end read tied = by end read tied
   where
-    all_taken : (last : StreamEnd) → tuples_within cap text ≡ tuples_with tuples last
-        → IsPrefix tuples (tuples_within cap text).tuples
+    all_taken : (last : StreamEnd) → tuples_within policy cap text ≡ tuples_with tuples last
+        → IsPrefix tuples (tuples_within policy cap text).tuples
     all_taken last is = record {
       rest = [];
       cut = ap (λ (ts : StreamTuples). ts.tuples) is ∙ sym (append-nil tuples);
     }
 
     by : (e : StreamEnd) → (e ≡ Read → ⊥)
-        → AreTuplesOfEnd (byte_limit_of cap) text left tuples e
-        → IsPrefix tuples (tuples_within cap text).tuples
+        → AreTuplesOfEnd policy (byte_limit_of cap) text left tuples e
+        → IsPrefix tuples (tuples_within policy cap text).tuples
     by Whole read tied = all_taken Whole tied.0
     by (Line number fault) read tied = all_taken (Line number fault) tied
     by (LongLine number) read tied = all_taken (LongLine number) tied
     by LongStream read tied = all_taken LongStream tied
     by Read read tied = absurd (read refl)
+    by Faults read tied = tied
     by Full read tied = record { rest = tied.rest; cut = tied.cut }
     by (Closed why) read tied = record { rest = tied.rest; cut = tied.cut }
     by Memory read tied = tied
@@ -350,24 +355,57 @@ module _ {S K : Type 0} (means : Meanings S K) (given : Settings)
       counts changed)
 
   -- the tuples of a stream of which no read failed
-  in_order_in : (place : ℕ) (text : List ℕ) → slice_get (stream_texts told) place ≡ Some text
-      → slice_get outcome.ends place ≢ Some Read
-      → IsPrefix (own_tuples (place + 1) outcome.history) (tuples_within told.limit text).tuples
-  in_order_in place text at read =
-      let file : slice_get (stream_contents given holds) place ≡ Some (Some text) =
+  file_at : (place : ℕ) (text : List ℕ) → slice_get (stream_texts told) place ≡ Some text
+      → slice_get (stream_contents given holds) place ≡ Some (Some text)
+  file_at place text at =
       ap (λ (fs : List (Option (List ℕ))). slice_get fs place)
       (contents_are given holds told is.from is.streams)
       ∙ (slice_get-map (λ (bytes : List ℕ). Some bytes) (stream_texts told) place
-      ∙ ap (option_map (λ (bytes : List ℕ). Some bytes)) at) in
-      let stream = stream_at (left_of_both means.left) (faults_of_both means.faults) (cap_of given)
-      (stream_contents given holds) (stream_sources outcome.from outcome.sources) outcome.history
-      outcome.ends runs.history.each_stream place (Some text) file in
-      subst (λ cap.
-      IsPrefix (own_tuples (place + 1) outcome.history) (tuples_within cap text).tuples) is.limit
-      (front_taken (cap_of given) text (left_of_both means.left stream.source)
+      ∙ ap (option_map (λ (bytes : List ℕ). Some bytes)) at)
+
+  in_order_in : (place : ℕ) (text : List ℕ) → slice_get (stream_texts told) place ≡ Some text
+      → slice_get outcome.ends place ≢ Some Read
+      → IsPrefix (own_tuples (place + 1) outcome.history)
+      (tuples_within told.policy told.limit text).tuples
+  in_order_in place text at read =
+      let stream = stream_at (policy_of given) (left_of_both means.left)
+      (faults_of_both means.faults) (cap_of given) (stream_contents given holds)
+      (stream_sources outcome.from outcome.sources) outcome.history outcome.ends
+      runs.history.each_stream place (Some text) (file_at place text at) in
+      subst₂ (λ (policy : FaultPolicy) (cap : ℕ).
+      IsPrefix (own_tuples (place + 1) outcome.history) (tuples_within policy cap text).tuples)
+      is.policy is.limit
+      (front_taken (policy_of given) (cap_of given) text (left_of_both means.left stream.source)
       (own_tuples (place + 1) outcome.history) stream.end
       (λ failed. read (stream.end_is ∙ ap (λ (end : StreamEnd). Some end) failed))
       stream.stream.tied)
+
+  -- and what is told of its faulty lines
+  reported_in : (place : ℕ) (text : List ℕ) (sink : K)
+      → slice_get (stream_texts told) place ≡ Some text
+      → slice_get outcome.ends place ≢ Some Read
+      → slice_get outcome.faults place ≡ Some (Some sink)
+      → IfSome (means.written sink) (λ bytes. IsPrefix bytes (reports_within told.limit text))
+  reported_in place text sink at read there =
+      let file = file_at place text at in
+      let stream = stream_at (policy_of given) (left_of_both means.left)
+      (faults_of_both means.faults) (cap_of given) (stream_contents given holds)
+      (stream_sources outcome.from outcome.sources) outcome.history outcome.ends
+      runs.history.each_stream place (Some text) file in
+      subst (λ (cap : ℕ).
+      IfSome (means.written sink) (λ bytes. IsPrefix bytes (reports_within cap text))) is.limit
+      (by (means.written sink) (left_of_both means.left stream.source) stream.end
+      (λ failed. read (stream.end_is ∙ ap (λ (end : StreamEnd). Some end) failed))
+      (runs.faults.each_stream.each place (Some text) stream.source sink stream.end file
+      stream.source_is there stream.end_is).tied)
+    where
+      by : (now left : Option (List ℕ)) (end : StreamEnd) → (end ≡ Read → ⊥)
+          → IfSome now (λ bytes. ReportsFaults (byte_limit_of (cap_of given)) text left
+          (own_tuples (place + 1) outcome.history) bytes end)
+          → IfSome now (λ bytes. IsPrefix bytes (reports_within (cap_of given) text))
+      by None left end read told = tt
+      by (Some bytes) left end read told = front_told (byte_limit_of (cap_of given)) text left
+          (own_tuples (place + 1) outcome.history) bytes end read told
 
   as_many : length (streams_of given) ≡ length told.streams
   as_many = sym (length-map (streams_of given) holds)
@@ -413,6 +451,11 @@ module _ {S K : Type 0} (means : Meanings S K) (given : Settings)
             runs.history.no_other;
         few = omega (arith, runs.history.few, is.limit);
         whole = λ capped. runs.history.whole (is.endless ∙ capped);
+        as_many = runs.faults.each_stream.as_many ∙ (as_many_streams given holds ∙ as_many);
+        faults_there = subst (λ (policy : FaultPolicy).
+            All (λ (sink : Option K). policy_of_sink sink ≡ policy) outcome.faults) is.policy
+            runs.faults.each_stream.there;
+        reported = reported_in;
         short = runs.short;
         memory = runs.causes.memory;
         text = wrote.text;

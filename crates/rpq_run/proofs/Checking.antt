@@ -38,6 +38,7 @@ check_outcome status =
       base = 0;
       ends = [];
       sources = [];
+      faults = [];
       from = None;
       sessions = [];
       readers = [];
@@ -47,27 +48,29 @@ check_outcome status =
 
 -- it has no member in any list
 nothing_taken : {S K : Type 0} (status : ℕ) (history : List Entry) (base : ℕ)
-    (ends : List StreamEnd) (sources : List S) (sessions : List (List AnsweredValue))
-    (readers : List (ReaderOutcome S K)) → history ≡ [] → base ≡ 0 → ends ≡ [] → sources ≡ []
-    → sessions ≡ [] → readers ≡ [] → check_outcome {S = S} {K = K} status ≡ record {
+    (ends : List StreamEnd) (sources : List S) (faults : List (Option K))
+    (sessions : List (List AnsweredValue)) (readers : List (ReaderOutcome S K)) → history ≡ []
+    → base ≡ 0 → ends ≡ [] → sources ≡ [] → faults ≡ [] → sessions ≡ [] → readers ≡ [] → check_outcome {S = S} {K = K} status ≡ record {
       status = status;
       history = history;
       base = base;
       ends = ends;
       sources = sources;
+      faults = faults;
       from = None;
       sessions = sessions;
       readers = readers;
       replies = None;
       save = None;
     }
-nothing_taken {S} {K} status history base ends sources sessions readers no_history none_gone no_end
-    no_source no_session no_reader = λ i. record {
+nothing_taken {S} {K} status history base ends sources faults sessions readers no_history none_gone
+    no_end no_source no_faults no_session no_reader = λ i. record {
       status = status;
       history = sym {A = List Entry} no_history i;
       base = sym none_gone i;
       ends = sym {A = List StreamEnd} no_end i;
       sources = sym no_source i;
+      faults = sym {A = List (Option K)} no_faults i;
       from = None;
       sessions = sym {A = List (List AnsweredValue)} no_session i;
       readers = sym {A = List (ReaderOutcome S K)} no_reader i;
@@ -138,6 +141,7 @@ check_runs means two_way file queries sinks result status all kept has are told 
     no_history = refl;
     none_gone = refl;
     no_stream = refl;
+    no_faults = refl;
     no_session = refl;
     no_reader = refl;
     no_replies = refl;
@@ -180,9 +184,9 @@ check_runs means two_way file queries sinks result status all kept has are told 
 pub runs_check : {S K T E : Type 0} (means : Meanings S K) (two_way : Bool)
     (file : Option (List ℕ)) (queries : List CompiledValue) (sinks : Sinks K)
     (result : Result T E) (status : ℕ) (all : Objects) (history : List Entry) (base : ℕ)
-    (ends : List StreamEnd) (sources : List S) (sessions : List (List AnsweredValue))
-    (readers : List (ReaderOutcome S K)) → history ≡ []
-    → base ≡ 0 → ends ≡ [] → sources ≡ []
+    (ends : List StreamEnd) (sources : List S) (faults : List (Option K))
+    (sessions : List (List AnsweredValue)) (readers : List (ReaderOutcome S K)) → history ≡ []
+    → base ≡ 0 → ends ≡ [] → sources ≡ [] → faults ≡ []
     → sessions ≡ [] → readers ≡ [] → LeavesObjects all
     → IfSome file (λ bytes. HasQueries two_way bytes
     (definitions_of queries))
@@ -199,6 +203,7 @@ pub runs_check : {S K T E : Type 0} (means : Meanings S K) (two_way : Bool)
       base = base;
       ends = ends;
       sources = sources;
+      faults = faults;
       from = None;
       sessions = sessions;
       readers = readers;
@@ -206,10 +211,10 @@ pub runs_check : {S K T E : Type 0} (means : Meanings S K) (two_way : Bool)
       save = None;
     })
 runs_check {S} {K} means two_way file queries sinks result status all history base ends sources
-    sessions readers no_history none_gone no_end no_source no_session no_reader kept has compiled told
+    faults sessions readers no_history none_gone no_end no_source no_faults no_session no_reader kept has compiled told
     status_is lines =
     subst (λ (outcome : Outcome S K). RunsCheck means two_way file sinks all outcome)
-    (nothing_taken status history base ends sources sessions readers no_history none_gone no_end
-    no_source no_session no_reader)
+    (nothing_taken status history base ends sources faults sessions readers no_history none_gone
+    no_end no_source no_faults no_session no_reader)
     (check_runs means two_way file queries sinks result status all kept has compiled told
     status_is lines)

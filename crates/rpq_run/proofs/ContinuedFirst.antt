@@ -26,6 +26,7 @@ use Rattle.rpq_text.specs.Statuses.{IsStatusOf}
 use Rattle.rpq_text.specs.Text.{IsText}
 use Rattle.rpq_threads.specs.Written.{Grew}
 use Rattle.run_start.specs.Files.{ForQueries, HasQueries, stream_contents}
+use Rattle.run_start.specs.Given.{policy_of}
 use Rattle.rpq_run.specs.Continued.{StreamRun, IsToldRun}
 use Rattle.rpq_run.specs.Headline.{AreJoined, behind_text, stream_texts}
 use Rattle.rpq_run.specs.Options.{options_of}
@@ -161,10 +162,10 @@ has_saved {S} {K} means run window one by_parts is no_write no_memory saved_is =
         ap (λ (files : List (Option (List ℕ))). slice_get files place)
         (contents_are run.given run.holds run.told is.told.from is.told.streams)
         ∙ (slice_get-map (λ (bytes : List ℕ). Some bytes) texts place ∙ ap (option_map (λ (bytes : List ℕ). Some bytes)) at) in
-        let stream = stream_at (left_of_both means.left) (faults_of_both means.faults) (cap_of run.given)
+        let stream = stream_at (policy_of run.given) (left_of_both means.left) (faults_of_both means.faults) (cap_of run.given)
         (stream_contents run.given run.holds) (stream_sources run.outcome.from run.outcome.sources) history run.outcome.ends
         is.runs.history.each_stream place (Some text) file in
-        taken_in_stream by_parts (byte_limit_of (cap_of run.given)) text (left_of_both means.left stream.source) (own_tuples (place + 1) history) stream.end
+        taken_in_stream (policy_of run.given) by_parts (byte_limit_of (cap_of run.given)) text (left_of_both means.left stream.source) (own_tuples (place + 1) history) stream.end
         stream.stream.tied
 
     as_many : length (streams_of run.given) ≡ length texts

@@ -23,9 +23,11 @@ use Rattle.live_asks.specs.declared.reader.ReaderOutcome.{ReaderOutcome}
 use Rattle.history_model.specs.declared.line.Why.TheVariants.{Write, Memory as MemoryOfAll}
 use Rattle.stream_tuples.specs.declared.ends.StreamEnd.{StreamEnd}
 use Rattle.stream_tuples.specs.declared.ends.StreamEnd.TheVariants.{Whole, Line, LongLine, LongStream}
-use Rattle.stream_tuples.specs.declared.ends.StreamEnd.TheVariants.{Read, Full, Closed, Memory}
+use Rattle.stream_tuples.specs.declared.ends.StreamEnd.TheVariants.{Read, Faults, Full, Closed, Memory}
+use Rattle.stream_tuples.specs.declared.faults.FaultPolicy.{FaultPolicy}
 use Rattle.stream_tuples.specs.History.{IsNumberOf, IsPrefix, IsProperPrefix, own_tuples}
-use Rattle.stream_tuples.specs.History.{AreTuplesOfEnd, IsStreamOf, AreStreamsOf}
+use Rattle.stream_tuples.specs.History.{AreReportedOf, AreTuplesOfEnd, CanEnd, IsStreamOf, AreStreamsOf}
+use Rattle.stream_tuples.specs.History.{policy_of_sink}
 use Rattle.stream_tuples.specs.Limits.{byte_limit_of}
 use Rattle.stream_tuples.specs.StreamText.{StreamTuples, tuples_with}
 use Rattle.rpq_text.specs.declared.ends.SinkName.{SinkName}
@@ -34,6 +36,7 @@ use Rattle.rpq_text.specs.Statuses.{first_status, status_of_end, IsStatusOf}
 use Rattle.saved_window.specs.Then.{left_of_both, faults_of_both, faults_of_first}
 use Rattle.run_start.specs.Files.{ForQueries, IsFaultless, from_content, stream_contents}
 use Rattle.run_start.specs.Ready.{AreReadWhole}
+use Rattle.run_start.specs.Given.{policy_of}
 use Rattle.run_start.specs.Texts.{tuples_within}
 use Rattle.run_start.proofs.Modes.{some_streams}
 use Rattle.rpq_run.specs.Beside.{CountsReader, asks_held}
@@ -52,7 +55,7 @@ use Rattle.rpq_run.proofs.Sinks.{no_sinks}
 use Rattle.rpq_run.proofs.Beside.{all_end_well as all_readers_end_well, contains_at, fine_ends}
 use Rattle.rpq_run.proofs.Beside.{quiet_reader, served_or_shut}
 use Rattle.rpq_run.proofs.Statuses.{IsFine, IsFineReader, counted_quietly, fine_or_memory}
-use Rattle.rpq_run.proofs.Statuses.{first_of_done, read_quietly}
+use Rattle.rpq_run.proofs.Statuses.{first_of_done, read_quietly, told_quietly}
 use Rattle.rpq_run.proofs.Totals.{AreFew, all_counted, fewer_in_all}
 use Rattle.rpq_run.proofs.Windows.{as_many_contents}
 
@@ -82,91 +85,93 @@ all_by P xs each = λ place default inside.
 -- ---- a stream without a fault
 
 -- the tuples of such a stream aren't too many; the history has at most so many entries
-from_whole : (cap : ℕ) (file : Option (List ℕ)) (tuples : List Tuple) (end : StreamEnd)
-    → IfSome file (λ text. tuples_within cap text ≡ tuples_with tuples end)
-    → IsWholeStream cap file → (end ≡ Whole) × (length tuples ≤ tuple_count cap file)
-from_whole cap None tuples end is whole = absurd whole
-from_whole cap (Some text) tuples end is whole = (
+from_whole : (policy : FaultPolicy) (cap : ℕ) (file : Option (List ℕ)) (tuples : List Tuple) (end : StreamEnd)
+    → IfSome file (λ text. tuples_within policy cap text ≡ tuples_with tuples end)
+    → IsWholeStream policy cap file → (end ≡ Whole) × (length tuples ≤ tuple_count policy cap file)
+from_whole policy cap None tuples end is whole = absurd whole
+from_whole policy cap (Some text) tuples end is whole = (
   sym (ap (λ (ts : StreamTuples). ts.end) is) ∙ whole,
   omega (arith, ap (λ (ts : StreamTuples). length ts.tuples) is),
 )
 
-by_prefix : (cap : ℕ) (file : Option (List ℕ)) (tuples : List Tuple)
-    → IfSome file (λ text. IsPrefix tuples (tuples_within cap text).tuples)
-    → IsWholeStream cap file → length tuples ≤ tuple_count cap file
-by_prefix cap None tuples is whole = absurd whole
-by_prefix cap (Some text) tuples is whole =
+by_prefix : (policy : FaultPolicy) (cap : ℕ) (file : Option (List ℕ)) (tuples : List Tuple)
+    → IfSome file (λ text. IsPrefix tuples (tuples_within policy cap text).tuples)
+    → IsWholeStream policy cap file → length tuples ≤ tuple_count policy cap file
+by_prefix policy cap None tuples is whole = absurd whole
+by_prefix policy cap (Some text) tuples is whole =
     omega (arith, ap (λ (ts : List Tuple). length ts) is.cut, length-append tuples is.rest)
 
-by_proper : (cap : ℕ) (file : Option (List ℕ)) (tuples : List Tuple)
-    → IfSome file (λ text. IsProperPrefix tuples (tuples_within cap text).tuples)
-    → IsWholeStream cap file → length tuples < tuple_count cap file
-by_proper cap None tuples is whole = absurd whole
-by_proper cap (Some text) tuples is whole = some is.rest is.proper is.cut
+by_proper : (policy : FaultPolicy) (cap : ℕ) (file : Option (List ℕ)) (tuples : List Tuple)
+    → IfSome file (λ text. IsProperPrefix tuples (tuples_within policy cap text).tuples)
+    → IsWholeStream policy cap file → length tuples < tuple_count policy cap file
+by_proper policy cap None tuples is whole = absurd whole
+by_proper policy cap (Some text) tuples is whole = some is.rest is.proper is.cut
   where
-    some : (rest : List Tuple) → rest ≢ [] → (tuples_within cap text).tuples ≡ tuples ++ rest
-        → length tuples < tuple_count cap (Some text)
+    some : (rest : List Tuple) → rest ≢ [] → (tuples_within policy cap text).tuples ≡ tuples ++ rest
+        → length tuples < tuple_count policy cap (Some text)
     some [] proper cut = absurd (proper refl)
     some (tuple ∷ rest) proper cut =
         omega (arith, ap (λ (ts : List Tuple). length ts) cut, length-append tuples (tuple ∷ rest))
 
 -- what its end ties, without what is left of its source
-not_whole : (cap : ℕ) (file left : Option (List ℕ)) (tuples : List Tuple)
-    → IfSome file (λ text. AreTuplesOfEnd (byte_limit_of cap) text left tuples Whole)
-    → IfSome file (λ text. tuples_within cap text ≡ tuples_with tuples Whole)
-not_whole cap None left tuples is = tt
-not_whole cap (Some text) left tuples is = is.0
+not_whole : (policy : FaultPolicy) (cap : ℕ) (file left : Option (List ℕ)) (tuples : List Tuple)
+    → IfSome file (λ text. AreTuplesOfEnd policy (byte_limit_of cap) text left tuples Whole)
+    → IfSome file (λ text. tuples_within policy cap text ≡ tuples_with tuples Whole)
+not_whole policy cap None left tuples is = tt
+not_whole policy cap (Some text) left tuples is = is.0
 
 -- such a stream of which no read failed gave at most the tuples of its file, and fewer where it
 -- wasn't taken whole because the history was full
-at_most : (cap : ℕ) (file left : Option (List ℕ)) (tuples : List Tuple) (end : StreamEnd) → IsWholeStream cap file
-    → (end ≡ Read → ⊥) → IfSome file (λ text. AreTuplesOfEnd (byte_limit_of cap) text left tuples end)
-    → length tuples ≤ tuple_count cap file
-at_most cap file left tuples Whole whole read tied =
-    (from_whole cap file tuples Whole (not_whole cap file left tuples tied) whole).1
-at_most cap file left tuples (Line number fault) whole read tied =
-    (from_whole cap file tuples (Line number fault) tied whole).1
-at_most cap file left tuples (LongLine number) whole read tied =
-    (from_whole cap file tuples (LongLine number) tied whole).1
-at_most cap file left tuples LongStream whole read tied = (from_whole cap file tuples LongStream tied whole).1
-at_most cap file left tuples Read whole read tied = absurd (read refl)
-at_most cap file left tuples Full whole read tied =
-    let fewer = by_proper cap file tuples tied whole in
+at_most : (policy : FaultPolicy) (cap : ℕ) (file left : Option (List ℕ)) (tuples : List Tuple) (end : StreamEnd) → IsWholeStream policy cap file
+    → (end ≡ Read → ⊥) → IfSome file (λ text. AreTuplesOfEnd policy (byte_limit_of cap) text left tuples end)
+    → length tuples ≤ tuple_count policy cap file
+at_most policy cap file left tuples Whole whole read tied =
+    (from_whole policy cap file tuples Whole (not_whole policy cap file left tuples tied) whole).1
+at_most policy cap file left tuples (Line number fault) whole read tied =
+    (from_whole policy cap file tuples (Line number fault) tied whole).1
+at_most policy cap file left tuples (LongLine number) whole read tied =
+    (from_whole policy cap file tuples (LongLine number) tied whole).1
+at_most policy cap file left tuples LongStream whole read tied = (from_whole policy cap file tuples LongStream tied whole).1
+at_most policy cap file left tuples Read whole read tied = absurd (read refl)
+at_most policy cap file left tuples Faults whole read tied = by_prefix policy cap file tuples tied whole
+at_most policy cap file left tuples Full whole read tied =
+    let fewer = by_proper policy cap file tuples tied whole in
     omega (arith, fewer)
-at_most cap file left tuples (Closed why) whole read tied =
-    let fewer = by_proper cap file tuples tied whole in
+at_most policy cap file left tuples (Closed why) whole read tied =
+    let fewer = by_proper policy cap file tuples tied whole in
     omega (arith, fewer)
-at_most cap file left tuples Memory whole read tied = by_prefix cap file tuples tied whole
+at_most policy cap file left tuples Memory whole read tied = by_prefix policy cap file tuples tied whole
 
 -- how such a stream ends where no write of the events failed and the history wasn't full
-ends_well : (cap : ℕ) (file left : Option (List ℕ)) (tuples : List Tuple) (end : StreamEnd) → IsWholeStream cap file
-    → (end ≡ Read → ⊥) → (end ≡ Full → ⊥) → (end ≡ Closed Write → ⊥)
-    → IfSome file (λ text. AreTuplesOfEnd (byte_limit_of cap) text left tuples end) → IsFine end
-ends_well cap file left tuples Whole whole read full closed tied = inl refl
-ends_well cap file left tuples (Line number fault) whole read full closed tied =
-    absurd (cc ((from_whole cap file tuples (Line number fault) tied whole).0))
-ends_well cap file left tuples (LongLine number) whole read full closed tied =
-    absurd (cc ((from_whole cap file tuples (LongLine number) tied whole).0))
-ends_well cap file left tuples LongStream whole read full closed tied =
-    absurd (cc ((from_whole cap file tuples LongStream tied whole).0))
-ends_well cap file left tuples Read whole read full closed tied = absurd (read refl)
-ends_well cap file left tuples Full whole read full closed tied = absurd (full refl)
-ends_well cap file left tuples (Closed Write) whole read full closed tied = absurd (closed refl)
-ends_well cap file left tuples (Closed MemoryOfAll) whole read full closed tied = inr refl
-ends_well cap file left tuples Memory whole read full closed tied = inr refl
+ends_well : (policy : FaultPolicy) (cap : ℕ) (file left : Option (List ℕ)) (tuples : List Tuple) (end : StreamEnd) → IsWholeStream policy cap file
+    → (end ≡ Read → ⊥) → (end ≡ Faults → ⊥) → (end ≡ Full → ⊥) → (end ≡ Closed Write → ⊥)
+    → IfSome file (λ text. AreTuplesOfEnd policy (byte_limit_of cap) text left tuples end) → IsFine end
+ends_well policy cap file left tuples Whole whole read told full closed tied = inl refl
+ends_well policy cap file left tuples (Line number fault) whole read told full closed tied =
+    absurd (cc ((from_whole policy cap file tuples (Line number fault) tied whole).0))
+ends_well policy cap file left tuples (LongLine number) whole read told full closed tied =
+    absurd (cc ((from_whole policy cap file tuples (LongLine number) tied whole).0))
+ends_well policy cap file left tuples LongStream whole read told full closed tied =
+    absurd (cc ((from_whole policy cap file tuples LongStream tied whole).0))
+ends_well policy cap file left tuples Read whole read told full closed tied = absurd (read refl)
+ends_well policy cap file left tuples Faults whole read told full closed tied = absurd (told refl)
+ends_well policy cap file left tuples Full whole read told full closed tied = absurd (full refl)
+ends_well policy cap file left tuples (Closed Write) whole read told full closed tied = absurd (closed refl)
+ends_well policy cap file left tuples (Closed MemoryOfAll) whole read told full closed tied = inr refl
+ends_well policy cap file left tuples Memory whole read told full closed tied = inr refl
 
 -- ---- all streams
 
-module _ {S : Type 0} (left : S → Option (List ℕ)) (faults : S → ℕ) (limit : ℕ)
+module _ {S : Type 0} (policy : FaultPolicy) (left : S → Option (List ℕ)) (faults : S → ℕ) (limit : ℕ)
     (files : List (Option (List ℕ))) (sources : List S) (history : List Entry) (ends : List StreamEnd)
-    (are : AreStreamsOf left faults limit files sources history ends) where
+    (are : AreStreamsOf policy left faults limit files sources history ends) where
   -- a stream with its source and its end
   pub record IsAt (place : ℕ) (file : Option (List ℕ)) : Type 0 where
     pub source : S
     pub end : StreamEnd
     pub source_is : slice_get sources place ≡ Some source
     pub end_is : slice_get ends place ≡ Some end
-    pub stream : IsStreamOf left faults (place + 1) limit file source history end
+    pub stream : IsStreamOf policy left faults (place + 1) limit file source history end
 
   pub stream_at : (place : ℕ) (file : Option (List ℕ)) → slice_get files place ≡ Some file → IsAt place file
   stream_at place file is =
@@ -182,48 +187,51 @@ module _ {S : Type 0} (left : S → Option (List ℕ)) (faults : S → ℕ) (lim
       }
 
   -- the streams without a fault, of which no read failed, gave at most their tuples
-  few_of : All (IsWholeStream limit) files → All (λ source. ¬ Rose 0 (faults source)) sources → AreFew limit 1 files history
+  few_of : All (IsWholeStream policy limit) files → All (λ source. ¬ Rose 0 (faults source)) sources → AreFew policy limit 1 files history
   few_of whole reads place file is =
       let at = stream_at place file is in
       let quiet = all_at (λ source. ¬ Rose 0 (faults source)) sources place at.source reads at.source_is in
       let one : place + 1 ≡ 1 + place = omega arith in
-      subst (λ n. length (own_tuples n history) ≤ tuple_count limit file) one
-      (at_most limit file (left at.source) (own_tuples (place + 1) history) at.end
-      (all_at (IsWholeStream limit) files place file whole is) (λ e. quiet (at.stream.read.rose e)) at.stream.tied)
+      subst (λ n. length (own_tuples n history) ≤ tuple_count policy limit file) one
+      (at_most policy limit file (left at.source) (own_tuples (place + 1) history) at.end
+      (all_at (IsWholeStream policy limit) files place file whole is) (λ e. quiet (at.stream.read.rose e)) at.stream.tied)
 
   -- and none of them found the history full that could hold them all
   not_full : (count : ℕ) → count ≡ length files → All (λ (e : Entry). IsNumberOf count e.stream) history
-      → All (IsWholeStream limit) files → All (λ source. ¬ Rose 0 (faults source)) sources
-      → sum (map (tuple_count limit) files) ≤ limit → (place : ℕ) (file : Option (List ℕ))
+      → All (IsWholeStream policy limit) files → All (λ source. ¬ Rose 0 (faults source)) sources
+      → sum (map (tuple_count policy limit) files) ≤ limit → (place : ℕ) (file : Option (List ℕ))
       → slice_get files place ≡ Some file → length history ≡ limit
-      → IfSome file (λ text. IsProperPrefix (own_tuples (place + 1) history) (tuples_within limit text).tuples)
+      → IfSome file (λ text. IsProperPrefix (own_tuples (place + 1) history) (tuples_within policy limit text).tuples)
       → ⊥
   not_full count as_many numbers whole reads few place file is full tied =
       let one : place + 1 ≡ 1 + place = omega arith in
-      let fewer : length (own_tuples (1 + place) history) < tuple_count limit file =
-      subst (λ n. length (own_tuples n history) < tuple_count limit file) one
-      (by_proper limit file (own_tuples (place + 1) history) tied (all_at (IsWholeStream limit) files place file whole is)) in
-      let all = fewer_in_all limit 1 files history place file (few_of whole reads) is fewer in
+      let fewer : length (own_tuples (1 + place) history) < tuple_count policy limit file =
+      subst (λ n. length (own_tuples n history) < tuple_count policy limit file) one
+      (by_proper policy limit file (own_tuples (place + 1) history) tied (all_at (IsWholeStream policy limit) files place file whole is)) in
+      let all = fewer_in_all policy limit 1 files history place file (few_of whole reads) is fewer in
       let counted = all_counted (length files) history
       (subst (λ n. All (λ (e : Entry). IsNumberOf n e.stream) history) as_many numbers) in
       omega (arith, all, counted, full, few)
 
   -- so each ended well
   pub all_end_well : (count : ℕ) → count ≡ length files → All (λ (e : Entry). IsNumberOf count e.stream) history
-      → All (IsWholeStream limit) files → All (λ source. ¬ Rose 0 (faults source)) sources
-      → sum (map (tuple_count limit) files) ≤ limit → (Contains ends (Closed Write) → ⊥) → All IsFine ends
-  all_end_well count as_many numbers whole reads few closed =
+      → All (IsWholeStream policy limit) files → All (λ source. ¬ Rose 0 (faults source)) sources
+      → sum (map (tuple_count policy limit) files) ≤ limit
+      → ((place : ℕ) → slice_get ends place ≡ Some Faults → ⊥)
+      → (Contains ends (Closed Write) → ⊥) → All IsFine ends
+  all_end_well count as_many numbers whole reads few told closed =
       all_by IsFine ends (λ place end end_is.
       let inside = slice_get_within ends place end end_is in
       let file = found files place (omega (arith, inside, are.as_many_ends)) in
       let source = found sources place (omega (arith, inside, are.as_many_ends, are.as_many_sources)) in
       let stream = are.each place file.0 source.0 end file.1 source.1 end_is in
       let quiet = all_at (λ s. ¬ Rose 0 (faults s)) sources place source.0 reads source.1 in
-      ends_well limit file.0 (left source.0) (own_tuples (place + 1) history) end
-      (all_at (IsWholeStream limit) files place file.0 whole file.1) (λ e. quiet (stream.read.rose e))
+      ends_well policy limit file.0 (left source.0) (own_tuples (place + 1) history) end
+      (all_at (IsWholeStream policy limit) files place file.0 whole file.1) (λ e. quiet (stream.read.rose e))
+      (λ e. told place (end_is ∙ ap (λ (x : StreamEnd). Some x) e))
       (λ e. not_full count as_many numbers whole reads few place file.0 file.1 (stream.full e)
       (subst (λ (x : StreamEnd). IfSome file.0 (λ text.
-      AreTuplesOfEnd (byte_limit_of limit) text (left source.0) (own_tuples (place + 1) history) x)) e stream.tied))
+      AreTuplesOfEnd policy (byte_limit_of limit) text (left source.0) (own_tuples (place + 1) history) x)) e stream.tied))
       (λ e. closed (contains_at ends place end (Closed Write) end_is e)) stream.tied)
 
   -- where all is done no read of a source failed
@@ -236,6 +244,54 @@ module _ {S : Type 0} (left : S → Option (List ℕ)) (faults : S → ℕ) (lim
       let end = found ends place (omega (arith, inside, are.as_many_sources, are.as_many_ends)) in
       let stream = are.each place file.0 source end.0 file.1 source_is end.1 in
       stream.read.quiet (read_quietly ends asked failed status place end.0 is done end.1))
+
+-- ---- the sinks of faulty lines
+
+module _ {S K : Type 0} (policy : FaultPolicy) (left : S → Option (List ℕ)) (faults : S → ℕ)
+    (written : K → Option (List ℕ)) (failures : K → ℕ) (limit : ℕ)
+    (files : List (Option (List ℕ))) (sources : List S) (sinks : List (Option K))
+    (history : List Entry) (ends : List StreamEnd)
+    (are : AreStreamsOf policy left faults limit files sources history ends)
+    (told : AreReportedOf policy left written failures limit files sources sinks history ends) where
+  -- no stream ended for a write of its faults where none failed
+  pub none_untold : All (λ (sink : Option K). IfSome sink (λ own. ¬ Rose 0 (failures own))) sinks
+      → (place : ℕ) → slice_get ends place ≡ Some Faults → ⊥
+  none_untold quiet place end_is =
+      let inside = slice_get_within ends place Faults end_is in
+      let file = found files place (omega (arith, inside, are.as_many_ends)) in
+      let source = found sources place (omega (arith, inside, are.as_many_ends, are.as_many_sources)) in
+      let sink = found sinks place (omega (arith, inside, are.as_many_ends, told.as_many)) in
+      let kind = (are.each place file.0 source.0 Faults file.1 source.1 end_is).kind in
+      by sink.0 sink.1 (all_at (λ (one : Option K). policy_of_sink one ≡ policy) sinks place sink.0
+      told.there sink.1) (all_at (λ (one : Option K). IfSome one (λ own. ¬ Rose 0 (failures own)))
+      sinks place sink.0 quiet sink.1) kind file.0 file.1 source.0 source.1
+    where
+      by : (one : Option K) → slice_get sinks place ≡ Some one → policy_of_sink one ≡ policy
+          → IfSome one (λ own. ¬ Rose 0 (failures own)) → CanEnd policy Faults
+          → (file : Option (List ℕ)) → slice_get files place ≡ Some file
+          → (source : S) → slice_get sources place ≡ Some source → ⊥
+      by None at there silent kind file file_is source source_is =
+          subst (λ (p : FaultPolicy). CanEnd p Faults) (sym {A = FaultPolicy} there) kind
+      by (Some own) at there silent kind file file_is source source_is =
+          silent ((told.each place file source own Faults file_is source_is at end_is).write.rose
+          refl)
+
+  -- and none failed where no stream ended so
+  pub sinks_quiet : ((place : ℕ) (end : StreamEnd) → slice_get ends place ≡ Some end
+      → end ≡ Faults → ⊥)
+      → All (λ (sink : Option K). IfSome sink (λ own. failures own ≡ 0)) sinks
+  sinks_quiet none = all_by (λ (sink : Option K). IfSome sink (λ own. failures own ≡ 0)) sinks by
+    where
+      by : (place : ℕ) (sink : Option K) → slice_get sinks place ≡ Some sink
+          → IfSome sink (λ own. failures own ≡ 0)
+      by place None at = tt
+      by place (Some own) at =
+          let inside = slice_get_within sinks place (Some own) at in
+          let file = found files place (omega (arith, inside, told.as_many)) in
+          let source = found sources place (omega (arith, inside, told.as_many, are.as_many_sources)) in
+          let end = found ends place (omega (arith, inside, told.as_many, are.as_many_ends)) in
+          (told.each place file.0 source.0 own end.0 file.1 source.1 at end.1).write.quiet
+          (none place end.0 end.1)
 
 -- ---- a run
 
@@ -373,10 +429,15 @@ pub streams_done : {S K : Type 0} (means : Meanings S K) (given : Settings)
 streams_done means given holds openings sinks objects outcome runs can none =
     let failed = none_failed means runs.failed runs.short sinks outcome runs.causes none.writes none.replies none.save in
     done_or_short outcome.ends (ends_of outcome.readers) runs.failed outcome.status failed
-    runs.causes.status_is (all_end_well (left_of_both means.left) (faults_of_both means.faults) (cap_of given) (stream_contents given holds)
+    runs.causes.status_is (all_end_well (policy_of given) (left_of_both means.left)
+    (faults_of_both means.faults) (cap_of given) (stream_contents given holds)
     (stream_sources outcome.from outcome.sources) outcome.history outcome.ends runs.history.each_stream
     (length (streams_of given)) (sym (as_many_streams given holds)) runs.history.no_other can.whole
     (sources_quiet means.faults outcome.from outcome.sources none.from none.reads) can.few
+    (none_untold (policy_of given) (left_of_both means.left) (faults_of_both means.faults)
+    means.written means.failures (cap_of given) (stream_contents given holds)
+    (stream_sources outcome.from outcome.sources) outcome.faults outcome.history outcome.ends
+    runs.history.each_stream runs.faults.each_stream none.reported)
     (λ closed. none.writes (runs.causes.events_failed.rose (runs.causes.closed closed))))
     (readers_well means given holds openings sinks objects outcome runs can none)
 
@@ -448,15 +509,17 @@ module _ {S K : Type 0} (means : Meanings S K) (words : Option Settings) (given 
   -- where all is done and no read of a source failed, nothing did
   all_quiet : (failed : List SinkName) (short : Shortage) → HasCauses means failed short sinks outcome
       → All (λ source. means.faults source ≡ 0) outcome.sources
+      → All (λ (sink : Option K). IfSome sink (λ own. means.failures own ≡ 0)) outcome.faults
       → IfSome outcome.from (λ source. means.faults source ≡ 0)
       → All (CountsReader means) outcome.readers
       → NothingFails means words holds openings sinks outcome
-  all_quiet failed short causes reads from counted = record {
+  all_quiet failed short causes reads reported from counted = record {
     unread = unread;
     unmade = unmade;
     whole = subst (λ (w : Option Settings). IfSome w (λ g. AreReadWhole means.left means.faults g holds)) (sym are) whole;
     reads = reads;
     from = from;
+    reported = reported;
     writes = counted_quietly outcome.ends asked_in failed outcome.status Events
         (means.failures sinks.events_old)
         (means.failures sinks.events_new) causes.status_is done causes.events_failed;
@@ -489,6 +552,13 @@ module _ {S K : Type 0} (means : Meanings S K) (words : Option Settings) (given 
   none_faulty none = subst (λ (ss : List S). All (λ source. means.faults source ≡ 0) ss) (sym none)
       (All-nil (λ source. means.faults source ≡ 0))
 
+  -- and no sink of faulty lines either
+  none_told : outcome.faults ≡ []
+      → All (λ (sink : Option K). IfSome sink (λ own. means.failures own ≡ 0)) outcome.faults
+  none_told none = subst (λ (ks : List (Option K)).
+      All (λ (sink : Option K). IfSome sink (λ own. means.failures own ≡ 0)) ks) (sym none)
+      (All-nil (λ (sink : Option K). IfSome sink (λ own. means.failures own ≡ 0)))
+
   none_first : outcome.from ≡ None → IfSome outcome.from (λ source. means.faults source ≡ 0)
   none_first none = subst (λ (s : Option S). IfSome s (λ source. means.faults source ≡ 0)) (sym none) tt
 
@@ -499,11 +569,17 @@ module _ {S K : Type 0} (means : Meanings S K) (words : Option Settings) (given 
       let as_many = runs.history.each_stream.as_many_sources in
       let none = sources_none means.faults outcome.from outcome.sources
       (omega (arith, as_many, as_many_streams given holds, some))
-      (reads_quietly (left_of_both means.left) (faults_of_both means.faults) (cap_of given) (stream_contents given holds)
+      (reads_quietly (policy_of given) (left_of_both means.left) (faults_of_both means.faults) (cap_of given) (stream_contents given holds)
       (stream_sources outcome.from outcome.sources) outcome.history outcome.ends runs.history.each_stream asked_in
       runs.failed
       outcome.status runs.causes.status_is done) in
-      all_quiet runs.failed runs.short runs.causes none.0 none.1 runs.readers.counted
+      let reported = sinks_quiet (policy_of given) (left_of_both means.left)
+      (faults_of_both means.faults) means.written means.failures (cap_of given)
+      (stream_contents given holds) (stream_sources outcome.from outcome.sources) outcome.faults
+      outcome.history outcome.ends runs.history.each_stream runs.faults.each_stream
+      (λ place end. told_quietly outcome.ends asked_in runs.failed outcome.status place end
+      runs.causes.status_is done) in
+      all_quiet runs.failed runs.short runs.causes none.0 reported none.1 runs.readers.counted
 
   -- nothing failed in a run that is done
   pub runs_quiet : (objects : Objects) → Runs means given holds sinks objects outcome
@@ -514,10 +590,11 @@ module _ {S K : Type 0} (means : Meanings S K) (words : Option Settings) (given 
           outcome
           → NothingFails means words holds openings sinks outcome
       by (Check directions) is runs = all_quiet runs.failed no_shortage runs.causes
-          (none_faulty runs.no_source) (none_first runs.nothing.no_window.0)
-          (none_counted runs.nothing.no_reader)
+          (none_faulty runs.no_source) (none_told runs.nothing.no_faults)
+          (none_first runs.nothing.no_window.0) (none_counted runs.nothing.no_reader)
       by (Generate directions count) is runs = all_quiet runs.failed no_shortage runs.causes
-          (none_faulty runs.no_source) (none_first runs.no_window.0) (none_counted runs.no_reader)
+          (none_faulty runs.no_source) (none_told runs.no_faults) (none_first runs.no_window.0)
+          (none_counted runs.no_reader)
       by (Streams run) is runs = streams_quiet objects (some_streams given run is settings).0 runs
 
 -- a run that can be done, in which no count rose, is done, or wants memory

@@ -1,6 +1,6 @@
 -- Which runs over streams are done.
 use Rattle.std.proofs.Common.{◌≡◌, ◌≢◌, ℕ, ◌≤◌, Bool, true, List, [], ◌∷◌, ◌++◌, length, Option}
-use Rattle.std.proofs.Common.{Some, None, Result, Ok, Err, refl, ap, sym, subst, ◌∙◌, arith, inl, inr}
+use Rattle.std.proofs.Common.{Some, None, Result, Ok, Err, refl, ap, sym, subst, subst₂, ◌∙◌, arith, inl, inr}
 use Rattle.std.specs.Prelude.{IfSome, IsSomeAnd, codes, map, option_map, sum}
 use Rattle.std.specs.List.{All}
 use Rattle.std.proofs.lemmas.List.Elements.{All-cons, All-head, All-nil, All-tail}
@@ -19,7 +19,7 @@ use Rattle.rpq_words.specs.declared.settings.RunMode.TheVariants.{Streams}
 use Rattle.rpq_words.specs.declared.settings.StreamSettings.{StreamSettings}
 use Rattle.rpq_words.specs.declared.settings.StreamSettings.TheVariants.{BothWays}
 use Rattle.rpq_words.specs.declared.settings.Settings.{Settings}
-use Rattle.rpq_words.specs.Examples.{SettingsExamples, plain}
+use Rattle.rpq_words.specs.Examples.{SettingsExamples, over_both_ways, plain}
 use Rattle.rpq_words.specs.Modes.{count_of}
 use Rattle.rpq_words.specs.declared.reader_names.ReaderFiles.{ReaderFiles}
 use Rattle.rpq_words.specs.Views.{asks_of, cap_of, joins_of, mode_of, readers_of, two_way_of}
@@ -27,10 +27,13 @@ use Rattle.live_asks.specs.Items.{asked_items}
 use Rattle.text_items.specs.declared.ends.TextEnd.TheVariants.{LongText}
 use Rattle.run_start.specs.Files.{HasQueries, ForQueries, AreFaultlessAsks, AreFaultlessJoins}
 use Rattle.run_start.specs.Files.{IsFaultless, stream_contents}
+use Rattle.run_start.specs.Given.{policy_of}
 use Rattle.run_start.specs.Texts.{tuples_within}
 use Rattle.saved_window.specs.SavedText.{SavedTextIsRead, saved_text}
 use Rattle.saved_window.specs.Then.{join_known}
 use Rattle.stream_tuples.specs.declared.ends.StreamEnd.TheVariants.{Whole}
+use Rattle.stream_tuples.specs.declared.faults.FaultPolicy.{FaultPolicy}
+use Rattle.stream_tuples.specs.declared.faults.FaultPolicy.TheVariants.{Stop}
 use Rattle.stream_tuples.specs.Limits.{byte_limit}
 use Rattle.stream_tuples.specs.StreamText.{StreamTuples, tuples_from}
 use Rattle.stream_tuples.proofs.ByteLimits.{kept_limit}
@@ -144,27 +147,27 @@ module _ {S K : Type 0} (means : Meanings S K) (given : Settings)
 
 -- ---- the streams
 
-whole_contents : (cap : ℕ) (texts : List (List ℕ))
-    → All (λ text. (tuples_within cap text).end ≡ Whole) texts
-    → All (IsWholeStream cap) (map (λ (bytes : List ℕ). Some bytes) texts)
-whole_contents cap [] whole = All-nil (IsWholeStream cap)
-whole_contents cap (text ∷ texts) whole =
-    let IsWhole : List ℕ → Type 0 = λ text. (tuples_within cap text).end ≡ Whole in
-    All-cons (IsWholeStream cap) (Some text) (map (λ (bytes : List ℕ). Some bytes) texts)
+whole_contents : (policy : FaultPolicy) (cap : ℕ) (texts : List (List ℕ))
+    → All (λ text. (tuples_within policy cap text).end ≡ Whole) texts
+    → All (IsWholeStream policy cap) (map (λ (bytes : List ℕ). Some bytes) texts)
+whole_contents policy cap [] whole = All-nil (IsWholeStream policy cap)
+whole_contents policy cap (text ∷ texts) whole =
+    let IsWhole : List ℕ → Type 0 = λ text. (tuples_within policy cap text).end ≡ Whole in
+    All-cons (IsWholeStream policy cap) (Some text) (map (λ (bytes : List ℕ). Some bytes) texts)
     (All-head IsWhole text texts whole)
-    (whole_contents cap texts (All-tail IsWhole text texts whole))
+    (whole_contents policy cap texts (All-tail IsWhole text texts whole))
 
-counted : (cap : ℕ) (texts : List (List ℕ))
-    → map (tuple_count cap) (map (λ (bytes : List ℕ). Some bytes) texts)
-    ≡ map (λ text. length (tuples_within cap text).tuples) texts
-counted cap [] = refl
-counted cap (text ∷ texts) =
-    ap (λ (rest : List ℕ). length (tuples_within cap text).tuples ∷ rest) (counted cap texts)
+counted : (policy : FaultPolicy) (cap : ℕ) (texts : List (List ℕ))
+    → map (tuple_count policy cap) (map (λ (bytes : List ℕ). Some bytes) texts)
+    ≡ map (λ text. length (tuples_within policy cap text).tuples) texts
+counted policy cap [] = refl
+counted policy cap (text ∷ texts) =
+    ap (λ (rest : List ℕ). length (tuples_within policy cap text).tuples ∷ rest) (counted policy cap texts)
 
--- what is said of the streams by the cap that is told is so by the one of the settings
-abbrev IsFineWithin : Told → ℕ → Type 0
-IsFineWithin told cap = All (λ text. (tuples_within cap text).end ≡ Whole) (stream_texts told)
-    × (sum (map (λ text. length (tuples_within cap text).tuples) (stream_texts told)) ≤ cap)
+-- what is said of the streams by the policy and the cap that are told is so by those of the settings
+abbrev IsFineWithin : Told → FaultPolicy → ℕ → Type 0
+IsFineWithin told policy cap = All (λ text. (tuples_within policy cap text).end ≡ Whole) (stream_texts told)
+    × (sum (map (λ text. length (tuples_within policy cap text).tuples) (stream_texts told)) ≤ cap)
 
 -- ---- all of it
 
@@ -178,19 +181,21 @@ can_be_done means given holds sinks told run one_way two_way mode is fine =
     let has = subst (λ (both_ways : Bool). HasQueries both_ways told.queries fine.queries)
     (sym {A = Bool} is.two_way) fine.accepted in
     let contents = contents_are given holds told is.from is.streams in
+    let policy = policy_of given in
     let cap = cap_of given in
-    let streams = subst (IsFineWithin told) (sym is.limit) (fine.whole, fine.few) in
+    let streams = subst₂ (IsFineWithin told) (sym {A = FaultPolicy} is.policy) (sym is.limit)
+    (fine.whole, fine.few) in
     record {
       understood = understood_in means given holds sinks told one is fine.queries has;
       joins = joins_in means given holds sinks told one is fine.queries has fine.joins fine.joined;
       asks = asks_in means given holds sinks told one is fine.queries has fine.sessions fine.asked;
-      whole = subst (λ (files : List (Option (List ℕ))). All (IsWholeStream cap) files)
+      whole = subst (λ (files : List (Option (List ℕ))). All (IsWholeStream policy cap) files)
           (sym {A = List (Option (List ℕ))} contents)
-          (whole_contents cap (stream_texts told) streams.0);
+          (whole_contents policy cap (stream_texts told) streams.0);
       few = omega (
         arith,
-        ap (λ (files : List (Option (List ℕ))). sum (map (tuple_count cap) files)) contents,
-        ap (λ (counts : List ℕ). sum counts) (counted cap (stream_texts told)),
+        ap (λ (files : List (Option (List ℕ))). sum (map (tuple_count policy cap) files)) contents,
+        ap (λ (counts : List ℕ). sum counts) (counted policy cap (stream_texts told)),
         streams.1,
       );
       readers = readers_in means given holds sinks told one is fine.queries has told.readers
@@ -222,22 +227,22 @@ faultless_done means given holds sinks objects outcome told openings run one_way
 pub small_run : OneTwoWayOutcome → TwoWayExamples → SettingsExamples → SavedTextIsRead
     → SmallRunCanBeDone
 small_run one examples words read = λ holds tuples queries stream may few short.
-    let given = plain (Streams (BothWays (codes "t" ∷ []))) in
+    let given = plain (Streams (BothWays (over_both_ways (codes "t" ∷ [])))) in
     let text = saved_text tuples in
     let cap = cap_of given in
-    let back : tuples_within cap text ≡ record { tuples = tuples; end = Whole } =
-    ap (λ limit. tuples_from 1 limit text) (kept_limit cap (omega arith))
-    ∙ (read tuples may).alone byte_limit short in
+    let back : tuples_within Stop cap text ≡ record { tuples = tuples; end = Whole } =
+    ap (λ limit. tuples_from Stop 1 limit text) (kept_limit cap (omega arith))
+    ∙ (read Stop tuples may).alone byte_limit short in
     let bytes = inverse_line ++ codes "\n" in
     let bytes_are : length bytes ≡ 46 = refl in
     let of_query : IsSomeAnd (holds (codes "q")) (IsFaultless true) =
     subst (λ (file : Option (List ℕ)). IsSomeAnd file (IsFaultless true)) (sym queries)
     (no_query_fault true one bytes (inverse_query ∷ [])
     (omega (arith, bytes_are), examples.given)) in
-    let of_stream : IsWholeStream cap (holds (codes "t")) =
-    subst (IsWholeStream cap) (sym stream) (ap (λ (ts : StreamTuples). ts.end) back) in
-    let count : tuple_count cap (holds (codes "t")) ≡ length tuples =
-    ap (tuple_count cap) stream ∙ ap (λ (ts : StreamTuples). length ts.tuples) back in
+    let of_stream : IsWholeStream Stop cap (holds (codes "t")) =
+    subst (IsWholeStream Stop cap) (sym stream) (ap (λ (ts : StreamTuples). ts.end) back) in
+    let count : tuple_count Stop cap (holds (codes "t")) ≡ length tuples =
+    ap (tuple_count Stop cap) stream ∙ ap (λ (ts : StreamTuples). length ts.tuples) back in
     let none : sum [] ≡ 0 = refl in
     let contents : stream_contents given holds ≡ holds (codes "t") ∷ [] =
     ap (λ (file : Option (List ℕ)). file ∷ []) (unread (holds (codes "t"))) in
@@ -246,14 +251,14 @@ small_run one examples words read = λ holds tuples queries stream may few short
       understood = of_query;
       joins = tt;
       asks = tt;
-      whole = subst (λ (files : List (Option (List ℕ))). All (IsWholeStream cap) files)
+      whole = subst (λ (files : List (Option (List ℕ))). All (IsWholeStream Stop cap) files)
           (sym {A = List (Option (List ℕ))} contents)
-          (All-cons (IsWholeStream cap) (holds (codes "t")) [] of_stream
-          (All-nil (IsWholeStream cap)));
+          (All-cons (IsWholeStream Stop cap) (holds (codes "t")) [] of_stream
+          (All-nil (IsWholeStream Stop cap)));
       few = omega (
         arith,
-        ap (λ (files : List (Option (List ℕ))). sum (map (tuple_count cap) files)) contents,
-        sum_front (tuple_count cap (holds (codes "t"))) [],
+        ap (λ (files : List (Option (List ℕ))). sum (map (tuple_count Stop cap) files)) contents,
+        sum_front (tuple_count Stop cap (holds (codes "t"))) [],
         none,
         count,
         few,

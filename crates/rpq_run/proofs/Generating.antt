@@ -80,13 +80,14 @@ not_within count limit above = elim (leb_tells count limit) [
 
 -- what the run answers, by its history and how its stream ended
 abbrev pub generated_outcome : {S K : Type 0} → ℕ → List Entry → ℕ → List StreamEnd → List S
-    → List (List AnsweredValue) → List (ReaderOutcome S K) → Outcome S K
-generated_outcome status history base ends sources sessions readers = record {
+    → List (Option K) → List (List AnsweredValue) → List (ReaderOutcome S K) → Outcome S K
+generated_outcome status history base ends sources faults sessions readers = record {
   status = status;
   history = history;
   base = base;
   ends = ends;
   sources = sources;
+  faults = faults;
   from = None;
   sessions = sessions;
   readers = readers;
@@ -97,15 +98,15 @@ generated_outcome status history base ends sources sessions readers = record {
 -- it has no source, no session and no reader, and all its history is there
 nothing_asked : {S K : Type 0} (status : ℕ) (history history' : List Entry) (base : ℕ)
     (ends ends' : List StreamEnd)
-    (sources : List S) (sessions : List (List AnsweredValue)) (readers : List (ReaderOutcome S K))
-    → history' ≡ history → base ≡ 0 → ends ≡ ends'
-    → sources ≡ [] → sessions ≡ [] → readers ≡ []
-    → generated_outcome {S = S} {K = K} status history 0 ends [] [] []
-    ≡ generated_outcome status history' base ends' sources sessions readers
-nothing_asked {S} {K} status history history' base ends ends' sources sessions readers one none_gone same no_source
-    no_session no_reader = λ i.
+    (sources : List S) (faults : List (Option K)) (sessions : List (List AnsweredValue))
+    (readers : List (ReaderOutcome S K)) → history' ≡ history → base ≡ 0 → ends ≡ ends'
+    → sources ≡ [] → faults ≡ [] → sessions ≡ [] → readers ≡ []
+    → generated_outcome {S = S} {K = K} status history 0 ends [] [] [] []
+    ≡ generated_outcome status history' base ends' sources faults sessions readers
+nothing_asked {S} {K} status history history' base ends ends' sources faults sessions readers one none_gone same
+    no_source no_faults no_session no_reader = λ i.
     generated_outcome status (sym one i) (sym none_gone i) (same i) (sym no_source i)
-    (sym {A = List (List AnsweredValue)} no_session i) (sym {A = List (ReaderOutcome S K)} no_reader i)
+    (sym {A = List (Option K)} no_faults i) (sym {A = List (List AnsweredValue)} no_session i) (sym {A = List (ReaderOutcome S K)} no_reader i)
 
 module _ {S K T E O : Type 0} (means : Meanings S K)
     (file : Option (List ℕ)) (task : Generation) (sinks : Sinks K) (seen : O → ObjectValue)
@@ -126,7 +127,7 @@ module _ {S K T E O : Type 0} (means : Meanings S K)
   end_in = end_of (is_some run.summary) fits
 
   abbrev pub outcome_in : Outcome S K
-  outcome_in = generated_outcome status run.history.items 0 (end_in ∷ []) [] [] []
+  outcome_in = generated_outcome status run.history.items 0 (end_in ∷ []) [] [] [] []
 
   -- the objects before and after
   abbrev pub objects_in : Objects
@@ -263,6 +264,7 @@ module _ {S K T E O : Type 0} (means : Meanings S K)
   generated_runs status_is lines = record {
     understood = is_queries_file task.two_way file (definitions_of task.queries.items) has;
     no_source = refl;
+    no_faults = refl;
     no_session = refl;
     no_reader = refl;
     no_replies = refl;
@@ -301,20 +303,20 @@ module _ {S K T E O : Type 0} (means : Meanings S K)
 
   -- the same with what it answers and the objects in their lists
   pub runs_generated : (history : List Entry) (base : ℕ) (ends : List StreamEnd) (sources : List S)
-      (sessions : List (List AnsweredValue)) (readers : List (ReaderOutcome S K)) (before stayed left : List O)
+      (faults : List (Option K)) (sessions : List (List AnsweredValue)) (readers : List (ReaderOutcome S K)) (before stayed left : List O)
       → history ≡ run.history.items
-      → base ≡ 0 → end_in ∷ [] ≡ ends → sources ≡ [] → sessions ≡ [] → readers ≡ []
+      → base ≡ 0 → end_in ∷ [] ≡ ends → sources ≡ [] → faults ≡ [] → sessions ≡ [] → readers ≡ []
       → circle.members ≡ before → run.circle.members ≡ stayed → run.circle.left ≡ left
       → IsStatusOf (end_in ∷ []) [] (failed_sinks (is_err wrote) false false) status
       → TellsLines means.written means.failures
       (run_lines (end_in ∷ []) [] (failed_sinks (is_err wrote) false false) status)
       sinks.errors_old sinks.errors_new
       → RunsGenerated means task.two_way task.limit task.count file sinks (objects seen before stayed left)
-      (generated_outcome status history base ends sources sessions readers)
-  runs_generated history base ends sources sessions readers before stayed left same none_gone ends_are no_source
-      no_session no_reader befores stays leaves status_is lines =
+      (generated_outcome status history base ends sources faults sessions readers)
+  runs_generated history base ends sources faults sessions readers before stayed left same none_gone ends_are no_source
+      no_faults no_session no_reader befores stays leaves status_is lines =
       subst₂ (λ (all : Objects) (outcome : Outcome S K). RunsGenerated means task.two_way task.limit task.count file sinks all outcome)
       (objects_are seen circle.members before run.circle.members stayed run.circle.left left befores stays leaves)
-      (nothing_asked status run.history.items history base (end_in ∷ []) ends sources sessions readers same none_gone
-      ends_are no_source no_session no_reader)
+      (nothing_asked status run.history.items history base (end_in ∷ []) ends sources faults sessions readers same none_gone
+      ends_are no_source no_faults no_session no_reader)
       (generated_runs status_is lines)

@@ -1,7 +1,7 @@
 -- A run over streams that is done, in one piece.
 use Rattle.std.proofs.Common.{◌≡◌, ◌≢◌, ℕ, ◌+◌, Bool, List, [], ◌∷◌, ◌++◌, length, take, Option}
 use Rattle.std.proofs.Common.{Some, None, Result, Ok, true, false, refl, ap, ap₂, sym, subst, ◌∙◌}
-use Rattle.std.proofs.Common.{arith, inl, inr, ◌⊎◌, append-nil}
+use Rattle.std.proofs.Common.{subst₂, arith, inl, inr, ◌⊎◌, append-nil}
 use Rattle.std.specs.Prelude.{⊤, IfSome, MatchOption, Contains, map, option_map, unwrap_or}
 use Rattle.std.specs.Prelude.{is_some, slice_get}
 use Rattle.std.specs.Io.KnownBytes.{append_known}
@@ -29,7 +29,8 @@ use Rattle.live_asks.specs.declared.ends.ReaderEnd.TheVariants.{Closed, Memory a
 use Rattle.live_asks.specs.declared.reader.ReaderOutcome.{ReaderOutcome}
 use Rattle.stream_tuples.specs.declared.ends.StreamEnd.{StreamEnd}
 use Rattle.stream_tuples.specs.declared.ends.StreamEnd.TheVariants.{Whole}
-use Rattle.stream_tuples.specs.History.{IsNumberOf, AreTuplesOfEnd, own_tuples}
+use Rattle.stream_tuples.specs.declared.faults.FaultPolicy.{FaultPolicy}
+use Rattle.stream_tuples.specs.History.{IsNumberOf, AreTuplesOfEnd, own_tuples, policy_of_sink}
 use Rattle.stream_tuples.specs.Limits.{byte_limit_of}
 use Rattle.stream_tuples.specs.StreamText.{StreamTuples}
 use Rattle.rpq_text.specs.declared.ends.SinkName.{SinkName}
@@ -44,7 +45,8 @@ use Rattle.saved_window.specs.SavedText.{saved_text}
 use Rattle.saved_window.specs.Then.{left_of_both, faults_of_both}
 use Rattle.run_start.specs.Files.{HasJoins, HasQueries, HasSessions, ForQueries, ForJoins}
 use Rattle.run_start.specs.Files.{ForJoined, ForSessions, ForAsked, stream_contents, with_first}
-use Rattle.run_start.specs.Texts.{tuples_within}
+use Rattle.run_start.specs.Given.{policy_of}
+use Rattle.run_start.specs.Texts.{reports_within, tuples_within}
 use Rattle.rpq_threads.specs.Runs.{AreSessionsOf, IsLiveOf, asks_answered}
 use Rattle.rpq_threads.specs.Told.{BeginsBlock, TellsObjects}
 use Rattle.standing.specs.Circles.{CircleValue}
@@ -63,11 +65,12 @@ use Rattle.rpq_run.specs.Shortage.{is_short_before}
 use Rattle.rpq_run.specs.Sources.{stream_sources}
 use Rattle.rpq_run.specs.Written.{TellsLines, WritesWhere}
 use Rattle.rpq_run.proofs.Beside.{all_served, no_reader_lines, served_or_shut}
-use Rattle.rpq_run.proofs.Done.{all_at, all_by, stream_at}
+use Rattle.rpq_run.proofs.Done.{all_at, all_by, as_many_streams, stream_at}
 use Rattle.rpq_run.proofs.ErrorTexts.{nil_front}
 use Rattle.rpq_run.proofs.Shortages.{never_both, none_short}
 use Rattle.rpq_run.proofs.Sinks.{no_sinks}
 use Rattle.rpq_run.proofs.Statuses.{IsServedOrShut, first_of_done, sink_quietly, whole_end}
+use Rattle.rpq_run.proofs.Telling.{reports_are}
 
 -- ---- the one list of queries, of joins, and of sessions
 
@@ -242,13 +245,13 @@ replies_are written text failed short none other (Some sink) writes =
     written sink ≡ append_known (nothing_told (written sink)) t) whole.of_kind whole.written)
 
 -- the tuples of a stream, where the history has at most so many entries
-tuples_are : (cap : ℕ) (text : List ℕ) (left : Option (List ℕ)) (number : ℕ)
+tuples_are : (policy : FaultPolicy) (cap : ℕ) (text : List ℕ) (left : Option (List ℕ)) (number : ℕ)
     (history : List Entry) (end : StreamEnd) → end ≡ Whole
-    → AreTuplesOfEnd (byte_limit_of cap) text left (own_tuples number history) end
-    → own_tuples number history ≡ (tuples_within cap text).tuples
-tuples_are cap text left number history end whole tied =
+    → AreTuplesOfEnd policy (byte_limit_of cap) text left (own_tuples number history) end
+    → own_tuples number history ≡ (tuples_within policy cap text).tuples
+tuples_are policy cap text left number history end whole tied =
     let at_whole = subst (λ (e : StreamEnd).
-    AreTuplesOfEnd (byte_limit_of cap) text left (own_tuples number history) e) whole tied in
+    AreTuplesOfEnd policy (byte_limit_of cap) text left (own_tuples number history) e) whole tied in
     sym (ap (λ (ts : StreamTuples). ts.tuples) at_whole.0)
 
 -- what is read as each stream, where all is told
@@ -435,6 +438,11 @@ headline_of means given holds sinks objects outcome told one law lines runs done
       few = omega (arith, runs.history.few, is.limit);
       whole = λ capped. runs.history.whole (is.endless ∙ capped);
       from_there = runs.history.from ∙ there_as_told holds (from_of given) told.from is.from;
+      as_many = runs.faults.each_stream.as_many ∙ (as_many_streams given holds ∙ as_many);
+      faults_there = subst (λ (policy : FaultPolicy).
+          All (λ (sink : Option _). policy_of_sink sink ≡ policy) outcome.faults) is.policy
+          runs.faults.each_stream.there;
+      reported = reported;
       steps = all.steps;
       are_steps = all.are_steps;
       written = all.written ∙ ap (λ (w : Option (List ℕ)). append_known w
@@ -551,23 +559,48 @@ headline_of means given holds sinks objects outcome told one law lines runs done
         ∙ (ap (λ (fs : List (Option (List ℕ))). length fs) is.streams
         ∙ length-map told.streams (λ (bytes : List ℕ). Some bytes))
 
-    in_order : (place : ℕ) (text : List ℕ) → slice_get (stream_texts told) place ≡ Some text
-        → own_tuples (place + 1) outcome.history ≡ (tuples_within told.limit text).tuples
-    in_order place text at =
-        let file : slice_get (stream_contents given holds) place ≡ Some (Some text) =
+    file_at : (place : ℕ) (text : List ℕ) → slice_get (stream_texts told) place ≡ Some text
+        → slice_get (stream_contents given holds) place ≡ Some (Some text)
+    file_at place text at =
         ap (λ (fs : List (Option (List ℕ))). slice_get fs place)
         (contents_are given holds told is.from is.streams)
         ∙ (slice_get-map (λ (bytes : List ℕ). Some bytes) (stream_texts told) place
-        ∙ ap (option_map (λ (bytes : List ℕ). Some bytes)) at) in
-        let stream = stream_at (left_of_both means.left) (faults_of_both means.faults) (cap_of given)
-        (stream_contents given holds) (stream_sources outcome.from outcome.sources) outcome.history
-        outcome.ends runs.history.each_stream place (Some text) file in
-        subst (λ cap. own_tuples (place + 1) outcome.history ≡ (tuples_within cap text).tuples)
-        is.limit
-        (tuples_are (cap_of given) text (left_of_both means.left stream.source) (place + 1)
-        outcome.history stream.end
+        ∙ ap (option_map (λ (bytes : List ℕ). Some bytes)) at)
+
+    in_order : (place : ℕ) (text : List ℕ) → slice_get (stream_texts told) place ≡ Some text
+        → own_tuples (place + 1) outcome.history
+        ≡ (tuples_within told.policy told.limit text).tuples
+    in_order place text at =
+        let stream = stream_at (policy_of given) (left_of_both means.left)
+        (faults_of_both means.faults) (cap_of given) (stream_contents given holds)
+        (stream_sources outcome.from outcome.sources) outcome.history outcome.ends
+        runs.history.each_stream place (Some text) (file_at place text at) in
+        subst₂ (λ (policy : FaultPolicy) (cap : ℕ).
+        own_tuples (place + 1) outcome.history ≡ (tuples_within policy cap text).tuples)
+        is.policy is.limit
+        (tuples_are (policy_of given) (cap_of given) text (left_of_both means.left stream.source)
+        (place + 1) outcome.history stream.end
         (whole_end outcome.ends (ends_of outcome.readers) runs.failed place stream.end first
         stream.end_is) stream.stream.tied)
+
+    reported : (place : ℕ) (text : List ℕ) (sink : _)
+        → slice_get (stream_texts told) place ≡ Some text
+        → slice_get outcome.faults place ≡ Some (Some sink)
+        → IfSome (means.written sink) (λ bytes. bytes ≡ reports_within told.limit text)
+    reported place text sink at there =
+        let file = file_at place text at in
+        let stream = stream_at (policy_of given) (left_of_both means.left)
+        (faults_of_both means.faults) (cap_of given) (stream_contents given holds)
+        (stream_sources outcome.from outcome.sources) outcome.history outcome.ends
+        runs.history.each_stream place (Some text) file in
+        subst (λ (cap : ℕ).
+        IfSome (means.written sink) (λ bytes. bytes ≡ reports_within cap text)) is.limit
+        (reports_are (cap_of given) text (left_of_both means.left stream.source)
+        (own_tuples (place + 1) outcome.history) stream.end
+        (whole_end outcome.ends (ends_of outcome.readers) runs.failed place stream.end first
+        stream.end_is) (means.written sink)
+        (runs.faults.each_stream.each place (Some text) stream.source sink stream.end file
+        stream.source_is there stream.end_is).tied)
 
 -- and as it is told
 pub headline_holds : {S K : Type 0} (means : Meanings S K) (given : Settings)

@@ -12,6 +12,7 @@ mod Checking
 mod Generating
 mod Refusals
 mod Tops
+mod Telling
 mod Headlines
 mod ContinuedReading
 mod ContinuedHistories

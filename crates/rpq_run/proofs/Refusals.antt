@@ -16,11 +16,13 @@ use Rattle.ask_text.specs.declared.fault.AskFault.{AskFault}
 use Rattle.ask_text.specs.Asks.{asks}
 use Rattle.rpq_words.specs.declared.settings.Settings.{Settings}
 use Rattle.rpq_words.specs.declared.reader_names.ReaderFiles.{ReaderFiles}
-use Rattle.rpq_words.specs.Views.{asks_of, from_of, joins_of, readers_of, replies_of, save_of}
+use Rattle.rpq_words.specs.Views.{asks_of, faults_of, from_of, joins_of, readers_of, replies_of}
+use Rattle.rpq_words.specs.Views.{save_of}
 use Rattle.rpq_words.specs.Views.{streams_of, two_way_of}
 use Rattle.stream_tuples.specs.History.{IsNumberOf, IsPrefix}
 use Rattle.rpq_text.specs.declared.ends.Which.TheVariants.{Queries, Joins, Asks, From, Stream}
-use Rattle.rpq_text.specs.declared.ends.Which.TheVariants.{Replies, Save, AsksOf, RepliesOf}
+use Rattle.rpq_text.specs.declared.ends.Which.TheVariants.{Replies, Save, FaultsOf, AsksOf}
+use Rattle.rpq_text.specs.declared.ends.Which.TheVariants.{RepliesOf}
 use Rattle.rpq_text.specs.declared.ends.StartFault.{StartFault}
 use Rattle.rpq_text.specs.declared.ends.StartFault.TheVariants.{Words, Queries as QueriesFault}
 use Rattle.rpq_text.specs.declared.ends.StartFault.TheVariants.{Joins as JoinsFaulty}
@@ -34,6 +36,7 @@ use Rattle.run_start.specs.Files.{AreFaultyAsks, AreFaultlessAsks, HasAskFault}
 use Rattle.run_start.specs.Files.{AreUnderstoodFiles, AreUnderstoodJoins, IsQueriesFile}
 use Rattle.run_start.specs.Given.{asks_names, file_names, later_names, name_numbered}
 use Rattle.run_start.specs.Given.{names_with_streams, own_sink_names, replies_names, sink_names}
+use Rattle.run_start.specs.Given.{sinks_with_faults}
 use Rattle.run_start.specs.Ready.{IsWordsCause}
 use Rattle.run_start.proofs.Using.{names_in_order}
 use Rattle.run_start.specs.Start.{IsRefusedFor, IsOpeningOf, IsMakingOf, AreSourcesOf}
@@ -158,13 +161,22 @@ wants_memory {S} {K} means given holds openings sinks outcome start cause of ope
         (names_with_streams given) (asks_names given) none.unread
 
     -- the names of the sinks, but those of what readers are answered, and those
-    own_sinks : All (Quiet openings.unmade_old openings.unmade_new) (own_sink_names given)
-    own_sinks = all_front (Quiet openings.unmade_old openings.unmade_new) (own_sink_names given)
+    run_sinks : All (Quiet openings.unmade_old openings.unmade_new) (sinks_with_faults given)
+    run_sinks = all_front (Quiet openings.unmade_old openings.unmade_new) (sinks_with_faults given)
         (replies_names given) none.unmade
 
     answered_names : All (Quiet openings.unmade_old openings.unmade_new) (replies_names given)
     answered_names = all_behind (Quiet openings.unmade_old openings.unmade_new)
-        (own_sink_names given) (replies_names given) none.unmade
+        (sinks_with_faults given) (replies_names given) none.unmade
+
+    -- of the former those of the replies and the saved window, and those of faulty lines
+    own_sinks : All (Quiet openings.unmade_old openings.unmade_new) (own_sink_names given)
+    own_sinks = all_front (Quiet openings.unmade_old openings.unmade_new) (own_sink_names given)
+        (faults_of given) run_sinks
+
+    told_names : All (Quiet openings.unmade_old openings.unmade_new) (faults_of given)
+    told_names = all_behind (Quiet openings.unmade_old openings.unmade_new) (own_sink_names given)
+        (faults_of given) run_sinks
 
     -- the names behind that of the queries
     later_ones : All (Quiet openings.unread_old openings.unread_new)
@@ -304,6 +316,8 @@ wants_memory {S} {K} means given holds openings sinks outcome start cause of ope
         absurd (names place [] inside
         (opened (get_or (streams_of given) place [])
         (slice_get-get_or (streams_of given) place [] inside)))
+    by (Open (FaultsOf number)) cause of opened made = absurd (numbered (faults_of given) number
+        (Risen openings.unmade_old openings.unmade_new) told_names cause.0 made)
     by (Open (AsksOf number)) cause of opened made = absurd (numbered (asks_names given) number
         (Risen openings.unread_old openings.unread_new) asked_names
         (subst (λ n. IsNumberOf n number) (sym (length-map (readers_of given)
@@ -324,6 +338,7 @@ wants_memory {S} {K} means given holds openings sinks outcome start cause of ope
     by (Long Replies) cause of opened made = absurd cause
     by (Long Save) cause of opened made = absurd cause
     by (Long (Stream number)) cause of opened made = absurd cause
+    by (Long (FaultsOf number)) cause of opened made = absurd cause
     by (Long (AsksOf number)) cause of opened made = absurd cause
     by (Long (RepliesOf number)) cause of opened made = absurd cause
     by Memory cause of opened made = inr refl
@@ -341,6 +356,7 @@ never_done (Open From) done = omega (arith, done)
 never_done (Open (Stream number)) done = omega (arith, done)
 never_done (Open Replies) done = omega (arith, done)
 never_done (Open Save) done = omega (arith, done)
+never_done (Open (FaultsOf number)) done = omega (arith, done)
 never_done (Open (AsksOf number)) done = omega (arith, done)
 never_done (Open (RepliesOf number)) done = omega (arith, done)
 never_done (ReadAtStart which) done = omega (arith, done)

@@ -1,6 +1,6 @@
 -- What the run over streams does.
 use Rattle.std.proofs.Common.{◌≡◌, ℕ, Bool, true, false, List, [], length, Option, Some, None}
-use Rattle.std.proofs.Common.{Result, Ok, refl, ap, sym, subst, ◌∙◌, arith, inl, inr, ◌⊎◌}
+use Rattle.std.proofs.Common.{Result, Ok, refl, ap, sym, subst, subst₂, ◌∙◌, arith, inl, inr, ◌⊎◌}
 use Rattle.std.specs.Prelude.{◌<◌, ◌↔◌, ◌||◌, IfSome, MatchOption, Contains, is_some, map, slice_get}
 use Rattle.std.specs.Global.{Vec}
 use Rattle.std.specs.List.{All, AllZip}
@@ -25,7 +25,8 @@ use Rattle.live_asks.specs.declared.reader.AskReader.{AskReader}
 use Rattle.live_asks.specs.declared.reader.ReaderOutcome.{ReaderOutcome}
 use Rattle.history_model.specs.declared.line.Why.{Why}
 use Rattle.history_model.specs.declared.line.Why.TheVariants.{Write, Memory}
-use Rattle.stream_tuples.specs.History.{IsNumberOf, AreStreamsOf}
+use Rattle.stream_tuples.specs.declared.faults.FaultPolicy.{FaultPolicy}
+use Rattle.stream_tuples.specs.History.{IsNumberOf, AreReportedOf, AreStreamsOf, policy_of_sinks}
 use Rattle.ask_text.specs.declared.ask.Ask.{Ask}
 use Rattle.ask_text.specs.Answered.{AnsweredValue}
 use Rattle.ask_text.specs.Replies.{replies}
@@ -43,13 +44,15 @@ use Rattle.saved_window.specs.Then.{TwoSources, count_of, left_of_both, faults_o
 use Rattle.run_start.specs.Files.{HasJoins, HasQueries, HasSessions, IsQueriesFile, ForQueries}
 use Rattle.run_start.specs.Files.{ForJoins, ForJoined, ForSessions, ForAsked, from_content}
 use Rattle.run_start.specs.Files.{stream_contents}
+use Rattle.run_start.specs.Given.{policy_of}
+use Rattle.run_start.proofs.Modes.{same_policy}
 use Rattle.run_start.specs.declared.sinks.OwnSinks.{OwnSinks}
 use Rattle.standing.specs.Circles.{Parts, as_seen}
 use Rattle.standing.specs.Objects.{ObjectValue}
 use Rattle.rpq_threads.specs.declared.task.RunOutcome.{RunOutcome as ThreadsOutcome}
 use Rattle.rpq_threads.specs.declared.task.Task.{Task}
 use Rattle.rpq_threads.specs.Runs.{AreSessionsOf, HasAnswered, Holds, IsLiveOf, asks_answered}
-use Rattle.rpq_threads.specs.Runs.{asks_files}
+use Rattle.rpq_threads.specs.Runs.{asks_files, stream_files}
 use Rattle.rpq_threads.specs.Told.{TellsObjects}
 use Rattle.rpq_run.specs.declared.fault.TextFault.{TextFault}
 use Rattle.rpq_run.specs.Asked.{IsAsked}
@@ -67,7 +70,7 @@ use Rattle.rpq_run.specs.Replies.{texts_of}
 use Rattle.rpq_run.specs.RunsCheck.{LeavesObjects}
 use Rattle.rpq_run.specs.RunsStreams.{HoldsStreams, WritesEvents, AnswersSessions, TellsHistory}
 use Rattle.rpq_run.specs.RunsStreams.{GotText, RunsStreams, SavesWindow, FrontsBind, FrontsHold}
-use Rattle.rpq_run.specs.RunsStreams.{IsUnsaved, nothing_told}
+use Rattle.rpq_run.specs.RunsStreams.{IsUnsaved, WritesFaults, nothing_told}
 use Rattle.rpq_run.specs.Written.{TellsLines, WritesWhere}
 use Rattle.rpq_run.proofs.Beside.{all_second, contains_at, end_at}
 use Rattle.rpq_run.proofs.Done.{all_at, all_by}
@@ -216,6 +219,7 @@ outcome_of status threads from sources own = record {
   base = threads.history.base;
   ends = threads.ends.items;
   sources = sources;
+  faults = threads.faults.items;
   from = from;
   sessions = map (λ (each : Vec AnsweredValue). each.items) threads.sessions.items;
   readers = threads.readers.items;
@@ -244,6 +248,7 @@ answers_are threads own report parts = λ i. record {
   base = (sym parts.history i).base;
   ends = (sym parts.ends i).items;
   sources = report.sources.items;
+  faults = (sym parts.faults i).items;
   from = report.from;
   sessions = map (λ (each : Vec AnsweredValue). each.items) (sym parts.sessions i).items;
   readers = (sym parts.readers i).items;
@@ -318,6 +323,10 @@ module _ {S K O : Type 0} (means : Meanings S K) (given : Settings)
   told_save : Contains failed_in Save → is_failed written.saved ≡ true
   told_save = in_save (is_write threads.why) (is_failed written.replied) (is_failed written.saved)
 
+  -- faulty lines are told apart exactly where the settings name files for them
+  policy_is : policy_of_sinks task.faults.items ≡ policy_of given
+  policy_is = same_policy given task.faults.items asked.faults.as_many
+
   -- one history
   holds_streams : HoldsStreams means given holds answer
   holds_streams =
@@ -332,20 +341,41 @@ module _ {S K O : Type 0} (means : Meanings S K) (given : Settings)
       record {
         from = there_by_count from (from_of given) (from_is ∙ asked.behind);
         each_stream = subst
-            (λ (ss : List (TwoSources S)). AreStreamsOf left (faults_of_both means.faults)
-            (cap_of given) (stream_contents given holds) ss threads.history.items threads.ends.items)
+            (λ (ss : List (TwoSources S)). AreStreamsOf (policy_of given) left
+            (faults_of_both means.faults) (cap_of given) (stream_contents given holds) ss
+            threads.history.items threads.ends.items)
             (sym {A = List (TwoSources S)} parts)
-            (subst (λ (fs : List (Option (List ℕ))). AreStreamsOf left (faults_of_both means.faults)
-            (cap_of given) fs threads.sources.items threads.history.items threads.ends.items)
+            (subst (λ (fs : List (Option (List ℕ))). AreStreamsOf (policy_of given) left
+            (faults_of_both means.faults) (cap_of given) fs threads.sources.items
+            threads.history.items threads.ends.items)
             (sym {A = List (Option (List ℕ))} asked.contents)
-            (subst (λ limit. AreStreamsOf left (faults_of_both means.faults) limit
-            (map (λ (reader : ReaderState (TwoSources S)). left reader.source) task.readers.items)
-            threads.sources.items threads.history.items threads.ends.items) asked.limit
-            held.streams));
+            (subst₂ (λ (policy : FaultPolicy) (limit : ℕ). AreStreamsOf policy left
+            (faults_of_both means.faults) limit (stream_files left task) threads.sources.items
+            threads.history.items threads.ends.items) policy_is asked.limit held.streams));
         no_other = subst (λ n. All (λ (e : Entry). IsNumberOf n e.stream) threads.history.items)
             as_many held.numbers;
         few = omega (arith, held.few, asked.limit);
         whole = λ capped. held.whole (omega (arith, asked.limit, (asked.capped capped).1));
+      }
+
+  -- the faulty lines
+  writes_faults : WritesFaults means given holds answer
+  writes_faults =
+      let left = left_of_both means.left in
+      record {
+        each_stream = subst
+            (λ (ss : List (TwoSources S)). AreReportedOf (policy_of given) left means.written
+            means.failures (cap_of given) (stream_contents given holds) ss threads.faults.items
+            threads.history.items threads.ends.items)
+            (sym {A = List (TwoSources S)} parts)
+            (subst (λ (fs : List (Option (List ℕ))). AreReportedOf (policy_of given) left
+            means.written means.failures (cap_of given) fs threads.sources.items
+            threads.faults.items threads.history.items threads.ends.items)
+            (sym {A = List (Option (List ℕ))} asked.contents)
+            (subst₂ (λ (policy : FaultPolicy) (limit : ℕ). AreReportedOf policy left means.written
+            means.failures limit (stream_files left task) threads.sources.items
+            threads.faults.items threads.history.items threads.ends.items) policy_is asked.limit
+            held.reported));
       }
 
   -- the events
@@ -643,6 +673,7 @@ module _ {S K O : Type 0} (means : Meanings S K) (given : Settings)
     failed = failed_in;
     short = short_in;
     history = holds_streams;
+    faults = writes_faults;
     events = writes_events fronts sound binds;
     replies = answers_sessions;
     readers = answers_readers;

@@ -10,7 +10,7 @@ use Rattle.history_model.specs.declared.line.Why.{Why}
 use Rattle.history_model.specs.declared.line.Why.TheVariants.{Write, Memory as MemoryOfAll}
 use Rattle.stream_tuples.specs.declared.ends.StreamEnd.{StreamEnd}
 use Rattle.stream_tuples.specs.declared.ends.StreamEnd.TheVariants.{Whole, Line, LongLine, LongStream}
-use Rattle.stream_tuples.specs.declared.ends.StreamEnd.TheVariants.{Read, Full, Closed, Memory}
+use Rattle.stream_tuples.specs.declared.ends.StreamEnd.TheVariants.{Read, Faults, Full, Closed, Memory}
 use Rattle.live_asks.specs.declared.ends.ReaderEnd.{ReaderEnd}
 use Rattle.live_asks.specs.declared.ends.ReaderEnd.TheVariants as reader
 use Rattle.rpq_text.specs.declared.ends.SinkName.{SinkName}
@@ -273,6 +273,7 @@ whole_end ends asked failed place end done at = by end at
         absurd (no_end ends asked failed place (LongLine number) 4 here refl none.line)
     by LongStream here = absurd (no_end ends asked failed place LongStream 7 here refl none.limit)
     by Read here = absurd (no_end ends asked failed place Read 5 here refl none.read)
+    by Faults here = absurd (no_end ends asked failed place Faults 6 here refl none.write)
     by Full here = absurd (no_end ends asked failed place Full 7 here refl none.limit)
     by (Closed Write) here =
         absurd (no_end ends asked failed place (Closed Write) 6 here refl none.write)
@@ -287,6 +288,15 @@ pub read_quietly : (ends : List StreamEnd) (asked : List ReaderEnd) (failed : Li
 read_quietly ends asked failed status place end is done at read =
     let whole = whole_end ends asked failed place end (first_of_done ends asked failed status is done) at in
     let both : Whole ≡ Read = sym whole ∙ read in
+    absurd (cc both)
+
+-- nor a write of its faulty lines
+pub told_quietly : (ends : List StreamEnd) (asked : List ReaderEnd) (failed : List SinkName)
+    (status : ℕ) (place : ℕ) (end : StreamEnd) → IsStatusOf ends asked failed status → status ≡ 0
+    → slice_get ends place ≡ Some end → end ≡ Faults → ⊥
+told_quietly ends asked failed status place end is done at untold =
+    let whole = whole_end ends asked failed place end (first_of_done ends asked failed status is done) at in
+    let both : Whole ≡ Faults = sym whole ∙ untold in
     absurd (cc both)
 
 -- every reader came to its end, unless it found the history shut

@@ -1,7 +1,7 @@
 -- What the top call hands on, and what it says of it.
 use Rattle.std.proofs.Common.{◌≡◌, ℕ, Bool, true, false, List, [], ◌∷◌, length, Option, Some, None}
 use Rattle.std.proofs.Common.{sym}
-use Rattle.std.proofs.Common.{ap, subst, subst₂, ◌∙◌, arith, refl}
+use Rattle.std.proofs.Common.{ap, subst, subst₂, ◌∙◌, arith, refl, inl, inr, ◌⊎◌}
 use Rattle.std.specs.Prelude.{◌≤◌, IfSome, MatchOption, is_some, map}
 use Rattle.std.specs.List.{All}
 use Rattle.std.proofs.lemmas.List.{length-map}
@@ -21,7 +21,7 @@ use Rattle.rpq_words.specs.declared.reader_names.ReaderFiles.{ReaderFiles}
 use Rattle.rpq_words.specs.declared.settings.RunMode.TheVariants.{Check, Generate, Streams}
 use Rattle.rpq_words.specs.declared.settings.StreamSettings.TheVariants.{BothWays, Forwards}
 use Rattle.rpq_words.specs.declared.settings.Directions.{Directions}
-use Rattle.rpq_words.specs.Modes.{AreSettings, IsMode, IsWithin}
+use Rattle.rpq_words.specs.Modes.{AreSettings, IsCap, IsMode, IsWithin}
 use Rattle.rpq_words.proofs.Modes.{is_cap}
 use Rattle.rpq_words.specs.declared.settings.Settings.{Settings}
 use Rattle.rpq_words.specs.Views.{is_both_ways}
@@ -32,13 +32,13 @@ use Rattle.rpq_text.specs.Definitions.{definitions_of}
 use Rattle.entry_steps.specs.Steps.{OptionsValue}
 use Rattle.run_start.specs.Files.{ForJoins, ForSessions, HasQueries, HasSessions, stream_contents}
 use Rattle.run_start.specs.Readers.{AreNew, AreNewReaders, contents_of, is_behind, lefts_of}
-use Rattle.run_start.specs.Ready.{AreUnderstood, IsReady}
+use Rattle.run_start.specs.Ready.{AreFaultSinks, AreUnderstood, IsReady}
 use Rattle.run_start.specs.declared.ready.StreamsPlan.{StreamsPlan}
 use Rattle.run_start.specs.declared.ready.Work.{Work}
 use Rattle.run_start.specs.declared.ready.Work.TheVariants.{Read as Reading}
 use Rattle.run_start.specs.declared.streams.Readers.{Readers}
 use Rattle.run_start.proofs.Modes.{forwards_alone, one_stream, some_streams, unasked}
-use Rattle.rpq_threads.specs.Runs.{IsLimit, IsTask}
+use Rattle.rpq_threads.specs.Runs.{IsTask}
 use Rattle.rpq_threads.specs.declared.task.Task.{Task}
 use Rattle.rpq_run.specs.Asked.{IsAsked, IsGenerationOf, IsTaskOf}
 use Rattle.rpq_run.specs.Options.{options_of}
@@ -168,6 +168,11 @@ no_reader given is = by (mode_of given) is
     by (Streams (BothWays streams)) is = refl
     by (Streams (Forwards forwards)) is = absurd (cc is)
 
+-- a list without a member is empty
+none_long : {A : Type 0} (all : List A) → length all ≡ 0 → all ≡ []
+none_long [] none = refl
+none_long (one ∷ more) none = absurd (omega (arith, none))
+
 none_beside : {S K : Type 0} (left : S → Option (List ℕ)) (holds : List ℕ → Option (List ℕ))
     (files : List ReaderFiles) (readers : List (AskReader S K))
     → map (λ (each : ReaderFiles). holds each.asks) files
@@ -183,8 +188,8 @@ module _ {S K : Type 0} (left : S → Option (List ℕ)) (faults : S → ℕ)
     (work : Work S K) (reads : StreamsPlan S K) (there : work ≡ Reading reads)
     (opened : Readers S) (are : reads.readers ≡ opened)
     (readers : List (ReaderState (TwoSources S))) (task : Task (TwoSources S) S K)
-    (of : IsTaskOf given queries reads.joins.value.items readers reads.sessions.items
-    reads.ask_readers.items task)
+    (of : IsTaskOf given queries reads.joins.value.items readers reads.faults.items
+    reads.sessions.items reads.ask_readers.items task)
     (settings : AreSettings given)
     (ready : IsReady left faults written failures given holds queries work)
     (lefts : contents_of left opened ≡ lefts_of left readers) where
@@ -238,6 +243,18 @@ module _ {S K : Type 0} (left : S → Option (List ℕ)) (faults : S → ℕ)
       (λ joins from_file same. of.options_are ∙ ap (options_of given) same)
       ready_queries.asked_for.joined
 
+  -- the sinks of faulty lines are those that the settings name: one for each stream, or none
+  fault_sinks : AreFaultSinks written failures given task.faults.items
+  fault_sinks = subst (λ (ks : List K). AreFaultSinks written failures given ks)
+      (sym {A = List K} of.faults_are) ready_queries.asked_for.fault_sinks
+
+  few_or_all : (task.faults.items ≡ []) ⊎ (length task.faults.items ≡ length task.readers.items)
+  few_or_all = elim settings.faults [
+    | inl none ↦ inl (none_long task.faults.items
+        (fault_sinks.as_many ∙ ap (λ (names : List (List ℕ)). length names) none))
+    | inr all ↦ inr (omega (arith, fault_sinks.as_many, all, many))
+  ]
+
   -- what a run begins with is a task for its threads
   pub task_is : (AreNew (cap_of given) left faults opened
       → AreNewReaders (cap_of given) left faults readers)
@@ -258,6 +275,8 @@ module _ {S K : Type 0} (left : S → Option (List ℕ)) (faults : S → ℕ)
         fresh = subst₂ (λ cap rs. AreNewReaders cap left faults rs) (sym of.limit_is)
             (sym {A = List (ReaderState (TwoSources S))} of.readers_are)
             (fresh (subst (AreNew (cap_of given) left faults) are ready_reads.asked_for.fresh));
+        faults = few_or_all;
+        new_faults = fault_sinks.new;
         few = omega (
           arith,
           ready_queries.asked_for.few,
@@ -289,7 +308,7 @@ module _ {S K : Type 0} (left : S → Option (List ℕ)) (faults : S → ℕ)
         );
         sound = subst (λ (js : List JoinValue). All (IsSound (length task.queries.items)) js)
             (sym {A = List JoinValue} joins_are) ready_queries.asked_for.sound;
-        limit = subst IsLimit (sym of.limit_is) (is_cap given settings);
+        limit = subst IsCap (sym of.limit_is) (is_cap given settings);
       }
 
   -- where a saved window is read first, there is one reader
@@ -305,6 +324,7 @@ module _ {S K : Type 0} (left : S → Option (List ℕ)) (faults : S → ℕ)
     has = ready_queries.has;
     contents = contents_left;
     behind = named behind_is;
+    faults = fault_sinks;
     asked = asked_in;
     beside = ready_queries.asked_for.ask_readers.contents
         ∙ ap (λ (rs : List (AskReader S K)). map (λ (one : AskReader S K). left one.reader.source) rs)

@@ -8,6 +8,7 @@ use Rattle.std.proofs.lemmas.Bool.Decides.{eqb_tells}
 use Rattle.std.proofs.lemmas.List.Elements.{All-head, All-tail}
 use Rattle.std.proofs.lemmas.List.Sums.{sum_by-cons}
 use Rattle.rpq_base.specs.declared.data.Entry.{Entry}
+use Rattle.stream_tuples.specs.declared.faults.FaultPolicy.{FaultPolicy}
 use Rattle.stream_tuples.specs.History.{IsNumberOf, own_tuples}
 use Rattle.rpq_run.specs.Done.{tuple_count}
 
@@ -85,13 +86,13 @@ all_counted count (entry ∷ later) all =
     omega (arith, rest, total_one 1 count entry later first.first (omega (arith, first.last)))
 
 -- no stream has more entries than its file has tuples, in a history that may have so many
-abbrev pub AreFew : ℕ → ℕ → List (Option (List ℕ)) → List Entry → Type 0
-AreFew cap number files history = (place : ℕ) (file : Option (List ℕ)) → slice_get files place ≡ Some file
-    → length (own_tuples (number + place) history) ≤ tuple_count cap file
+abbrev pub AreFew : FaultPolicy → ℕ → ℕ → List (Option (List ℕ)) → List Entry → Type 0
+AreFew policy cap number files history = (place : ℕ) (file : Option (List ℕ)) → slice_get files place ≡ Some file
+    → length (own_tuples (number + place) history) ≤ tuple_count policy cap file
 
-later_few : (cap number : ℕ) (file : Option (List ℕ)) (files : List (Option (List ℕ))) (history : List Entry)
-    → AreFew cap number (file ∷ files) history → AreFew cap (number + 1) files history
-later_few cap number file files history few place other is =
+later_few : (policy : FaultPolicy) (cap number : ℕ) (file : Option (List ℕ)) (files : List (Option (List ℕ))) (history : List Entry)
+    → AreFew policy cap number (file ∷ files) history → AreFew policy cap (number + 1) files history
+later_few policy cap number file files history few place other is =
     let same : number + (suc place) ≡ (number + 1) + place = omega arith in
     let at = few (suc place) other is in
     omega (arith, at, ap (λ n. length (own_tuples n history)) same)
@@ -103,42 +104,42 @@ zero_more : (n : ℕ) → n + 0 ≡ n
 zero_more n = omega arith
 
 -- so all together have no more
-pub few_in_all : (cap number : ℕ) (files : List (Option (List ℕ))) (history : List Entry)
-    → AreFew cap number files history → own_total number (length files) history ≤ sum (map (tuple_count cap) files)
-few_in_all cap number [] history few = omega arith
-few_in_all cap number (file ∷ files) history few =
+pub few_in_all : (policy : FaultPolicy) (cap number : ℕ) (files : List (Option (List ℕ))) (history : List Entry)
+    → AreFew policy cap number files history → own_total number (length files) history ≤ sum (map (tuple_count policy cap) files)
+few_in_all policy cap number [] history few = omega arith
+few_in_all policy cap number (file ∷ files) history few =
     let first = few 0 file refl in
     omega (
       arith,
       first,
       ap (λ n. length (own_tuples n history)) (zero_more number),
-      few_in_all cap (number + 1) files history (later_few cap number file files history few),
-      sum_front (tuple_count cap file) (map (tuple_count cap) files),
+      few_in_all policy cap (number + 1) files history (later_few policy cap number file files history few),
+      sum_front (tuple_count policy cap file) (map (tuple_count policy cap) files),
     )
 
 -- and fewer, where one has fewer
-pub fewer_in_all : (cap number : ℕ) (files : List (Option (List ℕ))) (history : List Entry) (place : ℕ)
-    (file : Option (List ℕ)) → AreFew cap number files history → slice_get files place ≡ Some file
-    → length (own_tuples (number + place) history) < tuple_count cap file
-    → own_total number (length files) history < sum (map (tuple_count cap) files)
-fewer_in_all cap number [] history place file few is fewer = absurd (cc is)
-fewer_in_all cap number (first ∷ files) history zero file few is fewer =
+pub fewer_in_all : (policy : FaultPolicy) (cap number : ℕ) (files : List (Option (List ℕ))) (history : List Entry) (place : ℕ)
+    (file : Option (List ℕ)) → AreFew policy cap number files history → slice_get files place ≡ Some file
+    → length (own_tuples (number + place) history) < tuple_count policy cap file
+    → own_total number (length files) history < sum (map (tuple_count policy cap) files)
+fewer_in_all policy cap number [] history place file few is fewer = absurd (cc is)
+fewer_in_all policy cap number (first ∷ files) history zero file few is fewer =
     let same : first ≡ file = cc is in
     omega (
       arith,
       fewer,
-      ap (tuple_count cap) same,
+      ap (tuple_count policy cap) same,
       ap (λ n. length (own_tuples n history)) (zero_more number),
-      few_in_all cap (number + 1) files history (later_few cap number first files history few),
-      sum_front (tuple_count cap first) (map (tuple_count cap) files),
+      few_in_all policy cap (number + 1) files history (later_few policy cap number first files history few),
+      sum_front (tuple_count policy cap first) (map (tuple_count policy cap) files),
     )
-fewer_in_all cap number (first ∷ files) history (suc place) file few is fewer =
+fewer_in_all policy cap number (first ∷ files) history (suc place) file few is fewer =
     let same : number + (suc place) ≡ (number + 1) + place = omega arith in
     omega (
       arith,
       few 0 first refl,
       ap (λ n. length (own_tuples n history)) (zero_more number),
-      fewer_in_all cap (number + 1) files history place file (later_few cap number first files history few) is
+      fewer_in_all policy cap (number + 1) files history place file (later_few policy cap number first files history few) is
           (omega (arith, fewer, ap (λ n. length (own_tuples n history)) same)),
-      sum_front (tuple_count cap first) (map (tuple_count cap) files),
+      sum_front (tuple_count policy cap first) (map (tuple_count policy cap) files),
     )

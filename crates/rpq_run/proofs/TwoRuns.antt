@@ -1,6 +1,6 @@
 -- A run that goes on from what an earlier one saved.
 use Rattle.std.proofs.Common.{◌≡◌, ℕ, ◌+◌, Bool, false, List, [], ◌∷◌, ◌++◌, length, map, Option, Some}
-use Rattle.std.proofs.Common.{refl, sym, ap, ap₂, subst, ◌∙◌, append-nil}
+use Rattle.std.proofs.Common.{refl, sym, ap, ap₂, subst, subst₂, ◌∙◌, append-nil}
 use Rattle.std.specs.Prelude.{All, option_map, slice_get, unwrap_or}
 use Rattle.std.proofs.lemmas.List.{map-append}
 use Rattle.text_parts.specs.Lines.{text_of}
@@ -10,6 +10,7 @@ use Rattle.rpq_model.specs.Query.{Query}
 use Rattle.tuple_text.specs.Parts.{LineByParts}
 use Rattle.stream_tuples.specs.declared.ends.StreamEnd.{StreamEnd}
 use Rattle.stream_tuples.specs.declared.ends.StreamEnd.TheVariants.{Whole}
+use Rattle.stream_tuples.specs.declared.faults.FaultPolicy.{FaultPolicy}
 use Rattle.stream_tuples.specs.History.{IsNumberOf, AreTuplesOfEnd, own_tuples}
 use Rattle.stream_tuples.specs.Limits.{byte_limit_of}
 use Rattle.stream_tuples.specs.StreamText.{tuples_with}
@@ -23,6 +24,7 @@ use Rattle.entry_steps.specs.Steps.{OptionsValue, StepValue, AreSteps, AreStepsF
 use Rattle.rpq_text.specs.Text.{IsText, blocks_from}
 use Rattle.rpq_words.specs.Views.{cap_of, from_of}
 use Rattle.run_start.specs.Files.{HasQueries, stream_contents}
+use Rattle.run_start.specs.Given.{policy_of}
 use Rattle.run_start.specs.Texts.{tuples_within}
 use Rattle.rpq_run.specs.Continued.{StreamRun, IsToldRun, GoesOn, StandsFor, WritesOn, Continues, no_paths, without_paths}
 use Rattle.rpq_run.specs.Headline.{Told, Headline, AreJoined, behind_text, options_told}
@@ -123,7 +125,7 @@ record IsOneStream {S K : Type 0} (means : Meanings S K) (run : StreamRun S K) (
   forwards : run.told.two_way ≡ false
   stream : List ℕ
   one : run.told.streams ≡ stream ∷ []
-  read : tuples_within run.told.limit (bytes ++ stream) ≡ tuples_with (own_tuples 1 run.outcome.history) Whole
+  read : tuples_within run.told.policy run.told.limit (bytes ++ stream) ≡ tuples_with (own_tuples 1 run.outcome.history) Whole
 
 is_one_stream : {S K : Type 0} (means : Meanings S K) (run : StreamRun S K) (bytes : List ℕ) → IsToldRun means run → run.outcome.status ≡ 0 →
     run.told.from ≡ Some bytes → IsOneStream means run bytes
@@ -142,19 +144,20 @@ is_one_stream means run bytes is done begins =
     map (λ (all : List ℕ). Some all) (behind_text (unwrap_or front []) texts)) begins told.1) in
     let runs = is.runs in
     let outcome = run.outcome in
-    let at = stream_at (left_of_both means.left) (faults_of_both means.faults) (cap_of run.given)
+    let at = stream_at (policy_of run.given) (left_of_both means.left) (faults_of_both means.faults) (cap_of run.given)
     (stream_contents run.given run.holds) (stream_sources outcome.from outcome.sources) outcome.history outcome.ends
     runs.history.each_stream 0 (Some text) file in
     let whole : at.end ≡ Whole = whole_end outcome.ends (ends_of outcome.readers) runs.failed 0 at.end
     (first_of_done outcome.ends (ends_of outcome.readers) runs.failed outcome.status runs.causes.status_is done)
     at.end_is in
     let tied = subst (λ (end : StreamEnd).
-    AreTuplesOfEnd (byte_limit_of (cap_of run.given)) text (left_of_both means.left at.source) (own_tuples 1 outcome.history) end) whole at.stream.tied in
+    AreTuplesOfEnd (policy_of run.given) (byte_limit_of (cap_of run.given)) text (left_of_both means.left at.source) (own_tuples 1 outcome.history) end) whole at.stream.tied in
     record {
       forwards = sym is.told.two_way ∙ resumed.forwards;
       stream = told.0;
       one = told.1;
-      read = subst (λ (cap : ℕ). tuples_within cap text ≡ tuples_with (own_tuples 1 outcome.history) Whole) is.told.limit tied.0;
+      read = subst₂ (λ (policy : FaultPolicy) (cap : ℕ). tuples_within policy cap text ≡ tuples_with (own_tuples 1 outcome.history) Whole)
+          is.told.policy is.told.limit tied.0;
     }
 
 -- ---- both runs
@@ -227,14 +230,14 @@ two_runs means first second laws is_first is_second two goes = record {
         stands_for queries first.outcome.history before
         (laws.continues queries (file_moves false first.told.queries queries has.has) first.outcome.history)
 
-    behind : IsReadBehind (byte_limit_of second.told.limit) kept read.stream (own_tuples 1 second.outcome.history)
+    behind : IsReadBehind second.told.policy (byte_limit_of second.told.limit) kept read.stream (own_tuples 1 second.outcome.history)
     behind =
-        read_behind laws.is_read laws.by_parts (byte_limit_of second.told.limit) goes.notes kept read.stream (own_tuples 1 second.outcome.history) goes.are_notes
+        read_behind second.told.policy laws.is_read laws.by_parts (byte_limit_of second.told.limit) goes.notes kept read.stream (own_tuples 1 second.outcome.history) goes.are_notes
         (saved_from_stream first.outcome.history queries has.from_stream)
-        (sym (ap (λ (text : List ℕ). tuples_within second.told.limit ((text_of goes.notes ++ text) ++ read.stream)) has.window_is) ∙ read.read)
+        (sym (ap (λ (text : List ℕ). tuples_within second.told.policy second.told.limit ((text_of goes.notes ++ text) ++ read.stream)) has.window_is) ∙ read.read)
 
     new : List Entry
-    new = first_stream (tuples_within second.told.limit read.stream).tuples
+    new = first_stream (tuples_within second.told.policy second.told.limit read.stream).tuples
 
     history : second.outcome.history ≡ before ++ new
     history =
@@ -242,7 +245,7 @@ two_runs means first second laws is_first is_second two goes = record {
         (subst (λ (texts : List (List ℕ)). All (λ (entry : Entry). IsNumberOf (length texts) entry.stream) second.outcome.history)
         read.one two.no_other)
         ∙ (ap first_stream behind.all_is
-        ∙ map-append first_entry kept (tuples_within second.told.limit read.stream).tuples)
+        ∙ map-append first_entry kept (tuples_within second.told.policy second.told.limit read.stream).tuples)
 
     is : IsSecond queries before new second.told
     is = record {

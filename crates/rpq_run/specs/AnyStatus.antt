@@ -9,12 +9,12 @@ use Rattle.rpq_model.specs.Query.{Query}
 use Rattle.rpq_text.specs.Statuses.{memory_status, write_status}
 use Rattle.rpq_text.specs.Text.{IsText}
 use Rattle.run_start.specs.Files.{HasQueries}
-use Rattle.run_start.specs.Texts.{tuples_within}
+use Rattle.run_start.specs.Texts.{reports_within, tuples_within}
 use Rattle.rpq_threads.specs.Runs.{AreSessionsOf, IsLiveOf, asks_answered}
 use Rattle.saved_window.specs.Saved.{saved}
 use Rattle.saved_window.specs.SavedText.{saved_text}
 use Rattle.stream_tuples.specs.declared.ends.StreamEnd.TheVariants.{Read}
-use Rattle.stream_tuples.specs.History.{IsNumberOf, IsPrefix, own_tuples}
+use Rattle.stream_tuples.specs.History.{IsNumberOf, IsPrefix, own_tuples, policy_of_sink}
 use Rattle.rpq_run.specs.Headline.{Told, AreAsked, AreJoined, options_told, stream_texts}
 use Rattle.rpq_run.specs.Outcome.{Meanings, Sinks, Outcome, ends_of}
 use Rattle.rpq_run.specs.Shortage.{Shortage, has_memory_end, has_short_reader, is_short}
@@ -33,13 +33,15 @@ pub record IsFrontOf (failed uncut : Type 0) (short : Bool) (text front : List �
 
 -- There are queries, joins and sessions, those of their files. The history has of each stream of
 -- which no read failed the first tuples, in order, and nothing else, and isn't longer than it may
--- be; all of it is in memory, unless the run goes on as long as its streams do. Behind what stood
--- on the sink of the events a front of its text was written. Each session has its first asks
--- answered, each by the answers at a position of the history that never falls within the session;
--- and a front of these replies was written, where they are to be. Each reader beside the run has
--- what it asked answered up to its end, at such positions, and its own sink has the text. Where a
--- window is to be saved, a front of that of the history was: nothing of it where a stream ended for
--- want of memory. All of this, but what the readers' own ends say, is whole unless the status is
+-- be; all of it is in memory, unless the run goes on as long as its streams do. Where faulty lines
+-- are told apart, each stream has a sink for them, and else none has; and of each stream of which
+-- no read failed a front of what is to be told stands there. Behind what stood on the sink of the
+-- events a front of the history's text was written. Each session has its first asks answered, each
+-- by the answers at a position of the history that never falls within the session; and a front of
+-- these replies was written, where they are to be. Each reader beside the run has what it asked
+-- answered up to its end, at such positions, and its own sink has the text. Where a window is to be
+-- saved, a front of that of the history was: nothing of it where a stream ended for want of memory.
+-- All of this, but what the streams' and the readers' own ends say, is whole unless the status is
 -- that of a failed write or of out of memory. The status is that of out of memory exactly where
 -- memory ran out for a stream, for the engine, for a session, for one of the texts, or for a
 -- reader; a failed write of the window isn't told so, unless memory ran out for a reader
@@ -53,10 +55,18 @@ pub record AnyStatus {S K : Type 0} (means : Meanings S K) (told : Told) (sinks 
   pub asked : AreAsked queries told.asks sessions
   pub in_order : (place : ℕ) (text : List ℕ) → slice_get (stream_texts told) place ≡ Some text
       → slice_get outcome.ends place ≢ Some Read
-      → IsPrefix (own_tuples (place + 1) outcome.history) (tuples_within told.limit text).tuples
+      → IsPrefix (own_tuples (place + 1) outcome.history)
+      (tuples_within told.policy told.limit text).tuples
   pub no_other : All (λ entry. IsNumberOf (length told.streams) entry.stream) outcome.history
   pub few : length outcome.history ≤ told.limit
   pub whole : told.endless ≡ false → outcome.base ≡ 0
+  pub as_many : length outcome.faults ≡ length told.streams
+  pub faults_there : All (λ sink. policy_of_sink sink ≡ told.policy) outcome.faults
+  pub reported : (place : ℕ) (text : List ℕ) (sink : K)
+      → slice_get (stream_texts told) place ≡ Some text
+      → slice_get outcome.ends place ≢ Some Read
+      → slice_get outcome.faults place ≡ Some (Some sink)
+      → IfSome (means.written sink) (λ bytes. IsPrefix bytes (reports_within told.limit text))
   pub short : Shortage
   pub memory : (outcome.status ≡ memory_status)
       ↔ (is_short outcome.ends (ends_of outcome.readers) short ≡ true)

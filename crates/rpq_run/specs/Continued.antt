@@ -130,11 +130,12 @@ pub record Continues {S K : Type 0} (means : Meanings S K) (first second : Strea
   pub accepted : HasQueries false first.told.queries queries
   pub stream : List ℕ
   pub one_stream : second.told.streams ≡ stream ∷ []
-  pub whole : (tuples_within second.told.limit stream).end ≡ Whole
+  pub whole : (tuples_within second.told.policy second.told.limit stream).end ≡ Whole
   pub before : List Entry
   pub before_is : before ≡ first_stream (saved queries first.outcome.history)
   pub new : List Entry
-  pub new_is : new ≡ first_stream (tuples_within second.told.limit stream).tuples
+  pub new_is : new ≡ first_stream
+      (tuples_within second.told.policy second.told.limit stream).tuples
   pub history : second.outcome.history ≡ before ++ new
   pub itself : StandsFor queries first.outcome.history first.outcome.history
   pub stands : (entries : List Entry) → StandsFor queries first.outcome.history entries

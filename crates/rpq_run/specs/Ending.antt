@@ -60,6 +60,7 @@ pub record KeepsParts {T O F S K V : Type 0} {W : V → Type 0} (threads : Threa
     (own : OwnSinks K) (report : Report F S K V W) : Type 0 where
   pub history : report.history ≡ threads.history
   pub ends : report.streams ≡ threads.ends
+  pub faults : report.faults ≡ threads.faults
   pub sessions : report.sessions ≡ threads.sessions
   pub readers : report.readers ≡ threads.readers
   pub replies : report.replies ≡ own.replies

@@ -18,8 +18,9 @@ use Rattle.tuple_text.specs.Written.{IsStreamTuple}
 use Rattle.rpq_run.specs.Done.{CanBeDone}
 use Rattle.rpq_run.specs.Headline.{Told, AreAsked, AreJoined, stream_texts}
 
--- the files that are read whole give queries, joins and sessions; no stream has a fault; all tuples
--- together are as many as the history may have, or fewer; and no reader's asks have too many bytes
+-- the files that are read whole give queries, joins and sessions; no stream has a fault that ends
+-- it; all tuples together are as many as the history may have, or fewer; and no reader's asks have
+-- too many bytes
 pub record AreFaultless (told : Told) : Type 0 where
   pub queries : List Query
   pub accepted : HasQueries told.two_way told.queries queries
@@ -27,9 +28,10 @@ pub record AreFaultless (told : Told) : Type 0 where
   pub joined : AreJoined queries told.joins joins
   pub sessions : List (List Ask)
   pub asked : AreAsked queries told.asks sessions
-  pub whole : All (λ text. (tuples_within told.limit text).end ≡ Whole) (stream_texts told)
-  pub few : sum (map (λ text. length (tuples_within told.limit text).tuples) (stream_texts told))
-      ≤ told.limit
+  pub whole : All (λ text. (tuples_within told.policy told.limit text).end ≡ Whole)
+      (stream_texts told)
+  pub few : sum (map (λ text. length (tuples_within told.policy told.limit text).tuples)
+      (stream_texts told)) ≤ told.limit
   pub few_asks : All (λ text. (asked_items queries text).end ≢ LongText) told.readers
 
 -- A worked value: `rpq --two-way q t` can be done, where the file `q` has the line of one query,

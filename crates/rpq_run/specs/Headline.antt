@@ -21,25 +21,29 @@ use Rattle.ask_text.specs.Replies.{replies}
 use Rattle.saved_window.specs.Saved.{saved}
 use Rattle.saved_window.specs.SavedText.{saved_text}
 use Rattle.standing.specs.Stood.{HaveStood}
-use Rattle.stream_tuples.specs.History.{IsNumberOf, own_tuples}
+use Rattle.stream_tuples.specs.declared.faults.FaultPolicy.{FaultPolicy}
+use Rattle.stream_tuples.specs.History.{IsNumberOf, own_tuples, policy_of_sink}
 use Rattle.entry_steps.specs.Steps.{OptionsValue, StepValue, AreSteps, events_of, lines_of}
 use Rattle.rpq_text.specs.Text.{blocks_from}
 use Rattle.run_start.specs.Files.{HasJoins, HasQueries, HasSessions}
-use Rattle.run_start.specs.Texts.{tuples_within}
+use Rattle.run_start.specs.Given.{policy_of}
+use Rattle.run_start.specs.Texts.{reports_within, tuples_within}
 use Rattle.rpq_threads.specs.Runs.{AreSessionsOf, asks_answered}
 use Rattle.rpq_run.specs.Beside.{IsServed, asks_held}
 use Rattle.rpq_run.specs.Outcome.{Meanings, Sinks, Objects, Outcome}
 
 -- whether edges are taken backwards, and whether paths are told; whether replies are to be written,
--- and whether a window is to be saved; whether the run goes on as long as its streams do, and how
--- many entries the history may have; the bytes of the queries file; of the joins file, of the asks
--- file and of the saved window with which the run begins, if there are such; of the streams' files
--- and of those by which readers ask; and those that stood on the events before
+-- and whether a window is to be saved; what becomes of faulty lines; whether the run goes on as
+-- long as its streams do, and how many entries the history may have; the bytes of the queries file;
+-- of the joins file, of the asks file and of the saved window with which the run begins, if there
+-- are such; of the streams' files and of those by which readers ask; and those that stood on the
+-- events before
 pub record Told : Type 0 where
   pub two_way : Bool
   pub paths : Bool
   pub replies : Bool
   pub save : Bool
+  pub policy : FaultPolicy
   pub endless : Bool
   pub limit : ℕ
   pub queries : List ℕ
@@ -66,6 +70,7 @@ pub record IsTold {S K : Type 0} (means : Meanings S K) (given : Settings)
   pub paths : (paths_of given) ≡ told.paths
   pub replies : is_some (replies_of given) ≡ told.replies
   pub save : is_some (save_of given) ≡ told.save
+  pub policy : policy_of given ≡ told.policy
   pub endless : is_endless given ≡ told.endless
   pub limit : cap_of given ≡ told.limit
   pub queries : holds given.queries ≡ Some told.queries
@@ -107,16 +112,18 @@ AreAsked queries file sessions =
 -- There are queries, joins and sessions, those of their files. There is one history, in which each
 -- stream's tuples stand once, in order, and nothing else, and which isn't longer than it may be,
 -- and of which all is in memory unless the run goes on as long as its streams do; where the run
--- begins with a saved window, that was read. The events that it brings were written behind what
--- stood on the sink, with each entry its own; and where paths are told, behind each event that
--- gains a pair a path that shows it. After each entry the pairs of a query emitted and not
--- retracted are exactly its answers over the entries so far, and over their inverses where edges
--- may be taken backwards. Where edges are taken forwards alone, the bindings of a join emitted and
--- not retracted are exactly those over the answers. Each session has exactly its asks answered,
--- each by the answers at a position of the history that never falls within the session; and these
--- replies were written, where they are to be. Each reader beside the run was served. Each object
--- that stayed heard all events that it wants, and one that left a front of them. Where a window is
--- to be saved, it was, and it is that of the history. On the errors nothing was written
+-- begins with a saved window, that was read. Where faulty lines are told apart, each stream has a
+-- sink for them, on which all of its own are told, in order; and else none has. The events that the
+-- history brings were written behind what stood on the sink, with each entry its own; and where
+-- paths are told, behind each event that gains a pair a path that shows it. After each entry the
+-- pairs of a query emitted and not retracted are exactly its answers over the entries so far, and
+-- over their inverses where edges may be taken backwards. Where edges are taken forwards alone, the
+-- bindings of a join emitted and not retracted are exactly those over the answers. Each session has
+-- exactly its asks answered, each by the answers at a position of the history that never falls
+-- within the session; and these replies were written, where they are to be. Each reader beside the
+-- run was served. Each object that stayed heard all events that it wants, and one that left a front
+-- of them. Where a window is to be saved, it was, and it is that of the history. On the errors
+-- nothing was written
 pub record Headline {S K : Type 0} (means : Meanings S K) (told : Told) (sinks : Sinks K)
     (objects : Objects) (outcome : Outcome S K) : Type 0 where
   pub queries : List Query
@@ -126,11 +133,18 @@ pub record Headline {S K : Type 0} (means : Meanings S K) (told : Told) (sinks :
   pub sessions : List (List Ask)
   pub asked : AreAsked queries told.asks sessions
   pub in_order : (place : ℕ) (text : List ℕ) → slice_get (stream_texts told) place ≡ Some text
-      → own_tuples (place + 1) outcome.history ≡ (tuples_within told.limit text).tuples
+      → own_tuples (place + 1) outcome.history
+      ≡ (tuples_within told.policy told.limit text).tuples
   pub no_other : All (λ entry. IsNumberOf (length told.streams) entry.stream) outcome.history
   pub few : length outcome.history ≤ told.limit
   pub whole : told.endless ≡ false → outcome.base ≡ 0
   pub from_there : is_some outcome.from ≡ is_some told.from
+  pub as_many : length outcome.faults ≡ length told.streams
+  pub faults_there : All (λ sink. policy_of_sink sink ≡ told.policy) outcome.faults
+  pub reported : (place : ℕ) (text : List ℕ) (sink : K)
+      → slice_get (stream_texts told) place ≡ Some text
+      → slice_get outcome.faults place ≡ Some (Some sink)
+      → IfSome (means.written sink) (λ bytes. bytes ≡ reports_within told.limit text)
   pub steps : List StepValue
   pub are_steps : AreSteps (options_told told joins) queries outcome.history steps
   pub written : means.written sinks.events_new

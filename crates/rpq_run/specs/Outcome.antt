@@ -45,6 +45,7 @@ pub record Outcome (S K : Type 0) : Type 0 where
   pub base : ℕ
   pub ends : List StreamEnd
   pub sources : List S
+  pub faults : List (Option K)
   pub from : Option S
   pub sessions : List (List AnsweredValue)
   pub readers : List (ReaderOutcome S K)
@@ -91,6 +92,7 @@ outcome report = record {
   base = report.history.base;
   ends = report.streams.items;
   sources = report.sources.items;
+  faults = report.faults.items;
   from = report.from;
   sessions = map (λ (own : Vec AnsweredValue). own.items) report.sessions.items;
   readers = report.readers.items;

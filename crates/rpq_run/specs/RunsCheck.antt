@@ -9,11 +9,12 @@ use Rattle.rpq_run.specs.Outcome.{Meanings, Sinks, Objects, Outcome}
 use Rattle.rpq_run.specs.Shortage.{no_shortage}
 use Rattle.rpq_run.specs.Written.{WritesWhere}
 
--- nothing was taken of a stream, and nothing answered
+-- nothing was taken of a stream and nothing told of one, and nothing answered
 pub record TakesNothing {S K : Type 0} (outcome : Outcome S K) : Type 0 where
   pub no_history : outcome.history ≡ []
   pub none_gone : outcome.base ≡ 0
   pub no_stream : outcome.ends ≡ []
+  pub no_faults : outcome.faults ≡ []
   pub no_session : outcome.sessions ≡ []
   pub no_reader : outcome.readers ≡ []
   pub no_replies : outcome.replies ≡ None

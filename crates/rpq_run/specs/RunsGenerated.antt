@@ -47,14 +47,15 @@ pub record WritesSummary {S K : Type 0} (means : Meanings S K) (two_way : Bool)
       → means.written sinks.events_new ≡ means.written sinks.events_old
 
 -- the run over so many generated tuples, of which the history takes as many as its limit lets it,
--- with the queries of this file: no stream is opened, nobody asks, and no reply is written and no
--- window saved; the objects were told of the events of the history, of all of them unless memory
--- ran out
+-- with the queries of this file: no stream is opened and no faulty line told, nobody asks, and no
+-- reply is written and no window saved; the objects were told of the events of the history, of all
+-- of them unless memory ran out
 pub record RunsGenerated {S K : Type 0} (means : Meanings S K) (two_way : Bool) (limit count : ℕ)
     (file : Option (List ℕ)) (sinks : Sinks K) (objects : Objects)
     (outcome : Outcome S K) : Type 0 where
   pub understood : IsQueriesFile two_way file
   pub no_source : outcome.sources ≡ []
+  pub no_faults : outcome.faults ≡ []
   pub no_session : outcome.sessions ≡ []
   pub no_reader : outcome.readers ≡ []
   pub no_replies : outcome.replies ≡ None

@@ -24,11 +24,13 @@ use Rattle.saved_window.specs.SavedText.{saved_text}
 use Rattle.saved_window.specs.Then.{left_of_both, faults_of_both}
 use Rattle.stream_tuples.specs.declared.ends.StreamEnd.{StreamEnd}
 use Rattle.stream_tuples.specs.History.{IsNumberOf, IsPrefix, IsProperPrefix, AreStreamsOf}
+use Rattle.stream_tuples.specs.History.{AreReportedOf}
 use Rattle.rpq_text.specs.declared.ends.SinkName.{SinkName}
 use Rattle.rpq_text.specs.declared.ends.SinkName.TheVariants.{Events, Replies, Save}
 use Rattle.rpq_text.specs.Text.{IsText}
 use Rattle.run_start.specs.Files.{ForQueries, ForJoined, ForAsked, AreUnderstoodFiles}
 use Rattle.run_start.specs.Files.{stream_contents}
+use Rattle.run_start.specs.Given.{policy_of}
 use Rattle.rpq_threads.specs.Runs.{AreSessionsOf}
 use Rattle.rpq_threads.specs.Told.{TellsObjects}
 use Rattle.rpq_run.specs.Beside.{AnswersReaders}
@@ -40,18 +42,27 @@ use Rattle.rpq_run.specs.Sources.{stream_sources}
 use Rattle.rpq_run.specs.Written.{WritesWhere}
 
 -- one history: each stream's tuples stand in it, in order, up to the stream's end, and nothing else
--- does; it isn't longer than the settings let it be, and unless they let it go on as long as the
+-- does. A faulty line ends its stream, or is passed over where the settings name files for them.
+-- The history isn't longer than the settings let it be, and unless they let it go on as long as the
 -- streams do, no entry has left the memory. The tuples of a saved window, where one is named, come
 -- first in the first stream
 pub record HoldsStreams {S K : Type 0} (means : Meanings S K) (given : Settings)
     (holds : List ℕ → Option (List ℕ)) (outcome : Outcome S K) : Type 0 where
   pub from : is_some outcome.from ≡ is_some (from_of given)
-  pub each_stream : AreStreamsOf (left_of_both means.left) (faults_of_both means.faults)
-      (cap_of given) (stream_contents given holds)
+  pub each_stream : AreStreamsOf (policy_of given) (left_of_both means.left)
+      (faults_of_both means.faults) (cap_of given) (stream_contents given holds)
       (stream_sources outcome.from outcome.sources) outcome.history outcome.ends
   pub no_other : All (λ entry. IsNumberOf (length (streams_of given)) entry.stream) outcome.history
   pub few : length outcome.history ≤ cap_of given
   pub whole : is_endless given ≡ false → outcome.base ≡ 0
+
+-- the faulty lines: where the settings name files for them, each stream has a sink, on which those
+-- of its own text were told in order, as far as the stream was taken; else there is no such sink
+pub record WritesFaults {S K : Type 0} (means : Meanings S K) (given : Settings)
+    (holds : List ℕ → Option (List ℕ)) (outcome : Outcome S K) : Type 0 where
+  pub each_stream : AreReportedOf (policy_of given) (left_of_both means.left) means.written
+      means.failures (cap_of given) (stream_contents given holds)
+      (stream_sources outcome.from outcome.sources) outcome.faults outcome.history outcome.ends
 
 -- going through the events of the first blocks of the history's text leaves exactly each query's
 -- answers over as many entries, and over their inverses where edges may be taken backwards
@@ -167,6 +178,7 @@ pub record RunsStreams {S K : Type 0} (means : Meanings S K) (given : Settings)
   pub failed : List SinkName
   pub short : Shortage
   pub history : HoldsStreams means given holds outcome
+  pub faults : WritesFaults means given holds outcome
   pub events : WritesEvents means given holds failed short sinks outcome
   pub replies : AnswersSessions means given holds failed short outcome
   pub readers : AnswersReaders means given holds failed replies.last outcome

@@ -48,6 +48,7 @@ pub fn run_check<F: Files>(
         history: KeptList::new(alloc),
         streams: Vec::new(alloc),
         sources: Vec::new(alloc),
+        faults: Vec::new(alloc),
         from: None,
         sessions: Vec::new(alloc),
         readers: Vec::new(alloc),

@@ -67,6 +67,7 @@ pub fn run_generated<R: Threads + RandomSource + Sync, G: Gate, F: Files>(
         history: KeptList::of(history),
         streams: ends,
         sources: Vec::new(alloc),
+        faults: Vec::new(alloc),
         from: None,
         sessions: Vec::new(alloc),
         readers: Vec::new(alloc),

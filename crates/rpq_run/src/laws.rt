@@ -25,9 +25,9 @@ use saved_window::saved_text_is_read;
 /// pairs emitted and not retracted are the answers, and the bindings emitted and not retracted are
 /// those over the answers; each object that stayed heard all events that it wants; each session is
 /// told the answers at positions that never fall, and so is each reader beside the run, up to the
-/// end of what its file asks; the window that is saved is that of the history;
-/// nothing is written on the errors; and unless the run goes on as long as its streams do, the
-/// whole history is in memory.
+/// end of what its file asks; the window that is saved is that of the history; where faulty lines
+/// are told apart, all of each stream are told on its own sink; nothing is written on the errors;
+/// and unless the run goes on as long as its streams do, the whole history is in memory.
 pub fn headline<F: Files>()
     ensures { (given : Settings) (holds : List ℕ → Option (List ℕ)) (sinks : Sinks F.Sink)
         (objects : Objects) (outcome : Outcome F.Source F.Sink) (told : Told)
@@ -48,7 +48,8 @@ pub fn headline<F: Files>()
 /// their bytes: what is written is a front of what [`headline`] says, and all of it unless the
 /// status is that of a failed write or of out of memory. Where a stream ended for want of memory no
 /// window is saved, and a failed write of the window isn't told as want of memory, unless memory
-/// ran out for a reader.
+/// ran out for a reader. What is told of the faulty lines of a stream is a front of what there is
+/// to tell, unless a read of the stream failed.
 pub fn any_status<F: Files>()
     ensures { (given : Settings) (holds : List ℕ → Option (List ℕ)) (sinks : Sinks F.Sink)
         (objects : Objects) (outcome : Outcome F.Source F.Sink) (told : Told)
@@ -64,8 +65,8 @@ pub fn any_status<F: Files>()
 }
 
 /// A run over streams, where the files and the sink of the events tell their bytes: if no file has
-/// a fault, the history may have all tuples, nothing fails, and memory doesn't run out, then all is
-/// done, as [`headline`] says it.
+/// a fault but lines that are told apart, the history may have all tuples, nothing fails, and
+/// memory doesn't run out, then all is done, as [`headline`] says it.
 pub fn faultless_is_done<F: Files>()
     ensures { (given : Settings) (holds : List ℕ → Option (List ℕ)) (sinks : Sinks F.Sink)
         (objects : Objects) (outcome : Outcome F.Source F.Sink) (told : Told)

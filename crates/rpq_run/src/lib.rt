@@ -13,6 +13,9 @@
 //! and the changes of their bindings are written at the end of each block. [`headline`] says the
 //! same of a run over streams that is done, in one piece, and [`any_status`] of one that ends with
 //! any status.
+//!
+//! A faulty line ends its stream, or it is told on a sink of its stream and passed over, where the
+//! words say so.
 #![tactic(auto)]
 
 mod check;
@@ -46,5 +49,5 @@ pub use rpq_text::{
     SinkName, StartFault, Which, every_history_has_a_text, line_examples, one_verdict_text, status,
     without_paths_one_text,
 };
-pub use stream_tuples::{StreamEnd, stream_by_parts};
+pub use stream_tuples::{StreamEnd, faultless_is_alike, stream_by_parts, told_by_lines};
 pub use top::run;

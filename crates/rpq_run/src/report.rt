@@ -17,9 +17,9 @@ use stream_tuples::StreamEnd;
 /// | 1 | the words have no settings |
 /// | 2 | the queries file has a fault |
 /// | 3 | the asks file has a fault |
-/// | 4 | a line of a stream is faulty or too long |
+/// | 4 | a line of a stream is faulty or too long, and isn't told apart |
 /// | 5 | a file to be read couldn't be opened or read; of a reader's asks, the opening alone |
-/// | 6 | a write of the events, the replies or the saved window failed, or a file to be written couldn't be opened |
+/// | 6 | a write of the events, the replies, the saved window or a stream's faulty lines failed, or a file to be written couldn't be opened |
 /// | 7 | the history is full, or a file other than a reader's asks has too many bytes |
 /// | 8 | memory ran out |
 /// | 9 | the asks of a reader couldn't be read to their end, or its replies not be written |
@@ -41,6 +41,10 @@ pub struct Report<F: Files> {
     /// The source of each stream, as the run leaves it; where a read of the queries file, the joins
     /// file or the asks file failed, that file's source.
     pub sources: Vec<F::Source>,
+    /// The sink of each stream's faulty lines, in the order of the streams and as the run leaves
+    /// it, where they are told apart; else none for each stream. Where the run didn't begin, is a
+    /// check or generates tuples, this is empty.
+    pub faults: Vec<Option<F::Sink>>,
     /// The source of the saved window with which the run began, if there is one, as the run leaves
     /// it.
     pub from: Option<F::Source>,

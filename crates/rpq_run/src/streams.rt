@@ -52,9 +52,10 @@ use std::random::RandomSource;
 use std::sync::Wait;
 use std::thread::Threads;
 
-/// The run over streams: takes their tuples, tells the objects of the events, and answers the
-/// sessions and the readers; writes the replies and then the saved window, and tells what went
-/// wrong. The only error is [`Memory`], before anything is written or told.
+/// The run over streams: takes their tuples, tells their faulty lines where there are sinks for
+/// them, tells the objects of the events, and answers the sessions and the readers; writes the
+/// replies and then the saved window, and tells what went wrong. The only error is [`Memory`],
+/// before anything is written or told.
 ///
 /// Where edges may be taken backwards, an entry's events are the difference that it and its inverse
 /// bring together, and nothing is asked. Where there are joins, the changes of their bindings stand
@@ -183,6 +184,7 @@ fn end_run<F: Files, P: Prefix>(
         window: _window,
         ends,
         sources,
+        faults,
         sessions,
         readers,
         why,
@@ -204,6 +206,7 @@ fn end_run<F: Files, P: Prefix>(
         history,
         streams: ends,
         sources,
+        faults,
         from,
         sessions,
         readers,

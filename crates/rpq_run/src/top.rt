@@ -75,6 +75,11 @@ use std::thread::Threads;
 /// reads the lines of its asks, and answers each on its replies before it reads the next one. The
 /// run ends where all streams and all readers have ended.
 ///
+/// With `--faults FILE`, once for each stream, a faulty line doesn't end its stream. The stream's
+/// thread writes it at once on the file of its stream, with its number and what is wrong, and goes
+/// on with the next line. A line that is too long is passed over up to its end, and its first bytes
+/// are told. Nothing of this is on `errors`, and the status isn't changed by it.
+///
 /// The objects that stayed are in `standing` afterwards, in their order, and those that left in the
 /// report.
 pub fn run<R: Threads + Wait + RandomSource + Sync, F: Files, G: Gate>(
@@ -177,6 +182,7 @@ fn run_begun<R: Threads + Wait + RandomSource + Sync, G: Gate, F: Files>(
         Work::Read(reads) => {
             let StreamsPlan {
                 readers,
+                faults,
                 joins,
                 sessions,
                 ask_readers,
@@ -184,11 +190,27 @@ fn run_begun<R: Threads + Wait + RandomSource + Sync, G: Gate, F: Files>(
             } = reads;
             match readers {
                 Readers::Alone(readers) => {
-                    let task = task_of(chosen, queries, joins, readers, sessions, ask_readers);
+                    let task = task_of(
+                        chosen,
+                        queries,
+                        joins,
+                        readers,
+                        faults,
+                        sessions,
+                        ask_readers,
+                    );
                     run_streams(context, task, sinks, standing, events, errors)
                 }
                 Readers::Behind(readers) => {
-                    let task = task_of(chosen, queries, joins, readers, sessions, ask_readers);
+                    let task = task_of(
+                        chosen,
+                        queries,
+                        joins,
+                        readers,
+                        faults,
+                        sessions,
+                        ask_readers,
+                    );
                     run_streams(context, task, sinks, standing, events, errors)
                 }
             }
@@ -216,17 +238,19 @@ fn generation_of(
 }
 
 /// What the threads of a run with these settings are given: its queries, the joins over them, the
-/// readers of its streams, what is asked, and the readers that ask beside it.
+/// readers of its streams, the sinks of their faulty lines, what is asked, and the readers that ask
+/// beside it.
 fn task_of<S: Source, A: Source, K: Sink>(
     chosen: &Settings,
     queries: Vec<Compiled>,
     joins: Arc<Vec<JoinDef>>,
     readers: Vec<LineReader<S>>,
+    faults: Vec<K>,
     sessions: Vec<Session>,
     ask_readers: Vec<AskReader<A, K>>,
 ) -> Task<S, A, K>
-    ensures { IsTaskOf chosen.now queries.items joins.value.items readers.items sessions.items
-        ask_readers.items result }
+    ensures { IsTaskOf chosen.now queries.items joins.value.items readers.items faults.items
+        sessions.items ask_readers.items result }
 {
     let options = Options {
         two_way: chosen.is_two_way(),
@@ -239,6 +263,7 @@ fn task_of<S: Source, A: Source, K: Sink>(
         workers: chosen.workers,
         limit: chosen.history_cap(),
         readers,
+        faults,
         sessions,
         ask_readers,
     }
@@ -254,7 +279,7 @@ fn report_of_refusal<F: Files>(
     ensures start { result.start ≡ Some fault }
     ensures status { result.status ≡ status_of_start fault }
     ensures history { (result.history.items ≡ []) × (result.history.base ≡ 0) }
-    ensures streams { result.streams.items ≡ [] }
+    ensures streams { (result.streams.items ≡ []) × (result.faults.items ≡ []) }
     ensures sources { result.sources.items ≡ sources.items }
     ensures asked { (result.sessions.items ≡ []) × (result.readers.items ≡ []) }
     ensures own { (result.from ≡ None) × (result.replies ≡ None) × (result.save ≡ None) }
@@ -270,6 +295,7 @@ fn report_of_refusal<F: Files>(
         history: KeptList::new(alloc),
         streams: Vec::new(alloc),
         sources,
+        faults: Vec::new(alloc),
         from: None,
         sessions: Vec::new(alloc),
         readers: Vec::new(alloc),

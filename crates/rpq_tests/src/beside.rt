@@ -2,12 +2,12 @@
 //! whose replies nobody takes holds up nobody but the end of the run.
 
 use crate::memory::words_of;
+use crate::watched::{WatchedSource, has_come};
 use rpq_io::{Files, HostSink, HostSource, OpenFault, OpenGate};
 use rpq_run::{ReaderEnd, ReaderOutcome, Report, run};
 use std::alloc::Global;
-use std::hint::spin_loop;
 use std::io;
-use std::io::{ErrorKind, Read, Write};
+use std::io::Write;
 use std::process::Abort;
 use std::random::RandomSource;
 use std::sync::Wait;
@@ -15,47 +15,8 @@ use std::sync::atomic::AtomicU64;
 use std::sync::atomic::Ordering::SeqCst;
 use std::thread::Threads;
 
-/// For how many turns one waits for another.
-const TURNS: u32 = 10_000_000;
-
 /// The queries file.
 const QUERIES: &str = "query q window 100 slide 10 arbitrary: a/b\n";
-
-/// Whether the count comes to one within so many turns.
-fn has_come(count: &AtomicU64) -> bool {
-    for _ in 0..TURNS {
-        if count.load(SeqCst) >= 1 {
-            return true;
-        }
-        spin_loop();
-    }
-    false
-}
-
-/// Gives one text and then another, and the second only once the first reader is being answered.
-#[derive(Drop)]
-struct WatchedSource<'a> {
-    first: &'a str,
-    second: &'a str,
-    answers: &'a AtomicU64,
-    calls: u8,
-}
-
-impl<'a> Read for WatchedSource<'a> {
-    fn read(&mut self, buf: &mut [u8]) -> io::Result<usize> {
-        self.calls = self.calls.saturating_add(1);
-        let text = match self.calls {
-            1 => self.first,
-            2 if self.second.is_empty() => "",
-            2 if has_come(self.answers) => self.second,
-            2 => return Err(io::Error::from(ErrorKind::Other)),
-            _ => "",
-        };
-        let count = text.len().min(buf.len());
-        buf[..count].copy_from_slice(&text.as_bytes()[..count]);
-        Ok(count)
-    }
-}
 
 /// Takes whatever is written on it, and counts the writes; but it holds each of them until another
 /// count comes to one, if there is one for which it waits.
@@ -150,7 +111,7 @@ impl<'a> Files for WatchedFiles<'a> {
         Ok(HostSource::new(WatchedSource {
             first,
             second,
-            answers: self.first,
+            awaited: self.first,
             calls: 0,
         }))
     }

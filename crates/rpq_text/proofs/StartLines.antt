@@ -2,7 +2,8 @@
 use Rattle.std.proofs.Common.{◌≡◌, ◌≢◌, ℕ, List, ◌++◌, refl, sym, ap, ◌∙◌, append_assoc}
 use Rattle.std.specs.Prelude.{codes, decimal}
 use Rattle.rpq_text.specs.declared.ends.Which.TheVariants.{Queries, Joins, Asks, From, Stream}
-use Rattle.rpq_text.specs.declared.ends.Which.TheVariants.{Replies, Save, AsksOf, RepliesOf}
+use Rattle.rpq_text.specs.declared.ends.Which.TheVariants.{Replies, Save, FaultsOf, AsksOf}
+use Rattle.rpq_text.specs.declared.ends.Which.TheVariants.{RepliesOf}
 use Rattle.rpq_text.specs.declared.ends.StartFault.{StartFault}
 use Rattle.rpq_text.specs.declared.ends.StartFault.TheVariants.{Words, Queries as QueriesFault}
 use Rattle.rpq_text.specs.declared.ends.StartFault.TheVariants.{Joins as JoinsFaulty}
@@ -34,6 +35,7 @@ tells (Open From) other = refl
 tells (Open (Stream number)) other = refl
 tells (Open Replies) other = refl
 tells (Open Save) other = refl
+tells (Open (FaultsOf number)) other = refl
 tells (Open (AsksOf number)) other = refl
 tells (Open (RepliesOf number)) other = refl
 tells (Read which) other = refl

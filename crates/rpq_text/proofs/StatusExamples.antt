@@ -18,6 +18,7 @@ start_statuses = record {
   no_stream = λ number. refl;
   no_replies = refl;
   no_save = refl;
+  no_faults_of = λ number. refl;
   no_asks_of = λ number. refl;
   no_replies_of = λ number. refl;
   unread = λ which. refl;
@@ -31,6 +32,7 @@ end_statuses = record {
   faulty = λ number fault. refl;
   long_line = λ number. refl;
   unread = refl;
+  untold = refl;
   long = refl;
   full = refl;
   memory = refl;
@@ -56,6 +58,7 @@ pub status_order : StatusOrder
 status_order = record {
   memory = refl;
   write = refl;
+  faults = refl;
   limit = refl;
   read = refl;
   line = refl;
@@ -73,6 +76,7 @@ start_lines = record {
   unread_asks = refl;
   long = refl;
   long_asks = refl;
+  no_faults_of = refl;
   no_asks_of = refl;
   no_replies_of = refl;
   memory = refl;
@@ -86,6 +90,7 @@ end_lines = record {
   long_line = refl;
   long = refl;
   unread = refl;
+  untold = refl;
   full = refl;
   shut = refl;
   memory = refl;
@@ -105,4 +110,4 @@ reader_lines = record {
 
 pub lines_in_order : LinesInOrder
 unfolding line_text end_line reader_line memory_line run_lines digits
-lines_in_order = record { all = refl; others = refl }
+lines_in_order = record { all = refl; others = refl; untold = refl }

@@ -9,12 +9,13 @@ use Rattle.rpq_words.specs.Usage.{usage}
 use Rattle.stream_tuples.specs.declared.ends.StreamEnd.{StreamEnd}
 use Rattle.stream_tuples.specs.declared.ends.StreamEnd.TheVariants.{Whole, Line, LongLine}
 use Rattle.stream_tuples.specs.declared.ends.StreamEnd.TheVariants.{LongStream, Read, Full, Closed}
-use Rattle.stream_tuples.specs.declared.ends.StreamEnd.TheVariants.{Memory}
+use Rattle.stream_tuples.specs.declared.ends.StreamEnd.TheVariants.{Faults, Memory}
 use Rattle.rpq_text.specs.declared.ends.Which.{Which}
 use Rattle.rpq_text.specs.declared.ends.Which.TheVariants.{Queries, Joins, Asks, From, Stream}
 use Rattle.live_asks.specs.declared.ends.ReaderEnd.{ReaderEnd}
 use Rattle.live_asks.specs.declared.ends.ReaderEnd.TheVariants as reader
-use Rattle.rpq_text.specs.declared.ends.Which.TheVariants.{Replies, Save, AsksOf, RepliesOf}
+use Rattle.rpq_text.specs.declared.ends.Which.TheVariants.{Replies, Save, FaultsOf, AsksOf}
+use Rattle.rpq_text.specs.declared.ends.Which.TheVariants.{RepliesOf}
 use Rattle.rpq_text.specs.declared.ends.SinkName.{SinkName}
 use Rattle.rpq_text.specs.declared.ends.SinkName.TheVariants.{Events, Replies as RepliesSink}
 use Rattle.rpq_text.specs.declared.ends.SinkName.TheVariants.{Save as SaveSink}
@@ -35,6 +36,7 @@ file_text From = codes "from"
 file_text (Stream number) = codes "stream " ++ decimal number
 file_text Replies = codes "replies"
 file_text Save = codes "save"
+file_text (FaultsOf number) = codes "faults " ++ decimal number
 file_text (AsksOf number) = codes "reader " ++ decimal number
 file_text (RepliesOf number) = codes "reader " ++ decimal number
 
@@ -67,8 +69,8 @@ write_line SaveSink = codes "rpq: write failed: save\n"
 abbrev pub unwritten_line : Which → List ℕ
 unwritten_line which = codes "rpq: write failed: " ++ file_text which ++ codes "\n"
 
--- the line of a file that couldn't be opened: the replies, the saved window and the replies of a
--- reader were to be written, and the others to be read
+-- the line of a file that couldn't be opened: the replies, the saved window, the faulty lines of a
+-- stream and the replies of a reader were to be written, and the others to be read
 abbrev pub opening_line : Which → List ℕ
 opening_line Queries = read_line Queries
 opening_line Joins = read_line Joins
@@ -77,6 +79,7 @@ opening_line From = read_line From
 opening_line (Stream number) = read_line (Stream number)
 opening_line Replies = write_line RepliesSink
 opening_line Save = write_line SaveSink
+opening_line (FaultsOf number) = unwritten_line (FaultsOf number)
 opening_line (AsksOf number) = read_line (AsksOf number)
 opening_line (RepliesOf number) = unwritten_line (RepliesOf number)
 
@@ -106,6 +109,7 @@ end_line stream (Line line fault) = line_text stream line (fault_text fault)
 end_line stream (LongLine line) = line_text stream line (codes "too long")
 end_line stream LongStream = codes "rpq: " ++ file_text (Stream stream) ++ codes ": too long\n"
 end_line stream Read = read_line (Stream stream)
+end_line stream Faults = unwritten_line (FaultsOf stream)
 end_line stream Full = codes "rpq: " ++ file_text (Stream stream) ++ codes ": history full\n"
 end_line stream (Closed why) = []
 end_line stream Memory = []

@@ -85,7 +85,7 @@ pub record LineExamples : Type 0 where
   pub words : start_line Words ≡ codes "rpq: words\nusage: rpq [--workers N] [--history N] "
       ++ codes "[--asks FILE --replies FILE] [--check] [--generate N] "
       ++ codes "[--two-way] [--paths] [--joins FILE] [--save FILE] [--from FILE] [--endless] "
-      ++ codes "[--reader ASKS REPLIES]... QUERIES [STREAM...]\n"
+      ++ codes "[--reader ASKS REPLIES]... [--faults FILE]... QUERIES [STREAM...]\n"
   pub twice : start_line (JoinsFaulty (record { line = 2; kind = Twice (codes "j") }))
       ≡ codes "rpq: joins line 2: name twice\n"
   pub joins : start_line (Open Joins) ≡ codes "rpq: read failed: joins\n"

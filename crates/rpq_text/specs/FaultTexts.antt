@@ -6,7 +6,8 @@ use Rattle.join_file.specs.FaultTexts.{joins_fault_text}
 use Rattle.rpq_words.specs.Usage.{usage}
 use Rattle.rpq_text.specs.declared.ends.Which.{Which}
 use Rattle.rpq_text.specs.declared.ends.Which.TheVariants.{Queries, Joins, Asks, From, Stream}
-use Rattle.rpq_text.specs.declared.ends.Which.TheVariants.{Replies, Save, AsksOf, RepliesOf}
+use Rattle.rpq_text.specs.declared.ends.Which.TheVariants.{Replies, Save, FaultsOf, AsksOf}
+use Rattle.rpq_text.specs.declared.ends.Which.TheVariants.{RepliesOf}
 use Rattle.rpq_text.specs.declared.ends.StartFault.{StartFault}
 use Rattle.rpq_text.specs.declared.ends.StartFault.TheVariants.{Words, Queries as QueriesFault}
 use Rattle.rpq_text.specs.declared.ends.StartFault.TheVariants.{Joins as JoinsFaulty}
@@ -22,8 +23,8 @@ read_text which = codes "read failed: " ++ file_text which
 abbrev pub write_text : Which → List ℕ
 write_text which = codes "write failed: " ++ file_text which
 
--- a failed opening of a file: the replies, the saved window and the replies of a reader were to be
--- written, and the others to be read
+-- a failed opening of a file: the replies, the saved window, the faulty lines of a stream and the
+-- replies of a reader were to be written, and the others to be read
 abbrev pub opening_text : Which → List ℕ
 opening_text Queries = read_text Queries
 opening_text Joins = read_text Joins
@@ -32,6 +33,7 @@ opening_text From = read_text From
 opening_text (Stream number) = read_text (Stream number)
 opening_text Replies = write_text Replies
 opening_text Save = write_text Save
+opening_text (FaultsOf number) = write_text (FaultsOf number)
 opening_text (AsksOf number) = read_text (AsksOf number)
 opening_text (RepliesOf number) = write_text (RepliesOf number)
 

@@ -10,7 +10,7 @@ use Rattle.tuple_text.specs.declared.read.BadLine.{BadLine}
 use Rattle.tuple_text.specs.declared.read.BadLine.TheVariants.{Time}
 use Rattle.stream_tuples.specs.declared.ends.StreamEnd.TheVariants.{Whole, Line, LongLine}
 use Rattle.stream_tuples.specs.declared.ends.StreamEnd.TheVariants.{LongStream, Read, Full, Closed}
-use Rattle.stream_tuples.specs.declared.ends.StreamEnd.TheVariants.{Memory}
+use Rattle.stream_tuples.specs.declared.ends.StreamEnd.TheVariants.{Faults, Memory}
 use Rattle.live_asks.specs.declared.ends.ReaderEnd.TheVariants as reader
 use Rattle.rpq_text.specs.declared.ends.Which.{Which}
 use Rattle.rpq_text.specs.declared.ends.Which.TheVariants as file
@@ -34,6 +34,7 @@ pub record StartStatuses : Type 0 where
   pub no_stream : (number : ℕ) → status_of_start (start.Open (file.Stream number)) ≡ 5
   pub no_replies : status_of_start (start.Open file.Replies) ≡ 6
   pub no_save : status_of_start (start.Open file.Save) ≡ 6
+  pub no_faults_of : (number : ℕ) → status_of_start (start.Open (file.FaultsOf number)) ≡ 6
   pub no_asks_of : (number : ℕ) → status_of_start (start.Open (file.AsksOf number)) ≡ 5
   pub no_replies_of : (number : ℕ) → status_of_start (start.Open (file.RepliesOf number)) ≡ 6
   pub unread : (which : Which) → status_of_start (start.Read which) ≡ 5
@@ -41,12 +42,14 @@ pub record StartStatuses : Type 0 where
   pub memory : status_of_start start.Memory ≡ 8
 
 -- the statuses of runs that began, of which one thing alone is to be told: all streams were read to
--- their ends; an end of a stream; and a write that failed
+-- their ends; an end of a stream, as that its faulty lines couldn't be written; and a write that
+-- failed
 pub record EndStatuses : Type 0 where
   pub whole : first_status (Whole ∷ Whole ∷ []) [] [] ≡ 0
   pub faulty : (number : ℕ) (fault : BadLine) → first_status (Line number fault ∷ []) [] [] ≡ 4
   pub long_line : (number : ℕ) → first_status (LongLine number ∷ []) [] [] ≡ 4
   pub unread : first_status (Read ∷ []) [] [] ≡ 5
+  pub untold : first_status (Faults ∷ []) [] [] ≡ 6
   pub long : first_status (LongStream ∷ []) [] [] ≡ 7
   pub full : first_status (Full ∷ []) [] [] ≡ 7
   pub memory : first_status (Memory ∷ []) [] [] ≡ 8
@@ -72,6 +75,7 @@ pub record ReaderStatuses : Type 0 where
 pub record StatusOrder : Type 0 where
   pub memory : first_status (Memory ∷ []) [] (Events ∷ []) ≡ 8
   pub write : first_status (Full ∷ []) [] (Save ∷ []) ≡ 6
+  pub faults : first_status (Full ∷ Faults ∷ []) [] [] ≡ 6
   pub limit : first_status (Read ∷ Full ∷ []) [] [] ≡ 7
   pub read : first_status (Line 1 Time ∷ Read ∷ []) [] [] ≡ 5
   pub line : first_status (Whole ∷ LongLine 1 ∷ Whole ∷ []) (reader.Write ∷ []) [] ≡ 4
@@ -87,6 +91,8 @@ pub record StartLines : Type 0 where
   pub unread_asks : start_line (start.Read file.Asks) ≡ codes "rpq: read failed: asks\n"
   pub long : start_line (start.Long file.Queries) ≡ codes "rpq: queries: too long\n"
   pub long_asks : start_line (start.Long file.Asks) ≡ codes "rpq: asks: too long\n"
+  pub no_faults_of : start_line (start.Open (file.FaultsOf 2))
+      ≡ codes "rpq: write failed: faults 2\n"
   pub no_asks_of : start_line (start.Open (file.AsksOf 2)) ≡ codes "rpq: read failed: reader 2\n"
   pub no_replies_of : start_line (start.Open (file.RepliesOf 64))
       ≡ codes "rpq: write failed: reader 64\n"
@@ -99,6 +105,7 @@ pub record EndLines : Type 0 where
   pub long_line : end_line 12 (LongLine 3) ≡ codes "rpq: stream 12 line 3: too long\n"
   pub long : end_line 2 LongStream ≡ codes "rpq: stream 2: too long\n"
   pub unread : end_line 1 Read ≡ codes "rpq: read failed: stream 1\n"
+  pub untold : end_line 12 Faults ≡ codes "rpq: write failed: faults 12\n"
   pub full : end_line 64 Full ≡ codes "rpq: stream 64: history full\n"
   pub shut : end_line 1 (Closed Write) ≡ []
   pub memory : end_line 1 Memory ≡ []
@@ -117,7 +124,7 @@ pub record ReaderLines : Type 0 where
 -- ran out, in which writes of two sinks failed, the first reader's replies couldn't be written, the
 -- second one left, and the third one's asks couldn't be read: the streams are told by their
 -- numbers, then the sinks, then the readers by theirs, and memory last; and it is told where it is
--- the status alone
+-- the status alone; and one in which the second stream's faulty lines couldn't be written
 pub record LinesInOrder : Type 0 where
   pub all : run_lines (Line 2 Time ∷ Whole ∷ Full ∷ [])
       (reader.Write ∷ reader.Left 7 ∷ reader.Read ∷ []) (Events ∷ Save ∷ []) 8
@@ -126,3 +133,6 @@ pub record LinesInOrder : Type 0 where
       ++ codes "rpq: write failed: reader 1\nrpq: read failed: reader 3\nrpq: memory\n"
   pub others : run_lines (Line 2 Time ∷ Whole ∷ []) (reader.Whole ∷ []) [] 4
       ≡ codes "rpq: stream 1 line 2: time\n"
+  pub untold : run_lines (Full ∷ Faults ∷ []) [] (Replies ∷ []) 6
+      ≡ codes "rpq: stream 1: history full\nrpq: write failed: faults 2\n"
+      ++ codes "rpq: write failed: replies\n"

@@ -6,12 +6,13 @@ use Rattle.history_model.specs.declared.line.Why.TheVariants.{Write, Memory as M
 use Rattle.stream_tuples.specs.declared.ends.StreamEnd.{StreamEnd}
 use Rattle.stream_tuples.specs.declared.ends.StreamEnd.TheVariants.{Whole, Line, LongLine}
 use Rattle.stream_tuples.specs.declared.ends.StreamEnd.TheVariants.{LongStream, Read, Full, Closed}
-use Rattle.stream_tuples.specs.declared.ends.StreamEnd.TheVariants.{Memory}
+use Rattle.stream_tuples.specs.declared.ends.StreamEnd.TheVariants.{Faults, Memory}
 use Rattle.rpq_text.specs.declared.ends.Which.{Which}
 use Rattle.rpq_text.specs.declared.ends.Which.TheVariants.{Queries, Joins, Asks, From, Stream}
 use Rattle.live_asks.specs.declared.ends.ReaderEnd.{ReaderEnd}
 use Rattle.live_asks.specs.declared.ends.ReaderEnd.TheVariants as reader
-use Rattle.rpq_text.specs.declared.ends.Which.TheVariants.{Replies, Save, AsksOf, RepliesOf}
+use Rattle.rpq_text.specs.declared.ends.Which.TheVariants.{Replies, Save, FaultsOf, AsksOf}
+use Rattle.rpq_text.specs.declared.ends.Which.TheVariants.{RepliesOf}
 use Rattle.rpq_text.specs.declared.ends.SinkName.{SinkName}
 use Rattle.rpq_text.specs.declared.ends.SinkName.TheVariants.{Events, Replies as RepliesSink}
 use Rattle.rpq_text.specs.declared.ends.SinkName.TheVariants.{Save as SaveSink}
@@ -66,8 +67,8 @@ reader_status = 9
 abbrev pub joins_status : ℕ
 joins_status = 10
 
--- the status of a run that couldn't open this file: the replies, the saved window and the replies
--- of a reader were to be written, and the others to be read
+-- the status of a run that couldn't open this file: the replies, the saved window, the faulty lines
+-- of a stream and the replies of a reader were to be written, and the others to be read
 abbrev pub status_of_opening : Which → ℕ
 status_of_opening Queries = read_status
 status_of_opening Joins = read_status
@@ -76,6 +77,7 @@ status_of_opening From = read_status
 status_of_opening (Stream number) = read_status
 status_of_opening Replies = write_status
 status_of_opening Save = write_status
+status_of_opening (FaultsOf number) = write_status
 status_of_opening (AsksOf number) = read_status
 status_of_opening (RepliesOf number) = write_status
 
@@ -97,6 +99,7 @@ status_of_end (Line number fault) = line_status
 status_of_end (LongLine number) = line_status
 status_of_end LongStream = limit_status
 status_of_end Read = read_status
+status_of_end Faults = write_status
 status_of_end Full = limit_status
 status_of_end (Closed Write) = write_status
 status_of_end (Closed MemoryOfAll) = memory_status

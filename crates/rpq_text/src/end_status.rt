@@ -20,7 +20,7 @@ pub fn status_of_end(end: &StreamEnd) -> u8
         StreamEnd::Line { .. } | StreamEnd::LongLine { .. } => status::LINE,
         StreamEnd::LongStream | StreamEnd::Full => status::LIMIT,
         StreamEnd::Read => status::READ,
-        StreamEnd::Closed(Why::Write) => status::WRITE,
+        StreamEnd::Faults | StreamEnd::Closed(Why::Write) => status::WRITE,
         StreamEnd::Closed(Why::Memory) | StreamEnd::Memory => status::MEMORY,
     }
 }

@@ -12,8 +12,9 @@ use query_file::QueryFault;
 use std::error::Error;
 use std::fmt;
 
-/// One of the files that a run opens: the replies, the saved window and the replies of a reader to
-/// be written, and the others to be read. Streams and readers are numbered from 1.
+/// One of the files that a run opens: the replies, the saved window, the faulty lines of a stream
+/// and the replies of a reader to be written, and the others to be read. Streams and readers are
+/// numbered from 1.
 #[derive(Clone, Copy, Debug, PartialEq, Eq)]
 pub enum Which {
     Queries,
@@ -26,6 +27,8 @@ pub enum Which {
     Replies,
     /// The window that this run saves.
     Save,
+    /// The faulty lines of this stream.
+    FaultsOf(u32),
     /// What this reader asks.
     AsksOf(u32),
     /// The replies to this reader.
@@ -44,6 +47,7 @@ impl fmt::Display for Which {
             Which::Stream(number) => write!(f, "stream {number}"),
             Which::Replies => f.write_str("replies"),
             Which::Save => f.write_str("save"),
+            Which::FaultsOf(number) => write!(f, "faults {number}"),
             Which::AsksOf(number) => write!(f, "reader {number}"),
             Which::RepliesOf(number) => write!(f, "reader {number}"),
         }
@@ -104,7 +108,9 @@ impl StartFault {
             StartFault::Queries(_) => status::QUERIES,
             StartFault::Joins(_) => status::JOINS,
             StartFault::Asks(_) => status::ASKS,
-            StartFault::Open(Which::Replies | Which::Save | Which::RepliesOf(_)) => status::WRITE,
+            StartFault::Open(
+                Which::Replies | Which::Save | Which::FaultsOf(_) | Which::RepliesOf(_),
+            ) => status::WRITE,
             StartFault::Open(_) | StartFault::Read(_) => status::READ,
             StartFault::Long(_) => status::LIMIT,
             StartFault::Memory => status::MEMORY,
@@ -121,9 +127,9 @@ impl fmt::Display for StartFault {
             StartFault::Queries(fault) => write!(f, "queries {fault}"),
             StartFault::Joins(fault) => write!(f, "joins {fault}"),
             StartFault::Asks(fault) => write!(f, "asks {fault}"),
-            StartFault::Open(which @ (Which::Replies | Which::Save | Which::RepliesOf(_))) => {
-                write!(f, "write failed: {which}")
-            }
+            StartFault::Open(
+                which @ (Which::Replies | Which::Save | Which::FaultsOf(_) | Which::RepliesOf(_)),
+            ) => { write!(f, "write failed: {which}") }
             StartFault::Open(which) | StartFault::Read(which) => write!(f, "read failed: {which}"),
             StartFault::Long(which) => write!(f, "{which}: too long"),
             StartFault::Memory => f.write_str("memory"),

@@ -36,6 +36,7 @@ pub fn end_line(stream: u32, end: StreamEnd) -> Line
         StreamEnd::LongLine { line } => stream_line(stream, line, "too long", ""),
         StreamEnd::LongStream => file_line("rpq: ", which, ": too long\n"),
         StreamEnd::Read => read_line(which),
+        StreamEnd::Faults => unwritten_line(Which::FaultsOf(stream)),
         StreamEnd::Full => file_line("rpq: ", which, ": history full\n"),
         StreamEnd::Whole | StreamEnd::Closed(_) | StreamEnd::Memory => Line::new(),
     }
@@ -93,7 +94,7 @@ pub fn opening_line(which: Which) -> Line
         | Which::AsksOf(_) => read_line(which),
         Which::Replies => write_line(SinkName::Replies),
         Which::Save => write_line(SinkName::Save),
-        Which::RepliesOf(_) => unwritten_line(which),
+        Which::FaultsOf(_) | Which::RepliesOf(_) => unwritten_line(which),
     }
 }
 
@@ -233,6 +234,11 @@ pub fn file_line(before: &str, which: Which, after: &str) -> Line
             let mut digits = Buffer::new();
             let number = digits.format(u64::from(number));
             line_of(&[before, "stream ", number, after])
+        }
+        Which::FaultsOf(number) => {
+            let mut digits = Buffer::new();
+            let number = digits.format(u64::from(number));
+            line_of(&[before, "faults ", number, after])
         }
         Which::AsksOf(number) => line_of_reader(before, number, after),
         Which::RepliesOf(number) => line_of_reader(before, number, after),

@@ -18,8 +18,9 @@ pub const LINE: u8 = 4;
 /// A file couldn't be opened to be read, or a read of it failed.
 pub const READ: u8 = 5;
 
-/// A write of the events, of the replies or of the saved window failed, or the file of the replies,
-/// of a reader's replies or of the saved window couldn't be opened.
+/// A write of the events, of the replies, of the saved window or of the faulty lines of a stream
+/// failed, or the file of the replies, of a reader's replies, of the saved window or of such lines
+/// couldn't be opened.
 pub const WRITE: u8 = 6;
 
 /// The history is full, or a file has too many bytes.

@@ -1,19 +1,17 @@
 -- From what the passes knew to what is so of the whole history.
-use Rattle.std.proofs.Common.{◌≡◌, ℕ, zero, suc, ◌+◌, ◌<◌, ◌≤◌, Bool, true, false, ◌||◌}
+use Rattle.std.proofs.Common.{◌≡◌, ℕ, ◌+◌, ◌<◌, ◌≤◌, Bool, true, false, ◌||◌}
 use Rattle.std.proofs.Common.{List, [], ◌∷◌, ◌++◌}
-use Rattle.std.proofs.Common.{length, map, Option, Some, None, slice_get, refl, sym, ap}
+use Rattle.std.proofs.Common.{length, map, Option, Some, None, refl, sym, ap}
 use Rattle.std.proofs.Common.{subst, ◌∙◌, arith}
-use Rattle.std.specs.Prelude.{Contains, IfSome}
+use Rattle.std.specs.Prelude.{Contains}
 use Rattle.std.specs.Global.{Vec}
 use Rattle.std.specs.List.{All, AllZip, list_any}
-use Rattle.std.proofs.lemmas.List.{length-map}
+use Rattle.std.proofs.lemmas.Simd.{map-map}
 use Rattle.std.proofs.lemmas.List.Elements.{All-nil, All-cons, All-head, All-tail}
-use Rattle.rpq_base.specs.declared.data.Tuple.{Tuple}
 use Rattle.rpq_base.specs.declared.data.Entry.{Entry}
 use Rattle.rpq_base.specs.Plain.{IsPlain}
 use Rattle.rpq_io.specs.Reader.{ReaderState}
 use Rattle.rpq_model.specs.Query.{Query}
-use Rattle.turn_lock.specs.Lines.{own}
 use Rattle.turn_lock.specs.Passes.{Knows}
 use Rattle.history_model.specs.declared.line.Why.{Why}
 use Rattle.history_model.specs.declared.line.Why.TheVariants.{Write, Memory}
@@ -29,9 +27,9 @@ use Rattle.stream_history.specs.Journal.{KeepsAll}
 use Rattle.stream_history.proofs.Own.{own_call}
 use Rattle.stream_tuples.specs.declared.ends.StreamEnd.{StreamEnd}
 use Rattle.stream_tuples.specs.declared.ends.StreamEnd.TheVariants.{Closed}
-use Rattle.stream_tuples.specs.History.{IsNumberOf, own_tuples, AreTuplesOfEnd, IsStreamOf}
-use Rattle.stream_tuples.specs.History.{AreStreamsOf}
-use Rattle.stream_tuples.specs.Limits.{byte_limit_of}
+use Rattle.stream_tuples.specs.declared.faults.FaultPolicy.{FaultPolicy}
+use Rattle.stream_tuples.specs.History.{IsNumberOf, AreStreamsOf, AreReportedOf}
+use Rattle.stream_tuples.specs.History.{policy_of_sink, policy_of_sinks}
 use Rattle.ask_text.specs.declared.ask.Ask.{Ask}
 use Rattle.ask_text.specs.Answered.{AnsweredValue}
 use Rattle.live_asks.specs.declared.ends.ReaderEnd.{ReaderEnd}
@@ -42,13 +40,14 @@ use Rattle.entry_steps.specs.Steps.{OptionsValue}
 use Rattle.rpq_text.specs.Text.{IsText}
 use Rattle.stream_threads.specs.declared.reader_work.ReaderWork.{ReaderWork}
 use Rattle.stream_threads.specs.declared.session_work.SessionWork.{SessionWork}
+use Rattle.stream_threads.specs.declared.stream_input.StreamInput.{StreamInput}
 use Rattle.stream_threads.specs.declared.stream_worker.StreamResult.{StreamResult}
 use Rattle.stream_threads.specs.Live.{HaveServed}
-use Rattle.stream_threads.specs.Streams.{tuples_of, HasStreamed}
-use Rattle.stream_threads.specs.Started.{HaveStreamed, new_pass}
+use Rattle.stream_threads.specs.Inputs.{sinks_for}
+use Rattle.stream_threads.specs.Started.{HaveStreamed}
 use Rattle.stream_threads.specs.Readers.{HaveReplied}
-use Rattle.stream_threads.proofs.Seen.{entries_grow, still_there}
-use Rattle.stream_threads.proofs.Numbering.{Each, numbered_length}
+use Rattle.stream_threads.proofs.Seen.{still_there}
+use Rattle.stream_threads.proofs.Numbering.{Each}
 use Rattle.rpq_text.specs.Definitions.{definitions_of}
 use Rattle.standing.specs.Objects.{ObjectValue}
 use Rattle.standing.specs.Circles.{CircleValue, Parts, as_seen}
@@ -56,13 +55,15 @@ use Rattle.rpq_threads.specs.declared.task.RunOutcome.{RunOutcome}
 use Rattle.rpq_threads.specs.declared.task.Task.{Task}
 use Rattle.rpq_threads.specs.Written.{Grew, GrewByPrefix, GrewByProperPrefix}
 use Rattle.rpq_threads.specs.Runs.{WritesText, IsSessionOf, AreSessionsOf, IsLiveOf}
-use Rattle.rpq_threads.specs.Runs.{asks_answered, session_answers, HasAnswered, Holds}
+use Rattle.rpq_threads.specs.Runs.{asks_answered, session_answers, stream_files, HasAnswered}
+use Rattle.rpq_threads.specs.Runs.{Holds}
 use Rattle.rpq_threads.specs.Told.{TellsObjects}
 use Rattle.rpq_threads.specs.Fed.{HasFed}
 use Rattle.rpq_threads.specs.Window.{IsLeftOf, IsWindowFor, ServesAs}
 use Rattle.rpq_threads.specs.Served.{Given, Gave, IsServed, outcome_of}
 use Rattle.rpq_threads.proofs.Answering.{none_asked, front_is, sessions_are, readers_are}
-use Rattle.rpq_threads.proofs.Starting.{terms_of}
+use Rattle.rpq_threads.proofs.Starting.{inputs_alike, terms_of}
+use Rattle.rpq_threads.proofs.Streaming.{own_mine, reports_are, streams_are}
 
 -- how a reader ended
 abbrev reader_ended : {A K : Type 0} → ReaderWork A K → ReaderEnd
@@ -105,18 +106,6 @@ window_for terms history all gone why (Some window) same whole left = λ none.
 
 module _ (law : LegalIsSound) (fronts : FrontsAreLegal) (terms : Terms) (lines : List Line)
     (legal : IsLegal terms.streams terms.cap lines) where
-  own_mine : (number : ℕ) (pass : Each) → Knows author terms lines pass → pass.number ≡ number →
-      own author number lines ≡ pass.mine
-  own_mine number pass knows is =
-      subst (λ (n : ℕ). own author n lines ≡ pass.mine) is knows.mine_is
-
-  own_are : (number : ℕ) (pass : Each) → Knows author terms lines pass → pass.number ≡ number →
-      tuples_of pass.mine ≡ own_tuples number (entries lines)
-  own_are number pass knows is =
-      let sound = law terms.streams terms.cap lines legal in
-      sym (ap tuples_of (own_mine number pass knows is))
-      ∙ ap (map (λ (entry : Entry). entry.tuple)) (sound.own_entries number)
-
   module _ {K : Type 0} (written : K → Option (List ℕ)) (failures : K → ℕ) (options : OptionsValue)
       (history : HistoryValue) (same : history.terms ≡ terms) (before after : K)
       (first last : CircleValue) (engine : Each) (why : Option Why) (window : Option (Vec Entry))
@@ -126,7 +115,7 @@ module _ (law : LegalIsSound) (fronts : FrontsAreLegal) (terms : Terms) (lines :
     closes reason shut =
         let call : Call = record { by = 0; act = Shut reason } in
         fed.shut reason (subst (λ (all : List Line). Contains (calls all) call)
-        (own_mine 0 engine knows fed.number) (own_call lines call shut))
+        (own_mine law terms lines legal 0 engine knows fed.number) (own_call lines call shut))
 
     no_more : why ≡ None → entries lines ≡ entries engine.seen
     no_more none =
@@ -173,7 +162,7 @@ module _ (law : LegalIsSound) (fronts : FrontsAreLegal) (terms : Terms) (lines :
     all_published none some =
         let sound = law terms.streams terms.cap lines legal in
         sym sound.own_publishes
-        ∙ (ap published (own_mine 0 engine knows fed.number)
+        ∙ (ap published (own_mine law terms lines legal 0 engine knows fed.number)
         ∙ (fed.told none some ∙ sym (ap (λ (all : List Entry). length all) (no_more none))))
 
     -- what is left for a later run
@@ -185,86 +174,24 @@ module _ (law : LegalIsSound) (fronts : FrontsAreLegal) (terms : Terms) (lines :
 
     -- ---- the streams
 
-    stream_of : {S : Type 0} (left : S → Option (List ℕ)) (faults : S → ℕ) (number : ℕ)
-        (source : S) (done : StreamResult S) →
-        HasStreamed left faults history source (new_pass history number) done.source done.pass
-        done.end →
-        Knows author terms lines done.pass →
-        IsStreamOf left faults number terms.cap (left source) done.source (entries lines)
-        done.end
-    stream_of left faults number source done did knew = record {
-      tied = subst (λ (tuples : List Tuple). IfSome (left source) (λ text.
-          AreTuplesOfEnd (byte_limit_of terms.cap) text (left done.source) tuples done.end))
-          (own_are number done.pass knew did.number)
-          (subst (λ (t : Terms). IfSome (left source) (λ text.
-          AreTuplesOfEnd (byte_limit_of t.cap) text (left done.source)
-          (tuples_of done.pass.mine) done.end)) same did.tied);
-      full = λ is. omega (
-        arith,
-        legal.capped,
-        entries_grow lines done.pass.seen knew.seen_begins,
-        did.full is,
-        ap (λ (t : Terms). t.cap) same,
-      );
-      read = did.read;
-    }
-
-    streams_at : {S : Type 0} (left : S → Option (List ℕ)) (faults : S → ℕ) (from : ℕ)
-        (readers : List (ReaderState S)) (streamed : List (StreamResult S)) (others : List Each) →
-        HaveStreamed left faults history from readers streamed →
-        All (Knows author terms lines) (map (λ (d : StreamResult S). d.pass) streamed ++ others) →
-        (place : ℕ) (file : Option (List ℕ)) (source : S) (end : StreamEnd) →
-        slice_get (map (λ (reader : ReaderState S). left reader.source) readers) place
-        ≡ Some file →
-        slice_get (map (λ (d : StreamResult S). d.source) streamed) place ≡ Some source →
-        slice_get (map (λ (d : StreamResult S). d.end) streamed) place ≡ Some end →
-        IsStreamOf left faults (place + from) terms.cap file source (entries lines) end
-    streams_at left faults from [] streamed others did knew place file source end f s e =
-        absurd cc
-    streams_at left faults from (x ∷ xs) [] others did knew place file source end f s e =
-        absurd did
-    streams_at {S} left faults from (x ∷ xs) (d ∷ ds) others did knew zero file source end f s e =
-        let is = stream_of left faults from x.source d did.0
-        (All-head (Knows author terms lines) d.pass
-        (map (λ (each : StreamResult S). each.pass) ds ++ others) knew) in
-        let file_is : left x.source ≡ file = cc in
-        let source_is : d.source ≡ source = cc in
-        let end_is : d.end ≡ end = cc in
-        let here : from ≡ 0 + from = omega arith in
-        subst (λ (number : ℕ). IsStreamOf left faults number terms.cap file source
-        (entries lines) end) here
-        (subst (λ (last : StreamEnd). IsStreamOf left faults from terms.cap file source
-        (entries lines) last) end_is
-        (subst (λ (src : S). IsStreamOf left faults from terms.cap file src (entries lines)
-        d.end) source_is
-        (subst (λ (text : Option (List ℕ)). IsStreamOf left faults from terms.cap text d.source
-        (entries lines) d.end) file_is is)))
-    streams_at {S} left faults from (x ∷ xs) (d ∷ ds) others did knew (suc place) file source end f
-        s e =
-        let later = streams_at left faults (from + 1) xs ds others did.1
-        (All-tail (Knows author terms lines) d.pass
-        (map (λ (each : StreamResult S). each.pass) ds ++ others) knew) place file source end f s
-        e in
-        subst (λ (number : ℕ). IsStreamOf left faults number terms.cap file source
-        (entries lines) end) (omega arith) later
-
     -- a stream that was closed is so for the reason of the shut
     closed_all : {S : Type 0} (left : S → Option (List ℕ)) (faults : S → ℕ) (from : ℕ)
-        (readers : List (ReaderState S)) (streamed : List (StreamResult S)) (others : List Each) →
-        HaveStreamed left faults history from readers streamed →
-        All (Knows author terms lines) (map (λ (d : StreamResult S). d.pass) streamed ++ others) →
+        (inputs : List (StreamInput S K)) (streamed : List (StreamResult S K))
+        (others : List Each) →
+        HaveStreamed left faults written failures history from inputs streamed →
+        All (Knows author terms lines) (map (λ (d : StreamResult S K). d.pass) streamed ++ others) →
         All (λ (end : StreamEnd). (reason : Why) → end ≡ Closed reason → why ≡ Some reason)
-        (map (λ (d : StreamResult S). d.end) streamed)
+        (map (λ (d : StreamResult S K). d.end) streamed)
     closed_all left faults from [] [] others did knew =
         All-nil (λ (end : StreamEnd). (reason : Why) → end ≡ Closed reason → why ≡ Some reason)
     closed_all left faults from [] (d ∷ ds) others did knew = absurd did
     closed_all left faults from (x ∷ xs) [] others did knew = absurd did
     closed_all {S} left faults from (x ∷ xs) (d ∷ ds) others did knew =
         let Known = Knows author terms lines in
-        let rest = map (λ (each : StreamResult S). each.pass) ds ++ others in
+        let rest = map (λ (each : StreamResult S K). each.pass) ds ++ others in
         let own_is = All-head Known d.pass rest knew in
         All-cons (λ (end : StreamEnd). (reason : Why) → end ≡ Closed reason → why ≡ Some reason)
-        d.end (map (λ (each : StreamResult S). each.end) ds)
+        d.end (map (λ (each : StreamResult S K). each.end) ds)
         (λ reason is. closes reason (still_there lines d.pass.seen
         (record { by = 0; act = Shut reason }) own_is.seen_begins (did.0.closed reason is)))
         (closed_all left faults (from + 1) xs ds others did.1 (All-tail Known d.pass rest knew))
@@ -325,7 +252,7 @@ module _ (law : LegalIsSound) (fronts : FrontsAreLegal) (terms : Terms) (lines :
       (did : IsServed left faults asks_left asks_faults written failures history given gave passes)
       (knows : All (Knows author terms lines) passes) where
     abbrev streamed_passes : List Each
-    streamed_passes = map (λ (d : StreamResult S). d.pass) did.streamed
+    streamed_passes = map (λ (d : StreamResult S K). d.pass) did.streamed
 
     abbrev replied_passes : List Each
     replied_passes = map (λ (r : SessionWork). r.pass) did.replied
@@ -350,34 +277,50 @@ module _ (law : LegalIsSound) (fronts : FrontsAreLegal) (terms : Terms) (lines :
     asked_knew = All-behind (Knows author terms lines) streamed_passes
         (replied_passes ++ served_passes) others_knew
 
-    many : length did.streamed ≡ length (map (λ (reader : ReaderState S). left reader.source)
-        given.readers)
-    many = sym (numbered_length _ 1 given.readers did.streamed did.did)
-        ∙ sym (length-map given.readers (λ (reader : ReaderState S). left reader.source))
+    streamed_knew : All (Knows author terms lines) streamed_passes
+    streamed_knew = All-front (Knows author terms lines) streamed_passes
+        (replied_passes ++ served_passes) others_knew
 
-    pub all_streams : AreStreamsOf left faults terms.cap
-        (map (λ (reader : ReaderState S). left reader.source) given.readers) gave.sources
+    -- what the streams are read from
+    abbrev read_from : List (Option (List ℕ))
+    read_from = map (λ (input : StreamInput S K). left input.reader.source) given.inputs
+
+    -- faulty lines are dealt with in one way in all streams
+    abbrev AreAlike : FaultPolicy → Type 0
+    AreAlike policy = All (λ (input : StreamInput S K). policy_of_sink input.faults ≡ policy)
+        given.inputs
+
+    pub all_streams : (policy : FaultPolicy) → AreAlike policy →
+        AreStreamsOf policy left faults terms.cap read_from gave.sources (entries lines) gave.ends
+    all_streams policy alike =
+        subst (λ (sources : List S). AreStreamsOf policy left faults terms.cap read_from sources
+        (entries lines) gave.ends) (sym did.sources_are)
+        (subst (AreStreamsOf policy left faults terms.cap read_from
+        (map (λ (d : StreamResult S K). d.source) did.streamed) (entries lines)) (sym did.ends_are)
+        (streams_are law terms lines legal left faults written failures history same policy
+        given.inputs alike did.streamed did.did streamed_knew))
+
+    pub all_reports : (policy : FaultPolicy) → AreAlike policy →
+        AreReportedOf policy left written failures terms.cap read_from gave.sources gave.faults
         (entries lines) gave.ends
-    all_streams = record {
-      as_many_sources = ap length did.sources_are
-          ∙ (length-map did.streamed (λ (d : StreamResult S). d.source) ∙ many);
-      as_many_ends = ap length did.ends_are
-          ∙ (length-map did.streamed (λ (d : StreamResult S). d.end) ∙ many);
-      each = λ place file source end f s e.
-          streams_at written failures given.options history same given.events gave.events
-          given.circle gave.circle did.engine gave.why gave.window did.fed engine_knew left faults 1
-          given.readers did.streamed (replied_passes ++ served_passes) did.did others_knew place
-          file source end f
-          (ap (λ (l : List S). slice_get l place) (sym did.sources_are) ∙ s)
-          (ap (λ (l : List StreamEnd). slice_get l place) (sym did.ends_are) ∙ e);
-    }
+    all_reports policy alike =
+        let sources = map (λ (d : StreamResult S K). d.source) did.streamed in
+        let sinks = map (λ (d : StreamResult S K). d.faults) did.streamed in
+        subst (λ (all : List S). AreReportedOf policy left written failures terms.cap read_from
+        all gave.faults (entries lines) gave.ends) (sym did.sources_are)
+        (subst (λ (all : List (Option K)). AreReportedOf policy left written failures terms.cap
+        read_from sources all (entries lines) gave.ends) (sym did.faults_are)
+        (subst (AreReportedOf policy left written failures terms.cap read_from sources sinks
+        (entries lines)) (sym did.ends_are)
+        (reports_are law terms lines legal left faults written failures history same policy
+        given.inputs alike did.streamed did.did streamed_knew)))
 
     pub all_closed : (reason : Why) → Contains gave.ends (Closed reason) → gave.why ≡ Some reason
     all_closed reason there =
-        let ends = map (λ (d : StreamResult S). d.end) did.streamed in
+        let ends = map (λ (d : StreamResult S K). d.end) did.streamed in
         let all = closed_all written failures given.options history same given.events gave.events
         given.circle gave.circle did.engine gave.why gave.window did.fed engine_knew left faults 1
-        given.readers did.streamed (replied_passes ++ served_passes) did.did others_knew in
+        given.inputs did.streamed (replied_passes ++ served_passes) did.did others_knew in
         let is : Contains ends (Closed reason) =
         subst (λ (each : List StreamEnd). Contains each (Closed reason)) did.ends_are there in
         all is.0 (Closed reason) is.1 reason is.2
@@ -508,6 +451,7 @@ module _ (law : LegalIsSound) (fronts : FrontsAreLegal) {S A K O : Type 0}
   gave = record {
     sources = outcome.sources.items;
     ends = outcome.ends.items;
+    faults = outcome.faults.items;
     answers = session_answers outcome;
     readers = outcome.readers.items;
     why = outcome.why;
@@ -517,11 +461,11 @@ module _ (law : LegalIsSound) (fronts : FrontsAreLegal) {S A K O : Type 0}
     circle = as_seen seen outcome.circle;
   }
 
-  abbrev given_of : OptionsValue → List (ReaderState S) → List (List Ask) →
+  abbrev given_of : OptionsValue → List (StreamInput S K) → List (List Ask) →
       List (AskReader A K) → Given S A K
-  given_of options readers sessions ask_readers = record {
+  given_of options inputs sessions ask_readers = record {
     options = options;
-    readers = readers;
+    inputs = inputs;
     sessions = sessions;
     ask_readers = ask_readers;
     events = before;
@@ -533,16 +477,16 @@ module _ (law : LegalIsSound) (fronts : FrontsAreLegal) {S A K O : Type 0}
       IsServed left faults asks_left asks_faults written failures history given gave passes
 
   -- the sessions and the readers were answered over the history of the outcome
-  answers_told_of : outcome.history.items ≡ entries lines →
+  answers_told_of : (inputs : List (StreamInput S K)) → outcome.history.items ≡ entries lines →
       AreAnswered asks_left asks_faults written failures (definitions_of task.queries.items)
       (entries lines)
-      (given_of task.options task.readers.items task.sessions.items task.ask_readers.items) gave →
+      (given_of task.options inputs task.sessions.items task.ask_readers.items) gave →
       HasAnswered asks_left asks_faults written failures task outcome
-  answers_told_of are was =
+  answers_told_of inputs are was =
       let queries = definitions_of task.queries.items in
       let is = subst (λ (all : List Entry). AreAnswered asks_left asks_faults written failures
       queries all
-      (given_of task.options task.readers.items task.sessions.items task.ask_readers.items) gave)
+      (given_of task.options inputs task.sessions.items task.ask_readers.items) gave)
       (sym {A = List Entry} are) was in
       record {
         last = is.last;
@@ -556,14 +500,17 @@ module _ (law : LegalIsSound) (fronts : FrontsAreLegal) {S A K O : Type 0}
 
   pub outcome_holds : outcome.history.items ≡ entries lines →
       (KeepsAll (terms_of task) → outcome.history.base ≡ 0) →
-      (options : OptionsValue) (readers : List (ReaderState S)) (sessions : List (List Ask))
+      (options : OptionsValue) (inputs : List (StreamInput S K)) (sessions : List (List Ask))
       (ask_readers : List (AskReader A K)) →
-      options ≡ task.options → readers ≡ task.readers.items → sessions ≡ task.sessions.items →
-      ask_readers ≡ task.ask_readers.items →
+      options ≡ task.options →
+      map (λ (input : StreamInput S K). input.reader) inputs ≡ task.readers.items →
+      map (λ (input : StreamInput S K). input.faults) inputs
+      ≡ sinks_for (length task.readers.items) task.faults.items →
+      sessions ≡ task.sessions.items → ask_readers ≡ task.ask_readers.items →
       IsServed left faults asks_left asks_faults written failures history
       (record {
         options = options;
-        readers = readers;
+        inputs = inputs;
         sessions = sessions;
         ask_readers = ask_readers;
         events = before;
@@ -572,6 +519,7 @@ module _ (law : LegalIsSound) (fronts : FrontsAreLegal) {S A K O : Type 0}
       (record {
         sources = outcome.sources.items;
         ends = outcome.ends.items;
+        faults = outcome.faults.items;
         answers = map (λ (own : Vec AnsweredValue). own.items) outcome.sessions.items;
         readers = outcome.readers.items;
         why = outcome.why;
@@ -585,26 +533,40 @@ module _ (law : LegalIsSound) (fronts : FrontsAreLegal) {S A K O : Type 0}
       All IsPlain (entries lines) →
       Holds left faults asks_left asks_faults written failures seen task before after circle
       outcome
-  outcome_holds are whole options readers sessions ask_readers options_is readers_are sessions_are
-      asking_are was knows asked plain =
+  outcome_holds are whole options inputs sessions ask_readers options_is readers_are faults_are
+      sessions_are asking_are was knows asked plain =
       let queries = definitions_of task.queries.items in
-      let files = map (λ (reader : ReaderState S). left reader.source) task.readers.items in
+      let policy = policy_of_sinks task.faults.items in
       let from_entries = sym {A = List Entry} are in
-      let did = subst (λ (given : List (ReaderState S)). was_served
-      (given_of task.options given task.sessions.items task.ask_readers.items)) readers_are
-      (subst (λ (given : List (List Ask)). was_served
-      (given_of task.options readers given task.ask_readers.items)) sessions_are
+      let did = subst (λ (given : List (List Ask)). was_served
+      (given_of task.options inputs given task.ask_readers.items)) sessions_are
       (subst (λ (given : OptionsValue). was_served
-      (given_of given readers sessions task.ask_readers.items)) options_is
+      (given_of given inputs sessions task.ask_readers.items)) options_is
       (subst (λ (given : List (AskReader A K)). was_served
-      (given_of options readers sessions given)) asking_are was))) in
+      (given_of options inputs sessions given)) asking_are was)) in
+      let alike = inputs_alike inputs (length task.readers.items) task.faults.items faults_are in
+      let files : map (λ (input : StreamInput S K). left input.reader.source) inputs
+      ≡ stream_files left task =
+      sym (map-map (λ (reader : ReaderState S). left reader.source)
+      (λ (input : StreamInput S K). input.reader) inputs)
+      ∙ ap (map (λ (reader : ReaderState S). left reader.source)) readers_are in
       let asked_all : length task.sessions.items + length task.ask_readers.items
       ≡ history.readers = omega (arith, asked, ap length sessions_are, ap length asking_are) in
       record {
-        streams = subst (λ (all : List Entry). AreStreamsOf left faults task.limit files
-            outcome.sources.items all outcome.ends.items) from_entries
+        streams = subst (λ (all : List Entry). AreStreamsOf policy left faults task.limit
+            (stream_files left task) outcome.sources.items all outcome.ends.items) from_entries
+            (subst (λ (texts : List (Option (List ℕ))). AreStreamsOf policy left faults task.limit
+            texts outcome.sources.items (entries lines) outcome.ends.items) files
             (all_streams law fronts (terms_of task) lines legal left faults asks_left asks_faults
-            written failures history same _ _ passes did knows);
+            written failures history same _ _ passes did knows policy alike));
+        reported = subst (λ (all : List Entry). AreReportedOf policy left written failures
+            task.limit (stream_files left task) outcome.sources.items outcome.faults.items all
+            outcome.ends.items) from_entries
+            (subst (λ (texts : List (Option (List ℕ))). AreReportedOf policy left written failures
+            task.limit texts outcome.sources.items outcome.faults.items (entries lines)
+            outcome.ends.items) files
+            (all_reports law fronts (terms_of task) lines legal left faults asks_left asks_faults
+            written failures history same _ _ passes did knows policy alike));
         closed = all_closed law fronts (terms_of task) lines legal left faults asks_left
             asks_faults written failures history same _ _ passes did knows;
         numbers = subst (λ (all : List Entry). All (λ (entry : Entry). IsNumberOf
@@ -622,7 +584,7 @@ module _ (law : LegalIsSound) (fronts : FrontsAreLegal) {S A K O : Type 0}
             before after outcome.why) from_entries
             (all_text law fronts (terms_of task) lines legal left faults asks_left asks_faults
             written failures history same _ _ passes did knows);
-        answers = answers_told_of are
+        answers = answers_told_of inputs are
             (all_replies law fronts (terms_of task) lines legal left faults asks_left asks_faults
             written failures history same _ _ passes did knows asked_all);
         objects = subst (λ (all : List Entry). TellsObjects task.options queries all

@@ -10,4 +10,5 @@ mod Closing
 mod Starting
 mod Returned
 mod Answering
+mod Streaming
 mod Finishing

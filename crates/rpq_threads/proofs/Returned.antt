@@ -5,13 +5,13 @@ use Rattle.std.proofs.Common.{get_or}
 use Rattle.std.specs.List.{All, range_with_len}
 use Rattle.std.proofs.lemmas.List.{length-map}
 use Rattle.std.proofs.lemmas.List.Elements.{All-nil, All-cons, All-append, All-map, All-same}
-use Rattle.rpq_io.specs.Reader.{ReaderState}
 use Rattle.turn_lock.specs.Passes.{AreAll}
 use Rattle.stream_history.specs.History.{HistoryValue, IsPassOf}
 use Rattle.ask_text.specs.declared.ask.Ask.{Ask}
 use Rattle.live_asks.specs.declared.reader.AskReader.{AskReader}
 use Rattle.stream_threads.specs.declared.reader_work.ReaderWork.{ReaderWork}
 use Rattle.stream_threads.specs.declared.session_work.SessionWork.{SessionWork}
+use Rattle.stream_threads.specs.declared.stream_input.StreamInput.{StreamInput}
 use Rattle.stream_threads.specs.declared.stream_worker.StreamResult.{StreamResult}
 use Rattle.stream_threads.specs.Live.{HasServed}
 use Rattle.stream_threads.specs.Numbered.{AllNumbered}
@@ -57,7 +57,7 @@ new_are history from count passes are =
     (λ k number below. new_is history (get_or numbers k number)))
 
 -- the pass of a worker
-abbrev stream_pass : {S : Type 0} → StreamResult S → Each
+abbrev stream_pass : {S K : Type 0} → StreamResult S K → Each
 stream_pass done = done.pass
 
 abbrev session_pass : SessionWork → Each
@@ -71,11 +71,12 @@ module _ {S A K : Type 0} (left : S → Option (List ℕ)) (faults : S → ℕ)
     (failures : K → ℕ) (history : HistoryValue) (given : Given S A K) (gave : Gave S A K)
     (passes : List Each)
     (did : IsServed left faults asks_left asks_faults written failures history given gave passes)
-    (streams : length given.readers ≡ history.terms.streams)
+    (streams : length given.inputs ≡ history.terms.streams)
     (asking : length given.sessions + length given.ask_readers ≡ history.readers) where
-  abbrev StreamDid : ℕ → ReaderState S → StreamResult S → Type 0
-  StreamDid number reader one = HasStreamed left faults history reader.source
-      (new_pass history number) one.source one.pass one.end
+  abbrev StreamDid : ℕ → StreamInput S K → StreamResult S K → Type 0
+  StreamDid number input one = HasStreamed left faults written failures history
+      input.reader.source input.faults (new_pass history number) one.source one.faults one.pass
+      one.end
 
   abbrev SessionDid : ℕ → List Ask → SessionWork → Type 0
   SessionDid number session work = HasReplied history (new_pass history number) session work
@@ -94,7 +95,7 @@ module _ {S A K : Type 0} (left : S → Option (List ℕ)) (faults : S → ℕ)
   first_reader = 1 + history.terms.streams + length given.sessions
 
   abbrev streamed_passes : List Each
-  streamed_passes = map (λ (d : StreamResult S). d.pass) did.streamed
+  streamed_passes = map (λ (d : StreamResult S K). d.pass) did.streamed
 
   abbrev replied_passes : List Each
   replied_passes = map (λ (r : SessionWork). r.pass) did.replied
@@ -103,7 +104,7 @@ module _ {S A K : Type 0} (left : S → Option (List ℕ)) (faults : S → ℕ)
   served_passes = map (λ (r : ReaderWork A K). r.pass) did.served
 
   many_streamed : length streamed_passes ≡ history.terms.streams
-  many_streamed = numbered_many StreamDid stream_pass 1 given.readers did.streamed did.did ∙ streams
+  many_streamed = numbered_many StreamDid stream_pass 1 given.inputs did.streamed did.did ∙ streams
 
   many_replied : length replied_passes ≡ length given.sessions
   many_replied =
@@ -133,7 +134,7 @@ module _ {S A K : Type 0} (left : S → Option (List ℕ)) (faults : S → ℕ)
       (subst (AreInOrder 0) (sym did.passes_are) (
         did.fed.number,
         order_append 1 streamed_passes (replied_passes ++ served_passes)
-            (numbered_order StreamDid stream_pass (λ n x y own. own.number) 1 given.readers
+            (numbered_order StreamDid stream_pass (λ n x y own. own.number) 1 given.inputs
             did.streamed did.did)
             (subst (λ n. AreInOrder (1 + n) (replied_passes ++ served_passes))
             (sym many_streamed)
@@ -151,7 +152,7 @@ module _ {S A K : Type 0} (left : S → Option (List ℕ)) (faults : S → ℕ)
       All-same (IsPassOf history) passes (did.engine ∷ (streamed_passes ++ asked)) did.passes_are
       (All-cons (IsPassOf history) did.engine (streamed_passes ++ asked) did.fed.is
       (All-append (IsPassOf history) streamed_passes asked
-      (numbered_are StreamDid stream_pass history (λ n x y own. own.is) 1 given.readers did.streamed
+      (numbered_are StreamDid stream_pass history (λ n x y own. own.is) 1 given.inputs did.streamed
       did.did)
       (All-append (IsPassOf history) replied_passes served_passes
       (numbered_are SessionDid session_pass history (λ n x y own. own.is) first_session

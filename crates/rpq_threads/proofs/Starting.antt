@@ -1,9 +1,9 @@
 -- What a run begins with.
 use Rattle.std.proofs.Common.{◌≡◌, ℕ, suc, ◌+◌, ◌<◌, Bool, true, false, List, [], ◌∷◌, length}
 use Rattle.std.proofs.Common.{refl, sym, ap, subst, ◌∙◌}
-use Rattle.std.proofs.Common.{Option, get_or, arith, ◌≤◌, ◌^◌, ⊎_elim}
+use Rattle.std.proofs.Common.{Option, Some, None, get_or, map, arith, ◌≤◌, ◌^◌, ⊎_elim}
 use Rattle.std.specs.List.{All}
-use Rattle.std.proofs.lemmas.List.Elements.{All-map, All-same}
+use Rattle.std.proofs.lemmas.List.Elements.{All-map, All-replicate, All-same}
 use Rattle.containment_laws.specs.Accepted.{IsAccepted}
 use Rattle.query_file.specs.Compiled.{CompiledValue}
 use Rattle.rpq_base.specs.declared.data.Entry.{Entry}
@@ -27,9 +27,19 @@ use Rattle.live_asks.specs.declared.reader.AskReader.{AskReader}
 use Rattle.stream_threads.specs.Started.{new_pass}
 use Rattle.rpq_threads.specs.declared.task.Task.{Task}
 use Rattle.rpq_threads.specs.Fed.{IsFed}
-use Rattle.rpq_threads.specs.Runs.{IsTask, IsLimit}
+use Rattle.rpq_threads.specs.Runs.{IsTask}
+use Rattle.rpq_words.specs.Modes.{IsCap}
 use Rattle.rpq_threads.specs.Served.{AreAbout}
 use Rattle.rpq_threads.proofs.Closing.{first_fed}
+use Rattle.rpq_threads.proofs.Streaming.{all_from_map}
+use Rattle.rpq_io.specs.Files.{IsNewSink}
+use Rattle.rpq_io.specs.Reader.{ReaderState}
+use Rattle.std.specs.Prelude.{IfSome}
+use Rattle.stream_threads.specs.Inputs.{IsNewInput, sinks_for}
+use Rattle.stream_threads.specs.declared.stream_input.StreamInput.{StreamInput}
+use Rattle.stream_tuples.specs.History.{policy_of_sink, policy_of_sinks}
+use Rattle.stream_tuples.specs.Progress.{IsNewReader}
+use Rattle.stream_tuples.specs.declared.faults.FaultPolicy.TheVariants.{Report, Stop}
 
 pub length-definitions : (queries : List CompiledValue) →
     length (definitions_of queries) ≡ length queries
@@ -68,12 +78,69 @@ terms_of task = record {
 }
 
 -- a limit is some entries at least
-pub at_least : (limit : ℕ) → IsLimit limit → 1 ≤ limit
+pub at_least : (limit : ℕ) → IsCap limit → 1 ≤ limit
 at_least limit is = ⊎_elim (λ within. omega (arith, within.0)) (λ same. omega (arith, same)) is
 
 -- no limit is beyond 2^61
-pub at_most : (limit : ℕ) → IsLimit limit → limit ≤ 2 ^ 61
+pub at_most : (limit : ℕ) → IsCap limit → limit ≤ 2 ^ 61
 at_most limit is = ⊎_elim (λ within. omega (arith, within.1)) (λ same. omega (arith, same)) is
+
+-- ---- the inputs of the streams
+
+-- a faulty line is dealt with in one way in all streams
+none_alike : {K : Type 0} (count : ℕ) →
+    All (λ (sink : Option K). policy_of_sink sink ≡ Stop) (sinks_for count [])
+none_alike {K} count =
+    All-replicate (λ (sink : Option K). policy_of_sink sink ≡ Stop) count None refl
+
+sinks_alike : {K : Type 0} (count : ℕ) (sinks : List K) →
+    All (λ (sink : Option K). policy_of_sink sink ≡ policy_of_sinks sinks) (sinks_for count sinks)
+sinks_alike count [] = none_alike count
+sinks_alike {K} count (k ∷ ks) =
+    All-map (λ (sink : Option K). policy_of_sink sink ≡ Report) (λ (sink : K). Some sink) (k ∷ ks)
+    (λ place sink below. refl)
+
+pub inputs_alike : {S K : Type 0} (inputs : List (StreamInput S K)) (count : ℕ)
+    (sinks : List K) → map (λ (input : StreamInput S K). input.faults) inputs
+    ≡ sinks_for count sinks →
+    All (λ (input : StreamInput S K). policy_of_sink input.faults ≡ policy_of_sinks sinks) inputs
+inputs_alike {S} {K} inputs count sinks are =
+    let Alike = λ (sink : Option K). policy_of_sink sink ≡ policy_of_sinks sinks in
+    all_from_map Alike (λ (input : StreamInput S K). input.faults) inputs
+    (All-same Alike (map (λ (input : StreamInput S K). input.faults) inputs)
+    (sinks_for count sinks) are (sinks_alike count sinks))
+
+module _ {K : Type 0} (written : K → Option (List ℕ)) (failures : K → ℕ) where
+  -- a sink is new, if there is one
+  abbrev NewIfThere : Option K → Type 0
+  NewIfThere sink = IfSome sink (IsNewSink written failures)
+
+  none_new : (count : ℕ) → All NewIfThere (sinks_for count [])
+  none_new count = All-replicate NewIfThere count None tt
+
+  sinks_new : (count : ℕ) (sinks : List K) → All (IsNewSink written failures) sinks →
+      All NewIfThere (sinks_for count sinks)
+  sinks_new count [] new = none_new count
+  sinks_new count (k ∷ ks) new =
+      All-map NewIfThere (λ (sink : K). Some sink) (k ∷ ks) new
+
+  pub inputs_new : {S : Type 0} (left : S → Option (List ℕ)) (faults : S → ℕ) (cap : ℕ)
+      (inputs : List (StreamInput S K)) (readers : List (ReaderState S)) (sinks : List K) →
+      map (λ (input : StreamInput S K). input.reader) inputs ≡ readers →
+      map (λ (input : StreamInput S K). input.faults) inputs ≡ sinks_for (length readers) sinks →
+      All (IsNewReader cap left faults) readers → All (IsNewSink written failures) sinks →
+      All (IsNewInput cap left faults written failures) inputs
+  inputs_new {S} left faults cap inputs readers sinks readers_are faults_are new_readers new_sinks =
+      let IsNew = IsNewReader cap left faults in
+      let one = all_from_map IsNew (λ (input : StreamInput S K). input.reader) inputs
+      (All-same IsNew (map (λ (input : StreamInput S K). input.reader) inputs) readers readers_are
+      new_readers) in
+      let other = all_from_map NewIfThere (λ (input : StreamInput S K). input.faults) inputs
+      (All-same NewIfThere (map (λ (input : StreamInput S K). input.faults) inputs)
+      (sinks_for (length readers) sinks) faults_are (sinks_new (length readers) sinks new_sinks)) in
+      λ place input below. (one place input below, other place input below)
+
+-- ---- the engine and the sessions
 
 module _ {S A K : Type 0} (left : S → Option (List ℕ)) (faults : S → ℕ)
     (asks_left : A → Option (List ℕ)) (asks_faults : A → ℕ) (written : K → Option (List ℕ))

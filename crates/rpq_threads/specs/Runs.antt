@@ -7,9 +7,10 @@ use Rattle.std.specs.Global.{Vec}
 use Rattle.rpq_base.specs.declared.data.Entry.{Entry}
 use Rattle.rpq_base.specs.Plain.{IsPlain}
 use Rattle.rpq_io.specs.Counts.{CountsFault}
+use Rattle.rpq_io.specs.Files.{IsNewSink}
 use Rattle.rpq_io.specs.Reader.{ReaderState}
 use Rattle.rpq_model.specs.Query.{Query}
-use Rattle.rpq_words.specs.Modes.{IsWithin}
+use Rattle.rpq_words.specs.Modes.{IsCap, IsWithin}
 use Rattle.rpq_text.specs.Definitions.{definitions_of}
 use Rattle.entry_steps.specs.Steps.{OptionsValue, HaveSoundJoins}
 use Rattle.rpq_text.specs.Text.{IsText}
@@ -17,7 +18,8 @@ use Rattle.turn_lock.specs.Lines.{StartsWith}
 use Rattle.history_model.specs.declared.line.Why.{Why}
 use Rattle.history_model.specs.declared.line.Why.TheVariants.{Write, Memory}
 use Rattle.stream_tuples.specs.declared.ends.StreamEnd.TheVariants.{Closed}
-use Rattle.stream_tuples.specs.History.{IsNumberOf, AreStreamsOf}
+use Rattle.stream_tuples.specs.History.{IsNumberOf, AreStreamsOf, AreReportedOf}
+use Rattle.stream_tuples.specs.History.{policy_of_sinks}
 use Rattle.stream_tuples.specs.Progress.{IsNewReader}
 use Rattle.ask_text.specs.declared.ask.Ask.{Ask}
 use Rattle.ask_text.specs.Answered.{AnsweredValue}
@@ -38,21 +40,18 @@ use Rattle.rpq_threads.specs.Written.{Grew, GrewByPrefix, GrewByProperPrefix}
 use Rattle.rpq_threads.specs.Told.{TellsObjects}
 use Rattle.rpq_threads.specs.Window.{IsWindowFor}
 
--- how many entries a history may have: from 1 to 2,000,000, or as many as 2^61, where it forgets
--- them
-abbrev pub IsLimit : ℕ → Type 0
-IsLimit limit = IsWithin 2000000 limit ⊎ (limit ≡ 2 ^ 61)
-
 -- what is given to the threads of a run: queries, understood; new readers of from 1 to 64 streams;
--- at most 64 sessions about the queries, and at most 64 new readers of asks; how many entries the
--- history may have; and at most 32 joins over the queries. Where edges may be taken backwards,
--- nobody asks, and no paths are told
-pub record IsTask {S A K : Type 0} (left : S → Option (List ℕ)) (faults : S → ℕ)
+-- a new sink for the faulty lines of each stream, or none at all; at most 64 sessions about the
+-- queries, and at most 64 new readers of asks; how many entries the history may have; and at most
+-- 32 joins over the queries. Where edges may be taken backwards, nobody asks, and no paths are told
+pub record IsTask {S A K : Type 0} (left : S → Option (List ℕ)) (read_faults : S → ℕ)
     (asks_left : A → Option (List ℕ)) (asks_faults : A → ℕ) (written : K → Option (List ℕ))
     (failures : K → ℕ) (task : Task S A K) : Type 0 where
   pub understood : AreUnderstood task.queries.items
   pub streams : IsWithin 64 (length task.readers.items)
-  pub fresh : All (IsNewReader task.limit left faults) task.readers.items
+  pub fresh : All (IsNewReader task.limit left read_faults) task.readers.items
+  pub faults : (task.faults.items ≡ []) ⊎ (length task.faults.items ≡ length task.readers.items)
+  pub new_faults : All (IsNewSink written failures) task.faults.items
   pub few : length task.sessions.items ≤ 64
   pub sessions : All (IsSession (length task.queries.items)) task.sessions.items
   pub few_readers : length task.ask_readers.items ≤ 64
@@ -61,7 +60,7 @@ pub record IsTask {S A K : Type 0} (left : S → Option (List ℕ)) (faults : S 
   pub unasked : task.options.two_way ≡ true →
       (task.sessions.items ≡ []) × (task.ask_readers.items ≡ [])
   pub forwards : task.options.paths ≡ true → task.options.two_way ≡ false
-  pub limit : IsLimit task.limit
+  pub limit : IsCap task.limit
   pub few_joins : length task.options.joins ≤ 32
   pub sound : HaveSoundJoins (length task.queries.items) task.options
 
@@ -156,18 +155,26 @@ pub record HasAnswered {S A K O : Type 0} (left : A → Option (List ℕ)) (faul
   pub closed : (why : Why) → Contains (reader_ends outcome) (reader_end.Closed why) →
       outcome.why ≡ Some why
 
+-- what the files hold that the streams are read from
+abbrev pub stream_files : {S A K : Type 0} → (S → Option (List ℕ)) → Task S A K →
+    List (Option (List ℕ))
+stream_files {S} left task = map (λ (reader : ReaderState S). left reader.source) task.readers.items
+
 -- what the threads of a run give, over what they were given: one history, in which each stream's
--- tuples stand up to the stream's end, and nothing else does, and whose labels point forwards; its
--- text, written; the answers of the sessions and of the readers; and the objects, which were told
--- of its events. No entry of a limited history is gone, and what is left of another serves as it
--- does
+-- tuples stand up to the stream's end, and nothing else does, and whose labels point forwards; the
+-- faulty lines of the streams, each told on its own stream's sink, if there are sinks for them; the
+-- history's text, written; the answers of the sessions and of the readers; and the objects, which
+-- were told of its events. No entry of a limited history is gone, and what is left of another
+-- serves as it does
 pub record Holds {S A K O : Type 0} (left : S → Option (List ℕ)) (faults : S → ℕ)
     (asks_left : A → Option (List ℕ)) (asks_faults : A → ℕ) (written : K → Option (List ℕ))
     (failures : K → ℕ) (seen : O → ObjectValue) (task : Task S A K) (events_old events_new : K)
     (circle : Parts O) (outcome : RunOutcome S A K O) : Type 0 where
-  pub streams : AreStreamsOf left faults task.limit
-      (map (λ (reader : ReaderState S). left reader.source) task.readers.items)
-      outcome.sources.items outcome.history.items outcome.ends.items
+  pub streams : AreStreamsOf (policy_of_sinks task.faults.items) left faults task.limit
+      (stream_files left task) outcome.sources.items outcome.history.items outcome.ends.items
+  pub reported : AreReportedOf (policy_of_sinks task.faults.items) left written failures task.limit
+      (stream_files left task) outcome.sources.items outcome.faults.items outcome.history.items
+      outcome.ends.items
   pub closed : (why : Why) → Contains outcome.ends.items (Closed why) → outcome.why ≡ Some why
   pub numbers : All (λ (entry : Entry). IsNumberOf (length task.readers.items) entry.stream)
       outcome.history.items

@@ -4,7 +4,6 @@ use Rattle.std.specs.Prelude.{◌≡◌, ℕ, ◌+◌, ◌≤◌, Bool, List, []
 use Rattle.std.specs.Global.{Vec}
 use Rattle.std.specs.List.{list_any}
 use Rattle.std.specs.Vec.{vec_capacity}
-use Rattle.rpq_io.specs.Reader.{ReaderState}
 use Rattle.rpq_base.specs.declared.data.Entry.{Entry}
 use Rattle.rpq_model.specs.Query.{Query}
 use Rattle.rpq_text.specs.Definitions.{definitions_of}
@@ -16,7 +15,6 @@ use Rattle.history_model.specs.declared.line.Line.{Line}
 use Rattle.history_model.specs.World.{Terms}
 use Rattle.stream_history.specs.History.{HistoryValue, passes_for}
 use Rattle.stream_tuples.specs.declared.ends.StreamEnd.{StreamEnd}
-use Rattle.stream_tuples.specs.Progress.{IsNewReader}
 use Rattle.ask_text.specs.declared.ask.Ask.{Ask}
 use Rattle.ask_text.specs.Answered.{AnsweredValue}
 use Rattle.ask_text.specs.Ranges.{IsInRange}
@@ -27,7 +25,9 @@ use Rattle.standing.specs.Objects.{ObjectValue}
 use Rattle.standing.specs.Circles.{CircleValue, Parts, as_seen}
 use Rattle.stream_threads.specs.declared.reader_work.ReaderWork.{ReaderWork}
 use Rattle.stream_threads.specs.declared.session_work.SessionWork.{SessionWork}
+use Rattle.stream_threads.specs.declared.stream_input.StreamInput.{StreamInput}
 use Rattle.stream_threads.specs.declared.stream_worker.StreamResult.{StreamResult}
+use Rattle.stream_threads.specs.Inputs.{IsNewInput, sinks_for}
 use Rattle.stream_threads.specs.Started.{HaveStreamed, new_pass}
 use Rattle.stream_threads.specs.Live.{AreNewReaderWorks, HaveServed}
 use Rattle.stream_threads.specs.Readers.{HaveReplied}
@@ -50,11 +50,13 @@ pub record HasRoomFor {S A K : Type 0} (streams sessions readers : ℕ)
   pub no_passes : gathered.passes.items ≡ []
   pub no_sources : gathered.sources.items ≡ []
   pub no_ends : gathered.ends.items ≡ []
+  pub no_faults : gathered.faults.items ≡ []
   pub no_answers : gathered.answers.items ≡ []
   pub no_outcomes : gathered.readers.items ≡ []
   pub passes : 1 + streams + sessions + readers ≤ vec_capacity gathered.passes
   pub sources : streams ≤ vec_capacity gathered.sources
   pub ends : streams ≤ vec_capacity gathered.ends
+  pub faults : streams ≤ vec_capacity gathered.faults
   pub answers : sessions ≤ vec_capacity gathered.answers
   pub outcomes : readers ≤ vec_capacity gathered.readers
 
@@ -73,8 +75,9 @@ pub record HasRoom {S A K : Type 0} (streams sessions readers : ℕ) (room : Res
   pub gathered : HasRoomFor streams sessions readers room.gathered
 
 -- what the threads of a run work with: the queries of the history, at most 64, all new passes, an
--- engine at its start, as many new readers of streams as the history has streams, as many sessions
--- and new readers of asks as it has readers, and room
+-- engine at its start, as many new readers of streams as the history has streams, each with its new
+-- sink of faulty lines or all without one, as many sessions and new readers of asks as it has
+-- readers, and room
 pub record IsJob {S A K : Type 0} (left : S → Option (List ℕ)) (faults : S → ℕ)
     (asks_left : A → Option (List ℕ)) (asks_faults : A → ℕ) (written : K → Option (List ℕ))
     (failures : K → ℕ) (history : HistoryValue) (definitions : List Query) (job : Job S A K)
@@ -84,8 +87,8 @@ pub record IsJob {S A K : Type 0} (left : S → Option (List ℕ)) (faults : S �
   pub passes : job.passes.items ≡ newcomers history.turns.id history.terms history.turns.passes
   pub count : history.turns.passes ≡ passes_for history.terms history.readers
   pub fed : IsFed history job.evaluator (new_pass history 0)
-  pub streams : length job.readers.items ≡ history.terms.streams
-  pub fresh : All (IsNewReader history.terms.cap left faults) job.readers.items
+  pub streams : length job.inputs.items ≡ history.terms.streams
+  pub fresh : All (IsNewInput history.terms.cap left faults written failures) job.inputs.items
   pub readers : length job.sessions.items + length job.ask_readers.items ≡ history.readers
   pub few : length job.sessions.items ≤ 64
   pub few_readers : length job.ask_readers.items ≤ 64
@@ -114,7 +117,8 @@ pub record AreReady {A K : Type 0} (asks_left : A → Option (List ℕ)) (asks_f
   pub start : IsAtStart history definitions evaluator pass circle
 
 -- what was made for a run: a history of its queries and streams, which takes so many entries, and
--- what its threads work with, among this the readers and the sessions that were given
+-- what its threads work with, among this the readers, the sinks of faulty lines and the sessions
+-- that were given
 pub record IsBegun {S A K : Type 0} (left : S → Option (List ℕ)) (faults : S → ℕ)
     (asks_left : A → Option (List ℕ)) (asks_faults : A → ℕ) (written : K → Option (List ℕ))
     (failures : K → ℕ) (task : Task S A K) (begun : NewRun S A K) : Type 0 where
@@ -126,7 +130,10 @@ pub record IsBegun {S A K : Type 0} (left : S → Option (List ℕ)) (faults : S
   pub job : IsJob left faults asks_left asks_faults written failures begun.history
       begun.definitions.value.items begun.job
   pub options : begun.job.evaluator.options ≡ task.options
-  pub readers : begun.job.readers.items ≡ task.readers.items
+  pub readers : map (λ (input : StreamInput S K). input.reader) begun.job.inputs.items
+      ≡ task.readers.items
+  pub faults_are : map (λ (input : StreamInput S K). input.faults) begun.job.inputs.items
+      ≡ sinks_for (length task.readers.items) task.faults.items
   pub sessions : begun.job.sessions.items ≡ task.sessions.items
   pub ask_readers : begun.job.ask_readers.items ≡ task.ask_readers.items
 
@@ -134,7 +141,7 @@ pub record IsBegun {S A K : Type 0} (left : S → Option (List ℕ)) (faults : S
 -- the events before it, and the objects
 pub record Given (S A K : Type 0) : Type 0 where
   pub options : OptionsValue
-  pub readers : List (ReaderState S)
+  pub inputs : List (StreamInput S K)
   pub sessions : List (List Ask)
   pub ask_readers : List (AskReader A K)
   pub events : K
@@ -144,6 +151,7 @@ pub record Given (S A K : Type 0) : Type 0 where
 pub record Gave (S A K : Type 0) : Type 0 where
   pub sources : List S
   pub ends : List StreamEnd
+  pub faults : List (Option K)
   pub answers : List (List AnsweredValue)
   pub readers : List (ReaderOutcome A K)
   pub why : Option Why
@@ -156,7 +164,7 @@ pub record Gave (S A K : Type 0) : Type 0 where
 abbrev pub given_by : {S A K : Type 0} → Job S A K → K → CircleValue → Given S A K
 given_by job events circle = record {
   options = job.evaluator.options;
-  readers = job.readers.items;
+  inputs = job.inputs.items;
   sessions = job.sessions.items;
   ask_readers = job.ask_readers.items;
   events = events;
@@ -168,6 +176,7 @@ abbrev pub gave_by : {S A K O : Type 0} → (O → ObjectValue) → JobResult S 
 gave_by seen served = record {
   sources = served.gathered.sources.items;
   ends = served.gathered.ends.items;
+  faults = served.gathered.faults.items;
   answers = map (λ (own : Vec AnsweredValue). own.items) served.gathered.answers.items;
   readers = served.gathered.readers.items;
   why = served.why;
@@ -191,11 +200,11 @@ pub record IsServed {S A K : Type 0} (left : S → Option (List ℕ)) (faults : 
     (asks_left : A → Option (List ℕ)) (asks_faults : A → ℕ) (written : K → Option (List ℕ))
     (failures : K → ℕ) (history : HistoryValue) (given : Given S A K) (gave : Gave S A K)
     (passes : List (PassValue Line Terms)) : Type 0 where
-  pub streamed : List (StreamResult S)
+  pub streamed : List (StreamResult S K)
   pub replied : List SessionWork
   pub served : List (ReaderWork A K)
   pub engine : PassValue Line Terms
-  pub did : HaveStreamed left faults history 1 given.readers streamed
+  pub did : HaveStreamed left faults written failures history 1 given.inputs streamed
   pub answered_all : HaveReplied history (1 + history.terms.streams) given.sessions replied
   pub served_all : HaveServed asks_left asks_faults written failures history
       (1 + history.terms.streams + length given.sessions)
@@ -206,6 +215,7 @@ pub record IsServed {S A K : Type 0} (left : S → Option (List ℕ)) (faults : 
       ∷ (map (λ d. d.pass) streamed ++ (map (λ r. r.pass) replied ++ map (λ r. r.pass) served))
   pub sources_are : gave.sources ≡ map (λ d. d.source) streamed
   pub ends_are : gave.ends ≡ map (λ d. d.end) streamed
+  pub faults_are : gave.faults ≡ map (λ d. d.faults) streamed
   pub answers_are : gave.answers ≡ map (λ r. r.answers.items) replied
   pub readers_are : gave.readers ≡ map outcome_of served
   pub memory_is : gave.short_of_memory ≡ list_any (λ r. r.memory) replied

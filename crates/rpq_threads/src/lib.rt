@@ -4,15 +4,17 @@
 //!
 //! The contract for the layer above is that of [`run_threads`]: whatever the threads do, there is
 //! one history in the end, and all that is told is told of it (`specs/Runs`). Each stream's tuples
-//! stand in it up to the stream's end, and nothing else does; what was written on the events is a
-//! text of it, or a prefix where a write failed or memory ran out; the objects were told of the
-//! events of the blocks that were written whole, and of no other (`specs/Told`); each reply to a
-//! session is the one over the entries up to its position; and so is each that stands on the
-//! replies of a reader, which answer what the bytes of its asks give up to its end.
+//! stand in it up to the stream's end, and nothing else does; where the streams have sinks for
+//! their faulty lines, each was told on the sink of its own stream; what was written on the events
+//! is a text of the history, or a prefix where a write failed or memory ran out; the objects were
+//! told of the events of the blocks that were written whole, and of no other (`specs/Told`); each
+//! reply to a session is the one over the entries up to its position; and so is each that stands on
+//! the replies of a reader, which answer what the bytes of its asks give up to its end.
 //!
-//! A history with [`NO_LIMIT`] forgets the entries that were answered. Then the engine's thread
-//! keeps those that some query may still see ([`RunOutcome`]'s `window`), and the engine is rebuilt
-//! over them from time to time, so that names and edges that nobody sees leave the memory.
+//! A history with [`ENDLESS_CAP`](rpq_words::ENDLESS_CAP) forgets the entries that were answered.
+//! Then the engine's thread keeps those that some query may still see ([`RunOutcome`]'s `window`),
+//! and the engine is rebuilt over them from time to time, so that names and edges that nobody sees
+//! leave the memory.
 //!
 //! The engine's loop is that of `engine_loop`. Here is where its entries come from, which are those
 //! of the history, and what takes the steps that they bring: it writes the block of each entry and
@@ -33,4 +35,4 @@ mod task;
 mod window;
 
 pub use run::run_threads;
-pub use task::{NO_LIMIT, RunOutcome, Task};
+pub use task::{RunOutcome, Task};

@@ -19,7 +19,7 @@ use std::random::RandomSource;
 use std::sync::{Arc, Wait};
 use std::thread::Threads;
 use stream_history::{History, first_view};
-use stream_threads::RunParts;
+use stream_threads::{RunParts, stream_inputs};
 
 /// The most entries by which a published view may stay behind the engine.
 const MOST_LAG: u64 = 4_096;
@@ -81,6 +81,7 @@ where
         window,
         ends: gathered.ends,
         sources: gathered.sources,
+        faults: gathered.faults,
         sessions: gathered.answers,
         readers: gathered.readers,
         why,
@@ -97,7 +98,7 @@ fn take_back<T>(x: &mut T)
 
 /// A history, the definitions of its queries, and what its threads work with.
 #[derive(Drop)]
-pub struct NewRun<S: Source, A: Source, K> {
+pub struct NewRun<S: Source, A: Source, K: Sink> {
     pub history: History,
     pub definitions: Arc<Vec<QueryDef>>,
     pub job: Job<S, A, K>,
@@ -119,6 +120,7 @@ fn begin<R: RandomSource, G: Gate, S: Source + Drop, A: Source + Drop, K: Sink +
         workers,
         limit,
         readers,
+        faults,
         sessions,
         ask_readers,
     } = task;
@@ -133,10 +135,11 @@ fn begin<R: RandomSource, G: Gate, S: Source + Drop, A: Source + Drop, K: Sink +
     let lag = view_lag(sessions.len(), ask_readers.len());
     let (history, passes) = History::new(alloc, given, streams, asking, lag, limit, first)?;
     let room = ResultRoom::new(alloc, readers.len(), sessions.len(), ask_readers.len())?;
+    let inputs = stream_inputs(alloc, readers, faults)?;
     let job = Job {
         passes,
         evaluator,
-        readers,
+        inputs,
         sessions,
         ask_readers,
         room,

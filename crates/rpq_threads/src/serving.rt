@@ -17,22 +17,22 @@ use entry_steps::Evaluator;
 use history_model::Why;
 use live_asks::AskReader;
 use rpq_base::Entry;
-use rpq_io::{Gate, LineReader, Sink, Source};
+use rpq_io::{Gate, Sink, Source};
 use standing::{Circle, Standing};
 use std::sync::Wait;
 use std::thread::{Scope, Threads, scope, scope_env};
 use stream_history::Pass;
 use stream_threads::{
-    ReaderWork, RunParts, SessionWork, StreamResult, beside_readers, beside_sessions, join_streams,
-    reader_works, session_works, start_streams,
+    ReaderWork, RunParts, SessionWork, StreamInput, StreamResult, beside_readers, beside_sessions,
+    join_streams, reader_works, session_works, start_streams,
 };
 
 /// What the threads of a run work with.
 #[derive(Drop)]
-pub struct Job<S: Source, A: Source, K> {
+pub struct Job<S: Source, A: Source, K: Sink> {
     pub passes: Vec<Pass>,
     pub evaluator: Evaluator,
-    pub readers: Vec<LineReader<S>>,
+    pub inputs: Vec<StreamInput<S, K>>,
     pub sessions: Vec<Session>,
     pub ask_readers: Vec<AskReader<A, K>>,
     pub room: ResultRoom<S, A, K>,
@@ -93,7 +93,7 @@ fn serve_within<'s, 'e, 'a, S, A, K, O: Standing, G: Gate, R: Threads + Wait + S
 where
     S: Source + Send + Drop + 's,
     A: Source + Send + Drop,
-    K: Sink + Send + Drop,
+    K: Sink + Send + Drop + 's,
     requires { IsWork S.left S.faults A.left A.faults K.written K.faults
         shared.now.history.now shared.now.queries.now job circle }
     ensures served { IsServed S.left S.faults A.left A.faults K.written K.faults
@@ -104,7 +104,7 @@ where
     let Job {
         passes,
         evaluator,
-        readers,
+        inputs,
         sessions,
         ask_readers,
         room,
@@ -120,7 +120,7 @@ where
     let Some(pass) = given.next() else {
         unreachable!()
     };
-    let started = start_streams(scope, shared, &mut given, readers, started);
+    let started = start_streams(scope, shared, &mut given, inputs, started);
     let works = session_works(
         shared.context.alloc,
         shared.history,
@@ -228,7 +228,7 @@ where
 /// Puts what the engine and the workers gave together.
 fn gather<'a, S: Source + Drop, A: Source + Drop, K: Sink + Drop, O: Standing>(
     engine: EngineWork<'a, K, O>,
-    streamed: Vec<StreamResult<S>>,
+    streamed: Vec<StreamResult<S, K>>,
     replied: Vec<SessionWork>,
     served: Vec<ReaderWork<A, K>>,
     mut gathered: ThreadResults<S, A, K>,
@@ -238,7 +238,8 @@ fn gather<'a, S: Source + Drop, A: Source + Drop, K: Sink + Drop, O: Standing>(
         ≡ engine.entry.pass ∷ (map (λ d. d.pass) streamed.items
         ++ (map (λ r. r.pass) replied.items ++ map (λ r. r.pass) served.items)) }
     ensures streams { (result.gathered.sources.items ≡ map (λ d. d.source) streamed.items)
-        × (result.gathered.ends.items ≡ map (λ d. d.end) streamed.items) }
+        × (result.gathered.ends.items ≡ map (λ d. d.end) streamed.items)
+        × (result.gathered.faults.items ≡ map (λ d. d.faults) streamed.items) }
     ensures answers { (result.gathered.answers.items ≡ map (λ r. r.answers) replied.items)
         × (result.short_of_memory ≡ list_any (λ r. r.memory) replied.items) }
     ensures readers { result.gathered.readers.items ≡ map outcome_of served.items }

@@ -8,12 +8,9 @@ use live_asks::{AskReader, ReaderOutcome};
 use query_file::Compiled;
 use rpq_base::{Entry, Workers};
 use rpq_io::{LineReader, Source};
+use rpq_words::ENDLESS_CAP;
 use standing::Circle;
 use stream_tuples::StreamEnd;
-
-/// The limit of a history that goes on as long as the streams do, and forgets what was answered:
-/// 2^61 entries.
-pub const NO_LIMIT: u64 = 1 << 61;
 
 /// What the threads of a run are given: the sources of streams and those of asks may be of two
 /// types.
@@ -25,11 +22,14 @@ pub struct Task<S: Source, A: Source, K> {
     pub options: Options,
     /// How many workers the engine has.
     pub workers: Workers,
-    /// How many entries the history may have: 1 to 2,000,000, or [`NO_LIMIT`] for a run that goes
-    /// on as long as its streams do.
+    /// How many entries the history may have: 1 to 2,000,000, or [`ENDLESS_CAP`] for a run that
+    /// goes on as long as its streams do.
     pub limit: u64,
     /// The streams, the first of which has the number 1.
     pub readers: Vec<LineReader<S>>,
+    /// Where the faulty lines of each stream go, in the order of the streams: one for each, or
+    /// none, and then a faulty line ends its stream.
+    pub faults: Vec<K>,
     /// What is asked while the streams are read.
     pub sessions: Vec<Session>,
     /// Those who ask beside the streams, each with its replies. The first has the number 1.
@@ -48,6 +48,8 @@ pub struct RunOutcome<S, A, K, O> {
     pub ends: Vec<StreamEnd>,
     /// The source of each stream.
     pub sources: Vec<S>,
+    /// The sink of each stream's faulty lines, if it has one.
+    pub faults: Vec<Option<K>>,
     /// For each session its answered asks.
     pub sessions: Vec<Vec<Answered>>,
     /// How each reader ended, with its source and its replies.

@@ -4,17 +4,17 @@ use Rattle.clap.proofs.OnLiterals.{clap_on_literals}
 use Rattle.text_parts.specs.Numbers.{number_within}
 use Rattle.rpq_words.specs.Command.{found_in, is_taken, rpq_command}
 use Rattle.rpq_words.specs.Examples.{EndlessExamples, JoinsExamples, PathsExamples}
-use Rattle.rpq_words.specs.Examples.{ReaderExamples, SavedExamples}
+use Rattle.rpq_words.specs.Examples.{FaultFileExamples, ReaderExamples, SavedExamples}
 use Rattle.rpq_words.specs.Examples.{SettingsExamples, TwoWayExamples}
 use Rattle.rpq_words.specs.Found.{number_from_one, optional_number, paired, words_found}
-use Rattle.rpq_words.specs.Settings.{asked_from, forwards_from, input_from, mode_from, names_from}
-use Rattle.rpq_words.specs.Settings.{readers_from, settings, settings_from, settled, shown_from}
+use Rattle.rpq_words.specs.Settings.{asked_from, faults_from, forwards_from, input_from, mode_from}
+use Rattle.rpq_words.specs.Settings.{names_from, readers_from, settings, settings_from, settled, shown_from}
 use Rattle.rpq_words.specs.Settings.{streams_from}
 
 saved_examples : SavedExamples
 unfolding clap_on_literals number_within found_in is_taken rpq_command number_from_one
-    optional_number paired words_found asked_from forwards_from input_from mode_from names_from
-    readers_from settings settings_from settled shown_from streams_from
+    optional_number paired words_found asked_from faults_from forwards_from input_from mode_from
+    names_from readers_from settings settings_from settled shown_from streams_from
 saved_examples = record {
   saved = refl;
   begun = refl;
@@ -29,8 +29,8 @@ saved_examples = record {
 
 two_way_examples : TwoWayExamples
 unfolding clap_on_literals number_within found_in is_taken rpq_command number_from_one
-    optional_number paired words_found asked_from forwards_from input_from mode_from names_from
-    readers_from settings settings_from settled shown_from streams_from
+    optional_number paired words_found asked_from faults_from forwards_from input_from mode_from
+    names_from readers_from settings settings_from settled shown_from streams_from
 two_way_examples = record {
   over_stream = refl;
   checked = refl;
@@ -43,8 +43,8 @@ two_way_examples = record {
 
 paths_examples : PathsExamples
 unfolding clap_on_literals number_within found_in is_taken rpq_command number_from_one
-    optional_number paired words_found asked_from forwards_from input_from mode_from names_from
-    readers_from settings settings_from settled shown_from streams_from
+    optional_number paired words_found asked_from faults_from forwards_from input_from mode_from
+    names_from readers_from settings settings_from settled shown_from streams_from
 paths_examples = record {
   over_stream = refl;
   checked = refl;
@@ -54,8 +54,8 @@ paths_examples = record {
 
 joins_examples : JoinsExamples
 unfolding clap_on_literals number_within found_in is_taken rpq_command number_from_one
-    optional_number paired words_found asked_from forwards_from input_from mode_from names_from
-    readers_from settings settings_from settled shown_from streams_from
+    optional_number paired words_found asked_from faults_from forwards_from input_from mode_from
+    names_from readers_from settings settings_from settled shown_from streams_from
 joins_examples = record {
   over_stream = refl;
   all_files = refl;
@@ -68,8 +68,8 @@ joins_examples = record {
 
 endless_examples : EndlessExamples
 unfolding clap_on_literals number_within found_in is_taken rpq_command number_from_one
-    optional_number paired words_found asked_from forwards_from input_from mode_from names_from
-    readers_from settings settings_from settled shown_from streams_from
+    optional_number paired words_found asked_from faults_from forwards_from input_from mode_from
+    names_from readers_from settings settings_from settled shown_from streams_from
 endless_examples = record {
   over_stream = refl;
   all_files = refl;
@@ -83,8 +83,8 @@ endless_examples = record {
 
 reader_examples : ReaderExamples
 unfolding clap_on_literals number_within found_in is_taken rpq_command number_from_one
-    optional_number paired words_found asked_from forwards_from input_from mode_from names_from
-    readers_from settings settings_from settled shown_from streams_from
+    optional_number paired words_found asked_from faults_from forwards_from input_from mode_from
+    names_from readers_from settings settings_from settled shown_from streams_from
 reader_examples = record {
   two = refl;
   behind = refl;
@@ -99,10 +99,30 @@ reader_examples = record {
   backwards = refl;
 }
 
+fault_file_examples : FaultFileExamples
+unfolding clap_on_literals number_within found_in is_taken rpq_command number_from_one
+    optional_number paired words_found asked_from faults_from forwards_from input_from mode_from
+    names_from readers_from settings settings_from settled shown_from streams_from
+fault_file_examples = record {
+  one = refl;
+  two = refl;
+  without_end = refl;
+  backwards = refl;
+  all_files = refl;
+  too_few = refl;
+  too_many = refl;
+  few_backwards = refl;
+  no_stream = refl;
+  checked = refl;
+  made = refl;
+  alone = refl;
+  hyphen = refl;
+}
+
 pub examples : SettingsExamples
 unfolding clap_on_literals number_within found_in is_taken rpq_command number_from_one
-    optional_number paired words_found asked_from forwards_from input_from mode_from names_from
-    readers_from settings settings_from settled shown_from streams_from
+    optional_number paired words_found asked_from faults_from forwards_from input_from mode_from
+    names_from readers_from settings settings_from settled shown_from streams_from
 examples = record {
   defaults = refl;
   between = refl;
@@ -130,4 +150,5 @@ examples = record {
   joins = joins_examples;
   without_end = endless_examples;
   readers = reader_examples;
+  faults = fault_file_examples;
 }

@@ -1,10 +1,10 @@
 -- The settings of words are in their ranges.
-use Rattle.std.proofs.Common.{arith, ◌≡◌, ◌≢◌, ◌∙◌, ap, sym, refl, subst, inl, inr, ℕ, ◌≤◌}
+use Rattle.std.proofs.Common.{arith, ◌≡◌, ◌≢◌, ◌∙◌, ap, sym, refl, subst, inl, inr, ◌⊎◌, ℕ, ◌≤◌}
 use Rattle.std.proofs.Common.{Bool, true, false, List, [], ◌∷◌, codes, length}
 use Rattle.std.specs.Prelude.{◌&&◌, ◌||◌, ◌==◌, not, nat_le, nat_lt, if◌then◌else◌}
 use Rattle.std.specs.Prelude.{is_some, IfSome}
 use Rattle.std.specs.Prelude.{Option, Some, None, option_map, unwrap_or}
-use Rattle.std.proofs.lemmas.Bool.{leb-true, ltb-false, iff_false}
+use Rattle.std.proofs.lemmas.Bool.{eqb-true, leb-true, ltb-false, iff_false}
 use Rattle.std.proofs.lemmas.Slice.Eq.{bytes_eq-Decides}
 use Rattle.clap.specs.Walk.{Row, Text, all_of, first_of, is_empty}
 use Rattle.clap.proofs.WalkLemmas.{both}
@@ -19,7 +19,7 @@ use Rattle.rpq_words.specs.declared.settings.StreamSettings.TheVariants.{Forward
 use Rattle.rpq_words.specs.declared.settings.ForwardSettings.{ForwardSettings}
 use Rattle.rpq_words.specs.declared.settings.Input.{Input}
 use Rattle.rpq_words.specs.declared.settings.Input.TheVariants.{Fresh, Resumed}
-use Rattle.rpq_words.specs.Clash.{clash, is_one_alone, is_same_file}
+use Rattle.rpq_words.specs.Clash.{clash, is_one_alone, is_one_each, is_same_file}
 use Rattle.rpq_words.specs.Command.{found_in, is_taken}
 use Rattle.rpq_words.specs.Found.{has_flag, number_from_one, optional_number, paired, words_found}
 use Rattle.rpq_words.specs.Modes.{AreSettings, IsCap, IsInput, IsMode, IsWithin}
@@ -27,9 +27,10 @@ use Rattle.rpq_words.specs.Modes.{WordsAreSettings, history_in, words_of}
 use Rattle.rpq_words.specs.Options.{◌>>=◌, only_if}
 use Rattle.rpq_words.specs.declared.settings.Settings.{Settings}
 use Rattle.rpq_words.specs.Settings.{settings, settings_from, settled}
-use Rattle.rpq_words.specs.Views.{asks_in, cap_in, cap_of, forwards_in, from_in, has_paths}
+use Rattle.rpq_words.specs.Views.{asks_in, cap_in, cap_of, faults_in, forwards_in, from_in, has_paths}
 use Rattle.rpq_words.specs.Views.{is_endless_in, joins_in, mode_in, names_in, readers_in, replies_in}
-use Rattle.rpq_words.proofs.Arranging.{settings_are_found}
+use Rattle.rpq_words.specs.Views.{streams_in}
+use Rattle.rpq_words.proofs.Arranging.{settings_are_found, some_there}
 
 -- ---- numbers in their ranges
 
@@ -129,6 +130,7 @@ found_in_range rows found is =
         save = first_of (codes "save") rows;
         from = first_of (codes "from") rows;
         readers = readers;
+        faults = unwrap_or (all_of (codes "faults") rows) [];
         streams = unwrap_or (all_of (codes "streams") rows) [];
       };
     })
@@ -154,6 +156,14 @@ second_fails true b is = absurd cc
 first_fails : (a b : Bool) → (a || b) ≡ false → a ≡ false
 first_fails false b is = refl
 first_fails true b is = absurd cc
+
+passes : (test : Bool) → not test ≡ false → test ≡ true
+passes true is = refl
+passes false is = absurd cc
+
+passes_second : (a b : Bool) → a ≡ false → (a || b) ≡ true → b ≡ true
+passes_second false b not_first is = is
+passes_second true b not_first is = absurd cc
 
 fails : (test : Bool) → not test ≡ true → test ≡ false
 fails false is = refl
@@ -185,12 +195,16 @@ input_is : (save : Option Text) (input : Input)
 input_is save (Fresh streams) is = within_by streams _ is
 input_is save (Resumed from stream) is = another_file save from is
 
--- what doesn't clash behind what is asked and shown
-abbrev behind_clashes : ForwardSettings → Bool
-behind_clashes run = nat_lt 64 (length run.readers) || (is_empty (names_in run.input)
-    || (nat_lt 64 (length (names_in run.input))
+-- what doesn't clash behind the readers
+abbrev files_clash : ForwardSettings → Bool
+files_clash run = not (is_one_each run.faults (names_in run.input))
+    || (is_empty (names_in run.input) || (nat_lt 64 (length (names_in run.input))
     || ((is_some (from_in run.input) && not (length (names_in run.input) == 1))
     || is_same_file run.save (from_in run.input))))
+
+-- and behind what is asked and shown
+abbrev behind_clashes : ForwardSettings → Bool
+behind_clashes run = nat_lt 64 (length run.readers) || files_clash run
 
 behind_shown : (given : Settings) (run : ForwardSettings)
     → clash (words_of (record given { extent = Endless (Forwards run) })) ≡ false
@@ -200,12 +214,17 @@ behind_shown given run agrees =
     second_fails (has_paths run.shown && is_some (joins_in run.shown)) _
     (second_fails (is_one_alone (asks_in run.asked) (replies_in run.asked)) _ agrees)
 
+behind_readers : (run : ForwardSettings) → behind_clashes run ≡ false → files_clash run ≡ false
+behind_readers run agrees = second_fails (nat_lt 64 (length run.readers)) (files_clash run) agrees
+
 streams_are : (given : Settings) (run : StreamSettings)
     → clash (words_of (record given { extent = Endless run })) ≡ false → IsMode (Streams run)
 unfolding clash
-streams_are given (BothWays streams) agrees = within_by streams _ agrees
+streams_are given (BothWays run) agrees = within_by run.streams _
+    (second_fails (not (is_one_each run.faults run.streams)) _ agrees)
 streams_are given (Forwards run) agrees = input_is run.save run.input
-    (second_fails (nat_lt 64 (length run.readers)) _ (behind_shown given run agrees))
+    (second_fails (not (is_one_each run.faults (names_in run.input))) _
+    (behind_readers run (behind_shown given run agrees)))
 
 mode_is : (given : Settings) (extent : Extent)
     → clash (words_of (record given { extent = extent })) ≡ false
@@ -229,12 +248,37 @@ readers_are : (given : Settings) (extent : Extent)
 unfolding clash
 readers_are given (Capped history (Check directions)) agrees = omega arith
 readers_are given (Capped history (Generate directions count)) agrees = omega arith
-readers_are given (Capped history (Streams (BothWays streams))) agrees = omega arith
+readers_are given (Capped history (Streams (BothWays run))) agrees = omega arith
 readers_are given (Capped history (Streams (Forwards run))) agrees =
     few_readers given run (behind_shown given run agrees)
-readers_are given (Endless (BothWays streams)) agrees = omega arith
+readers_are given (Endless (BothWays run)) agrees = omega arith
 readers_are given (Endless (Forwards run)) agrees =
     few_readers given run (behind_shown given run agrees)
+
+-- there is a file of faulty lines for each stream, or none
+one_each : (faults streams : List Text) → not (is_one_each faults streams) ≡ false
+    → (faults ≡ []) ⊎ (length faults ≡ length streams)
+one_each [] streams agrees = inl refl
+one_each (fault ∷ faults) streams agrees = inr (eqb-true (length (fault ∷ faults)) (length streams)
+    (passes_second (is_empty (fault ∷ faults)) _ (some_there fault faults)
+    (passes (is_one_each (fault ∷ faults) streams) agrees)))
+
+faults_are : (given : Settings) (extent : Extent)
+    → clash (words_of (record given { extent = extent })) ≡ false
+    → (faults_in (mode_in extent) ≡ [])
+    ⊎ (length (faults_in (mode_in extent)) ≡ length (streams_in (mode_in extent)))
+unfolding clash
+faults_are given (Capped history (Check directions)) agrees = inl refl
+faults_are given (Capped history (Generate directions count)) agrees = inl refl
+faults_are given (Capped history (Streams (BothWays run))) agrees =
+    one_each run.faults run.streams (first_fails _ _ agrees)
+faults_are given (Capped history (Streams (Forwards run))) agrees =
+    one_each run.faults (names_in run.input)
+    (first_fails _ _ (behind_readers run (behind_shown given run agrees)))
+faults_are given (Endless (BothWays run)) agrees =
+    one_each run.faults run.streams (first_fails _ _ agrees)
+faults_are given (Endless (Forwards run)) agrees = one_each run.faults (names_in run.input)
+    (first_fails _ _ (behind_readers run (behind_shown given run agrees)))
 
 cap_is : (history : Option ℕ) → IfSome history (IsWithin 2000000)
     → IsWithin 2000000 (unwrap_or history 1000000)
@@ -258,6 +302,7 @@ are_settings found given is ranges =
       cap = capped_is given.extent own.history_in_range;
       mode = mode_is given given.extent agrees own.generate_in;
       readers = readers_are given given.extent agrees;
+      faults = faults_are given given.extent agrees;
     }
 
 -- how many tuples the history of settings may hold

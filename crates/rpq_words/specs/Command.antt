@@ -17,6 +17,10 @@ option_with_two name = record (new_rule name) {
   range = Some (record { start_inclusive = 2; end_inclusive = 2 });
 }
 
+-- an option `--NAME` with one value, which may be given again
+abbrev pub option_again : Text → Rule
+option_again name = record (new_rule name) { long = Some name; action = Some Append }
+
 -- an option that has this value where it isn't given
 abbrev pub option_or : Text → Text → Rule
 option_or name value =
@@ -34,7 +38,7 @@ one_word name = record (new_rule name) { action = Some Set; required = true }
 abbrev pub any_words : Text → Rule
 any_words name = record (new_rule name) { action = Some Append }
 
--- nine options, of which the last has two values, four flags, the word for the queries file, and
+-- ten options, of which `--reader` has two values, four flags, the word for the queries file, and
 -- the words for the streams
 abbrev pub rules : List Rule
 rules =
@@ -51,6 +55,7 @@ rules =
     ∷ option_with_value (codes "from")
     ∷ flag (codes "endless")
     ∷ option_with_two (codes "reader")
+    ∷ option_again (codes "faults")
     ∷ one_word (codes "queries")
     ∷ any_words (codes "streams")
     ∷ []

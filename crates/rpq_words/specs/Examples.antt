@@ -10,6 +10,7 @@ use Rattle.rpq_words.specs.declared.settings.StreamSettings.{StreamSettings}
 use Rattle.rpq_words.specs.declared.settings.StreamSettings.TheVariants.{Forwards as ForwardRun}
 use Rattle.rpq_words.specs.declared.settings.StreamSettings.TheVariants.{BothWays as TwoWayRun}
 use Rattle.rpq_words.specs.declared.settings.ForwardSettings.{ForwardSettings}
+use Rattle.rpq_words.specs.declared.settings.TwoWaySettings.{TwoWaySettings}
 use Rattle.rpq_words.specs.declared.settings.Input.TheVariants.{Fresh, Resumed}
 use Rattle.rpq_words.specs.declared.settings.OutputKind.TheVariants.{Pairs, Paths, Bindings}
 use Rattle.rpq_words.specs.declared.settings.Settings.{Settings}
@@ -27,7 +28,12 @@ over streams = record {
   asked = None;
   readers = [];
   save = None;
+  faults = [];
 }
+
+-- a run over these streams in which edges may be taken backwards, where nothing else is said
+abbrev pub over_both_ways : List Text → TwoWaySettings
+over_both_ways streams = record { streams = streams; faults = [] }
 
 -- a run over the stream `t` behind what the file `f` has, with asks, replies, and a file to save to
 abbrev pub resumed : ForwardSettings
@@ -37,6 +43,7 @@ resumed = record {
   asked = Some (record { asks = codes "a"; replies = codes "r" });
   readers = [];
   save = Some (codes "s");
+  faults = [];
 }
 
 abbrev pub forwards : ForwardSettings → Settings
@@ -73,7 +80,7 @@ pub record SavedExamples : Type 0 where
 -- with asks and replies; with a file to save to; with one to begin with; and the flag given twice.
 pub record TwoWayExamples : Type 0 where
   pub over_stream : settings (codes "rpq" ∷ codes "--two-way" ∷ codes "q" ∷ codes "t" ∷ [])
-      ≡ Some (plain (Streams (TwoWayRun (codes "t" ∷ []))))
+      ≡ Some (plain (Streams (TwoWayRun (over_both_ways (codes "t" ∷ [])))))
   pub checked : settings (codes "rpq" ∷ codes "--check" ∷ codes "--two-way" ∷ codes "q" ∷ [])
       ≡ Some (plain (Check BothWays))
   pub made : settings (codes "rpq" ∷ codes "--generate=5" ∷ codes "--two-way" ∷ codes "q" ∷ [])
@@ -130,7 +137,7 @@ pub record EndlessExamples : Type 0 where
       ∷ codes "--replies=r" ∷ codes "q" ∷ codes "t" ∷ codes "--endless" ∷ [])
       ≡ Some (endless (ForwardRun resumed))
   pub backwards : settings (codes "rpq" ∷ codes "--two-way" ∷ codes "--endless" ∷ codes "q"
-      ∷ codes "t" ∷ []) ≡ Some (endless (TwoWayRun (codes "t" ∷ [])))
+      ∷ codes "t" ∷ []) ≡ Some (endless (TwoWayRun (over_both_ways (codes "t" ∷ []))))
   pub with_history : settings (codes "rpq" ∷ codes "--endless" ∷ codes "--history=1000000"
       ∷ codes "q" ∷ codes "t" ∷ []) ≡ None
   pub checked : settings (codes "rpq" ∷ codes "--check" ∷ codes "--endless" ∷ codes "q" ∷ [])
@@ -187,13 +194,57 @@ pub record ReaderExamples : Type 0 where
   pub backwards : settings (codes "rpq" ∷ codes "--two-way" ∷ codes "--reader" ∷ codes "a"
       ∷ codes "r" ∷ codes "q" ∷ codes "t" ∷ []) ≡ None
 
+-- these words behind a file for faulty lines of each of so many streams
+abbrev pub with_faults : ℕ → List Text → List Text
+with_faults zero words = words
+with_faults (suc more) words = codes "--faults=e" ∷ with_faults more words
+
+-- A file of faulty lines for one stream; one for each of two, also behind these, in a run that goes
+-- on as long as its streams do, and in one in which edges are taken backwards; and one beside asks,
+-- replies, a file to save to, and one to begin with. Refused: one for two streams; two for one; one
+-- for no stream; one in a check and over generated tuples; the option with no word; and one whose
+-- word begins with `-`.
+pub record FaultFileExamples : Type 0 where
+  pub one : settings (codes "rpq" ∷ codes "--faults" ∷ codes "e" ∷ codes "q" ∷ codes "t" ∷ [])
+      ≡ Some (forwards (record (over (codes "t" ∷ [])) { faults = codes "e" ∷ [] }))
+  pub two : settings (codes "rpq" ∷ codes "--faults" ∷ codes "e" ∷ codes "q" ∷ codes "t"
+      ∷ codes "--faults=g" ∷ codes "u" ∷ [])
+      ≡ Some (forwards (record (over (codes "t" ∷ codes "u" ∷ [])) {
+        faults = codes "e" ∷ codes "g" ∷ [];
+      }))
+  pub without_end : settings (codes "rpq" ∷ codes "--endless" ∷ codes "q" ∷ codes "t" ∷ codes "u"
+      ∷ codes "--faults" ∷ codes "e" ∷ codes "--faults" ∷ codes "g" ∷ [])
+      ≡ Some (endless (ForwardRun (record (over (codes "t" ∷ codes "u" ∷ [])) {
+        faults = codes "e" ∷ codes "g" ∷ [];
+      })))
+  pub backwards : settings (codes "rpq" ∷ codes "--two-way" ∷ codes "--faults=e"
+      ∷ codes "--faults=g" ∷ codes "q" ∷ codes "t" ∷ codes "u" ∷ [])
+      ≡ Some (plain (Streams (TwoWayRun (record {
+        streams = codes "t" ∷ codes "u" ∷ [];
+        faults = codes "e" ∷ codes "g" ∷ [];
+      }))))
+  pub all_files : settings (codes "rpq" ∷ codes "--save=s" ∷ codes "--from=f" ∷ codes "--asks=a"
+      ∷ codes "--replies=r" ∷ codes "--faults=e" ∷ codes "q" ∷ codes "t" ∷ [])
+      ≡ Some (forwards (record resumed { faults = codes "e" ∷ [] }))
+  pub too_few : settings (codes "rpq" ∷ with_faults 1 (codes "q" ∷ codes "t" ∷ codes "u" ∷ []))
+      ≡ None
+  pub too_many : settings (codes "rpq" ∷ with_faults 2 (codes "q" ∷ codes "t" ∷ [])) ≡ None
+  pub few_backwards : settings (codes "rpq" ∷ codes "--two-way"
+      ∷ with_faults 1 (codes "q" ∷ codes "t" ∷ codes "u" ∷ [])) ≡ None
+  pub no_stream : settings (codes "rpq" ∷ with_faults 1 (codes "q" ∷ [])) ≡ None
+  pub checked : settings (codes "rpq" ∷ codes "--check" ∷ with_faults 1 (codes "q" ∷ [])) ≡ None
+  pub made : settings (codes "rpq" ∷ codes "--generate=5" ∷ with_faults 1 (codes "q" ∷ [])) ≡ None
+  pub alone : settings (codes "rpq" ∷ codes "q" ∷ codes "t" ∷ codes "--faults" ∷ []) ≡ None
+  pub hyphen : settings (codes "rpq" ∷ codes "--faults" ∷ codes "-e" ∷ codes "q" ∷ codes "t" ∷ [])
+      ≡ None
+
 -- The defaults. An option between streams, and zeros in front of its number. Values that begin with
 -- `-` or are empty behind `=`, and words behind `--`. A check; generated tuples. The greatest
 -- numbers. Refused: too many tuples to generate; no stream; no queries; a number above its range,
 -- below it, or with a sign; a flag given twice; asks without replies; a check with generated
 -- tuples, or with a stream; a value that begins with `-`; a name cut short; and `--help`.
 -- And the examples of files to save to and to begin with, of edges taken backwards, of paths, of
--- joins, of runs as long as their streams, and of readers beside a run.
+-- joins, of runs as long as their streams, of readers beside a run, and of files of faulty lines.
 pub record SettingsExamples : Type 0 where
   pub defaults : settings (codes "rpq" ∷ codes "q" ∷ codes "s" ∷ [])
       ≡ Some (forwards (over (codes "s" ∷ [])))
@@ -236,3 +287,4 @@ pub record SettingsExamples : Type 0 where
   pub joins : JoinsExamples
   pub without_end : EndlessExamples
   pub readers : ReaderExamples
+  pub faults : FaultFileExamples

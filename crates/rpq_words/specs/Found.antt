@@ -56,6 +56,7 @@ words_found rows =
         save = first_of (codes "save") rows;
         from = first_of (codes "from") rows;
         readers = readers;
+        faults = unwrap_or (all_of (codes "faults") rows) [];
         streams = unwrap_or (all_of (codes "streams") rows) [];
       };
     })

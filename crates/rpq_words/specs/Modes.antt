@@ -1,5 +1,5 @@
 -- What settings are, said once more by what was found in the words.
-use Rattle.std.specs.Prelude.{◌≡◌, ◌≢◌, ◌≤◌, ℕ, Bool, true, false, not, List, length}
+use Rattle.std.specs.Prelude.{◌≡◌, ◌≢◌, ◌≤◌, ℕ, Bool, true, false, not, List, [], length}
 use Rattle.std.specs.Prelude.{◌⊎◌, ◌^◌, Option, Some, None, option_map}
 use Rattle.clap.specs.Walk.{Text}
 use Rattle.rpq_words.specs.declared.parsed_words.ParsedWords.{ParsedWords}
@@ -14,8 +14,9 @@ use Rattle.rpq_words.specs.Clash.{clash}
 use Rattle.rpq_words.specs.Options.{only_if}
 use Rattle.rpq_words.specs.declared.settings.Settings.{Settings}
 use Rattle.rpq_words.specs.Settings.{settings, settings_from}
-use Rattle.rpq_words.specs.Views.{asks_of, cap_of, from_of, is_endless, joins_of, mode_of}
-use Rattle.rpq_words.specs.Views.{paths_of, readers_of, replies_of, save_of, streams_of, two_way_of}
+use Rattle.rpq_words.specs.Views.{asks_of, cap_of, faults_of, from_of, is_endless, joins_of}
+use Rattle.rpq_words.specs.Views.{mode_of, paths_of, readers_of, replies_of, save_of, streams_of}
+use Rattle.rpq_words.specs.Views.{two_way_of}
 
 -- the queries are checked, and nothing is run
 abbrev pub is_check : RunMode → Bool
@@ -52,6 +53,7 @@ words_of given = record {
     save = save_of given;
     from = from_of given;
     readers = readers_of given;
+    faults = faults_of given;
     streams = streams_of given;
   };
 }
@@ -74,20 +76,21 @@ IsInput save (Resumed from stream) = save ≢ Some from
 abbrev pub IsMode : RunMode → Type 0
 IsMode (Check directions) = Unit {0}
 IsMode (Generate directions count) = IsWithin 1000000 count
-IsMode (Streams (BothWays streams)) = IsWithin 64 (length streams)
+IsMode (Streams (BothWays run)) = IsWithin 64 (length run.streams)
 IsMode (Streams (Forwards run)) = IsInput run.save run.input
 
 -- how many tuples a history may hold: from 1 to 2,000,000, or as many as an endless run would take
 abbrev pub IsCap : ℕ → Type 0
 IsCap cap = IsWithin 2000000 cap ⊎ (cap ≡ 2 ^ 61)
 
--- each number is in its range, the files and the streams are such, and there are at most 64 readers
--- beside the run
+-- each number is in its range, the files and the streams are such, there are at most 64 readers
+-- beside the run, and each stream has a file of faulty lines, or none has one
 pub record AreSettings (given : Settings) : Type 0 where
   pub workers : IsWithin 64 given.workers
   pub cap : is_endless given ≡ false → IsWithin 2000000 (cap_of given)
   pub mode : IsMode (mode_of given)
   pub readers : length (readers_of given) ≤ 64
+  pub faults : (faults_of given ≡ []) ⊎ (length (faults_of given) ≡ length (streams_of given))
 
 -- the settings of words are so
 abbrev pub WordsAreSettings : Type 0

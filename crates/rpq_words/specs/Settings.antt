@@ -22,7 +22,7 @@ use Rattle.rpq_words.specs.declared.settings.Input.TheVariants.{Fresh, Resumed}
 use Rattle.rpq_words.specs.declared.settings.OutputKind.{OutputKind}
 use Rattle.rpq_words.specs.declared.settings.OutputKind.TheVariants.{Pairs, Paths, Bindings}
 use Rattle.rpq_words.specs.declared.settings.AskFiles.{AskFiles}
-use Rattle.rpq_words.specs.Clash.{names_file}
+use Rattle.rpq_words.specs.Clash.{is_one_each, names_file}
 use Rattle.rpq_words.specs.Command.{found_in, is_taken}
 use Rattle.rpq_words.specs.Found.{words_found}
 use Rattle.rpq_words.specs.Options.{◌>>=◌}
@@ -70,6 +70,11 @@ asked_from (Some asks) None = None
 unfoldable pub readers_from : List ReaderFiles → Option (List ReaderFiles)
 readers_from readers = if nat_lt 64 (length readers) then None else Some readers
 
+-- the files that faulty lines of these streams are told on: one for each, or none
+unfoldable pub faults_from : List Text → List Text → Option (List Text)
+faults_from faults streams =
+    if is_one_each faults streams then Some faults else None
+
 -- the file to save to is the one that a run begins with
 abbrev pub saves_over : Option Text → Input → Bool
 saves_over (Some save) (Resumed from stream) = bytes_eq save from
@@ -83,6 +88,7 @@ forwards_from words =
     asked_from words.asks words.replies >>= λ asked.
     shown_from words.paths words.joins >>= λ shown.
     readers_from words.readers >>= λ readers.
+    faults_from words.faults words.streams >>= λ faults.
     input_from words.from words.streams >>= λ input.
     if saves_over words.save input then None
     else Some (record {
@@ -91,6 +97,7 @@ forwards_from words =
       asked = asked;
       readers = readers;
       save = words.save;
+      faults = faults;
     })
 
 -- something stands there that only a run over streams has that takes edges forwards alone
@@ -99,13 +106,16 @@ has_forward_words words = is_some words.replies || (names_file words || words.pa
 
 -- something stands there that only a run over streams has
 abbrev pub has_stream_words : StreamWords → Bool
-has_stream_words words = has_forward_words words || not (is_empty words.streams)
+has_stream_words words =
+    has_forward_words words || (not (is_empty words.streams) || not (is_empty words.faults))
 
 -- a run over streams
 unfoldable pub streams_from : Bool → StreamWords → Option StreamSettings
 streams_from false words = forwards_from words >>= λ run. Some (ForwardRun run)
 streams_from true words = if has_forward_words words then None
-    else (names_from words.streams >>= λ streams. Some (TwoWayRun streams))
+    else (faults_from words.faults words.streams >>= λ faults.
+    names_from words.streams >>= λ streams.
+    Some (TwoWayRun (record { streams = streams; faults = faults })))
 
 -- what is done with the queries
 unfoldable pub mode_from : Bool → Option ℕ → Bool → StreamWords → Option RunMode

@@ -64,7 +64,7 @@ is_both_ways BothWays = true
 abbrev pub two_way_in : RunMode → Bool
 two_way_in (Check directions) = is_both_ways directions
 two_way_in (Generate directions count) = is_both_ways directions
-two_way_in (Streams (TwoWayRun streams)) = true
+two_way_in (Streams (TwoWayRun run)) = true
 two_way_in (Streams (ForwardRun run)) = false
 
 abbrev pub two_way_of : Settings → Bool
@@ -74,7 +74,7 @@ two_way_of given = two_way_in (mode_of given)
 abbrev pub forwards_in : RunMode → Option ForwardSettings
 forwards_in (Check directions) = None
 forwards_in (Generate directions count) = None
-forwards_in (Streams (TwoWayRun streams)) = None
+forwards_in (Streams (TwoWayRun run)) = None
 forwards_in (Streams (ForwardRun run)) = Some run
 
 abbrev pub forwards_of : Settings → Option ForwardSettings
@@ -126,6 +126,17 @@ readers_in (Some run) = run.readers
 abbrev pub readers_of : Settings → List ReaderFiles
 readers_of given = readers_in (forwards_of given)
 
+-- the files that faulty lines of the streams are told on, in the order of the streams: one for each,
+-- or none
+abbrev pub faults_in : RunMode → List Text
+faults_in (Check directions) = []
+faults_in (Generate directions count) = []
+faults_in (Streams (TwoWayRun run)) = run.faults
+faults_in (Streams (ForwardRun run)) = run.faults
+
+abbrev pub faults_of : Settings → List Text
+faults_of given = faults_in (mode_of given)
+
 -- the file that gets what a later run needs
 abbrev pub save_of : Settings → Option Text
 save_of given = forwards_of given >>= λ run. run.save
@@ -146,7 +157,7 @@ names_in (Resumed from stream) = stream ∷ []
 abbrev pub streams_in : RunMode → List Text
 streams_in (Check directions) = []
 streams_in (Generate directions count) = []
-streams_in (Streams (TwoWayRun streams)) = streams
+streams_in (Streams (TwoWayRun run)) = run.streams
 streams_in (Streams (ForwardRun run)) = names_in run.input
 
 abbrev pub streams_of : Settings → List Text

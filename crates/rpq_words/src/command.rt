@@ -3,8 +3,8 @@
 ghost use Rattle.std.specs.Prelude.{◌≡◌, IfOk, false};
 ghost use Rattle.clap.specs.Simple.{app_of};
 ghost use Rattle.clap.specs.Walk.{rule_of};
-ghost use Rattle.rpq_words.specs.Command.{any_words, flag, one_word, option_or, option_with_two};
-ghost use Rattle.rpq_words.specs.Command.{option_with_value, rpq_command};
+ghost use Rattle.rpq_words.specs.Command.{any_words, flag, one_word, option_again, option_or};
+ghost use Rattle.rpq_words.specs.Command.{option_with_two, option_with_value, rpq_command};
 
 use clap::{Arg, ArgAction, Command};
 use std::alloc::{AllocError, Global};
@@ -27,6 +27,7 @@ pub(crate) fn command<'a>(alloc: Global) -> Result<Command<'a>, AllocError>
         .arg(option_with_value(alloc, "from"))?
         .arg(flag(alloc, "endless"))?
         .arg(option_with_two(alloc, "reader"))?
+        .arg(option_again(alloc, "faults"))?
         .arg(one_word(alloc, "queries"))?
         .arg(any_words(alloc, "streams"))
 }
@@ -48,6 +49,14 @@ fn option_with_two<'a>(alloc: Global, name: &'a str) -> Arg<'a>
         .long(name)
         .action(ArgAction::Append)
         .num_args(2usize)
+}
+
+/// An option `--NAME` with one value, which may be given again.
+fn option_again<'a>(alloc: Global, name: &'a str) -> Arg<'a>
+    ensures local { result.global ≡ false }
+    ensures rule { rule_of result ≡ option_again name.entry.now }
+{
+    Arg::new(alloc, name).long(name).action(ArgAction::Append)
 }
 
 /// An option that has the value `default` where it isn't given.

@@ -9,7 +9,8 @@ pub fn settings_are_found()
 {}
 
 /// The numbers in the settings of words are in their ranges, 1 to 64 streams are read where some
-/// are, and a run doesn't save to the file that it begins with.
+/// are, each of them has a file of faulty lines or none has one, and a run doesn't save to the file
+/// that it begins with.
 pub fn words_are_settings()
     ensures { WordsAreSettings }
 {}

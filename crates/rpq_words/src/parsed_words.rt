@@ -8,11 +8,12 @@ ghost use Rattle.rpq_words.specs.Settings.{has_forward_words, has_stream_words, 
 ghost use Rattle.rpq_words.specs.Settings.{mode_from, saves_over, settings_from, shown_from};
 ghost use Rattle.rpq_words.specs.Settings.{streams_from};
 
+use crate::fault_names::FaultNames;
 use crate::file_word::FileWord;
 use crate::reader_names::ReaderNames;
 use crate::settings::{
     AskFiles, Directions, Extent, ForwardSettings, Input, OutputKind, RunMode, Settings,
-    StreamSettings,
+    StreamSettings, TwoWaySettings,
 };
 use crate::stream_names::StreamNames;
 use rpq_base::Workers;
@@ -40,6 +41,7 @@ pub struct StreamWords {
     pub save: Option<FileWord>,
     pub from: Option<FileWord>,
     pub readers: ReaderNames,
+    pub faults: FaultNames,
     pub streams: StreamNames,
 }
 
@@ -127,7 +129,14 @@ fn streams_of(two_way: bool, words: StreamWords) -> Option<StreamSettings>
     if words.has_forward_words() {
         return None;
     }
-    Some(StreamSettings::BothWays(words.streams.within_limits()?))
+    let StreamWords {
+        faults,
+        streams,
+        ..
+    } = words;
+    let faults = faults.for_streams(&streams)?;
+    let streams = streams.within_limits()?;
+    Some(StreamSettings::BothWays(TwoWaySettings { streams, faults }))
 }
 
 /// The settings of a run over streams that takes edges forwards alone, if these words can stand
@@ -144,11 +153,13 @@ fn forwards_of(words: StreamWords) -> Option<ForwardSettings>
         save,
         from,
         readers,
+        faults,
         streams,
     } = words;
     let asked = asked_of(asks, replies)?;
     let shown = shown_of(paths, joins)?;
     let readers = readers.within_limits()?;
+    let faults = faults.for_streams(&streams)?;
     let input = input_of(from, streams)?;
     if saves_over(&save, &input) {
         return None;
@@ -159,6 +170,7 @@ fn forwards_of(words: StreamWords) -> Option<ForwardSettings>
         asked,
         readers,
         save,
+        faults,
     })
 }
 
@@ -207,7 +219,7 @@ impl StreamWords {
     fn has_stream_words(&self) -> bool
         ensures { result ≡ has_stream_words self.now }
     {
-        self.has_forward_words() || !self.streams.is_empty()
+        self.has_forward_words() || !self.streams.is_empty() || !self.faults.is_empty()
     }
 
     /// Whether something stands there that only a run over streams has that takes edges forwards

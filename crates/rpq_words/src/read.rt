@@ -10,6 +10,7 @@ ghost use Rattle.rpq_words.specs.Settings.{settings, settled, texts};
 
 use crate::command::command;
 use crate::fault::WordsFault;
+use crate::fault_names::FaultNames;
 use crate::file_word::{FileWord, file_words, optional_file_word};
 use crate::matches::{all_of, first_of, has_flag};
 use crate::numbers::{needed_workers, optional_number};
@@ -113,6 +114,7 @@ fn read_found(alloc: Global, matches: &ArgMatches<'_>) -> Result<ParsedWords, Wo
             save: optional_file_word(alloc, first_of(matches, "save"))?,
             from: optional_file_word(alloc, first_of(matches, "from"))?,
             readers,
+            faults: FaultNames::new(file_words(alloc, all_of(matches, "faults"))?),
             streams: StreamNames::new(file_words(alloc, all_of(matches, "streams"))?),
         },
     })

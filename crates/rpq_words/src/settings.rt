@@ -2,11 +2,12 @@
 
 ghost use Rattle.std.specs.Prelude.{◌≡◌, option_copied};
 ghost use Rattle.rpq_words.specs.declared.settings.RunMode.{RunMode};
-ghost use Rattle.rpq_words.specs.Views.{asks_of, cap_of, forwards_in, forwards_of, from_of};
-ghost use Rattle.rpq_words.specs.Views.{is_both_ways, is_endless, joins_of, mode_of, mode_told};
-ghost use Rattle.rpq_words.specs.Views.{paths_of, readers_of};
+ghost use Rattle.rpq_words.specs.Views.{asks_of, cap_of, faults_in, faults_of, forwards_in};
+ghost use Rattle.rpq_words.specs.Views.{forwards_of, from_of, is_both_ways, is_endless, joins_of};
+ghost use Rattle.rpq_words.specs.Views.{mode_of, mode_told, paths_of, readers_of};
 ghost use Rattle.rpq_words.specs.Views.{replies_of, save_of, two_way_in, two_way_of};
 
+use crate::fault_names::FaultNames;
 use crate::file_word::FileWord;
 use crate::reader_names::{ReaderFiles, ReaderNames};
 use crate::stream_names::StreamNames;
@@ -62,10 +63,19 @@ pub enum Directions {
 /// The settings of a run over streams.
 #[derive(Debug, Drop)]
 pub enum StreamSettings {
-    /// Edges may be taken backwards. Then the streams are all that there is to set.
-    BothWays(StreamNames),
+    /// Edges may be taken backwards.
+    BothWays(TwoWaySettings),
     /// Edges are taken forwards alone.
     Forwards(ForwardSettings),
+}
+
+/// The settings of a run over streams that may take edges backwards.
+#[derive(Debug, Drop)]
+pub struct TwoWaySettings {
+    /// The streams that are read.
+    pub streams: StreamNames,
+    /// The files that their faulty lines are told on, if they are.
+    pub faults: FaultNames,
 }
 
 /// The settings of a run over streams that takes edges forwards alone.
@@ -81,6 +91,8 @@ pub struct ForwardSettings {
     pub readers: ReaderNames,
     /// The file that gets what a later run needs, if there is one.
     pub save: Option<FileWord>,
+    /// The files that faulty lines of the streams are told on, if they are.
+    pub faults: FaultNames,
 }
 
 /// What a run over streams reads.
@@ -153,7 +165,7 @@ impl StreamSettings {
         ensures { result ≡ two_way_in (RunMode.Streams self.now) }
     {
         match self {
-            StreamSettings::BothWays(_names) => true,
+            StreamSettings::BothWays(_run) => true,
             StreamSettings::Forwards(_run) => false,
         }
     }
@@ -164,7 +176,17 @@ impl StreamSettings {
     {
         match self {
             StreamSettings::Forwards(run) => Some(run),
-            StreamSettings::BothWays(_names) => None,
+            StreamSettings::BothWays(_run) => None,
+        }
+    }
+
+    /// The files that faulty lines of the streams are told on.
+    fn faults(&self) -> &[FileWord]
+        ensures { result.now ≡ faults_in (RunMode.Streams self.now) }
+    {
+        match self {
+            StreamSettings::BothWays(run) => run.faults.as_slice(),
+            StreamSettings::Forwards(run) => run.faults.as_slice(),
         }
     }
 }
@@ -298,6 +320,24 @@ impl Settings {
         match self.forwards() {
             Some(run) => run.readers.as_slice(),
             None => &[],
+        }
+    }
+
+    /// The files that faulty lines of the streams are told on, in the order of the streams: one for
+    /// each of them, or none.
+    pub fn faults(&self) -> &[FileWord]
+        ensures { result.now ≡ faults_of self.now }
+    {
+        match &self.extent {
+            Extent::Capped {
+                history: _history,
+                mode: RunMode::Streams(run),
+            } => run.faults(),
+            Extent::Capped {
+                history: _history,
+                mode: RunMode::Check(_) | RunMode::Generate(_, _),
+            } => &[],
+            Extent::Endless(run) => run.faults(),
         }
     }
 

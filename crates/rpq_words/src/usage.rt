@@ -9,5 +9,5 @@ pub fn usage_line() -> &'static str
 {
     "usage: rpq [--workers N] [--history N] [--asks FILE --replies FILE] [--check] \
      [--generate N] [--two-way] [--paths] [--joins FILE] [--save FILE] [--from FILE] [--endless] \
-     [--reader ASKS REPLIES]... QUERIES [STREAM...]"
+     [--reader ASKS REPLIES]... [--faults FILE]... QUERIES [STREAM...]"
 }

@@ -29,6 +29,8 @@ pub struct RunOutput {
     pub readers: Vec<ReaderLeft>,
     /// The window that the run saved, if it has a sink for it.
     pub saved: Option<Vec<u8>>,
+    /// What the run told of the faulty lines of each stream, if it has a sink for them.
+    pub faults: Vec<Option<Vec<u8>>>,
     /// What each of the objects says that stayed.
     pub stayed: Vec<Vec<u8>>,
     /// What each of the objects says that left.
@@ -71,6 +73,7 @@ impl RunOutput {
             answers: Vec::new(alloc),
             readers: Vec::new(alloc),
             saved: None,
+            faults: Vec::new(alloc),
             stayed: Vec::new(alloc),
             gone: Vec::new(alloc),
         }
@@ -90,6 +93,7 @@ impl RunOutput {
         self.errors.extend_from_slice(outside.errors.bytes())?;
         self.replies = bytes_of(alloc, &report.replies)?;
         self.saved = bytes_of(alloc, &report.save)?;
+        put_told(alloc, &mut self.faults, &report.faults)?;
         put_sessions(&mut self.answers, &report.sessions)?;
         put_readers(alloc, &mut self.readers, &report.readers)?;
         put_said(&mut self.stayed, standing)?;
@@ -103,6 +107,18 @@ fn bytes_of(alloc: Global, sink: &Option<MemorySink>) -> Result<Option<Vec<u8>>,
         Some(sink) => Ok(Some(Vec::from_slice(alloc, sink.bytes())?)),
         None => Ok(None),
     }
+}
+
+/// Puts what is written on each of some sinks, as far as they are there.
+fn put_told(
+    alloc: Global,
+    told: &mut Vec<Option<Vec<u8>>>,
+    sinks: &[Option<MemorySink>],
+) -> anyhow::Result<()> {
+    for sink in sinks {
+        told.push(bytes_of(alloc, sink)?)?;
+    }
+    Ok(())
 }
 
 /// Puts what is left of each reader.

@@ -16,8 +16,9 @@
 //! - `run PIECE OPENING WORDS QUERIES STREAM [WINDOW [READ [WRITE]]]`: a run over the files `q`,
 //!   `s` and `w`, read in pieces of this length, where the opening of this number fails, this read
 //!   of `w`, and this write of the sinks that the run opens: its status, what it writes on the
-//!   events, behind `|` what it tells on the errors, and behind another `|` the window that it
-//!   saves, if it does. Numbers count from 1, and 0, or none, is no failure.
+//!   events, behind `|` what it tells on the errors, behind another `|` the window that it saves,
+//!   if it does, and behind `|` what it tells of faulty lines of the stream, if it has a sink for
+//!   them. Numbers count from 1, and 0, or none, is no failure.
 //! - `calls READ WRITE ROOM OPENING FILE NUMBER EVENT ERROR WORDS QUERIES STREAM`: the same of a run
 //!   over the files `q` and `s`, where a read gives at most READ bytes and a write takes at most
 //!   WRITE, the events have room for ROOM, and the opening of this number fails, the read of this
@@ -48,6 +49,11 @@
 //!   has a sink for them, and behind `|` for each reader how it ended and what it was answered. So
 //!   that it's the same however the reader and the stream come, a reader waits for the last tuple
 //!   first.
+//! - `told PIECE OPENING WRITE WORDS QUERIES STREAM STREAM`: a run over the files `q`, `s` and `t`,
+//!   read in pieces of this length, where the opening of this number fails, and this write of each
+//!   sink that the run opens: its status, how many entries its history has of each of the streams 1
+//!   to 4, and how many in all; behind `|` what it tells on the errors, and behind `|` for each
+//!   stream what it tells of its faulty lines, if it has a sink for them.
 //!
 //! `WORDS` are words with `;` between them, the program's name first, and `TUPLES` lines of a
 //! stream with `;` between them: a name with such a byte has it as `%` and two digits.
@@ -64,6 +70,7 @@ mod outside;
 mod readers;
 mod request;
 mod runs;
+mod told;
 
 use case_lines::{Fields, Output, answer_lines};
 use engines::{Way, answer_engine};
@@ -90,6 +97,7 @@ fn answer<R: RandomSource + Threads + Wait + Sync>(
         RunRequest::Readers => readers::answer_readers(rt, alloc, out, fields),
         RunRequest::Faults => faults::answer_faults(rt, alloc, out, fields),
         RunRequest::Live => live::answer_live(rt, alloc, out, fields),
+        RunRequest::Told => told::answer_told(rt, alloc, out, fields),
     }
 }
 

@@ -60,7 +60,7 @@ fn put_readers(out: &mut Output, left: &RunOutput) -> anyhow::Result<()> {
 }
 
 /// Puts how many entries are of each of the first streams, and how many there are.
-fn put_counts(out: &mut Output, history: &[Entry]) -> anyhow::Result<()> {
+pub fn put_counts(out: &mut Output, history: &[Entry]) -> anyhow::Result<()> {
     for stream in 1..=STREAMS {
         out.put(" ")?;
         out.put_shown(&count_of(history, stream))?;

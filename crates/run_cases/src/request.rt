@@ -11,6 +11,7 @@ pub enum RunRequest {
     Readers,
     Faults,
     Live,
+    Told,
 }
 
 impl RunRequest {
@@ -25,6 +26,7 @@ impl RunRequest {
             b"readers" => Some(RunRequest::Readers),
             b"faults" => Some(RunRequest::Faults),
             b"live" => Some(RunRequest::Live),
+            b"told" => Some(RunRequest::Told),
             _ => None,
         }
     }

@@ -3,6 +3,7 @@
 use crate::given::{Faults, RunInput, Sizes, Texts};
 use crate::left::RunOutput;
 use crate::made::left_by;
+use crate::told::put_faults;
 use case_lines::{Fields, Output};
 use std::alloc::Global;
 use std::random::RandomSource;
@@ -12,8 +13,8 @@ use std::thread::Threads;
 /// How many bytes a sink takes.
 const ROOM: usize = 1 << 14;
 
-/// The status of a run, what it writes on the events, what it tells on the errors, and the window
-/// that it saves, if it does.
+/// The status of a run, what it writes on the events, what it tells on the errors, the window that
+/// it saves, if it does, and what it tells of faulty lines, if it has a sink for them.
 pub fn answer_run<R: RandomSource + Threads + Wait + Sync>(
     rt: &R,
     alloc: Global,
@@ -100,11 +101,9 @@ fn put_run(out: &mut Output, left: &RunOutput) -> anyhow::Result<()> {
     out.put_bytes(&left.events)?;
     out.put("|")?;
     out.put_bytes(&left.errors)?;
-    match &left.saved {
-        Some(window) => {
-            out.put("|")?;
-            out.put_bytes(window)
-        }
-        None => Ok(()),
+    if let Some(window) = &left.saved {
+        out.put("|")?;
+        out.put_bytes(window)?;
     }
+    put_faults(out, &left.faults)
 }

@@ -1,5 +1,5 @@
 -- What settings say of a run over streams.
-use Rattle.std.proofs.Common.{arith, ◌≡◌, true, false, [], length, refl, sym}
+use Rattle.std.proofs.Common.{arith, ◌≡◌, ◌≤◌, ℕ, true, false, List, [], ◌∷◌, length, refl, sym, ap, inl, inr}
 use Rattle.std.specs.Prelude.{◌^◌, Option, None, is_some}
 use Rattle.rpq_words.specs.declared.settings.Extent.{Extent}
 use Rattle.rpq_words.specs.declared.settings.Extent.TheVariants.{Capped, Endless}
@@ -13,10 +13,12 @@ use Rattle.rpq_words.specs.Modes.{AreSettings, IsInput, IsMode, IsWithin}
 use Rattle.rpq_words.specs.declared.settings.Settings.{Settings}
 use Rattle.rpq_words.specs.Options.{◌>>=◌}
 use Rattle.rpq_words.specs.Views.{asks_in, asks_of, cap_in, cap_of, forwards_in, from_in, from_of}
-use Rattle.rpq_words.specs.Views.{is_endless, is_endless_in, mode_of, names_in, paths_in, paths_of}
+use Rattle.rpq_words.specs.Views.{faults_of, is_endless, is_endless_in, mode_of, names_in, paths_in, paths_of}
 use Rattle.rpq_words.specs.Views.{streams_in, streams_of, readers_in, readers_of, two_way_in, two_way_of}
 use Rattle.stream_tuples.specs.Limits.{byte_limit, byte_limit_of, endless_byte_limit}
 use Rattle.stream_tuples.proofs.ByteLimits.{endless_limit, kept_limit}
+use Rattle.stream_tuples.specs.History.{policy_of_sinks}
+use Rattle.run_start.specs.Given.{policy_of}
 
 -- 1 to 64 streams are read
 pub some_streams : (given : Settings) (run : StreamSettings) → mode_of given ≡ Streams run
@@ -32,8 +34,38 @@ some_streams given run is are = by (mode_of given) is are.mode
         (length (streams_in mode))
     by (Check directions) is within = absurd (cc is)
     by (Generate directions count) is within = absurd (cc is)
-    by (Streams (BothWays streams)) is within = within
+    by (Streams (BothWays both)) is within = within
     by (Streams (Forwards forwards)) is within = by_input forwards.save forwards.input within
+
+-- at most 64 files are named for their faulty lines
+pub few_faults : (given : Settings) → AreSettings given → length (faults_of given) ≤ 64
+few_faults given are = elim are.faults [
+  | inl none ↦ omega (arith, ap length none)
+  | inr each ↦ omega (arith, each, few_streams (mode_of given) are.mode)
+]
+  where
+    few_streams : (mode : RunMode) → IsMode mode → length (streams_in mode) ≤ 64
+    few_streams (Check directions) is = omega arith
+    few_streams (Generate directions count) is = omega arith
+    few_streams (Streams (BothWays both)) within = within.1
+    few_streams (Streams (Forwards forwards)) within = by_input forwards.save forwards.input within
+      where
+        by_input : (save : Option (List ℕ)) (input : Input) → IsInput save input
+            → length (names_in input) ≤ 64
+        by_input save (Fresh streams) within = within.1
+        by_input save (Resumed from stream) another = omega arith
+
+-- what becomes of faulty lines shows in whether there are sinks for them
+pub same_policy : {K : Type 0} (given : Settings) (sinks : List K)
+    → length sinks ≡ length (faults_of given) → policy_of_sinks sinks ≡ policy_of given
+same_policy {K} given sinks as_many = by sinks (faults_of given) as_many
+  where
+    by : (all : List K) (names : List (List ℕ)) → length all ≡ length names
+        → policy_of_sinks all ≡ policy_of_sinks names
+    by [] [] same = refl
+    by [] (name ∷ names) same = absurd (omega (arith, same))
+    by (sink ∷ all) [] same = absurd (omega (arith, same))
+    by (sink ∷ all) (name ∷ names) same = refl
 
 -- and one where a saved window is read first
 pub one_stream : (given : Settings) → true ≡ is_some (from_of given)
@@ -48,7 +80,7 @@ one_stream given is = by (mode_of given) is
         → length (streams_in mode) ≡ 1
     by (Check directions) is = absurd (cc is)
     by (Generate directions count) is = absurd (cc is)
-    by (Streams (BothWays streams)) is = absurd (cc is)
+    by (Streams (BothWays both)) is = absurd (cc is)
     by (Streams (Forwards forwards)) is = by_input forwards.input is
 
 -- nobody asks where edges may be taken backwards
@@ -58,7 +90,7 @@ unasked given is = by (mode_of given) is
     by : (mode : RunMode) → two_way_in mode ≡ true → (forwards_in mode >>= λ run. asks_in run.asked) ≡ None
     by (Check directions) is = refl
     by (Generate directions count) is = refl
-    by (Streams (BothWays streams)) is = refl
+    by (Streams (BothWays both)) is = refl
     by (Streams (Forwards forwards)) is = absurd (cc is)
 
 -- nor does a reader beside the run
@@ -68,7 +100,7 @@ no_readers given is = by (mode_of given) is
     by : (mode : RunMode) → two_way_in mode ≡ true → readers_in (forwards_in mode) ≡ []
     by (Check directions) is = refl
     by (Generate directions count) is = refl
-    by (Streams (BothWays streams)) is = refl
+    by (Streams (BothWays both)) is = refl
     by (Streams (Forwards forwards)) is = absurd (cc is)
 
 -- and no path is told there
@@ -78,7 +110,7 @@ forwards_alone given is = by (mode_of given) is
     by : (mode : RunMode) → paths_in (forwards_in mode) ≡ true → two_way_in mode ≡ false
     by (Check directions) is = absurd (cc is)
     by (Generate directions count) is = absurd (cc is)
-    by (Streams (BothWays streams)) is = absurd (cc is)
+    by (Streams (BothWays both)) is = absurd (cc is)
     by (Streams (Forwards forwards)) is = refl
 
 -- how many bytes its streams may have, as long as they go on

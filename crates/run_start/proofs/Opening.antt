@@ -14,7 +14,8 @@ use Rattle.rpq_words.specs.Views.{asks_of, from_of, joins_of, streams_of}
 use Rattle.stream_tuples.specs.History.{IsPrefix}
 use Rattle.rpq_text.specs.declared.ends.Which.{Which}
 use Rattle.rpq_text.specs.declared.ends.Which.TheVariants.{Queries, Joins, Asks, From}
-use Rattle.rpq_text.specs.declared.ends.Which.TheVariants.{Stream, Replies, Save, AsksOf, RepliesOf}
+use Rattle.rpq_text.specs.declared.ends.Which.TheVariants.{Stream, Replies, Save, FaultsOf}
+use Rattle.rpq_text.specs.declared.ends.Which.TheVariants.{AsksOf, RepliesOf}
 use Rattle.rpq_text.specs.declared.ends.StartFault.{StartFault}
 use Rattle.rpq_text.specs.declared.ends.StartFault.TheVariants.{Words, Queries as QueriesFault}
 use Rattle.rpq_text.specs.declared.ends.StartFault.TheVariants.{Joins as JoinsFaulty}
@@ -40,6 +41,7 @@ pub record IsPlace (given : Settings) (which : Which) (before : List (List ℕ))
   pub names : IsOpeningOf given name (Open which)
   pub no_replies : which ≢ Replies
   pub no_save : which ≢ Save
+  pub no_faults_of : (number : ℕ) → which ≢ FaultsOf number
   pub no_replies_of : (number : ℕ) → which ≢ RepliesOf number
 
 -- the names of all files that are read behind that of the queries
@@ -61,6 +63,7 @@ queries_place given name is = record {
   names = is;
   no_replies = λ other. cc other;
   no_save = λ other. cc other;
+  no_faults_of = λ number other. cc other;
   no_replies_of = λ number other. cc other;
 }
 
@@ -84,6 +87,7 @@ joins_place given name is =
       names = is;
       no_replies = λ other. cc other;
       no_save = λ other. cc other;
+      no_faults_of = λ number other. cc other;
       no_replies_of = λ number other. cc other;
     }
 
@@ -111,6 +115,7 @@ asks_place given name is =
       names = is;
       no_replies = λ other. cc other;
       no_save = λ other. cc other;
+      no_faults_of = λ number other. cc other;
       no_replies_of = λ number other. cc other;
     }
 
@@ -134,6 +139,7 @@ from_place given name is =
       names = is;
       no_replies = λ other. cc other;
       no_save = λ other. cc other;
+      no_faults_of = λ number other. cc other;
       no_replies_of = λ number other. cc other;
     }
 
@@ -180,6 +186,7 @@ stream_place given place name is =
       names = is;
       no_replies = λ other. cc other;
       no_save = λ other. cc other;
+      no_faults_of = λ number other. cc other;
       no_replies_of = λ number other. cc other;
     }
 
@@ -212,6 +219,7 @@ asks_of_place given place name is =
       names = is;
       no_replies = λ other. cc other;
       no_save = λ other. cc other;
+      no_faults_of = λ number other. cc other;
       no_replies_of = λ number other. cc other;
     }
 
@@ -310,6 +318,8 @@ uses_file {F} {holds} {opened} {made} {unread} {unmade} given which before name 
     reads (Some fault) is = record {
       no_replies = other_than which Replies file fault at.no_replies is;
       no_save = other_than which Save file fault at.no_save is;
+      no_faults_of = λ number.
+          other_than which (FaultsOf number) file fault (at.no_faults_of number) is;
       no_replies_of = λ number.
           other_than which (RepliesOf number) file fault (at.no_replies_of number) is;
     }

@@ -5,6 +5,7 @@ use Rattle.rpq_words.specs.Views.{cap_of, streams_of}
 use Rattle.saved_window.specs.SavedText.{SavedTextIsRead, saved_text}
 use Rattle.stream_tuples.specs.Limits.{byte_limit_of}
 use Rattle.run_start.specs.Files.{from_content, with_first}
+use Rattle.run_start.specs.Given.{policy_of}
 use Rattle.run_start.specs.Laws.{ReadInOrder, ReadWholeInOrder, WrittenInOrder, SavedComesFirst}
 
 pub read_in_order : ReadInOrder
@@ -22,6 +23,7 @@ read_in_order = record {
   asks_of = refl;
   second_asks = refl;
   replies = refl;
+  faults_of = refl;
   replies_of = refl;
   second = refl;
 }
@@ -42,6 +44,9 @@ written_in_order = record {
   stream = refl;
   replies = refl;
   save = refl;
+  faults_of = refl;
+  second_faults = refl;
+  all_faults = refl;
   asks_of = refl;
   replies_of = refl;
   second_replies = refl;
@@ -58,5 +63,8 @@ saved_comes_first are_read given holds tuples text begins =
     ∙ ap (λ (file : Option (List ℕ)). file ∷ []) begins.fresh in (
       saved ++ text,
       ap₂ (λ (one : Option (List ℕ)) (all : List (Option (List ℕ))). with_first one all) first files,
-      (are_read tuples begins.written).in_front (byte_limit_of (cap_of given)) text begins.fits,
+      (are_read (policy_of given) tuples begins.written).in_front (byte_limit_of (cap_of given)) text
+          begins.fits,
+      (are_read (policy_of given) tuples begins.written).reports (byte_limit_of (cap_of given)) text
+          begins.fits,
     )

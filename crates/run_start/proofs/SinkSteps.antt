@@ -1,20 +1,22 @@
 -- What the opening of the sinks does to the files.
 use Rattle.std.proofs.Common.{◌≡◌, inl, inr, ◌⊎◌, ℕ, List, [], ◌∷◌, ◌++◌, Option, Some, None}
 use Rattle.std.proofs.Common.{refl, ap, sym, subst, ◌∙◌, append-nil, append_assoc, arith, suc, take}
-use Rattle.std.proofs.Common.{drop, ◌+◌}
+use Rattle.std.proofs.Common.{drop, ◌+◌, ◌<◌, length, get_or}
 use Rattle.std.specs.Prelude.{IfSome, IsSomeAnd, Contains, option_to_list, slice_get}
 use Rattle.std.proofs.lemmas.List.{append_cancel_left, take-append-drop}
+use Rattle.std.proofs.lemmas.Option.{slice_get_read}
 use Rattle.std.proofs.lemmas.List.Elements.{Contains-append_left, Contains-append_right}
 use Rattle.rpq_io.specs.Counts.{CountsFault}
 use Rattle.rpq_io.proofs.Counting.{counts_as}
 use Rattle.rpq_words.specs.declared.settings.Settings.{Settings}
-use Rattle.rpq_words.specs.Views.{replies_of, save_of}
+use Rattle.rpq_words.specs.Views.{faults_of, replies_of, save_of}
 use Rattle.rpq_text.specs.declared.ends.Which.{Which}
-use Rattle.rpq_text.specs.declared.ends.Which.TheVariants.{Replies, Save, RepliesOf}
+use Rattle.rpq_text.specs.declared.ends.Which.TheVariants.{Replies, Save, FaultsOf, RepliesOf}
 use Rattle.rpq_text.specs.declared.ends.StartFault.{StartFault}
 use Rattle.rpq_text.specs.declared.ends.StartFault.TheVariants.{Open, Memory}
 use Rattle.run_start.specs.Given.{file_names, own_sink_names, replies_names, sink_names}
-use Rattle.run_start.proofs.Opening.{one_more, up_to_one_more}
+use Rattle.run_start.specs.Given.{sinks_with_faults}
+use Rattle.run_start.proofs.Opening.{up_to_one_more}
 use Rattle.stream_tuples.specs.History.{IsPrefix}
 use Rattle.run_start.specs.Start.{AreMade, AreOpened, IsMakingOf, IsOpeningOf, sinks_before}
 use Rattle.run_start.specs.Steps.{AreMadeThen, AreNamesOfSink, AreOpenedBehind, OpensSink, UsesMore}
@@ -37,9 +39,12 @@ pub replies_sink : (given : Settings) → IsSink given Replies [] (replies_of gi
 replies_sink given = record {
   behind = refl;
   front = (
-    option_to_list (save_of given) ++ replies_names given,
-    append_assoc (option_to_list (replies_of given)) (option_to_list (save_of given))
-        (replies_names given),
+    (option_to_list (save_of given) ++ faults_of given) ++ replies_names given,
+    ap (λ (ns : List (List ℕ)). ns ++ replies_names given)
+        (append_assoc (option_to_list (replies_of given)) (option_to_list (save_of given))
+        (faults_of given))
+        ∙ append_assoc (option_to_list (replies_of given))
+        (option_to_list (save_of given) ++ faults_of given) (replies_names given),
   );
   making = λ any is. is;
   named = λ any is. is;
@@ -51,9 +56,10 @@ pub save_sink : (given : Settings) → IsSink given Save (option_to_list (replie
 save_sink given = record {
   behind = refl;
   front = (
-    replies_names given,
-    append_assoc (option_to_list (replies_of given)) (option_to_list (save_of given))
-        (replies_names given),
+    faults_of given ++ replies_names given,
+    append_assoc (own_sink_names given) (faults_of given) (replies_names given)
+        ∙ append_assoc (option_to_list (replies_of given)) (option_to_list (save_of given))
+        (faults_of given ++ replies_names given),
   );
   making = λ any is. is;
   named = λ any is. is;
@@ -61,34 +67,73 @@ save_sink given = record {
   opened = refl;
 }
 
-pub reader_sink : (given : Settings) (place : ℕ) (name : List ℕ)
-    → slice_get (replies_names given) place ≡ Some name
-    → IsSink given (RepliesOf (suc place)) (own_sink_names given ++ take place (replies_names given))
-    (Some name)
-reader_sink given place name is = record {
-  behind = refl;
-  front = (drop (suc place) (replies_names given), front);
-  making = λ any same. is ∙ same;
-  named = λ any making. sym is ∙ making;
-  none_read = λ any opening. opening;
-  opened = refl;
+-- the sinks that are numbered from 1 and opened as these have these names, behind those in front and
+-- before the rest
+pub record AreSinks (given : Settings) (which : ℕ → Which) (front names rest : List (List ℕ))
+    : Type 0 where
+  pub all : sink_names given ≡ (front ++ names) ++ rest
+  pub behind : (place : ℕ) → sinks_before given (which (suc place)) ≡ front ++ take place names
+  pub making : (place : ℕ) (any : List ℕ) → slice_get names place ≡ Some any
+      → IsMakingOf given any (Open (which (suc place)))
+  pub named : (place : ℕ) (any : List ℕ) → IsMakingOf given any (Open (which (suc place)))
+      → slice_get names place ≡ Some any
+  pub none_read : (place : ℕ) (any : List ℕ) → IsOpeningOf given any (Open (which (suc place))) → ⊥
+  pub opened : (place : ℕ) → AreOpened given (Some (Open (which (suc place)))) (file_names given)
+
+-- those of the faulty lines of the streams
+pub fault_sinks : (given : Settings)
+    → AreSinks given (λ number. FaultsOf number) (own_sink_names given) (faults_of given)
+    (replies_names given)
+fault_sinks given = record {
+  all = refl;
+  behind = λ place. refl;
+  making = λ place any is. is;
+  named = λ place any making. making;
+  none_read = λ place any opening. opening;
+  opened = λ place. refl;
+}
+
+-- and those of the replies to the readers
+pub reader_sinks : (given : Settings)
+    → AreSinks given (λ number. RepliesOf number) (sinks_with_faults given) (replies_names given) []
+reader_sinks given = record {
+  all = sym (append-nil (sink_names given));
+  behind = λ place. refl;
+  making = λ place any is. is;
+  named = λ place any making. making;
+  none_read = λ place any opening. opening;
+  opened = λ place. refl;
+}
+
+-- the sinks of the first of these names stand in front of the rest
+front_and_rest : (front names rest : List (List ℕ)) (place : ℕ)
+    → (front ++ names) ++ rest ≡ (front ++ take place names) ++ (drop place names ++ rest)
+front_and_rest front names rest place =
+    ap (λ (ns : List (List ℕ)). (front ++ ns) ++ rest) (sym (take-append-drop place names))
+    ∙ (ap (λ (ns : List (List ℕ)). ns ++ rest)
+    (sym (append_assoc front (take place names) (drop place names)))
+    ∙ append_assoc (front ++ take place names) (drop place names) rest)
+
+-- one of them
+one_sink : (given : Settings) (which : ℕ → Which) (first names rest : List (List ℕ)) (place : ℕ)
+    (name : List ℕ) → AreSinks given which first names rest → slice_get names place ≡ Some name
+    → IsSink given (which (suc place)) (first ++ take place names) (Some name)
+one_sink given which first names rest place name are is = record {
+  behind = are.behind place;
+  front = (drop (suc place) names ++ rest, front_is);
+  making = λ any same. are.making place any (is ∙ same);
+  named = λ any making. sym is ∙ are.named place any making;
+  none_read = are.none_read place;
+  opened = are.opened place;
 }
   where
-    own : List (List ℕ)
-    own = own_sink_names given
+    later : List (List ℕ)
+    later = drop (suc place) names ++ rest
 
-    before : List (List ℕ)
-    before = take place (replies_names given)
-
-    behind : List (List ℕ)
-    behind = drop (suc place) (replies_names given)
-
-    front : sink_names given ≡ (own ++ before) ++ name ∷ behind
-    front = ap (λ (ns : List (List ℕ)). own ++ ns)
-        (sym (take-append-drop (suc place) (replies_names given))
-        ∙ (ap (λ (ns : List (List ℕ)). ns ++ behind) (one_more (replies_names given) place name is)
-        ∙ append_assoc before (name ∷ []) behind))
-        ∙ sym (append_assoc own before (name ∷ behind))
+    front_is : sink_names given ≡ (first ++ take place names) ++ name ∷ later
+    front_is = are.all ∙ (front_and_rest first names rest (suc place)
+        ∙ (ap (λ (ns : List (List ℕ)). ns ++ later) (up_to_one_more first names place name is)
+        ∙ append_assoc (first ++ take place names) (name ∷ []) later))
 
 -- the names that were opened to read are all
 opened_all : (given : Settings) (which : Which) (before : List (List ℕ)) (name : Option (List ℕ))
@@ -235,32 +280,33 @@ uses_sink {F} {holds} {opened} {made} {unread} {unmade} given which before name 
         (IsMakingOf given any fault) (unmade between any) (unmade new any)
         (is_making given which before name fault any at) (making_is given which before name fault any at is) counts
 
--- the sink of the replies to one reader more was opened, or not
-pub uses_replies : {F : Type 0} {holds : F → List ℕ → Option (List ℕ)}
+-- the sink of one name more was opened, or not
+pub uses_one : {F : Type 0} {holds : F → List ℕ → Option (List ℕ)}
     {opened made : F → List (List ℕ)} {unread unmade : F → List ℕ → ℕ} (given : Settings)
-    (place many : ℕ) (name : List ℕ) (start : Option StartFault) (old between new : F)
-    → place ≡ many → slice_get (replies_names given) place ≡ Some name
-    → IfSome start (IsSinkCause (RepliesOf (place + 1)))
+    (which : ℕ → Which) (front names rest : List (List ℕ)) (place many : ℕ) (name : List ℕ)
+    (start : Option StartFault) (old between new : F)
+    → AreSinks given which front names rest → place ≡ many → slice_get names place ≡ Some name
+    → IfSome start (IsSinkCause (which (place + 1)))
     → UsesMore holds opened made unread unmade given (file_names given) []
-    (own_sink_names given ++ take many (replies_names given)) None old between
-    → OpensSink holds opened made unread unmade (RepliesOf (place + 1)) (Some name) start between new
+    (front ++ take many names) None old between
+    → OpensSink holds opened made unread unmade (which (place + 1)) (Some name) start between new
     → UsesMore holds opened made unread unmade given (file_names given) []
-    (own_sink_names given ++ take (place + 1) (replies_names given)) start old new
-uses_replies {F} {holds} {opened} {made} {unread} {unmade} given place many name start old between new
-    at is cause first second =
+    (front ++ take (place + 1) names) start old new
+uses_one {F} {holds} {opened} {made} {unread} {unmade} given which front names rest place many name
+    start old between new are at is cause first second =
     let next : place + 1 ≡ suc place = omega arith in
-    let before = own_sink_names given ++ take place (replies_names given) in
-    let sink : IsSink given (RepliesOf (place + 1)) before (Some name) =
-    subst (λ (n : ℕ). IsSink given (RepliesOf n) before (Some name)) (sym next)
-    (reader_sink given place name is) in
-    let all : before ++ name ∷ [] ≡ own_sink_names given ++ take (place + 1) (replies_names given) =
-    sym (up_to_one_more (own_sink_names given) (replies_names given) place name is)
-    ∙ ap (λ (n : ℕ). own_sink_names given ++ take n (replies_names given)) (sym next) in
+    let before = front ++ take place names in
+    let sink : IsSink given (which (place + 1)) before (Some name) =
+    subst (λ (n : ℕ). IsSink given (which n) before (Some name)) (sym next)
+    (one_sink given which front names rest place name are is) in
+    let all : before ++ name ∷ [] ≡ front ++ take (place + 1) names =
+    sym (up_to_one_more front names place name is)
+    ∙ ap (λ (n : ℕ). front ++ take n names) (sym next) in
     subst (λ (ns : List (List ℕ)). UsesMore holds opened made unread unmade given (file_names given)
     [] ns start old new) all
-    (uses_sink given (RepliesOf (place + 1)) before (Some name) start old between new sink cause
+    (uses_sink given (which (place + 1)) before (Some name) start old between new sink cause
     (subst (λ (n : ℕ). UsesMore holds opened made unread unmade given (file_names given) []
-    (own_sink_names given ++ take n (replies_names given)) None old between) (sym at) first)
+    (front ++ take n names) None old between) (sym at) first)
     second)
 
 -- memory ran out behind some sinks
@@ -299,13 +345,26 @@ memory_behind given own more old new front uses = record {
   };
 }
 
--- the names of the replies to some readers stand behind the other sinks
-pub front_of_replies : (given : Settings) (place : ℕ)
-    → IsPrefix (own_sink_names given ++ take place (replies_names given)) (sink_names given)
-front_of_replies given place = record {
-  rest = drop place (replies_names given);
-  cut = ap (λ (ns : List (List ℕ)). own_sink_names given ++ ns)
-      (sym (take-append-drop place (replies_names given)))
-      ∙ sym (append_assoc (own_sink_names given) (take place (replies_names given))
-      (drop place (replies_names given)));
+-- the file of faulty lines of the stream at this place
+pub fault_at : (given : Settings) (all : List (List ℕ)) (place : ℕ) (name : List ℕ)
+    → all ≡ faults_of given → place < length all → name ≡ get_or all place name
+    → slice_get (faults_of given) place ≡ Some name
+fault_at given all place name are below read =
+    ap (λ (ns : List (List ℕ)). slice_get ns place) (sym are)
+    ∙ slice_get_read all (length all) place name refl below read
+
+-- the replies to the sessions and the saved window stand in front of the other sinks
+pub none_behind_own : (given : Settings) → IsPrefix (own_sink_names given) (sink_names given)
+none_behind_own given = record {
+  rest = faults_of given ++ replies_names given;
+  cut = append_assoc (own_sink_names given) (faults_of given) (replies_names given);
+}
+
+-- some of these names stand in front of all the others
+pub front_of_names : (given : Settings) (which : ℕ → Which) (front names rest : List (List ℕ))
+    (place : ℕ) → AreSinks given which front names rest
+    → IsPrefix (front ++ take place names) (sink_names given)
+front_of_names given which front names rest place are = record {
+  rest = drop place names ++ rest;
+  cut = are.all ∙ front_and_rest front names rest place;
 }

@@ -9,11 +9,13 @@ use Rattle.rpq_model.specs.Query.{Query}
 use Rattle.join_file.specs.Joins.{JoinValue}
 use Rattle.ask_text.specs.declared.ask.Ask.{Ask}
 use Rattle.rpq_words.specs.declared.settings.Settings.{Settings}
-use Rattle.rpq_words.specs.Views.{asks_of, from_of, joins_of, readers_of, streams_of, two_way_of}
+use Rattle.rpq_words.specs.Views.{asks_of, faults_of, from_of, joins_of, readers_of, streams_of}
+use Rattle.rpq_words.specs.Views.{two_way_of}
 use Rattle.stream_tuples.specs.History.{IsNumberOf}
 use Rattle.rpq_text.specs.declared.ends.Which.{Which}
 use Rattle.rpq_text.specs.declared.ends.Which.TheVariants.{Queries, Joins, Asks, From}
-use Rattle.rpq_text.specs.declared.ends.Which.TheVariants.{Stream, Replies, Save, AsksOf, RepliesOf}
+use Rattle.rpq_text.specs.declared.ends.Which.TheVariants.{Stream, Replies, Save, FaultsOf}
+use Rattle.rpq_text.specs.declared.ends.Which.TheVariants.{AsksOf, RepliesOf}
 use Rattle.rpq_text.specs.declared.ends.StartFault.{StartFault}
 use Rattle.rpq_text.specs.declared.ends.StartFault.TheVariants.{Words, Queries as QueriesFault}
 use Rattle.rpq_text.specs.declared.ends.StartFault.TheVariants.{Joins as JoinsFaulty}
@@ -26,13 +28,14 @@ use Rattle.run_start.specs.Ready.{fault_of}
 use Rattle.run_start.specs.Start.{AreMade, AreOpened, AreSourcesOf, IsMakingOf, IsOpeningOf, IsRefusedFor, Opens}
 use Rattle.run_start.specs.Start.{UsesFiles, file_held}
 use Rattle.run_start.specs.Steps.{AreMadeThen, AreOpenedBehind, IsRefusal, IsRefusalOfOpening}
-use Rattle.run_start.specs.Steps.{IsRefusalOfReplies, UsesMore}
+use Rattle.run_start.specs.Steps.{IsRefusalOfFaults, IsRefusalOfOne, IsRefusalOfReplies, UsesMore}
 use Rattle.run_start.specs.declared.refusal.Refusal.{Refusal}
 
 -- a fault that isn't that of an opening to write
 pub record IsToRead (fault : StartFault) : Type 0 where
   pub no_replies : fault ≢ Open Replies
   pub no_save : fault ≢ Open Save
+  pub no_faults_of : (number : ℕ) → fault ≢ Open (FaultsOf number)
   pub no_replies_of : (number : ℕ) → fault ≢ Open (RepliesOf number)
 
 -- no name was opened to write
@@ -48,6 +51,7 @@ none_made given (Open From) reads = refl
 none_made given (Open (Stream number)) reads = refl
 none_made given (Open Replies) reads = refl
 none_made given (Open Save) reads = absurd (reads.no_save refl)
+none_made given (Open (FaultsOf number)) reads = absurd (reads.no_faults_of number refl)
 none_made given (Open (AsksOf number)) reads = refl
 none_made given (Open (RepliesOf number)) reads = absurd (reads.no_replies_of number refl)
 none_made given (Read which) reads = refl
@@ -59,7 +63,7 @@ none_made_then : (given : Settings) (start : Option StartFault) → IfSome start
 none_made_then given None reads = refl
 none_made_then given (Some fault) reads = none_made given fault reads
 
--- only the replies, the saved window and the replies to readers are opened to write
+-- only the replies, the saved window, the faulty lines and the replies to readers are opened to write
 no_making : (given : Settings) (name : List ℕ) (fault : StartFault) → IsToRead fault
     → IsMakingOf given name fault → ⊥
 no_making given name Words other making = making
@@ -73,6 +77,7 @@ no_making given name (Open From) other making = making
 no_making given name (Open (Stream number)) other making = making
 no_making given name (Open Replies) other making = other.no_replies refl
 no_making given name (Open Save) other making = other.no_save refl
+no_making given name (Open (FaultsOf number)) other making = other.no_faults_of number refl
 no_making given name (Open (AsksOf number)) other making = making
 no_making given name (Open (RepliesOf number)) other making = other.no_replies_of number refl
 no_making given name (Read which) other making = making
@@ -176,6 +181,7 @@ to_read_later : (fault : StartFault) → IsFoundLater fault → IsToRead fault
 to_read_later fault later = record {
   no_replies = λ is. subst (λ (f : StartFault). IsFoundLater f) is later;
   no_save = λ is. subst (λ (f : StartFault). IsFoundLater f) is later;
+  no_faults_of = λ number is. subst (λ (f : StartFault). IsFoundLater f) is later;
   no_replies_of = λ number is. subst (λ (f : StartFault). IsFoundLater f) is later;
 }
 
@@ -391,19 +397,35 @@ opening_refuses {S} left faults given holds which refusal may is = record {
     by_sources (inr memory) = subst (λ (f : StartFault). AreSourcesOf left faults (file_held (Some given) holds) f
         (option_to_list refusal.source)) (sym memory) none
 
--- so is one of the replies to a reader
+-- so is that of one of some that are numbered
+one_refuses : {S : Type 0} (left : S → Option (List ℕ)) (faults : S → ℕ) (given : Settings)
+    (holds : List ℕ → Option (List ℕ)) (refusal : Refusal S) (count : ℕ) (which : ℕ → Which)
+    → ((number : ℕ) → IsNumberOf count number → IsRefusedFor given holds (Open (which number)))
+    → IsRefusalOfOne count which refusal → IsRefusal left faults given holds refusal
+one_refuses {S} left faults given holds refusal count which may is = by is.cause
+  where
+    by : ((number : ℕ) × IsNumberOf count number × (refusal.fault ≡ Open (which number)))
+        ⊎ (refusal.fault ≡ Memory) → IsRefusal left faults given holds refusal
+    by (inl (number, within, opening)) = opening_refuses left faults given holds (which number)
+        refusal (may number within) (record { no_source = is.no_source; cause = inl opening })
+    by (inr memory) = opening_refuses left faults given holds Queries refusal tt
+        (record { no_source = is.no_source; cause = inr memory })
+
+-- as that of the faulty lines of a stream
+pub faults_refuse : {S : Type 0} (left : S → Option (List ℕ)) (faults : S → ℕ) (given : Settings)
+    (holds : List ℕ → Option (List ℕ)) (refusal : Refusal S) → AreUnderstoodFiles given holds
+    → IsRefusalOfFaults given refusal → IsRefusal left faults given holds refusal
+faults_refuse {S} left faults given holds refusal understood is =
+    one_refuses left faults given holds refusal (length (faults_of given)) (λ number. FaultsOf number)
+    (λ number within. (within, understood)) is
+
+-- and that of the replies to a reader
 pub replies_refuse : {S : Type 0} (left : S → Option (List ℕ)) (faults : S → ℕ) (given : Settings)
     (holds : List ℕ → Option (List ℕ)) (refusal : Refusal S) → AreUnderstoodFiles given holds
     → IsRefusalOfReplies given refusal → IsRefusal left faults given holds refusal
-replies_refuse {S} left faults given holds refusal understood is = by is.cause
-  where
-    by : ((number : ℕ) × IsNumberOf (length (readers_of given)) number
-        × (refusal.fault ≡ Open (RepliesOf number))) ⊎ (refusal.fault ≡ Memory)
-        → IsRefusal left faults given holds refusal
-    by (inl (number, within, opening)) = opening_refuses left faults given holds (RepliesOf number)
-        refusal (within, understood) (record { no_source = is.no_source; cause = inl opening })
-    by (inr memory) = opening_refuses left faults given holds Queries refusal tt
-        (record { no_source = is.no_source; cause = inr memory })
+replies_refuse {S} left faults given holds refusal understood is =
+    one_refuses left faults given holds refusal (length (readers_of given)) (λ number. RepliesOf number)
+    (λ number within. (within, understood)) is
 
 -- the queries file and the joins file that were read whole are understood
 pub joins_understood : (given : Settings) (holds : List ℕ → Option (List ℕ)) (queries : List Query)

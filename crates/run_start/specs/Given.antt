@@ -2,11 +2,19 @@
 use Rattle.std.specs.Prelude.{ℕ, zero, suc, List, [], ◌∷◌, ◌++◌, take, Option, None, slice_get}
 use Rattle.std.specs.Prelude.{option_to_list, map}
 use Rattle.rpq_words.specs.declared.settings.Settings.{Settings}
-use Rattle.rpq_words.specs.Views.{asks_of, from_of, joins_of, readers_of, replies_of, save_of}
-use Rattle.rpq_words.specs.Views.{streams_of}
+use Rattle.rpq_words.specs.Views.{asks_of, faults_of, from_of, joins_of, readers_of, replies_of}
+use Rattle.rpq_words.specs.Views.{save_of, streams_of}
+use Rattle.stream_tuples.specs.declared.faults.FaultPolicy.{FaultPolicy}
+use Rattle.stream_tuples.specs.History.{policy_of_sinks}
 use Rattle.rpq_text.specs.declared.ends.Which.{Which}
 use Rattle.rpq_text.specs.declared.ends.Which.TheVariants.{Queries, Joins, Asks, From}
-use Rattle.rpq_text.specs.declared.ends.Which.TheVariants.{Stream, Replies, Save, AsksOf, RepliesOf}
+use Rattle.rpq_text.specs.declared.ends.Which.TheVariants.{Stream, Replies, Save, FaultsOf}
+use Rattle.rpq_text.specs.declared.ends.Which.TheVariants.{AsksOf, RepliesOf}
+
+-- what becomes of the faulty lines of the streams: each is told on the file of its stream where
+-- such files are named, and else it ends its stream
+abbrev pub policy_of : Settings → FaultPolicy
+policy_of given = policy_of_sinks (faults_of given)
 
 -- the name of the stream with this number, from 1
 abbrev pub stream_name : Settings → ℕ → Option (List ℕ)
@@ -56,15 +64,20 @@ abbrev pub later_names : Settings → List (List ℕ)
 later_names given = ((option_to_list (joins_of given) ++ option_to_list (asks_of given))
     ++ (option_to_list (from_of given) ++ streams_of given)) ++ asks_names given
 
--- the names of the files that are opened to write before the replies to the readers beside the run:
--- that of the replies to the sessions, and that of the window to be saved, as far as there are such
+-- the names of the files that are opened to write before those of faulty lines: that of the replies
+-- to the sessions, and that of the window to be saved, as far as there are such
 abbrev pub own_sink_names : Settings → List (List ℕ)
 own_sink_names given = option_to_list (replies_of given) ++ option_to_list (save_of given)
+
+-- the names of the files that are opened to write before the replies to the readers beside the run:
+-- those, and then those of the faulty lines of the streams
+abbrev pub sinks_with_faults : Settings → List (List ℕ)
+sinks_with_faults given = own_sink_names given ++ faults_of given
 
 -- the names of all files that are opened to write, in the order in which they are: those, and then
 -- those of the replies to the readers
 abbrev pub sink_names : Settings → List (List ℕ)
-sink_names given = own_sink_names given ++ replies_names given
+sink_names given = sinks_with_faults given ++ replies_names given
 
 -- the names of the files that are opened to read before this one is opened
 abbrev pub names_before : Settings → Which → List (List ℕ)
@@ -76,6 +89,7 @@ names_before given (Stream zero) = first_names given
 names_before given (Stream (suc place)) = first_names given ++ take place (streams_of given)
 names_before given Replies = file_names given
 names_before given Save = file_names given
+names_before given (FaultsOf number) = file_names given
 names_before given (AsksOf zero) = names_with_streams given
 names_before given (AsksOf (suc place)) = names_with_streams given ++ take place (asks_names given)
 names_before given (RepliesOf number) = file_names given
@@ -89,5 +103,6 @@ names_up_to given From = first_names given
 names_up_to given (Stream number) = first_names given ++ take number (streams_of given)
 names_up_to given Replies = file_names given
 names_up_to given Save = file_names given
+names_up_to given (FaultsOf number) = file_names given
 names_up_to given (AsksOf number) = names_with_streams given ++ take number (asks_names given)
 names_up_to given (RepliesOf number) = file_names given

@@ -12,8 +12,8 @@ use Rattle.rpq_words.specs.declared.settings.Directions.{Directions}
 use Rattle.rpq_words.specs.declared.settings.RunMode.TheVariants.{Check, Generate, Streams}
 use Rattle.rpq_words.specs.declared.settings.StreamSettings.{StreamSettings}
 use Rattle.rpq_words.specs.declared.settings.Settings.{Settings}
-use Rattle.rpq_words.specs.Views.{asks_of, cap_of, from_of, joins_of, mode_of, replies_of, save_of}
-use Rattle.rpq_words.specs.Views.{readers_of, two_way_of}
+use Rattle.rpq_words.specs.Views.{asks_of, cap_of, faults_of, from_of, joins_of, mode_of}
+use Rattle.rpq_words.specs.Views.{replies_of, save_of, readers_of, two_way_of}
 use Rattle.rpq_text.specs.Definitions.{definitions_of}
 use Rattle.rpq_text.specs.Limits.{query_limit}
 use Rattle.rpq_text.specs.declared.ends.StartFault.{StartFault}
@@ -56,6 +56,12 @@ pub record AreNewSinks {K : Type 0} (written : K → Option (List ℕ)) (failure
   pub save : is_some sinks.save ≡ is_some (save_of given)
   pub new_save : IfSome sinks.save (IsNewSink written failures)
 
+-- the sinks of the faulty lines of the streams, each new, and as many as files are named for them
+pub record AreFaultSinks {K : Type 0} (written : K → Option (List ℕ)) (failures : K → ℕ)
+    (given : Settings) (sinks : List K) : Type 0 where
+  pub as_many : length sinks ≡ length (faults_of given)
+  pub new : All (IsNewSink written failures) sinks
+
 -- the readers beside a run, in order and not too many: each is new, and what it asks is what its
 -- file holds
 pub record AreAskReaders {S K : Type 0} (left : S → Option (List ℕ)) (faults : S → ℕ)
@@ -67,9 +73,9 @@ pub record AreAskReaders {S K : Type 0} (left : S → Option (List ℕ)) (faults
       ≡ map (λ one. left one.reader.source) readers
 
 -- what is read and answered in a run over streams: a new reader of each stream, in order, with the
--- saved window in front of it where one is named; the joins of the joins file and the sessions of
--- the asks file, not too many of each, and each about the queries; the readers beside the run; and
--- the sinks
+-- saved window in front of it where one is named; the sinks of the faulty lines; the joins of the
+-- joins file and the sessions of the asks file, not too many of each, and each about the queries;
+-- the readers beside the run; and the other sinks
 pub record IsReading {S K : Type 0} (left : S → Option (List ℕ)) (faults : S → ℕ)
     (written : K → Option (List ℕ)) (failures : K → ℕ) (given : Settings)
     (holds : List ℕ → Option (List ℕ)) (queries : List CompiledValue) (reading : StreamsPlan S K)
@@ -79,6 +85,7 @@ pub record IsReading {S K : Type 0} (left : S → Option (List ℕ)) (faults : S
   pub contents : stream_contents given holds ≡ contents_of left reading.readers
   pub behind : is_behind reading.readers ≡ is_some (from_of given)
   pub fresh : AreNew (cap_of given) left faults reading.readers
+  pub fault_sinks : AreFaultSinks written failures given reading.faults.items
   pub joined : ForJoins given holds (definitions_of queries)
       (λ found. reading.joins.value.items ≡ found)
   pub few_joins : length reading.joins.value.items ≤ 32

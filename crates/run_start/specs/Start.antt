@@ -4,11 +4,12 @@ use Rattle.std.specs.Prelude.{Some, None}
 use Rattle.std.specs.Prelude.{IsSomeAnd, Contains, option_and_then, option_to_list}
 use Rattle.rpq_io.specs.Counts.{Rose, CountsFault}
 use Rattle.rpq_words.specs.declared.settings.Settings.{Settings}
-use Rattle.rpq_words.specs.Views.{asks_of, from_of, joins_of, replies_of, save_of, streams_of}
-use Rattle.rpq_words.specs.Views.{readers_of, two_way_of}
+use Rattle.rpq_words.specs.Views.{asks_of, faults_of, from_of, joins_of, replies_of, save_of}
+use Rattle.rpq_words.specs.Views.{streams_of, readers_of, two_way_of}
 use Rattle.rpq_text.specs.declared.ends.Which.{Which}
 use Rattle.rpq_text.specs.declared.ends.Which.TheVariants.{Queries, Joins, Asks, From}
-use Rattle.rpq_text.specs.declared.ends.Which.TheVariants.{Stream, Replies, Save, AsksOf, RepliesOf}
+use Rattle.rpq_text.specs.declared.ends.Which.TheVariants.{Stream, Replies, Save, FaultsOf}
+use Rattle.rpq_text.specs.declared.ends.Which.TheVariants.{AsksOf, RepliesOf}
 use Rattle.rpq_text.specs.declared.ends.StartFault.{StartFault}
 use Rattle.rpq_text.specs.declared.ends.StartFault.TheVariants.{Words, Queries as QueriesFault}
 use Rattle.rpq_text.specs.declared.ends.StartFault.TheVariants.{Joins as JoinsFaulty}
@@ -20,7 +21,7 @@ use Rattle.run_start.specs.Files.{AreUnderstoodJoins, IsFaultyFile, IsQueriesFil
 use Rattle.run_start.specs.Files.{IsTooLong}
 use Rattle.run_start.specs.Given.{stream_name, understood_names, whole_names, file_names}
 use Rattle.run_start.specs.Given.{asks_names, name_numbered, own_sink_names, replies_names}
-use Rattle.run_start.specs.Given.{sink_names, names_before, names_up_to}
+use Rattle.run_start.specs.Given.{sink_names, sinks_with_faults, names_before, names_up_to}
 
 -- where each cause of a refusal may come that isn't one of the words, by what the files hold: a
 -- file is looked at only where all that come before it are understood, and only one that is given
@@ -48,6 +49,8 @@ IsRefusedFor given holds (Open Replies) =
     IsSomeAnd (replies_of given) (λ name. AreUnderstoodFiles given holds)
 IsRefusedFor given holds (Open Save) =
     IsSomeAnd (save_of given) (λ name. AreUnderstoodFiles given holds)
+IsRefusedFor given holds (Open (FaultsOf number)) =
+    IsNumberOf (length (faults_of given)) number × AreUnderstoodFiles given holds
 IsRefusedFor given holds (Open (AsksOf number)) =
     IsNumberOf (length (readers_of given)) number × AreUnderstoodFiles given holds
 IsRefusedFor given holds (Open (RepliesOf number)) =
@@ -61,6 +64,7 @@ IsRefusedFor given holds (Read From) = ⊥
 IsRefusedFor given holds (Read (Stream number)) = ⊥
 IsRefusedFor given holds (Read Replies) = ⊥
 IsRefusedFor given holds (Read Save) = ⊥
+IsRefusedFor given holds (Read (FaultsOf number)) = ⊥
 IsRefusedFor given holds (Read (AsksOf number)) = ⊥
 IsRefusedFor given holds (Read (RepliesOf number)) = ⊥
 IsRefusedFor given holds (Long Queries) = IsTooLong (holds given.queries)
@@ -73,6 +77,7 @@ IsRefusedFor given holds (Long From) = ⊥
 IsRefusedFor given holds (Long (Stream number)) = ⊥
 IsRefusedFor given holds (Long Replies) = ⊥
 IsRefusedFor given holds (Long Save) = ⊥
+IsRefusedFor given holds (Long (FaultsOf number)) = ⊥
 IsRefusedFor given holds (Long (AsksOf number)) = ⊥
 IsRefusedFor given holds (Long (RepliesOf number)) = ⊥
 IsRefusedFor given holds Memory = Unit {0}
@@ -96,6 +101,7 @@ IsOpeningOf given name (Open From) = from_of given ≡ Some name
 IsOpeningOf given name (Open (Stream number)) = stream_name given number ≡ Some name
 IsOpeningOf given name (Open Replies) = ⊥
 IsOpeningOf given name (Open Save) = ⊥
+IsOpeningOf given name (Open (FaultsOf number)) = ⊥
 IsOpeningOf given name (Open (AsksOf number)) =
     name_numbered (asks_names given) number ≡ Some name
 IsOpeningOf given name (Open (RepliesOf number)) = ⊥
@@ -116,6 +122,8 @@ IsMakingOf given name (Open From) = ⊥
 IsMakingOf given name (Open (Stream number)) = ⊥
 IsMakingOf given name (Open Replies) = replies_of given ≡ Some name
 IsMakingOf given name (Open Save) = save_of given ≡ Some name
+IsMakingOf given name (Open (FaultsOf number)) =
+    name_numbered (faults_of given) number ≡ Some name
 IsMakingOf given name (Open (AsksOf number)) = ⊥
 IsMakingOf given name (Open (RepliesOf number)) =
     name_numbered (replies_names given) number ≡ Some name
@@ -133,6 +141,7 @@ file_held (Some given) holds From = option_and_then holds (from_of given)
 file_held (Some given) holds (Stream number) = option_and_then holds (stream_name given number)
 file_held (Some given) holds Replies = None
 file_held (Some given) holds Save = None
+file_held (Some given) holds (FaultsOf number) = None
 file_held (Some given) holds (AsksOf number) =
     option_and_then holds (name_numbered (asks_names given) number)
 file_held (Some given) holds (RepliesOf number) = None
@@ -177,10 +186,12 @@ sinks_before given From = []
 sinks_before given (Stream number) = []
 sinks_before given Replies = []
 sinks_before given Save = option_to_list (replies_of given)
+sinks_before given (FaultsOf zero) = own_sink_names given
+sinks_before given (FaultsOf (suc place)) = own_sink_names given ++ take place (faults_of given)
 sinks_before given (AsksOf number) = []
-sinks_before given (RepliesOf zero) = own_sink_names given
+sinks_before given (RepliesOf zero) = sinks_with_faults given
 sinks_before given (RepliesOf (suc place)) =
-    own_sink_names given ++ take place (replies_names given)
+    sinks_with_faults given ++ take place (replies_names given)
 
 -- the names of the files that a run opened to write, by why it didn't begin, if it didn't
 abbrev pub AreMade : Settings → Option StartFault → List (List ℕ) → Type 0

@@ -10,10 +10,10 @@ use Rattle.ask_text.specs.Asks.{asks}
 use Rattle.rpq_io.specs.Counts.{CountsFault, CountsOpening}
 use Rattle.rpq_io.specs.Files.{KeepsFiles}
 use Rattle.rpq_words.specs.declared.settings.Settings.{Settings}
-use Rattle.rpq_words.specs.Views.{readers_of}
+use Rattle.rpq_words.specs.Views.{faults_of, readers_of}
 use Rattle.stream_tuples.specs.History.{IsNumberOf, IsPrefix}
 use Rattle.rpq_text.specs.declared.ends.Which.{Which}
-use Rattle.rpq_text.specs.declared.ends.Which.TheVariants.{RepliesOf}
+use Rattle.rpq_text.specs.declared.ends.Which.TheVariants.{FaultsOf, RepliesOf}
 use Rattle.rpq_text.specs.declared.ends.StartFault.{StartFault}
 use Rattle.rpq_text.specs.declared.ends.StartFault.TheVariants.{Words, Queries, Joins, Asks}
 use Rattle.rpq_text.specs.declared.ends.StartFault.TheVariants.{Open, Read, Long, Memory}
@@ -122,12 +122,23 @@ pub record IsUnread {S : Type 0} (has_told_end : S → Bool) (faults : S → ℕ
   pub untold : has_told_end source ≡ false
   pub no_fault : faults source ≡ 0
 
--- why the replies to the readers beside a run aren't opened: the opening of those of one of them
--- failed, or memory ran out; no source is left
-pub record IsRefusalOfReplies {S : Type 0} (given : Settings) (refusal : Refusal S) : Type 0 where
+-- why so many files, numbered from 1, aren't all opened, each as the one with its number: the
+-- opening of one of them failed, or memory ran out; no source is left
+pub record IsRefusalOfOne {S : Type 0} (count : ℕ) (which : ℕ → Which) (refusal : Refusal S)
+    : Type 0 where
   pub no_source : refusal.source ≡ None
-  pub cause : ((number : ℕ) × IsNumberOf (length (readers_of given)) number
-      × (refusal.fault ≡ Open (RepliesOf number))) ⊎ (refusal.fault ≡ Memory)
+  pub cause : ((number : ℕ) × IsNumberOf count number × (refusal.fault ≡ Open (which number)))
+      ⊎ (refusal.fault ≡ Memory)
+
+-- why the sinks of the faulty lines of the streams aren't opened
+abbrev pub IsRefusalOfFaults : {S : Type 0} → Settings → Refusal S → Type 0
+IsRefusalOfFaults given =
+    IsRefusalOfOne (length (faults_of given)) (λ number. FaultsOf number)
+
+-- why those of the replies to the readers beside a run aren't
+abbrev pub IsRefusalOfReplies : {S : Type 0} → Settings → Refusal S → Type 0
+IsRefusalOfReplies given =
+    IsRefusalOfOne (length (readers_of given)) (λ number. RepliesOf number)
 
 -- the names that a step opened to read, before which the run opened others: its own, or those that
 -- make the names of a run that doesn't begin for this

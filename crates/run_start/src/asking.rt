@@ -6,8 +6,8 @@ ghost use Rattle.live_asks.specs.Readers.{IsNewAskReader};
 ghost use Rattle.rpq_words.specs.Modes.{AreSettings};
 ghost use Rattle.rpq_words.specs.Views.{readers_of};
 ghost use Rattle.run_start.specs.Files.{AreUnderstoodFiles};
-ghost use Rattle.run_start.specs.Given.{asks_names, file_names, names_with_streams, own_sink_names};
-ghost use Rattle.run_start.specs.Given.{sink_names};
+ghost use Rattle.run_start.specs.Given.{asks_names, file_names, names_with_streams, sink_names};
+ghost use Rattle.run_start.specs.Given.{sinks_with_faults};
 ghost use Rattle.run_start.specs.Ready.{fault_of};
 ghost use Rattle.run_start.specs.Steps.{IsRefusal, IsRefusalOfReplies, IsUnread, UsesMore};
 
@@ -51,7 +51,8 @@ pub fn open_asks<F: Files>(
 }
 
 /// The readers beside the run over these sources of what they ask, each with a new sink for its
-/// replies. The sinks of the run's own replies and of its saved window were opened before.
+/// replies. The sinks of the run's own replies, of its saved window and of the streams' faulty lines
+/// were opened before.
 pub fn open_ask_readers<F: Files>(
     alloc: Global,
     files: &mut F,
@@ -67,7 +68,7 @@ pub fn open_ask_readers<F: Files>(
         F.Sink.written F.Sink.faults) readers.items) }
     ensures refused { IfErr result (IsRefusalOfReplies chosen.now) }
     ensures files { (first : F) → UsesMore F.holds F.opened F.made F.unread F.unmade chosen.now
-        (file_names chosen.now) [] (own_sink_names chosen.now) None first files.old
+        (file_names chosen.now) [] (sinks_with_faults chosen.now) None first files.old
         → UsesMore F.holds F.opened F.made F.unread F.unmade chosen.now
         (file_names chosen.now) [] (sink_names chosen.now) (fault_of result) first files.new }
 {

@@ -18,7 +18,7 @@ use crate::joins::joins_of_file;
 use crate::queries::queries_of_file;
 use crate::refusal::Refusal;
 use crate::sessions::sessions_of_file;
-use crate::sinks::{OwnSinks, open_sinks};
+use crate::sinks::{OwnSinks, open_fault_sinks, open_sinks};
 use crate::streams::{Readers, open_readers};
 use ask_text::Session;
 use join_file::JoinDef;
@@ -53,6 +53,9 @@ pub enum Work<S: Source, K: Sink> {
 pub struct StreamsPlan<S: Source, K: Sink> {
     /// The lines of each stream, in order, of which none was read.
     pub readers: Readers<S>,
+    /// Where the faulty lines of each stream go, in the order of the streams: one sink for each, or
+    /// none, and then a faulty line ends its stream.
+    pub faults: Vec<K>,
     /// The joins over the queries, in the order of their file.
     pub joins: Arc<Vec<JoinDef>>,
     /// What each session asks, in order.
@@ -66,8 +69,9 @@ pub struct StreamsPlan<S: Source, K: Sink> {
 /// Reads the queries file whole and understands it; then the joins file, if there is one, and the
 /// asks file, if there is one; opens the saved window with which the run begins, if there is one,
 /// the streams in their order, and the asks of the readers beside the run in theirs; and opens the
-/// sinks of the replies and of the window to be saved, as far as there are such, and those of the
-/// readers. For a check, and for generated tuples, only the queries file is opened.
+/// sinks of the replies and of the window to be saved, as far as there are such, those of the faulty
+/// lines of the streams, and those of the readers. For a check, and for generated tuples, only the
+/// queries file is opened.
 /// The first of these that fails ends it.
 pub fn begin<F: Files>(
     alloc: Global,
@@ -139,9 +143,11 @@ fn begin_reading<F: Files>(
     let readers = open_readers(alloc, files, chosen, run)?;
     let asks = open_asks(alloc, files, chosen)?;
     let sinks = open_sinks(files, chosen)?;
+    let faults = open_fault_sinks(alloc, files, chosen)?;
     let ask_readers = open_ask_readers(alloc, files, chosen, asks)?;
     Ok(StreamsPlan {
         readers,
+        faults,
         joins,
         sessions,
         ask_readers,

@@ -56,7 +56,8 @@ pub fn open_readers<F: Files>(
         (fault_of result) files.old files.new }
 {
     let run = match run {
-        StreamSettings::BothWays(names) => {
+        StreamSettings::BothWays(run) => {
+            let names = &run.streams;
             return Ok(Readers::Alone(open_streams(alloc, files, chosen, names)?));
         }
         StreamSettings::Forwards(run) => run,

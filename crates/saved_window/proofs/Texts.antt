@@ -1,8 +1,7 @@
 -- The text of tuples is read back.
-use Rattle.std.proofs.Common.{◌≡◌, ℕ, suc, ◌+◌, ◌-◌, ◌<◌, ◌≤◌, List, [], ◌∷◌, ◌++◌, length, map, Some}
+use Rattle.std.proofs.Common.{◌≡◌, ℕ, ◌+◌, ◌-◌, ◌<◌, ◌≤◌, List, [], ◌∷◌, ◌++◌, length, map, Some}
 use Rattle.std.proofs.Common.{None, Ok, refl, sym, ap, subst, ◌∙◌, inl, inr, arith, append_assoc, append-nil, get_or, take}
 use Rattle.std.specs.Prelude.{All}
-use Rattle.std.proofs.lemmas.Bool.{le-leb}
 use Rattle.std.proofs.lemmas.List.{length-map, take_more, flat_map_more}
 use Rattle.std.proofs.lemmas.List.Elements.{All-nil, All-cons, All-head, All-tail, All-push}
 use Rattle.text_parts.specs.Lines.{IsLine, raw_lines, without_return, text_of}
@@ -16,12 +15,12 @@ use Rattle.rpq_base.specs.declared.data.Act.TheVariants.{Insert, Delete, Tick}
 use Rattle.tuple_text.specs.Reading.{line_tuple}
 use Rattle.tuple_text.specs.Parts.{IsActOf, LineByParts}
 use Rattle.tuple_text.specs.Written.{written, IsStreamAct, IsStreamTuple, WrittenIsShort, WrittenLinesAreRead}
-use Rattle.stream_tuples.specs.declared.ends.StreamEnd.{StreamEnd}
 use Rattle.stream_tuples.specs.declared.ends.StreamEnd.TheVariants.{Whole}
-use Rattle.stream_tuples.specs.Limits.{line_limit}
-use Rattle.stream_tuples.specs.StreamText.{StreamTuples, tuples_with, tuples_before, numbered}
-use Rattle.stream_tuples.specs.StreamText.{line_gives, tuples_of_lines, tuples_from}
-use Rattle.stream_tuples.proofs.StreamTexts.{first_gives, tuples_after, nothing_left}
+use Rattle.stream_tuples.specs.declared.faults.FaultPolicy.{FaultPolicy}
+use Rattle.stream_tuples.specs.StreamText.{StreamTuples, tuples_with, tuples_before, tuples_from}
+use Rattle.stream_tuples.specs.StreamText.{reports_from}
+use Rattle.stream_tuples.proofs.StreamTexts.{nothing_left}
+use Rattle.stream_tuples.proofs.TupleLines.{GivesTuple, tuples_behind, reports_behind}
 use Rattle.saved_window.specs.SavedText.{saved_text, SavedTextIsRead}
 
 -- ---- a line that gives a tuple
@@ -70,10 +69,8 @@ one_is_line bytes single = elim (first_cut bytes) [
 ]
 
 -- what is written of a tuple is one line, which gives it
-record IsItsLine (tuple : TupleValue) : Type 0 where
-  whole : IsLine (written tuple)
-  short : length (written tuple) ≤ line_limit
-  gives : line_tuple (without_return (written tuple)) ≡ Ok (Some tuple)
+abbrev IsItsLine : TupleValue → Type 0
+IsItsLine tuple = GivesTuple (written tuple) tuple
 
 its_line : WrittenIsShort → WrittenLinesAreRead → (tuple : TupleValue) → IsStreamTuple tuple → IsItsLine tuple
 its_line short lines_read tuple is =
@@ -92,31 +89,7 @@ its_line short lines_read tuple is =
       gives = cc;
     }
 
-line_gives_it : (number : ℕ) (tuple : TupleValue) → IsItsLine tuple → line_gives number (written tuple) ≡ Ok (Some tuple)
-unfolding line_gives
-line_gives_it number tuple is = rw (le-leb (length (written tuple)) line_limit is.short) (ap (numbered number) is.gives)
-
 -- ---- many lines
-
--- lines of tuples in front of others give these tuples first
-lines_give : (tuples : List TupleValue) (more : List (List ℕ)) (number : ℕ) (end : StreamEnd) → All IsItsLine tuples →
-    tuples_of_lines (map written tuples ++ more) number end ≡ tuples_before tuples (tuples_of_lines more (length tuples + number) end)
-lines_give [] more number end are =
-    let here : number ≡ length {A = TupleValue} [] + number = omega arith in
-    ap (λ (n : ℕ). tuples_of_lines more n end) here
-lines_give (tuple ∷ tuples) more number end are =
-    let behind : length tuples + (number + 1) ≡ suc (length tuples) + number = omega arith in
-    first_gives (written tuple) (map written tuples ++ more) number end (Ok (Some tuple))
-    (line_gives_it number tuple (All-head IsItsLine tuple tuples are))
-    ∙ (ap (λ (rest : StreamTuples). tuples_before (tuple ∷ []) rest)
-    (lines_give tuples more (number + 1) end (All-tail IsItsLine tuple tuples are))
-    ∙ ap (λ (n : ℕ). tuples_before (tuple ∷ tuples) (tuples_of_lines more n end)) behind)
-
-all_lines : (tuples : List TupleValue) → All IsItsLine tuples → All IsLine (map written tuples)
-all_lines [] are = All-nil IsLine
-all_lines (tuple ∷ tuples) are =
-    All-cons IsLine (written tuple) (map written tuples) (All-head IsItsLine tuple tuples are).whole
-    (all_lines tuples (All-tail IsItsLine tuple tuples are))
 
 all_its_lines : WrittenIsShort → WrittenLinesAreRead → (tuples : List TupleValue) → All IsStreamTuple tuples → All IsItsLine tuples
 all_its_lines short lines_read [] are = All-nil IsItsLine
@@ -131,41 +104,40 @@ text_is (tuple ∷ tuples) = ap (λ (rest : List ℕ). (written tuple ++ 10 ∷ 
 
 -- ---- the whole text
 
-read_in_front : (tuples : List TupleValue) → All IsItsLine tuples → (limit : ℕ) (rest : List ℕ)
-    → length (saved_text tuples) ≤ limit → tuples_from 1 limit (saved_text tuples ++ rest)
-    ≡ tuples_before tuples (tuples_from (length tuples + 1) (limit - length (saved_text tuples)) rest)
-read_in_front tuples are limit rest =
-    subst (λ (text : List ℕ). length text ≤ limit →
-    tuples_from 1 limit (text ++ rest) ≡ tuples_before tuples (tuples_from (length tuples + 1) (limit - length text) rest))
-    (text_is tuples)
-    (λ fits.
-    tuples_after lines tuples (all_lines tuples are) read limit rest fits
-    ∙ ap (λ (n : ℕ). tuples_before tuples (tuples_from (n + 1) (limit - length (text_of lines)) rest)) (length-map tuples written))
-  where
-    lines : List (List ℕ)
-    lines = map written tuples
+module _ (tuples : List TupleValue) (are : All IsItsLine tuples) where
+  read_in_front : (policy : FaultPolicy) (limit : ℕ) (rest : List ℕ)
+      → length (saved_text tuples) ≤ limit → tuples_from policy 1 limit (saved_text tuples ++ rest)
+      ≡ tuples_before tuples (tuples_from policy (length tuples + 1) (limit - length (saved_text tuples)) rest)
+  read_in_front policy limit rest =
+      subst (λ (text : List ℕ). length text ≤ limit → tuples_from policy 1 limit (text ++ rest)
+      ≡ tuples_before tuples (tuples_from policy (length tuples + 1) (limit - length text) rest))
+      (text_is tuples) (λ fits. tuples_behind written tuples are limit rest fits policy)
 
-    read : (more : List (List ℕ)) (end : StreamEnd) →
-        tuples_of_lines (lines ++ more) 1 end ≡ tuples_before tuples (tuples_of_lines more (length lines + 1) end)
-    read more end =
-        lines_give tuples more 1 end are
-        ∙ ap (λ (n : ℕ). tuples_before tuples (tuples_of_lines more (n + 1) end)) (sym (length-map tuples written))
+  read_alone : (policy : FaultPolicy) (limit : ℕ) → length (saved_text tuples) < limit
+      → tuples_from policy 1 limit (saved_text tuples) ≡ tuples_with tuples Whole
+  read_alone policy limit short =
+      let left = limit - length (saved_text tuples) in
+      ap (tuples_from policy 1 limit) (sym (append-nil (saved_text tuples)))
+      ∙ (read_in_front policy limit [] (omega (arith, short))
+      ∙ (ap (λ (rest : StreamTuples). tuples_before tuples rest)
+      (nothing_left policy (length tuples + 1) left (omega (arith, short)))
+      ∙ ap (λ (all : List TupleValue). tuples_with all Whole) (append-nil tuples)))
 
-read_alone : (tuples : List TupleValue) → All IsItsLine tuples → (limit : ℕ)
-    → length (saved_text tuples) < limit → tuples_from 1 limit (saved_text tuples) ≡ tuples_with tuples Whole
-read_alone tuples are limit short =
-    let left = limit - length (saved_text tuples) in
-    ap (tuples_from 1 limit) (sym (append-nil (saved_text tuples)))
-    ∙ (read_in_front tuples are limit [] (omega (arith, short))
-    ∙ (ap (λ (rest : StreamTuples). tuples_before tuples rest) (nothing_left (length tuples + 1) left (omega (arith, short)))
-    ∙ ap (λ (all : List TupleValue). tuples_with all Whole) (append-nil tuples)))
+  none_reported : (limit : ℕ) (rest : List ℕ)
+      → length (saved_text tuples) ≤ limit → reports_from 1 limit (saved_text tuples ++ rest)
+      ≡ reports_from (length tuples + 1) (limit - length (saved_text tuples)) rest
+  none_reported limit rest =
+      subst (λ (text : List ℕ). length text ≤ limit → reports_from 1 limit (text ++ rest)
+      ≡ reports_from (length tuples + 1) (limit - length text) rest)
+      (text_is tuples) (λ fits. reports_behind written tuples are limit rest fits)
 
 pub saved_text_is_read : WrittenIsShort → WrittenLinesAreRead → SavedTextIsRead
-saved_text_is_read short lines_read tuples are =
+saved_text_is_read short lines_read policy tuples are =
     let its = all_its_lines short lines_read tuples are in
     record {
-      alone = read_alone tuples its;
-      in_front = read_in_front tuples its;
+      alone = read_alone tuples its policy;
+      in_front = read_in_front tuples its policy;
+      reports = none_reported tuples its;
     }
 
 -- ---- one line more

@@ -38,7 +38,7 @@ pub fn saved_example()
 {}
 
 /// The text of tuples is read back as these tuples by the grammar of a stream, alone and in front
-/// of another text.
+/// of another text, whatever becomes of faulty lines. None of its lines is faulty.
 pub fn saved_text_is_read()
     ensures { SavedTextIsRead }
 {

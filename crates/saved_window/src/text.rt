@@ -4,6 +4,7 @@ ghost use Rattle.std.specs.Prelude.{◌≡◌, ◌∷◌, [], ◌++◌, All, IfO
 ghost use Rattle.rpq_base.specs.Plain.{IsPlainTuple};
 ghost use Rattle.text_parts.specs.Lines.{line_feed};
 ghost use Rattle.tuple_text.specs.Written.{written, IsStreamTuple};
+ghost use Rattle.stream_tuples.specs.declared.faults.FaultPolicy.{FaultPolicy as Policy};
 ghost use Rattle.saved_window.specs.SavedText.{saved_text, IsReadBack};
 
 use crate::laws::saved_text_is_read;
@@ -16,7 +17,7 @@ use tuple_text::{line_by_parts, push_tuple};
 pub fn saved_text(alloc: Global, tuples: &[Tuple]) -> Result<Vec<u8>, Memory>
     requires { All IsPlainTuple tuples.now }
     ensures ok { IfOk result (λ text. text.items ≡ saved_text tuples.now) }
-    ensures read { IfOk result (λ _. IsReadBack tuples.now) }
+    ensures read { IfOk result (λ _. (policy : Policy) → IsReadBack policy tuples.now) }
 {
     let mut text = Vec::new(alloc);
     push_saved(&mut text, tuples)?;
@@ -27,7 +28,7 @@ pub fn saved_text(alloc: Global, tuples: &[Tuple]) -> Result<Vec<u8>, Memory>
 pub fn push_saved(text: &mut Vec<u8>, tuples: &[Tuple]) -> Result<(), Memory>
     requires { All IsPlainTuple tuples.now }
     ensures ok { OnOk result (text.new.items ≡ text.old.items ++ saved_text tuples.now) }
-    ensures read { OnOk result (IsReadBack tuples.now) }
+    ensures read { OnOk result ((policy : Policy) → IsReadBack policy tuples.now) }
 {
     for tuple in tuples {
         push_line(text, tuple)?;

@@ -1,4 +1,7 @@
 mod Appending
+mod Taken
+mod Streaming
+mod Inputs
 pub mod Seen
 pub mod Numbering
 pub mod Replying

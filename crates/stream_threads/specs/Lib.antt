@@ -1,3 +1,4 @@
+pub mod Inputs
 pub mod Streams
 pub mod Taking
 pub mod Numbered

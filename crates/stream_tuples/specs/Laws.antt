@@ -9,6 +9,7 @@ use Rattle.tuple_text.specs.declared.read.BadLine.{BadLine}
 use Rattle.tuple_text.specs.Reading.{line_tuple}
 use Rattle.stream_tuples.specs.declared.ends.StreamEnd.{StreamEnd}
 use Rattle.stream_tuples.specs.declared.ends.StreamEnd.TheVariants.{Whole, Line, LongLine}
+use Rattle.stream_tuples.specs.declared.faults.FaultPolicy.TheVariants.{Stop}
 use Rattle.stream_tuples.specs.Limits.{line_limit, byte_limit, byte_limit_of}
 use Rattle.stream_tuples.specs.StreamText.{tuples_with, numbered, line_gives, tuples_of_lines}
 use Rattle.stream_tuples.specs.StreamText.{cut_end, cut_tuples, tuples_from, stream_tuples}
@@ -39,13 +40,13 @@ pub record AreReadByParts (lines : List (List ℕ)) (last : StreamEnd) (tuples :
 -- those of the lines with a line feed among the first bytes
 pub record IsStreamByParts (text : List ℕ) (tuples : List Tuple) (end : StreamEnd) : Type 0 where
   pub within : length text < byte_limit →
-      (stream_tuples text ≡ tuples_with tuples end)
+      (stream_tuples Stop text ≡ tuples_with tuples end)
       ↔ AreReadByParts (raw_lines text) Whole tuples end
   pub beyond : byte_limit ≤ length text →
       let front = take byte_limit text in
       let lines = ended_lines front in
-      (stream_tuples text ≡ tuples_with tuples end)
-      ↔ AreReadByParts lines (cut_end (length lines + 1) (open_line front)) tuples end
+      (stream_tuples Stop text ≡ tuples_with tuples end)
+      ↔ AreReadByParts lines (cut_end Stop (length lines + 1) (open_line front)) tuples end
 
 -- the tuples of every stream are such
 abbrev pub StreamByParts : Type 0
@@ -57,16 +58,16 @@ StreamByParts =
 -- in one of more, a stream of 2^62 - 1 bytes is read to its end, and one more is too many
 pub record LimitExamples : Type 0 where
   pub longest_line : (number : ℕ) (line : List ℕ) → length line ≡ 1024 →
-      line_gives number line ≡ numbered number (line_tuple (without_return line))
+      line_gives Stop number line ≡ numbered Stop number (without_return line) (line_tuple (without_return line))
   pub longer_line : (number : ℕ) (line : List ℕ) → length line ≡ 1025 →
-      line_gives number line ≡ Err (LongLine number)
+      line_gives Stop number line ≡ Err (LongLine number)
   pub longest_stream : (text : List ℕ) → length text ≡ 2 ^ 40 - 1 →
-      stream_tuples text ≡ tuples_of_lines (raw_lines text) 1 Whole
+      stream_tuples Stop text ≡ tuples_of_lines Stop (raw_lines text) 1 Whole
   pub longer_stream : (text : List ℕ) → length text ≡ 2 ^ 40 →
-      stream_tuples text ≡ cut_tuples 1 text
+      stream_tuples Stop text ≡ cut_tuples Stop 1 text
   pub in_kept : (cap : ℕ) (text : List ℕ) → cap ≤ 2 ^ 30 →
-      tuples_from 1 (byte_limit_of cap) text ≡ stream_tuples text
+      tuples_from Stop 1 (byte_limit_of cap) text ≡ stream_tuples Stop text
   pub longest_endless : (cap : ℕ) (text : List ℕ) → 2 ^ 30 < cap → length text ≡ 2 ^ 62 - 1 →
-      tuples_from 1 (byte_limit_of cap) text ≡ tuples_of_lines (raw_lines text) 1 Whole
+      tuples_from Stop 1 (byte_limit_of cap) text ≡ tuples_of_lines Stop (raw_lines text) 1 Whole
   pub longer_endless : (cap : ℕ) (text : List ℕ) → 2 ^ 30 < cap → length text ≡ 2 ^ 62 →
-      tuples_from 1 (byte_limit_of cap) text ≡ cut_tuples 1 text
+      tuples_from Stop 1 (byte_limit_of cap) text ≡ cut_tuples Stop 1 text

@@ -16,6 +16,8 @@ pub enum StreamEnd {
     LongStream,
     /// A read of it failed.
     Read,
+    /// A write of its faults failed.
+    Faults,
     /// The history was full when a further tuple was read.
     Full,
     /// No tuple was taken any more when a further one was read.

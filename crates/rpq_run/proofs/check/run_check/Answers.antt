@@ -32,8 +32,8 @@ returns-clause-runs g c = λ two_way file kept leaves has.
     failed_are (told_lines written failures (run_lines [] [] c.failed_sinks-failed.result.now status)
     errors errors' c.tell_end.result c.tell_end.ensures) in
     runs_check (meanings left faults written failures) two_way file c.args.queries.now all result status kept
-    c.new.result.items c.new.result.base c.new-2.result.items c.new-3.result.items
-    (map (λ (own : Vec AnsweredValue). own.items) c.new-4.result.items) c.new-5.result.items
-    c.new.ensures.items c.new.ensures.base c.new-2.ensures.items c.new-3.ensures.items
-    (ap (map (λ (own : Vec AnsweredValue). own.items)) c.new-4.ensures.items) c.new-5.ensures.items leaves
+    c.new.result.items c.new.result.base c.new-2.result.items c.new-3.result.items c.new-4.result.items
+    (map (λ (own : Vec AnsweredValue). own.items) c.new-5.result.items) c.new-6.result.items
+    c.new.ensures.items c.new.ensures.base c.new-2.ensures.items c.new-3.ensures.items c.new-4.ensures.items
+    (ap (map (λ (own : Vec AnsweredValue). own.items)) c.new-5.ensures.items) c.new-6.ensures.items leaves
     has c.requires.compiled c.write_verdicts-written.ensures status_is told

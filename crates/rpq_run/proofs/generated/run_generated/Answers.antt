@@ -46,8 +46,9 @@ returns-clause-runs g c = λ file has.
     ∙ ap₂ (λ (es : List StreamEnd) (fs : List SinkName). first_status es [] fs) (c.deref.ensures.value ∙ ends_are)
     failed_are)
     c.of.result.items c.of.result.base c.push_reserved.new.self.items c.new.result.items
-    (map (λ (own : Vec AnsweredValue). own.items) c.new-2.result.items) c.new-3.result.items
+    c.new-2.result.items (map (λ (own : Vec AnsweredValue). own.items) c.new-3.result.items) c.new-4.result.items
     c.args.standing.now.items c.put_back-left.new.standing.items c.put_back-left.result.items
-    c.of.ensures.items c.of.ensures.base (sym ends_are) c.new.ensures.items (ap (map (λ (own : Vec AnsweredValue). own.items)) c.new-2.ensures.items) c.new-3.ensures.items
+    c.of.ensures.items c.of.ensures.base (sym ends_are) c.new.ensures.items c.new-2.ensures.items
+    (ap (map (λ (own : Vec AnsweredValue). own.items)) c.new-3.ensures.items) c.new-4.ensures.items
     c.in_ok-circle.ensures.members (sym c.put_back-left.ensures.stayed) (sym c.put_back-left.ensures.left)
     status_is told

@@ -1,9 +1,12 @@
 use Rattle.std.proofs.Common.{◌≡◌, ℕ, ◌+◌, [], All, length, refl, sym, ap, subst, ◌∙◌, arith, rules}
 use Rattle.std.specs.Global.{Vec}
+use Rattle.std.proofs.lemmas.List.{length-map}
 use Rattle.history_model.specs.World.{Terms}
 use Rattle.rpq_text.specs.Definitions.{definitions_of}
-use Rattle.stream_tuples.specs.Progress.{IsNewReader}
+use Rattle.stream_threads.specs.Inputs.{IsNewInput}
+use Rattle.stream_threads.specs.declared.stream_input.StreamInput.{StreamInput}
 use Rattle.rpq_threads.proofs.Starting.{first_shown, Moves, terms_of, begun_fed, begun_asks}
+use Rattle.rpq_threads.proofs.Starting.{inputs_new}
 use Rattle.rpq_threads.specs.Served.{HasRoom}
 use Rattle.rpq_threads.proofs.Starting.{at_least, at_most, length-definitions}
 use Rattle.rpq_threads.proofs.run.begin.Goals as goal
@@ -52,6 +55,11 @@ returns g c =
     let history = c.in_ok-history.history in
     let made = c.in_ok-history.ensures in
     let room = c.in_ok-room.room in
+    let inputs = c.in_ok-inputs.inputs.items in
+    let given = c.in_ok-inputs.ensures in
+    let many : length inputs ≡ length task.readers.items =
+    sym (length-map inputs (λ (input : StreamInput _ _). input.reader))
+    ∙ ap length given.readers in
     let streams : c.len-streams.result ≡ length task.readers.items = omega (
       arith,
       c.len-streams.ensures,
@@ -96,9 +104,11 @@ returns g c =
             terms evaluator (kept.keeps.queries ∙ c.in_ok-evaluator.ensures.queries_are)
             (kept.keeps.options ∙ c.in_ok-evaluator.ensures.options_are) (made.readers ∙ asking)
             move (kept.stands [] c.in_ok-evaluator.ensures.stands);
-        streams = sym (ap (λ (t : Terms). t.streams) terms);
-        fresh = subst (λ (t : Terms). All (IsNewReader t.cap left faults) task.readers.items)
-            (sym terms) c.requires.fresh;
+        streams = many ∙ sym (ap (λ (t : Terms). t.streams) terms);
+        fresh = subst (λ (t : Terms). All (IsNewInput t.cap left faults written failures) inputs)
+            (sym terms)
+            (inputs_new written failures left faults task.limit inputs task.readers.items
+            task.faults.items given.readers given.faults c.requires.fresh c.requires.new_faults);
         readers = sym (made.readers ∙ asking);
         few = c.requires.few;
         few_readers = c.requires.few_readers;
@@ -115,7 +125,8 @@ returns g c =
             (c.len-5.ensures ∙ task.readers.ok.0) c.in_ok-room.ensures)));
       };
       options = kept.keeps.options ∙ c.in_ok-evaluator.ensures.options_are;
-      readers = refl;
+      readers = given.readers;
+      faults_are = given.faults;
       sessions = refl;
       ask_readers = refl;
     }

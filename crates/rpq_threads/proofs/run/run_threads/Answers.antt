@@ -67,6 +67,7 @@ returns-clause-ok g c =
       history = c.into_entries.result;
       ends = served.gathered.ends;
       sources = served.gathered.sources;
+      faults = served.gathered.faults;
       sessions = served.gathered.answers;
       readers = served.gathered.readers;
       why = served.why;
@@ -81,7 +82,7 @@ returns-clause-ok g c =
     (outcome_holds c.legal_is_sound.ensures c.fronts_are_legal.ensures left faults asks_left
     asks_faults written failures seen task begun.history is.terms journal.lines legal
     c.args.events.now served.events.now c.args.circle outcome passes c.into_entries.ensures.items
-    whole begun.job.evaluator.options begun.job.readers.items begun.job.sessions.items
-    begun.job.ask_readers.items is.options is.readers is.sessions is.ask_readers
+    whole begun.job.evaluator.options begun.job.inputs.items begun.job.sessions.items
+    begun.job.ask_readers.items is.options is.readers is.faults_are is.sessions is.ask_readers
     c.serve-gathered.ensures.served knows
     is.job.readers finished.sound.plain)

@@ -10,6 +10,7 @@ use Rattle.ask_text.specs.declared.ask.Ask.{Ask}
 use Rattle.live_asks.specs.declared.reader.AskReader.{AskReader}
 use Rattle.stream_threads.specs.declared.reader_work.ReaderWork.{ReaderWork}
 use Rattle.stream_threads.specs.declared.session_work.SessionWork.{SessionWork}
+use Rattle.stream_threads.specs.declared.stream_input.StreamInput.{StreamInput}
 use Rattle.stream_threads.specs.declared.stream_worker.StreamResult.{StreamResult}
 use Rattle.stream_threads.specs.Live.{HaveNewPasses, HaveServed}
 use Rattle.stream_threads.specs.Readers.{HaveReplied}
@@ -127,7 +128,7 @@ gather-requires g c =
       arith,
       c.join_streams-streamed.ensures.many,
       c.start_streams-started.ensures.many,
-      c.args.job.readers.ok.0,
+      c.args.job.inputs.ok.0,
       job.streams,
     ) in
     let sessions : vec_len beside.0 ≡ length c.args.job.sessions.items = omega (
@@ -158,11 +159,13 @@ gather-requires g c =
       no_passes = room.no_passes;
       no_sources = room.no_sources;
       no_ends = room.no_ends;
+      no_faults = room.no_faults;
       no_answers = room.no_answers;
       no_outcomes = room.no_outcomes;
       passes = omega (arith, streams, sessions, readers, room.passes);
       sources = omega (arith, streams, room.sources);
       ends = omega (arith, streams, room.ends);
+      faults = omega (arith, streams, room.faults);
       answers = omega (arith, sessions, room.answers);
       outcomes = omega (arith, readers, room.outcomes);
     }
@@ -200,10 +203,12 @@ returns-clause-served g c =
       engine = engine.pass;
       did =
           numbered_then
-          (λ number reader one. IsStarted left faults history reader (new_pass history number) one)
-          (λ number one done. Gives left faults one done)
-          (λ number reader (done : StreamResult _). HasStreamed left faults history reader.source
-          (new_pass history number) done.source done.pass done.end)
+          (λ number input one. IsStarted left faults written failures history input
+          (new_pass history number) one)
+          (λ number one done. Gives left faults written failures one done)
+          (λ number (input : StreamInput _ _) (done : StreamResult _ _). HasStreamed left faults
+          written failures history input.reader.source input.faults (new_pass history number)
+          done.source done.faults done.pass done.end)
           (λ n m x y z r k. k history x (new_pass history n) r) 1 0 _ _ _
           c.start_streams-started.ensures.started c.join_streams-streamed.ensures.gives;
       answered_all = subst (λ (asks : List (List Ask)). HaveReplied history
@@ -228,6 +233,7 @@ returns-clause-served g c =
       passes_are = gathered.passes;
       sources_are = gathered.streams.0;
       ends_are = gathered.streams.1;
+      faults_are = gathered.streams.2;
       answers_are =
           ap (map (λ (own : Vec AnsweredValue). own.items)) gathered.answers.0
           ∙ items_of beside.0.items;

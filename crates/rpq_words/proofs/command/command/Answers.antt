@@ -7,10 +7,11 @@ use Rattle.rpq_words.proofs.command.command.Goals as goal
 pub returns : goal.returns
 unfolding rpq_command
 returns c =
-    IfOk-weaker c.arg-15.result _ _
+    IfOk-weaker c.arg-16.result _ _
     (λ command added.
     added.shape c.any_words.ensures.local ∙ ap₂ with_rule
-    (c.in_ok-arg-14.ensures.shape c.one_word.ensures.local ∙ ap₂ with_rule
+    (c.in_ok-arg-15.ensures.shape c.one_word.ensures.local ∙ ap₂ with_rule
+    (c.in_ok-arg-14.ensures.shape c.option_again.ensures.local ∙ ap₂ with_rule
     (c.in_ok-arg-13.ensures.shape c.option_with_two.ensures.local ∙ ap₂ with_rule
     (c.in_ok-arg-12.ensures.shape c.flag-4.ensures.local ∙ ap₂ with_rule
     (c.in_ok-arg-11.ensures.shape c.option_with_value-7.ensures.local ∙ ap₂ with_rule
@@ -29,5 +30,5 @@ returns c =
     c.flag.ensures.rule) c.option_with_value-4.ensures.rule) c.flag-2.ensures.rule)
     c.flag-3.ensures.rule) c.option_with_value-5.ensures.rule) c.option_with_value-6.ensures.rule)
     c.option_with_value-7.ensures.rule) c.flag-4.ensures.rule) c.option_with_two.ensures.rule)
-    c.one_word.ensures.rule) c.any_words.ensures.rule)
-    c.arg-15.ensures
+    c.option_again.ensures.rule) c.one_word.ensures.rule) c.any_words.ensures.rule)
+    c.arg-16.ensures

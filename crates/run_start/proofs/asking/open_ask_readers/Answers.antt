@@ -5,12 +5,13 @@ use Rattle.std.specs.Vec.Iter.{into_iter_items}
 use Rattle.std.proofs.lemmas.List.Elements.{All-head, All-tail, All-push, All-same}
 use Rattle.live_asks.specs.Readers.{IsNewAskReader}
 use Rattle.rpq_words.specs.Views.{readers_of}
+use Rattle.rpq_text.specs.declared.ends.Which.TheVariants.{RepliesOf}
 use Rattle.rpq_text.specs.declared.ends.StartFault.{StartFault}
 use Rattle.rpq_text.specs.declared.ends.StartFault.TheVariants.{Memory}
-use Rattle.run_start.specs.Given.{file_names, own_sink_names, replies_names, sink_names}
+use Rattle.run_start.specs.Given.{file_names, replies_names, sink_names, sinks_with_faults}
 use Rattle.run_start.specs.Steps.{IsRefusalOfReplies, IsUnread, UsesMore}
 use Rattle.run_start.proofs.AskReaders.{all_taken, next_replies, one_reader_more, within_all}
-use Rattle.run_start.proofs.SinkSteps.{front_of_replies, memory_behind, uses_replies}
+use Rattle.run_start.proofs.SinkSteps.{front_of_names, memory_behind, reader_sinks, uses_one}
 use Rattle.run_start.proofs.Using.{files_behind, refused_by}
 use Rattle.run_start.proofs.asking.open_ask_readers.Goals as goal
 
@@ -55,8 +56,9 @@ returns-in_err-replies-clause-files g c = λ first uses.
     (into_iter_items c.next.new.self) c.args.sources.items c.in-Some.source all place files
     inv.sources c.in-Some.ensures.steps.0 c.requires.all at are c.index-readers-place.is in
     files_behind [] (sink_names given) c.from_residual.result refusal c.from_residual.ensures.1
-    (uses_replies given place (length c.loop-source.readers.items) name (Some refusal.fault) first
-    c.loop-source.files c.open_sink.new.files at is c.in_err-replies.ensures.cause.cause
+    (uses_one given (λ number. RepliesOf number) (sinks_with_faults given)
+    (replies_names given) [] place (length c.loop-source.readers.items) name (Some refusal.fault) first
+    c.loop-source.files c.open_sink.new.files (reader_sinks given) at is c.in_err-replies.ensures.cause.cause
     (inv.files first uses) c.in_err-replies.ensures.files)
 
 pub new_ask_reader-requires-clause-untold : goal.new_ask_reader-requires-clause-untold
@@ -90,10 +92,12 @@ returns-in_default-new_ask_reader-clause-files g c = λ first uses.
     subst (λ (f : StartFault). UsesMore g.F.Files.holds g.F.Files.opened g.F.Files.made
     g.F.Files.unread g.F.Files.unmade given (file_names given) [] (sink_names given) (Some f) first
     c.open_sink.new.files) fault
-    (memory_behind given (own_sink_names given ++ take (place + 1) (replies_names given))
-    (sink_names given) first c.open_sink.new.files (front_of_replies given (place + 1))
-    (uses_replies given place (length c.loop-source.readers.items) name None first
-    c.loop-source.files c.open_sink.new.files at is tt (inv.files first uses)
+    (memory_behind given (sinks_with_faults given ++ take (place + 1) (replies_names given))
+    (sink_names given) first c.open_sink.new.files (front_of_names given (λ number. RepliesOf number)
+    (sinks_with_faults given) (replies_names given) [] (place + 1) (reader_sinks given))
+    (uses_one given (λ number. RepliesOf number) (sinks_with_faults given)
+    (replies_names given) [] place (length c.loop-source.readers.items) name None first
+    c.loop-source.files c.open_sink.new.files (reader_sinks given) at is tt (inv.files first uses)
     c.in_ok-replies.ensures.files))
 
 pub loop-source-preserved : goal.loop-source-preserved
@@ -132,9 +136,10 @@ loop-source-preserved g c =
           (All-push New c.loop-source.readers.items one inv.new c.in-Ok-new_ask_reader.ensures.new);
       files = λ first uses. subst (λ (n : ℕ). UsesMore g.F.Files.holds g.F.Files.opened
           g.F.Files.made g.F.Files.unread g.F.Files.unmade given (file_names given) []
-          (own_sink_names given ++ take n (replies_names given)) None first c.open_sink.new.files) many
-          (uses_replies given place (length c.loop-source.readers.items) name None first
-          c.loop-source.files c.open_sink.new.files at is tt (inv.files first uses)
+          (sinks_with_faults given ++ take n (replies_names given)) None first c.open_sink.new.files) many
+          (uses_one given (λ number. RepliesOf number) (sinks_with_faults given)
+          (replies_names given) [] place (length c.loop-source.readers.items) name None first
+          c.loop-source.files c.open_sink.new.files (reader_sinks given) at is tt (inv.files first uses)
           c.in_ok-replies.ensures.files);
     }
 
@@ -156,10 +161,12 @@ returns-in_default-push-clause-files g c = λ first uses.
     subst (λ (f : StartFault). UsesMore g.F.Files.holds g.F.Files.opened g.F.Files.made
     g.F.Files.unread g.F.Files.unmade given (file_names given) [] (sink_names given) (Some f) first
     c.open_sink.new.files) fault
-    (memory_behind given (own_sink_names given ++ take (place + 1) (replies_names given))
-    (sink_names given) first c.open_sink.new.files (front_of_replies given (place + 1))
-    (uses_replies given place (length c.loop-source.readers.items) name None first
-    c.loop-source.files c.open_sink.new.files at is tt (inv.files first uses)
+    (memory_behind given (sinks_with_faults given ++ take (place + 1) (replies_names given))
+    (sink_names given) first c.open_sink.new.files (front_of_names given (λ number. RepliesOf number)
+    (sinks_with_faults given) (replies_names given) [] (place + 1) (reader_sinks given))
+    (uses_one given (λ number. RepliesOf number) (sinks_with_faults given)
+    (replies_names given) [] place (length c.loop-source.readers.items) name None first
+    c.loop-source.files c.open_sink.new.files (reader_sinks given) at is tt (inv.files first uses)
     c.in_ok-replies.ensures.files))
 
 pub returns-clause-files : goal.returns-clause-files
@@ -169,7 +176,7 @@ returns-clause-files g c = λ first uses.
     let none : length (into_iter_items c.loop-source.source-iterator) ≡ 0 =
     omega (arith, inv.left_over, c.in-None.ensures.steps.0) in
     subst (λ (ns : List (List ℕ)). UsesMore g.F.Files.holds g.F.Files.opened g.F.Files.made
-    g.F.Files.unread g.F.Files.unmade given (file_names given) [] (own_sink_names given ++ ns) None
+    g.F.Files.unread g.F.Files.unmade given (file_names given) [] (sinks_with_faults given ++ ns) None
     first c.loop-source.files)
     (all_taken given c.loop-source.readers.items (into_iter_items c.loop-source.source-iterator)
     c.args.sources.items inv.sources none c.requires.all)

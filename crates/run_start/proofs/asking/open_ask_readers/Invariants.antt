@@ -3,7 +3,7 @@ use Rattle.std.specs.Prelude.{All}
 use Rattle.std.specs.Vec.{vec_items}
 use Rattle.std.specs.Vec.Iter.{into_iter_items, into_iter_len}
 use Rattle.live_asks.specs.Readers.{IsNewAskReader}
-use Rattle.run_start.specs.Given.{file_names, own_sink_names, replies_names}
+use Rattle.run_start.specs.Given.{file_names, replies_names, sinks_with_faults}
 use Rattle.run_start.specs.Steps.{IsUnread, UsesMore}
 use Rattle.run_start.proofs.asking.open_ask_readers.Given as goal
 
@@ -21,9 +21,9 @@ invariant-loop-source g l = record {
       g.F.Sink.Sink.written g.F.Sink.Sink.faults) l.readers.items;
   files : (first : g.row.F.Denot)
       → UsesMore g.F.Files.holds g.F.Files.opened g.F.Files.made g.F.Files.unread g.F.Files.unmade
-      l.chosen (file_names l.chosen) [] (own_sink_names l.chosen) None first l.fn.files
+      l.chosen (file_names l.chosen) [] (sinks_with_faults l.chosen) None first l.fn.files
       → UsesMore g.F.Files.holds g.F.Files.opened g.F.Files.made g.F.Files.unread g.F.Files.unmade
       l.chosen (file_names l.chosen) []
-      (own_sink_names l.chosen ++ take (length l.readers.items) (replies_names l.chosen)) None first
+      (sinks_with_faults l.chosen ++ take (length l.readers.items) (replies_names l.chosen)) None first
       l.files;
 }

@@ -8,8 +8,8 @@ use Rattle.run_start.specs.Ready.{IsReadWhole}
 use Rattle.run_start.specs.Readers.{contents_of}
 use Rattle.run_start.specs.Steps.{IsRefusal, UsesMore}
 use Rattle.run_start.proofs.AskReaders.{as_many, ask_readers_are}
-use Rattle.run_start.proofs.Using.{all_understood, behind_all, behind_streams, files_behind}
-use Rattle.run_start.proofs.Using.{holds_stays, joins_understood, one_by_one, refused_behind}
+use Rattle.run_start.proofs.Using.{all_understood, behind_all, behind_streams, faults_refuse}
+use Rattle.run_start.proofs.Using.{files_behind, holds_stays, joins_understood, one_by_one, refused_behind}
 use Rattle.run_start.proofs.Using.{refused_by, replies_refuse}
 use Rattle.run_start.proofs.ready.begin_reading.Goals as goal
 use Rattle.rpq_words.specs.Views.{asks_of, two_way_of}
@@ -153,6 +153,37 @@ returns-in_err-sinks-clause-files g c =
     c.in_ok-readers.ensures.files) (behind_streams c.in_ok-asks.ensures.files))
     (behind_all c.in_err-sinks.ensures.files))
 
+-- ---- the sinks of faulty lines
+
+pub returns-in_err-faults-clause-refused : goal.returns-in_err-faults-clause-refused
+returns-in_err-faults-clause-refused g c =
+    let given = c.args.chosen.now in
+    let holds = g.F.Files.holds c.args.files.now in
+    refused_by (IsRefusal g.F.Source.Source.left g.F.Source.Source.faults given holds)
+    c.from_residual-in_err-faults.result c.in_err-faults.field-0.0
+    c.from_residual-in_err-faults.ensures.1
+    (faults_refuse g.F.Source.Source.left g.F.Source.Source.faults given holds
+    c.in_err-faults.field-0.0
+    (all_understood given holds
+    (g.F.Files.holds c.joins_of_file.new.files) holds (definitions_of c.args.queries.now)
+    c.in_ok-joins.joins.value.items c.in_ok-sessions.sessions.items
+    (holds_stays c.in_ok-joins.ensures.files) refl c.requires.has
+    c.in_ok-joins.ensures.joins c.in_ok-sessions.ensures.sessions)
+    c.in_err-faults.ensures.refused)
+
+pub returns-in_err-faults-clause-files : goal.returns-in_err-faults-clause-files
+returns-in_err-faults-clause-files g c =
+    let given = c.args.chosen.now in
+    let refusal = c.in_err-faults.field-0.0 in
+    files_behind (later_names given) (sink_names given) c.from_residual-in_err-faults.result refusal
+    c.from_residual-in_err-faults.ensures.1
+    (one_by_one {start = Some refusal.fault}
+    (one_by_one {start = None}
+    (one_by_one {start = None}
+    (one_by_one {start = None} c.in_ok-joins.ensures.files c.in_ok-sessions.ensures.files)
+    c.in_ok-readers.ensures.files) (behind_streams c.in_ok-asks.ensures.files))
+    (behind_all (c.in_err-faults.ensures.files c.open_asks.new.files c.in_ok-sinks.ensures.files)))
+
 -- ---- the readers beside the run
 
 pub open_ask_readers-requires-clause-all : goal.open_ask_readers-requires-clause-all
@@ -189,7 +220,7 @@ returns-in_err-ask_readers-clause-files g c =
     (one_by_one {start = None} c.in_ok-joins.ensures.files c.in_ok-sessions.ensures.files)
     c.in_ok-readers.ensures.files) (behind_streams c.in_ok-asks.ensures.files))
     (behind_all (c.in_err-ask_readers.ensures.files c.open_asks.new.files
-    c.in_ok-sinks.ensures.files)))
+    (c.in_ok-faults.ensures.files c.open_asks.new.files c.in_ok-sinks.ensures.files))))
 
 -- ---- all of it
 
@@ -209,6 +240,7 @@ returns-clause-reading g c = record {
       c.in_ok-readers.ensures.contents;
   behind = c.in_ok-readers.ensures.behind;
   fresh = c.in_ok-readers.ensures.fresh;
+  fault_sinks = c.in_ok-faults.ensures.sinks;
   joined = c.in_ok-joins.ensures.joins;
   few_joins = c.in_ok-joins.ensures.few;
   sound = c.in_ok-joins.ensures.sound;
@@ -241,4 +273,4 @@ returns-clause-files g c =
     (one_by_one {start = None} c.in_ok-joins.ensures.files c.in_ok-sessions.ensures.files)
     c.in_ok-readers.ensures.files) (behind_streams c.in_ok-asks.ensures.files))
     (behind_all (c.in_ok-ask_readers.ensures.files c.open_asks.new.files
-    c.in_ok-sinks.ensures.files)))
+    (c.in_ok-faults.ensures.files c.open_asks.new.files c.in_ok-sinks.ensures.files))))

@@ -12,6 +12,6 @@ invariant-loop-one g l = record {
   whole : l.yielded ++ into_iter_items l.one-iterator ≡ vec_items l.fn.started;
   left_over : into_iter_len l.one-iterator ≡ length (into_iter_items l.one-iterator);
   room : vec_len l.streamed + length (into_iter_items l.one-iterator) ≤ vec_capacity l.streamed;
-  give : Give g.S.Source.left g.S.Source.faults l.yielded (vec_items l.streamed);
+  give : Give g.S.Source.left g.S.Source.faults g.K.Sink.written g.K.Sink.faults l.yielded (vec_items l.streamed);
   many : vec_len l.streamed ≡ length l.yielded;
 }

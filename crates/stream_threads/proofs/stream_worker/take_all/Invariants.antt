@@ -1,21 +1,26 @@
 use Rattle.std.proofs.Common.{◌≡◌, ◌-◌}
+use Rattle.std.specs.Prelude.{is_some}
 use Rattle.stream_history.specs.History.{IsOpenPass}
-use Rattle.stream_tuples.specs.Progress.{IsStreamReader, HasRead, passed}
-use Rattle.stream_threads.specs.Streams.{tuples_of}
+use Rattle.stream_tuples.specs.History.{policy_of_sink}
+use Rattle.stream_tuples.specs.Progress.{IsStreamReader, passed}
+use Rattle.stream_threads.specs.Taking.{AreTaken, failed_on}
 use Rattle.stream_threads.proofs.stream_worker.take_all.Given as goal
 
--- the pass has the tuples that were read, and nothing failed
+-- the items that were read are taken, and nothing failed
 abbrev pub invariant-loop-end : goal.invariant-loop-end
 invariant-loop-end g l = record {
   is_open : IsOpenPass l.shared.history.now l.pass;
   same : l.pass.number ≡ l.fn.pass.number;
-  sound : IsStreamReader g.S.Source.left l.reader;
-  read : HasRead g.S.Source.left (g.S.Source.left l.fn.reader.source) (tuples_of l.pass.mine)
-      l.reader;
-  quiet : g.S.Source.faults l.reader.source ≡ g.S.Source.faults l.fn.reader.source;
-  limits : l.reader.byte_limit ≡ l.fn.reader.byte_limit;
+  there : is_some l.input.faults ≡ is_some l.fn.input.faults;
+  sound : IsStreamReader g.S.Source.left l.input.reader;
+  taken : AreTaken (policy_of_sink l.fn.input.faults) g.S.Source.left g.K.Sink.written
+      (g.S.Source.left l.fn.input.reader.source) l.input l.pass.mine;
+  unread : g.S.Source.faults l.input.reader.source ≡ g.S.Source.faults l.fn.input.reader.source;
+  unwritten : failed_on g.K.Sink.faults l.input.faults
+      ≡ failed_on g.K.Sink.faults l.fn.input.faults;
+  limits : l.input.reader.byte_limit ≡ l.fn.input.reader.byte_limit;
 }
 
 -- how many bytes may still be given
 abbrev pub decreases-loop-end : goal.decreases-loop-end
-decreases-loop-end g l = l.reader.byte_limit - passed l.reader
+decreases-loop-end g l = l.input.reader.byte_limit - passed l.input.reader
