@@ -7,11 +7,12 @@
 #     feed                 takes the lines of the stream
 #     asks.K, replies.K    belong to reader K, of so many READERS, 1 to 63
 #
-# The events go to standard output. The run begins with the window that the run before it left in
-# FOLDER/window.
+# The events go to standard output, and faulty lines of the feed at once to the file FOLDER/faults;
+# those of the run before are in FOLDER/faults.before. The run begins with the window that the run
+# before it left in FOLDER/window.
 #
 # TERM or INT ends it in order: once nobody else has the feed open, it ends, each reader gets the
-# line `end`, and the window is saved. It ends so by itself where a faulty line ends the feed.
+# line `end`, and the window is saved. It ends so by itself where the disk of FOLDER/faults is full.
 # Replies that nobody takes within five seconds are thrown away then. The status is that of rpq.
 set -u
 [ $# -eq 3 ] || { echo "usage: serve.sh FOLDER READERS QUERIES" >&2; exit 1; }
@@ -19,6 +20,7 @@ folder="$1" readers="$2" queries="$3"
 mkdir -p "$folder" || exit 1
 rm -f "$folder"/{feed,asks.*,replies.*,saved}
 [ -f "$folder/window" ] || : > "$folder/window"
+[ ! -e "$folder/faults" ] || mv "$folder/faults" "$folder/faults.before" || exit 1
 
 # The pipes of the readers, and of one more that waits for the end of the feed.
 words=() asks=() replies=()
@@ -37,8 +39,8 @@ exec {feed}<> "$folder/feed"
 (
     trap '' TERM INT
     for pipe in "$feed" "${asks[@]}" "${replies[@]}"; do exec {pipe}>&-; done
-    exec rpq --endless --from "$folder/window" --save "$folder/saved" "${words[@]}" \
-        "$queries" "$folder/feed"
+    exec rpq --endless --from "$folder/window" --save "$folder/saved" --faults "$folder/faults" \
+        "${words[@]}" "$queries" "$folder/feed"
 ) &
 run=$!
 
@@ -61,6 +63,6 @@ wait "$run"
 status=$?
 rm -f "$folder"/{feed,asks.*,replies.*}
 case $status in
-    0 | 4 | 9) mv "$folder/saved" "$folder/window" ;;
+    0 | 9) mv "$folder/saved" "$folder/window" ;;
 esac
 exit "$status"

@@ -17,6 +17,8 @@
 # - That what packaging/ installs runs, and that its man page and completion have each option.
 # - What the scripts say where they are used in a wrong way (tools/wrong-uses.sh): none ends with 0,
 #   or waits for ever.
+# - That runs with `--faults` write what runs over the good lines write, and each faulty line at once
+#   (tools/faulty-lines.sh).
 # - That a file which a run reads, or which is one of its outputs, isn't opened to write by any of
 #   its names, that a name is taken as it is, that a file that is written is emptied first, what
 #   stands on the output where a signal ends the program, and that ten runs, each going on with the
@@ -26,7 +28,7 @@
 # - That a reader beside a run whose replies nobody takes holds up the end alone, that one whose
 #   client is gone ends alone, that readers who ask nothing take no processor time, and which of
 #   their files are refused.
-# - That 64 streams are read beside all options and 64 readers, that a run over 70,001 vertices has
+# - That 64 streams are read beside all options, files of faults and 64 readers, that a run over 70,001 vertices has
 #   each answer, also where one tuple brings 70,001 of them, that a live run takes no processor time
 #   while no line comes, that each of its sessions is woken, and that a run goes on when memory runs
 #   out for the first time. This last check wants a C compiler.
@@ -469,20 +471,24 @@ mkdir "$place/many"
 cd "$place/many" || exit 1
 cp "$place"/files/queries .
 printf 'session\nwait 640\ncount %s\n' "$(awk '/^query/ { print $2; exit }' queries)" > asks
-names=() with_readers=()
+names=() with_readers=() with_faults=()
 printf 'wait 640\nclock\n' > live
 for number in $(seq 64); do
     names+=("stream$number") with_readers+=(--reader live "replies$number")
+    with_faults+=(--faults "faults$number")
     for line in $(seq 10); do echo "$line from$number transfer to$line"; done > "stream$number"
+    echo "$number" transfer >> "stream$number"
 done
 rpq --workers 2 --history 640 --paths --asks asks --replies replies --save saved \
-    "${with_readers[@]}" queries "${names[@]}" > events
+    "${with_readers[@]}" "${with_faults[@]}" queries "${names[@]}" > events
 count $? "64 streams and all options: the status isn't 0"
 for number in 1 33 64; do
-    cmp -s <(sed -n "s/^@[0-9]* $number \(.*\) +/\1/p" events) "stream$number"
+    cmp -s <(sed -n "s/^@[0-9]* $number \(.*\) +/\1/p" events) <(head -n 10 "stream$number")
     count $? "64 streams and all options: the tuples of stream $number aren't there"
     cmp -s "replies$number" <(printf '@640 wait 640\n@640 clock 10\n')
     count $? "64 streams and all options: reader $number has other replies"
+    [ "$(cat "faults$number")" = "line 11: fields 2: $number transfer" ]
+    count $? "64 streams and all options: stream $number has other faults"
 done
 [ "$(sed -n 1p replies)" = "session 1" ] && grep -q '^@640 wait 640$' replies && [ -s saved ]
 count $? "64 streams and all options: no reply at the end, or no saved window"
@@ -731,6 +737,9 @@ for signal in INT TERM; do
     count $? "SIG$signal: the events aren't the blocks of the lines that came"
     wait
 done
+
+# What runs with `--faults` do.
+. "$top/tools/faulty-lines.sh"
 
 # What the scripts say where they are used in a wrong way.
 . "$top/tools/wrong-uses.sh"

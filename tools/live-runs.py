@@ -4,7 +4,10 @@
 Runs PROGRAM, an `rpq`, on random queries, streams and asks, on real threads, and checks each run
 against the one history that its own `@` lines spell:
 
-- each stream's tuples stand there in their order, once, up to the stream's end;
+- each stream's tuples stand there in their order, once, up to the stream's end, which is its first
+  faulty line; or where faulty lines are told apart, all those of its other lines, and each faulty
+  line that comes before the stream's end is told once, in order, and nothing else
+  (tools/stream_lines.py);
 - after each line the events are the pairs lost and gained, found from scratch by the definitions,
   and where the run tells paths, behind each gained pair there is one of the window that lasts
   exactly as long as the pair does;
@@ -23,7 +26,10 @@ others have joins, and more than half of those that are left tell paths. With --
 joins, and is made twice, with one worker and with four.
 
 Half of the streams are files, and half are named pipes that are written in pieces while the program
-runs. It isn't part of the gate. The last line is `N passed, M failed`.
+runs. Two runs of five tell faulty lines apart: a third of their lines are faulty, some are longer
+than a line may be, and they go to a file, a named pipe that is read slowly, or a full device; one
+run of twenty of these is refused for a file that can't be opened. It isn't part of the gate. The
+last line is `N passed, M failed`.
 """
 import argparse
 import os
@@ -36,6 +42,7 @@ import time
 
 import bindings
 import reader_clients
+import stream_lines
 
 NAMES = ["x", "y", "z", "u", "v", "w"]
 LABELS = ["a", "b", "c"]
@@ -53,6 +60,20 @@ FAULTY_JOINS = [
     "join j9 q0 ?%s ?y" % ("x" * 256),
     "join j9" + " q0 ?x ?y" * 5, "\n".join("join k%d q0 ?x ?y" % place for place in range(33)),
 ]
+
+# lines of which a stream takes no tuple, and three of the greatest length
+FAULTY_LINES = [
+    b"1 x a y *", b"garbage", b"x a y", b"1 x a", b"1 x a y until", b"1 x a y until z", b"\0",
+    b"1 x a y - until 9", b"1 x a y + until 9 9", b"1.5 x a y", b"-1", b"4611686018427387904",
+    b"9 x a y until 4611686018427387904", b"1 x \x01 y", b"1 \x7f a y", b"1 x a y\r", b"1\0",
+    b"1 x a " + b"y" * 256, b"\xff\xfe1\0", b"line 1: time: x", b"1 x a y" + b" " * 1018,
+    b"x" * 1025, b"#" * 1025, b" " * 3000, b"1 x a y\r" + b"z" * 9000, b"x" * 150000,
+    b"#" * 1024, b"x" * 1024, b"1 x a y" + b" " * 1017,
+]
+# where the faulty lines of a stream go
+WAYS = ["file", "file", "pipe", "full"]
+# which cause of a status comes before which
+CAUSES = [8, 6, 7, 5, 4, 9]
 
 
 # ---- expressions: trees, their written form, and the words that they match
@@ -241,34 +262,44 @@ def saved_of(queries, history):
 
 # ---- a random case
 
-def random_stream(rng, names, most):
-    entries, lines, clock = [], [], 0
+def random_text(rng, names, most, tells):
+    """The text of a stream, whose faulty lines are told apart or end it."""
+    lines, clock = [], 0
     for _ in range(rng.randrange(most)):
         clock += rng.randrange(4)
         at = max(0, clock - rng.choice([0, 0, 0, 3, 9]))
         edge = (rng.choice(names), rng.choice(LABELS), rng.choice(names))
         kind = rng.choice(["+", "+", "+", "until", "-", "tick", "blank"])
-        if kind == "blank":
-            lines.append(rng.choice(["", "# a comment", "   "]))
-            continue
-        if kind == "tick":
-            lines.append(str(at))
-            entries.append({"time": at, "act": "", "edge": None, "until": None})
-            continue
         line = "%d %s %s %s" % ((at,) + edge)
-        until = at + rng.randrange(20) if kind == "until" else None
-        if kind == "until":
-            line += " until %d" % until
+        if kind == "blank":
+            line = rng.choice(["", "# a comment", "   "])
+        elif kind == "tick":
+            line = str(at)
+        elif kind == "until":
+            line += " until %d" % (at + rng.randrange(20))
         elif kind == "-" or rng.random() < 0.5:
             line += " " + kind
-        lines.append(line)
-        act = "-" if kind == "-" else "+"
-        entries.append({"time": at, "act": act, "edge": edge, "until": until})
+        lines.append(line.encode())
+        while tells and rng.random() < 0.33:
+            lines.append(rng.choice(FAULTY_LINES))
+    if not tells and rng.random() < 0.15:
+        lines += [rng.choice(FAULTY_LINES)] + [b"2 x a y"] * rng.randrange(2)
+    text = b"".join(line + rng.choice([b"\n"] * 9 + [b"\r\n"]) for line in lines)
+    return text[:-1] if rng.random() < 0.1 else text
+
+
+def stream_of(text, way):
+    """What a stream of this text gives. `way` is where its faulty lines go, or none."""
+    items = list(stream_lines.items_of(text))
+    faults = [place for place, item in enumerate(items) if isinstance(item, stream_lines.Fault)]
     fault = None
-    if rng.random() < 0.15:
-        fault = len(lines) + 1
-        lines += ["1 x a y *"] + ["2 x a y"] * rng.randrange(2)
-    return {"entries": entries, "lines": lines, "fault": fault}
+    if faults and way in (None, "full"):
+        fault = items[faults[0]]
+        items = items[:faults[0]]
+    entries = [{"time": item.time, "act": item.act, "until": item.until,
+                "edge": item.edge and tuple(name.decode() for name in item.edge)}
+               for item in items if isinstance(item, stream_lines.Tuple)]
+    return {"items": items, "entries": entries, "fault": fault, "way": way}
 
 
 def random_join(rng, name, queries, vertices):
@@ -328,27 +359,28 @@ def random_case(rng, has_joins):
             "mode": "simple" if simple else "arbitrary", "two_way": two_way,
             "tree": rng.choice(contained) if simple else random_expression(rng, depth, labels),
         })
-    streams = [random_stream(rng, names, most) for _ in range(rng.randrange(1, 5))]
+    tells = rng.random() < 0.4
+    texts = [random_text(rng, names, most, tells) for _ in range(rng.randrange(1, 5))]
+    window = None
+    if len(texts) == 1 and not two_way and rng.random() < 0.5:
+        window = random_text(rng, names, most, tells)
+        if not tells and stream_of(window, None)["fault"] is not None:
+            window = None
+    # The one stream is the window and then its file.
+    streams = [stream_of((window or b"") + text, rng.choice(WAYS) if tells else None)
+               for text in texts]
     total = sum(len(stream["entries"]) for stream in streams)
     sessions = []
     for _ in range(0 if two_way else rng.randrange(4)):
         sessions.append([random_ask(rng, queries, names, total) for _ in range(rng.randrange(7))])
-    begins = len(streams) == 1 and not two_way and rng.random() < 0.5
-    window = random_stream(rng, names, most) if begins else None
-    if window is not None and window["fault"] is None:
-        # The one stream is the window and then its file.
-        own = streams[0]
-        streams[0] = {"entries": window["entries"] + own["entries"], "lines": own["lines"],
-                      "fault": own["fault"] and own["fault"] + len(window["lines"])}
-        total += len(window["entries"])
-    else:
-        window = None
     readers = [
         reader_clients.random_reader(rng, lambda: random_ask(rng, queries, names, total))
         for _ in range(0 if two_way else rng.choice([0, 0, 1, 2, 3, 4]))]
     limit = rng.randrange(1, total + 2) if rng.random() < 0.2 else None
+    # the stream whose faulty lines can't be written, so that the run doesn't begin
+    unmade = rng.randrange(1, len(streams) + 1) if tells and rng.random() < 0.05 else None
     return {"queries": queries, "streams": streams, "sessions": sessions, "limit": limit,
-            "readers": readers,
+            "readers": readers, "texts": texts, "tells": tells, "unmade": unmade,
             "window": window, "saves": not two_way and rng.random() < 0.5, "two_way": two_way,
             "joins": random_joins(rng, queries, names) if has_joins else None,
             "paths": not two_way and not has_joins and rng.random() < 0.6,
@@ -371,6 +403,39 @@ def feed(path, data, rng_seed):
         pass
 
 
+class Faults:
+    """Where the faulty lines of a stream go, and what is told there."""
+
+    def __init__(self, folder, number, way, rng_seed):
+        self.path, self.text, self.thread = os.path.join(folder, "faults%d" % number), None, None
+        self.way, self.rng = way, random.Random(rng_seed)
+        self.word = {"full": "/dev/full", "unmade": "nowhere/faults"}.get(way, "faults%d" % number)
+        if way == "full":
+            # a device is opened once by each of its names
+            self.word = "/dev/" + "./" * number + "full"
+        if way == "pipe":
+            os.mkfifo(self.path)
+            self.thread = threading.Thread(target=self.take, daemon=True)
+            self.thread.start()
+
+    def take(self):
+        text = b""
+        with open(self.path, "rb", buffering=0) as pipe:
+            while piece := pipe.read(self.rng.choice([1, 40, 3000, 1 << 16])):
+                text += piece
+                if self.rng.random() < 0.2:
+                    time.sleep(self.rng.random() / 500)
+        self.text = text
+
+    def text_at_end(self):
+        if self.thread is not None:
+            self.thread.join(30)
+        elif self.way == "file" and os.path.exists(self.path):
+            with open(self.path, "rb") as told:
+                self.text = told.read()
+        return self.text
+
+
 def run(program, case, folder, seed):
     rng = random.Random(seed)
     with open(folder + "/queries.txt", "w") as out:
@@ -391,8 +456,8 @@ def run(program, case, folder, seed):
         words += ["--save", "saved.txt"]
     if case["window"] is not None:
         words += ["--from", "window.txt"]
-        with open(folder + "/window.txt", "w") as out:
-            out.write("".join(line + "\n" for line in case["window"]["lines"]))
+        with open(folder + "/window.txt", "wb") as out:
+            out.write(case["window"])
     if case["two_way"]:
         words.append("--two-way")
     if case["paths"]:
@@ -402,14 +467,20 @@ def run(program, case, folder, seed):
         with open(folder + "/joins.txt", "w") as out:
             out.write(case["joins"])
     # A run that is refused opens no pipe.
-    has_pipes, feeders = read_joins(case)[1] is None, []
+    has_pipes, feeders = read_joins(case)[1] is None and case["unmade"] is None, []
     clients = [reader_clients.Client(folder, number, reader, has_pipes, rng.random())
                for number, reader in enumerate(case["readers"], 1)]
     words += sum((client.words for client in clients), [])
-    words.append("queries.txt")
+    told_apart = []
     for number, stream in enumerate(case["streams"], 1):
+        if case["tells"]:
+            way = stream["way"] if has_pipes else "file"
+            way = "unmade" if number == case["unmade"] else way
+            told_apart.append(Faults(folder, number, way, rng.random()))
+    words += sum((["--faults", faults.word] for faults in told_apart), [])
+    words.append("queries.txt")
+    for number, data in enumerate(case["texts"], 1):
         name = "stream%d" % number
-        data = "".join(line + "\n" for line in stream["lines"]).encode()
         if rng.random() < 0.5 and has_pipes:
             os.mkfifo(folder + "/" + name)
             feeder = threading.Thread(target=feed, args=(folder + "/" + name, data, rng.random()))
@@ -423,12 +494,13 @@ def run(program, case, folder, seed):
     for feeder in feeders:
         feeder.join(10)
     told = [client.replies_at_end() for client in clients]
+    faults = [faults.text_at_end() for faults in told_apart]
     replies = saved = None
     if case["sessions"] and os.path.exists(folder + "/replies.txt"):
         replies = open(folder + "/replies.txt").read()
     if case["saves"] and os.path.exists(folder + "/saved.txt"):
         saved = open(folder + "/saved.txt").read()
-    return done.returncode, done.stdout.decode(), done.stderr.decode(), replies, saved, told
+    return done.returncode, done.stdout.decode(), done.stderr.decode(), replies, saved, told, faults
 
 
 # ---- what the run has to be
@@ -459,20 +531,35 @@ def check_history(case, history, numbers):
 
 def expected_errors(case, history, numbers):
     """The status, and the lines on the errors."""
-    lines, status = [], 0
+    lines, causes = [], []
     for number, stream in enumerate(case["streams"], 1):
-        own = sum(1 for of in numbers if of == number)
-        if own < len(stream["entries"]):
+        if numbers.count(number) < len(stream["entries"]):
             lines.append("rpq: stream %d: history full\n" % number)
-            status = 7
+            causes.append(7)
+        elif stream["fault"] is not None and stream["way"] == "full":
+            lines.append("rpq: write failed: faults %d\n" % number)
+            causes.append(6)
         elif stream["fault"] is not None:
-            lines.append("rpq: stream %d line %d: operation\n" % (number, stream["fault"]))
-            status = max(status, 4)
+            lines.append("rpq: stream %d line %d: %s\n"
+                         % (number, stream["fault"].line, stream["fault"].wrong))
+            causes.append(4)
     for number, reader in enumerate(case["readers"], 1):
         if reader["way"] == "leaves":
             lines.append("rpq: write failed: reader %d\n" % number)
-            status = status or 9
-    return status, "".join(lines)
+            causes.append(9)
+    return min(causes, key=CAUSES.index, default=0), "".join(lines)
+
+
+def check_faults(case, numbers, faults):
+    """What is wrong with what is told of faulty lines, if anything is."""
+    for number, (stream, text) in enumerate(zip(case["streams"], faults), 1):
+        due = stream_lines.told_before(stream["items"], numbers.count(number))
+        if stream["way"] != "full" and text != due:
+            at = len(os.path.commonprefix([text or b"", due]))
+            return "no faults of stream %d" % number if text is None else (
+                "the faults of stream %d, byte %d: %r, due %r"
+                % (number, at, text[at:at + 60], due[at:at + 60]))
+    return None
 
 
 def expected_reply(ask, history, ends, names):
@@ -588,11 +675,16 @@ def join_lines(joins, before, after):
     return [line.decode() for line in bindings.join_lines(joins, *pairs)]
 
 
-def check(case, status, events, errors, replies, saved, told):
+def check(case, status, events, errors, replies, saved, told, faults):
     joins, fault = read_joins(case)
     if fault:
-        given = (status, events, errors, replies, saved, told)
-        due = (10, "", "rpq: joins %s\n" % fault, None, None, [None] * len(told))
+        given = (status, events, errors, replies, saved, told, faults)
+        due = (10, "", "rpq: joins %s\n" % fault, None, None, [None] * len(told),
+               [None] * len(faults))
+        return None if given == due else "%r, due %r" % (given, due)
+    if case["unmade"] is not None:
+        given, due = (status, events, errors, told), (
+            6, "", "rpq: write failed: faults %d\n" % case["unmade"], [None] * len(told))
         return None if given == due else "%r, due %r" % (given, due)
     history, numbers, blocks = [], [], []
     for line in events.splitlines():
@@ -625,6 +717,9 @@ def check(case, status, events, errors, replies, saved, told):
     due_status, due_errors = expected_errors(case, history, numbers)
     if (status, errors) != (due_status, due_errors):
         return "status %d, errors %r; due %d, %r" % (status, errors, due_status, due_errors)
+    wrong = check_faults(case, numbers, faults)
+    if wrong:
+        return wrong
     if case["saves"] and saved != saved_of(case["queries"], history):
         return "the saved window %r, due %r" % (saved, saved_of(case["queries"], history))
     for number, (reader, text) in enumerate(zip(case["readers"], told), 1):

@@ -46,13 +46,26 @@ says 2 "rpq: queries line 1: shape" "$top/examples/shards.sh" 1 log log
 says 1 "shards.sh: there are 1 queries for COUNT parts" "$top/examples/shards.sh" 2 queries stream
 says 1 "continue.sh: nowhere can't be read" "$top/examples/continue.sh" 2 queries nowhere state
 printf '1 x a y\n2 x a y\n3 x a y\n4 x y\n' > log
-says 4 "continue.sh: that is line 4 of log" "$top/examples/continue.sh" 2 queries log state
-echo '1 x a y' > log
-says 1 "continue.sh: log has fewer lines than the 2 taken: begin another STATE" \
+says 0 "continue.sh: log has faulty lines, which are in state/faults.000000002" \
     "$top/examples/continue.sh" 2 queries log state
-printf '1 x a y\n\n2 x a y\n' > log
-says 1 "continue.sh: log has a blank line or a comment behind line 0" \
-    "$top/examples/continue.sh" 2 queries log other
+cmp -s <(cat state/faults.*) <(echo "line 4: fields 3: 4 x y")
+count $? "continue.sh: other faults"
+echo '1 x a y' > log
+says 1 "continue.sh: log has fewer lines than the 4 taken: begin another STATE" \
+    "$top/examples/continue.sh" 2 queries log state
+mv log old
+echo '1 x a y' > log
+says 1 "continue.sh: the file that was log is gone: begin another STATE" \
+    "$top/examples/continue.sh" 2 queries log state
+mkdir older
+echo '# taken 1' > older/window
+says 1 "continue.sh: older/window isn't of this script: begin another STATE" \
+    "$top/examples/continue.sh" 2 queries log older
+printf '1 x a y\n\n# a comment\n2 x a z\n' > log
+"$top/examples/continue.sh" 2 queries log blank &&
+    "$top/examples/continue.sh" 9 queries log blank &&
+    rpq queries log | cmp -s - <(cat blank/events.*)
+count $? "continue.sh over a blank line and a comment: other events"
 "$top/bench/run.sh" --help | grep -q 'bench/run.sh \[--fast\] --times'
 count $? "bench/run.sh --help: it isn't the usage"
 says 1 "bench/run.sh: no program bench/nothing.rattle; bench/run.sh --help has the words" \
