@@ -95,6 +95,11 @@ lost_length : (found : Option (List Target)) → unwrap_or (option_map (λ (row 
 lost_length None = refl
 lost_length (Some row) = refl
 
+-- the targets of the row that is answered are as many as those that are lost
+pub lost_is : (sources : BySource) (from : List ℕ) (old : Option (List Target)) (count : ℕ) → old ≡ lookup (at from) sources →
+    count ≡ length (unwrap_or old []) → length (held_row sources from) ≡ count
+lost_is sources from old count is counted = sym (counted ∙ ap (λ (found : Option (List Target)). length (row_in found)) is)
+
 -- a row has at most as many targets as there are pairs
 pub lost_fits : (sources : BySource) (count : ℕ) (from : List ℕ) → AreHeld sources count → length (held_row sources from) ≤ count
 lost_fits sources count from held =

@@ -1,6 +1,7 @@
 //! The answers of a query, as rows.
 
 ghost use Rattle.std.specs.Prelude.{◌≡◌, ◌<◌, ◌++◌, [], length, map, IfNone, IfSome, IfOk, OnOk, OnErr};
+ghost use Rattle.std.specs.Option.{unwrap_or};
 ghost use Rattle.answer_rows.specs.Answers.{AreRows, AreTargets, KeepsOtherRows};
 ghost use Rattle.answer_rows.specs.Answers.{pair, row_of, until_of};
 ghost use Rattle.answer_rows.specs.BySource.{answer, answers};
@@ -147,9 +148,8 @@ impl Rows {
         ensures others { OnOk result (KeepsOtherRows from.now self.old self.new) }
         ensures unchanged { OnErr result (self.new ≡ self.old) }
     {
-        let lost = self.targets(from).len() as u128;
-        self.rows.remove(from)?;
-        self.count -= lost;
+        let old = self.rows.remove(from)?;
+        self.count -= target_count(old);
         Ok(())
     }
 
@@ -161,12 +161,21 @@ impl Rows {
         ensures others { OnOk result (KeepsOtherRows from self.old self.new) }
         ensures unchanged { OnErr result (self.new ≡ self.old) }
     {
-        let lost = self.targets(&from).len() as u128;
         let gained = row.targets().len() as u128;
-        let count = stored_in_all(self.count - lost, gained)?;
-        self.rows.insert(from, row)?;
-        self.count = count;
+        let most = stored_in_all(self.count, gained)?;
+        let old = self.rows.insert(from, row)?;
+        self.count = most - target_count(old);
         Ok(())
+    }
+}
+
+/// The number of targets of a row, or 0 where there is none.
+fn target_count(row: Option<Row>) -> u128
+    ensures { result ≡ length (unwrap_or row []) }
+{
+    match row {
+        Some(row) => row.targets().len() as u128,
+        None => 0,
     }
 }
 

@@ -1,11 +1,8 @@
 -- Sort keys: the beginnings of names as numbers.
-use Rattle.std.specs.Prelude.{ℕ, zero, suc, ◌+◌, ◌*◌, ◌<◌, List, slice_index}
-
--- the first bytes of a name, so many, as the digits of a number to the base 256, the first byte the
--- most significant, and 0 where the name is shorter
-abbrev pub leading : ℕ → List ℕ → ℕ
-leading zero name = 0
-leading (suc place) name = leading place name * 256 + slice_index name place
+use Rattle.std.specs.Prelude.{ℕ, List}
+use Rattle.rpq_base.specs.Leading.{leading}
+-- all elements are bytes
+pub use Rattle.rpq_base.specs.Leading.{AreBytes}
 
 -- the sort key of a name: its first 16 bytes
 unfoldable pub sort_key : List ℕ → ℕ
@@ -14,7 +11,3 @@ sort_key name = leading 16 name
 -- the beginning of a name: its first eight bytes
 unfoldable pub beginning : List ℕ → ℕ
 beginning name = leading 8 name
-
--- all elements are bytes
-abbrev pub AreBytes : List ℕ → Type 0
-AreBytes bytes = (place : ℕ) → slice_index bytes place < 256

@@ -8,7 +8,6 @@
 //! stand beside each name as one number, which mostly tells their order.
 #![tactic(auto)]
 
-mod bytes_order;
 mod names;
 mod ranks;
 mod sort_key;

@@ -8,11 +8,10 @@ ghost use Rattle.name_table.specs.Keys.{beginning, sort_key, AreBytes};
 ghost use Rattle.name_table.specs.Names.{name_at, number_of, with_name, AreSmall, KeepsNumbers};
 ghost use Rattle.name_table.specs.Ranks.{AreRanks};
 
-use crate::bytes_order::bytes_compared;
 use crate::ranks::{numbers_by_rank, places_in};
 use crate::sort_key::sort_key;
 use indexmap::IndexMap;
-use rpq_base::{KeyedHash, Memory, Name, TryClone};
+use rpq_base::{KeyedHash, Memory, Name, TryClone, bytes_compared};
 use std::alloc::Global;
 use std::cmp::Ordering;
 use std::marker::Model;

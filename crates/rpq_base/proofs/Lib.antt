@@ -1,6 +1,7 @@
 pub mod Derived
 pub mod Equality
 pub mod InOrder
+pub mod Leading
 pub mod Members
 mod Naming
 pub mod Orders

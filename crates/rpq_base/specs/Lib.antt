@@ -1,5 +1,6 @@
 pub mod FaultTexts
 pub mod Laws
+pub mod Leading
 pub mod Names
 pub mod Order
 pub mod OwnEnds

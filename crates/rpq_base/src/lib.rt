@@ -6,10 +6,11 @@
 //! labels, and every other type as the record of its fields. Names are compared byte by byte, and
 //! all else field by field; names, labels and pairs have an order.
 //! Each value is copied by [`TryClone::copy`], which gives an equal one, or answers that memory ran
-//! out. Beside them stand what all layers share: out of memory, a hash with random keys, and
-//! numbers of workers.
+//! out. Beside them stand what all layers share: the order of bytes, out of memory, a hash with
+//! random keys, and numbers of workers.
 #![tactic(auto)]
 
+mod bytes_order;
 mod data;
 mod keyed_hash;
 mod laws;
@@ -18,6 +19,7 @@ mod name;
 mod word;
 mod workers;
 
+pub use bytes_order::bytes_compared;
 pub use data::{Act, Edge, Entry, Event, Label, MAX_TIME, Pair, Tuple};
 pub use keyed_hash::KeyedHash;
 pub use laws::{equality_is_exact, greatest_time, orders_are_named, same_is_equal};

@@ -7,6 +7,7 @@ ghost use Rattle.rpq_base.specs.declared.name.NameFault.{NameFault};
 ghost use Rattle.rpq_base.specs.FaultTexts.{name_fault_text};
 ghost use Rattle.rpq_base.specs.Names.{is_name_byte, has_name_length, is_name, IsName, IsNameFault};
 
+use crate::bytes_order::bytes_compared;
 use crate::memory::{Memory, TryClone};
 use smallvec::SmallVec;
 use std::alloc::{AllocError, Global};
@@ -221,6 +222,6 @@ impl Ord for Name {
     ghost matches_eq = { Prim.search (comparing, rules) };
 
     fn cmp(&self, other: &Self) -> Ordering {
-        self.bytes.cmp(&other.bytes)
+        bytes_compared(self.bytes.as_slice(), other.bytes.as_slice())
     }
 }

@@ -1,6 +1,6 @@
 -- The entries of chunks, and of one among them.
-use Rattle.std.proofs.Common.{◌⊎◌, ⊎_elim, ◌≡◌, ℕ, ◌+◌, ◌<◌, ◌≤◌, Bool, true, false, cond, List, [], ◌∷◌, ◌++◌, length, get_or, take, drop, Some, None, Ordering, refl, sym, ap, subst, ◌∙◌, arith, Global}
-use Rattle.std.specs.Prelude.{set, slice_get}
+use Rattle.std.proofs.Common.{◌⊎◌, ⊎_elim, ◌≡◌, ℕ, ◌+◌, ◌<◌, ◌≤◌, Bool, true, false, cond, List, [], ◌∷◌, ◌++◌, length, get_or, take, drop, Option, Some, None, Result, Ordering, refl, sym, ap, subst, ◌∙◌, arith, Global}
+use Rattle.std.specs.Prelude.{IfOk, set, slice_get}
 use Rattle.std.specs.BTreeMap.{insert_entry, is_at}
 use Rattle.std.specs.Cmp.{IsTotalOrder}
 use Rattle.std.specs.List.{insert, remove}
@@ -8,7 +8,7 @@ use Rattle.std.specs.List.Sorted.{IsStrictlySortedBy}
 use Rattle.std.specs.Map.{keys_of, lookup, remove_entry, set_value}
 use Rattle.std.specs.declared.cmp.Ordering.TheVariants.{Less}
 use Rattle.std.specs.declared.sync.Arc.{Arc}
-use Rattle.std.proofs.lemmas.List.{append_assoc, drop_more, take_more, set_at, set_split, length-take-le}
+use Rattle.std.proofs.lemmas.List.{append_assoc, drop_more, get_or_default, take_more, set_at, set_split, length-take-le}
 use Rattle.std.proofs.lemmas.Map.{keys-set_value}
 use Rattle.std.proofs.lemmas.List.Concat.{flat_map-append}
 use Rattle.shared_map.specs.Chunks.{entries_of, IsAbove, IsBelow, IsChunkOf}
@@ -181,6 +181,12 @@ halved {K} {V} chunks place d left right within is =
 
 -- ---- as the calls see the chunk
 
+-- what two calls find at one place is the same
+pub same_place : {X : Type 0} (list : List X) (place : ℕ) (first second : X) → place < length list →
+    first ≡ get_or list place first → second ≡ get_or list place second → first ≡ second
+same_place list place first second within is also =
+    is ∙ (get_or_default list place first second within ∙ sym also)
+
 -- the chunk is in order
 pub held_sorted : {K V : Type 0} (cmp : K → K → Ordering) (chunks : List (Held K V)) (place : ℕ)
     (here : Held K V) → place < length chunks → here ≡ get_or chunks place here →
@@ -195,6 +201,15 @@ pub held_looked : {K V : Type 0} (cmp : K → K → Ordering) (key : K) (chunks 
 held_looked {K} {V} cmp key chunks place here within found of =
     ap (λ (chunk : Held K V). lookup (is_at (cmp key)) chunk.value) found
     ∙ sym (chunk_looked cmp key chunks place here within of)
+
+-- an answer that is what the chunk has of a key is what all entries have
+pub held_looked_if : {K V E : Type 0} (cmp : K → K → Ordering) (key : K) (chunks : List (Held K V)) (place : ℕ)
+    (here : Held K V) → place < length chunks → here ≡ get_or chunks place here → IsChunkOf cmp key chunks place →
+    (result : Result (Option V) E) → IfOk result (λ old. old ≡ lookup (is_at (cmp key)) here.value) →
+    IfOk result (λ old. old ≡ lookup (is_at (cmp key)) (entries_of chunks))
+held_looked_if {K} {V} {E} cmp key chunks place here within found of result looked =
+    subst (λ (value : Option V). IfOk result (λ old. old ≡ value))
+    (held_looked cmp key chunks place here within found of) looked
 
 pub held_inserted : {K V : Type 0} (cmp : K → K → Ordering) (key : K) (value : V) (chunks : List (Held K V)) (place : ℕ)
     (here now : Held K V) → place < length chunks → here ≡ get_or chunks place here → IsChunkOf cmp key chunks place →
@@ -219,7 +234,7 @@ held_kept {K} {V} chunks place here now within found is =
     chunk_kept chunks place here now within (is ∙ ap (λ (chunk : Held K V). chunk.value) found)
 
 -- a key that has no value has no entry to take out
-missing : {K V : Type 0} (test : K → Bool) (entries : List (K × V)) → lookup test entries ≡ None →
+pub missing : {K V : Type 0} (test : K → Bool) (entries : List (K × V)) → lookup test entries ≡ None →
     remove_entry test entries ≡ entries
 missing test [] none = refl
 missing test (entry ∷ rest) none = missing_step test (test entry.0) entry rest none (missing test rest)

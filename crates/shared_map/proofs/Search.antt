@@ -13,7 +13,7 @@ use Rattle.std.proofs.lemmas.List.{take-append-drop, drop_more, get_or-map, get_
 use Rattle.std.proofs.lemmas.List.Sorted.{searchable_from_sorted}
 use Rattle.std.proofs.lemmas.Map.Keys.{Less-from_sorted}
 use Rattle.shared_map.specs.Chunks.{IsAbove, IsBelow}
-use Rattle.shared_map.proofs.Entries.{insert_past, insert_before, remove_past, nothing_removed, set_past, look_past, nothing_found, misses_above, misses_below}
+use Rattle.shared_map.proofs.Entries.{insert_past, insert_before, remove_past, set_past, look_past, nothing_found, misses_above, misses_below}
 use Rattle.shared_map.proofs.Order.{above_all}
 
 -- in strict order no entry is below the one before it
@@ -162,22 +162,6 @@ gap_is_insert {K} {V} {cmp} total entries gap key value sorted within found =
     sym (ap (λ (all : List (K × V)). insert_entry cmp all key value) (sym (take-append-drop gap entries))
     ∙ (insert_past cmp key value before behind here.above
     ∙ ap (λ (all : List (K × V)). before ++ all) (insert_before cmp key value [] behind here.below)))
-
-pub none_to_remove : {K V : Type 0} {cmp : K → K → Ordering} → IsTotalOrder cmp →
-    (entries : List (K × V)) (gap : ℕ) (key : K) → IsStrictlySortedBy cmp (keys_of entries) →
-    gap ≤ length entries →
-    IsBinarySearchResult (λ (entry : K × V). cmp entry.0 key) entries (Err gap) →
-    entries ≡ remove_entry (is_at (cmp key)) entries
-none_to_remove {K} {V} {cmp} total entries gap key sorted within found =
-    let test = is_at (cmp key) in
-    let here = gap_of total entries gap key sorted within found in
-    let before = take gap entries in
-    let behind = drop gap entries in
-    sym (ap (remove_entry test) (sym (take-append-drop gap entries))
-    ∙ (remove_past test before behind (misses_above cmp key before here.above)
-    ∙ (ap (λ (all : List (K × V)). before ++ all)
-    (nothing_removed test behind (misses_below cmp key behind here.below))
-    ∙ take-append-drop gap entries)))
 
 -- ---- the same, as a chunk is seen
 

@@ -1,8 +1,8 @@
 -- Entries in chunks.
-use Rattle.std.specs.Prelude.{◌≡◌, ℕ, ◌+◌, List, All, flat_map, take, drop}
+use Rattle.std.specs.Prelude.{◌≡◌, ◌<◌, ℕ, ◌+◌, List, All, flat_map, length, slice_index_or, take, drop}
 use Rattle.std.specs.Global.{Global}
 use Rattle.std.specs.declared.cmp.Ordering.{Ordering}
-use Rattle.std.specs.declared.cmp.Ordering.TheVariants.{Less, Greater}
+use Rattle.std.specs.declared.cmp.Ordering.TheVariants.{Less, Equal, Greater}
 use Rattle.std.specs.declared.sync.Arc.{Arc}
 
 -- the entries of all chunks, in their order
@@ -23,3 +23,9 @@ abbrev pub IsChunkOf : {K V : Type 0} → (K → K → Ordering) → K → List 
 IsChunkOf cmp key chunks place =
     IsAbove cmp key (entries_of (take place chunks))
     × IsBelow cmp key (entries_of (drop (place + 1) chunks))
+
+-- the entry at this place is the key's
+abbrev pub IsPlaceOf : {K V : Type 0} → (K → K → Ordering) → K → List (K × V) → ℕ → Type 0
+IsPlaceOf {K} {V} cmp key entries place =
+    (place < length entries)
+    × ((entry : K × V) → cmp (slice_index_or entries place entry).0 key ≡ Equal)

@@ -1,13 +1,15 @@
 //! Some entries of a map that stand next to each other.
 
 ghost use Rattle.std.specs.Prelude.{◌≡◌, ◌<◌, ◌++◌, ◌∷◌, [], length, slice_get, slice_index_or};
-ghost use Rattle.std.specs.Prelude.{Some, IsSome, IsTrue, IfOk, OnOk, OnErr};
+ghost use Rattle.std.specs.Prelude.{None, Some, IfNone, IfSome, IsSome, IsTrue, IfOk, OnOk, OnErr};
 ghost use Rattle.std.specs.BTreeMap.{insert_entry, is_at};
 ghost use Rattle.std.specs.List.Sorted.{IsBinarySearchResult, IsSearchInRange, IsStrictlySortedBy};
 ghost use Rattle.std.specs.declared.cmp.Ordering.TheVariants.{Equal};
-ghost use Rattle.std.specs.Map.{keys_of, lookup, remove_entry};
+ghost use Rattle.std.specs.List.{remove};
+ghost use Rattle.std.specs.Map.{keys_of, lookup};
 ghost use Rattle.std.specs.Option.{option_copied};
 ghost use Rattle.std.specs.Borrow.{sem};
+ghost use Rattle.shared_map.specs.Chunks.{IsPlaceOf};
 ghost use Rattle.shared_map.specs.Lends.{lends_value};
 
 use rpq_base::{Memory, TryClone};
@@ -118,6 +120,18 @@ impl<K: Ord + TryClone, V: TryClone> Chunk<K, V> {
         }
     }
 
+    /// The place of a key's entry, if it has one.
+    pub(crate) fn find(&self, key: &K) -> Option<usize>
+        requires { IsStrictlySortedBy K.cmp (keys_of self.now) }
+        ensures place { IfSome result (λ place. IsPlaceOf K.cmp key.now self.now place) }
+        ensures none { IfNone result (lookup (is_at (K.cmp key.now)) self.now ≡ None) }
+    {
+        match self.place_of(key) {
+            Ok(place) => Some(place),
+            Err(_) => None,
+        }
+    }
+
     /// Gives a key this value, and answers the one that it had. A new key stands in its place.
     pub(crate) fn insert(&mut self, key: K, value: V) -> Result<Option<V>, Memory>
         requires { IsStrictlySortedBy K.cmp (keys_of self.old) }
@@ -134,15 +148,14 @@ impl<K: Ord + TryClone, V: TryClone> Chunk<K, V> {
         }
     }
 
-    /// Takes a key's entry out, if there is one. There is another entry too.
-    pub(crate) fn remove(&mut self, key: &K)
-        requires sorted { IsStrictlySortedBy K.cmp (keys_of self.old) }
+    /// Takes out the entry at a place, and answers its value. There is another entry too.
+    pub(crate) fn remove(&mut self, place: usize) -> V
+        requires within { place < length self.old }
         requires another { 1 < length self.old }
-        ensures { self.new ≡ remove_entry (is_at (K.cmp key.now)) self.old }
+        ensures entries { self.new ≡ remove self.old place }
+        ensures value { (entry : K × V) → result ≡ (slice_index_or self.old place entry).1 }
     {
-        if let Ok(place) = self.place_of(key) {
-            self.entries.remove(place);
-        }
+        self.entries.remove(place).1
     }
 
     /// The place of a key that has a value.

@@ -69,22 +69,24 @@ fn split<K: Ord + TryClone, V: TryClone>(
     Ok(())
 }
 
-/// Splits the chunk of a key where it is full.
-fn make_room<K: Ord + TryClone, V: TryClone>(
+/// The place of the chunk of a key, which is split first where it is full.
+fn room_for<K: Ord + TryClone, V: TryClone>(
     alloc: Global,
     chunks: &mut Vec<Arc<Chunk<K, V>>>,
     key: &K,
-) -> Result<(), Memory>
+) -> Result<usize, Memory>
     requires some { 0 < length chunks.old.items }
     requires sorted { IsStrictlySortedBy K.cmp (keys_of (entries_of chunks.old.items)) }
     ensures same { entries_of chunks.new.items ≡ entries_of chunks.old.items }
-    ensures some { 0 < length chunks.new.items }
+    ensures place { IfOk result (λ place. IsChunkOf K.cmp key.now chunks.new.items place) }
+    ensures within { IfOk result (λ place. place < length chunks.new.items) }
 {
     let place = chunk_of(chunks, key);
-    if chunks[place].is_full() {
-        split(alloc, chunks, place)?;
+    if !chunks[place].is_full() {
+        return Ok(place);
     }
-    Ok(())
+    split(alloc, chunks, place)?;
+    Ok(chunk_of(chunks, key))
 }
 
 /// Gives a key a value in a chunk, which is made anew where it is shared.
@@ -101,28 +103,34 @@ fn insert_in<K: Ord + TryClone, V: TryClone>(
     Arc::make_mut(chunk)?.insert(key, value)
 }
 
-/// Takes a key's entry out of a chunk, which is made anew where it is shared.
+/// Takes a key's entry out of a chunk, which has another one too and is made anew where it is
+/// shared. Answers the value, if the key has one.
 fn remove_from<K: Ord + TryClone, V: TryClone>(
     chunk: &mut Arc<Chunk<K, V>>,
     key: &K,
-) -> Result<(), Memory>
+) -> Result<Option<V>, Memory>
     requires sorted { IsStrictlySortedBy K.cmp (keys_of chunk.old.value) }
     requires another { 1 < length chunk.old.value }
+    ensures old { IfOk result (λ old. old ≡ lookup (is_at (K.cmp key.now)) chunk.old.value) }
     ensures entries { OnOk result
         (chunk.new.value ≡ remove_entry (is_at (K.cmp key.now)) chunk.old.value) }
     ensures unchanged { OnErr result (chunk.new.value ≡ chunk.old.value) }
 {
-    Arc::make_mut(chunk)?.remove(key);
-    Ok(())
+    match chunk.find(key) {
+        Some(place) => Ok(Some(Arc::make_mut(chunk)?.remove(place))),
+        None => Ok(None),
+    }
 }
 
-/// Gives a key a value in its chunk.
+/// Gives a key a value in its chunk, which is at this place.
 fn put<K: Ord + TryClone, V: TryClone>(
     chunks: &mut Vec<Arc<Chunk<K, V>>>,
+    place: usize,
     key: K,
     value: V,
 ) -> Result<Option<V>, Memory>
-    requires some { 0 < length chunks.old.items }
+    requires within { place < length chunks.old.items }
+    requires place { IsChunkOf K.cmp key chunks.old.items place }
     requires sorted { IsStrictlySortedBy K.cmp (keys_of (entries_of chunks.old.items)) }
     ensures old { IfOk result (λ old.
         old ≡ lookup (is_at (K.cmp key)) (entries_of chunks.old.items)) }
@@ -130,31 +138,33 @@ fn put<K: Ord + TryClone, V: TryClone>(
         ≡ insert_entry K.cmp (entries_of chunks.old.items) key value) }
     ensures unchanged { OnErr result (entries_of chunks.new.items ≡ entries_of chunks.old.items) }
 {
-    let place = chunk_of(chunks, &key);
     insert_in(&mut chunks[place], key, value)
 }
 
-/// Takes a key's entry out of its chunk. An emptied chunk goes away.
+/// Takes a key's entry out of its chunk, and answers its value, if it has one. An emptied chunk
+/// goes away.
 fn take<K: Ord + TryClone, V: TryClone>(
     chunks: &mut Vec<Arc<Chunk<K, V>>>,
     key: &K,
-) -> Result<(), Memory>
+) -> Result<Option<V>, Memory>
     requires some { 0 < length chunks.old.items }
     requires sorted { IsStrictlySortedBy K.cmp (keys_of (entries_of chunks.old.items)) }
+    ensures old { IfOk result (λ old.
+        old ≡ lookup (is_at (K.cmp key.now)) (entries_of chunks.old.items)) }
     ensures entries { OnOk result (entries_of chunks.new.items
         ≡ remove_entry (is_at (K.cmp key.now)) (entries_of chunks.old.items)) }
     ensures unchanged { OnErr result (entries_of chunks.new.items ≡ entries_of chunks.old.items) }
 {
     let place = chunk_of(chunks, key);
-    let chunk = &chunks[place];
-    if chunk.get(key).is_none() {
-        return Ok(());
-    }
-    if chunk.len() > 1 {
+    if chunks[place].len() > 1 {
         return remove_from(&mut chunks[place], key);
     }
+    let old = match chunks[place].get(key) {
+        Some(value) => value.copy()?,
+        None => return Ok(None),
+    };
     chunks.remove(place);
-    Ok(())
+    Ok(Some(old))
 }
 
 /// Gives a key a value, and answers the one that it had. A full chunk is split first.
@@ -176,22 +186,24 @@ pub(crate) fn insert<K: Ord + TryClone, V: TryClone>(
         chunks.push(Arc::new(alloc, chunk)?)?;
         return Ok(None);
     }
-    make_room(alloc, chunks, &key)?;
-    put(chunks, key, value)
+    let place = room_for(alloc, chunks, &key)?;
+    put(chunks, place, key, value)
 }
 
-/// Takes a key's entry out, if there is one.
+/// Takes a key's entry out, and answers its value, if it has one.
 pub(crate) fn remove<K: Ord + TryClone, V: TryClone>(
     chunks: &mut Vec<Arc<Chunk<K, V>>>,
     key: &K,
-) -> Result<(), Memory>
+) -> Result<Option<V>, Memory>
     requires { IsStrictlySortedBy K.cmp (keys_of (entries_of chunks.old.items)) }
+    ensures old { IfOk result (λ old.
+        old ≡ lookup (is_at (K.cmp key.now)) (entries_of chunks.old.items)) }
     ensures entries { OnOk result (entries_of chunks.new.items
         ≡ remove_entry (is_at (K.cmp key.now)) (entries_of chunks.old.items)) }
     ensures unchanged { OnErr result (entries_of chunks.new.items ≡ entries_of chunks.old.items) }
 {
     if chunks.is_empty() {
-        return Ok(());
+        return Ok(None);
     }
     take(chunks, key)
 }

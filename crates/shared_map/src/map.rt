@@ -108,8 +108,12 @@ impl<K: Ord + TryClone, V: TryClone> SharedMap<K, V> {
         insert(self.alloc, &mut self.chunks, key, value)
     }
 
-    /// Takes a key's entry out, if there is one. Takes memory only where its chunk is shared.
-    pub fn remove(&mut self, key: &K) -> Result<(), Memory>
+    /// Takes a key's entry out, and answers its value, if it has one.
+    ///
+    /// Takes memory only where the key's chunk is shared, or, for a copy of the value, where it has
+    /// no other entry.
+    pub fn remove(&mut self, key: &K) -> Result<Option<V>, Memory>
+        ensures old { IfOk result (λ old. old ≡ lookup (is_at (K.cmp key.now)) self.old) }
         ensures entries { OnOk result
             (self.new ≡ remove_entry (is_at (K.cmp key.now)) self.old) }
         ensures unchanged { OnErr result (self.new ≡ self.old) }

@@ -1,5 +1,5 @@
 use Rattle.std.proofs.Common.{◌≡◌}
-use Rattle.name_table.specs.Keys.{leading}
+use Rattle.rpq_base.specs.Leading.{leading}
 use Rattle.name_table.proofs.sort_key.sort_key.Given as goal
 
 -- the digits so far

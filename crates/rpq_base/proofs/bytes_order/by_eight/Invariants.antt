@@ -1,6 +1,6 @@
 use Rattle.std.proofs.Common.{◌≡◌, ◌≤◌, ◌-◌}
-use Rattle.name_table.specs.Keys.{leading}
-use Rattle.name_table.proofs.bytes_order.bytes_compared.Given as goal
+use Rattle.rpq_base.specs.Leading.{leading}
+use Rattle.rpq_base.proofs.bytes_order.by_eight.Given as goal
 
 -- the bytes so far are the same
 abbrev pub invariant-loop-place : goal.invariant-loop-place
