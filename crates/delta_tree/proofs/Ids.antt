@@ -34,7 +34,7 @@ pub same_node_laws : IsEquivalence same_node
 same_node_laws = search (comparing, rules)
 
 -- what is found is there
-found_is_some : {X : Type 0} (found : Option X) (x : X) → found ≡ Some x → IsSome found
+pub found_is_some : {X : Type 0} (found : Option X) (x : X) → found ≡ Some x → IsSome found
 found_is_some None x is = absurd cc
 found_is_some (Some y) x is = refl
 

@@ -1,5 +1,5 @@
 -- Nodes in two lists side by side.
-use Rattle.std.proofs.Common.{◌≡◌, ◌+◌, ◌-◌, ◌<◌, ℕ, zero, suc, Bool, true, false, ◌||◌, cond, is_some, List, [], ◌∷◌, ◌++◌, length, get_or, take, Option, None, Some, slice_get, slice_set, refl, sym, ap, subst, ◌∙◌, arith}
+use Rattle.std.proofs.Common.{◌≡◌, ◌+◌, ◌-◌, ◌<◌, ℕ, zero, suc, Bool, true, false, ◌||◌, cond, is_some, List, [], ◌∷◌, ◌++◌, length, get_or, take, Option, None, Some, option_map, slice_get, slice_set, refl, sym, ap, subst, ◌∙◌, arith}
 use Rattle.std.specs.List.{IsDistinct, list_any, swap_remove}
 use Rattle.std.specs.Map.{keys_of, lookup}
 use Rattle.std.proofs.lemmas.List.{length-set, length-append, length-take}
@@ -10,7 +10,7 @@ use Rattle.small_map.specs.Places.{IsPlace}
 use Rattle.delta_tree.specs.declared.node.NodeId.{NodeId}
 use Rattle.delta_tree.specs.declared.node_map.Rest.{Rest}
 use Rattle.delta_tree.specs.Nodes.{Node, same_node, node_in}
-use Rattle.delta_tree.specs.Spots.{rest_of, whole, joined, ArePaired}
+use Rattle.delta_tree.specs.Spots.{link_of, rest_of, whole, joined, ArePaired}
 use Rattle.delta_tree.proofs.Ids.{same_node_is, same_node_laws, none_or_some, some_is_one}
 
 -- ---- the parts
@@ -218,6 +218,13 @@ module _ (values : List (NodeId × ℕ)) (rests : List Rest) (paired : ArePaired
       let (node, stands, is) = spot_now id place each at same in
       (node, stands, found_there now id place node once_now stands, is)
 
+  -- the node of the place of a value
+  pub node_now : (place : ℕ) (each : NodeId × ℕ) → slice_get values place ≡ Some each →
+      (node : Node) × (slice_get now place ≡ Some (each.0, node)) × (node.value ≡ each.1)
+  node_now place each at =
+      subst (λ nodes. (node : Node) × (slice_get nodes place ≡ Some (each.0, node))
+      × (node.value ≡ each.1)) view (node_at values rests paired place each at)
+
   -- what stands at a place
   pub one_now : (place : ℕ) (entry : NodeId × ℕ) (rest : Rest) (each : NodeId × Node) →
       slice_get values place ≡ Some entry → slice_get rests place ≡ Some rest →
@@ -226,6 +233,18 @@ module _ (values : List (NodeId × ℕ)) (rests : List Rest) (paired : ArePaired
       some_is_one (entry.0, whole entry.1 rest) each
       (sym (joined_at values rests place entry rest at beside)
       ∙ ap (λ nodes. slice_get nodes place) view ∙ stands)
+
+  -- by what the node hangs that is looked for
+  pub link_now : (id : NodeId) (place : ℕ) (each : NodeId × ℕ) (rest : Rest) →
+      slice_get values place ≡ Some each → slice_get rests place ≡ Some rest →
+      same_node id each.0 ≡ true →
+      Some (record { parent = rest.parent; edge = rest.edge })
+      ≡ option_map link_of (node_in now id)
+  link_now id place each rest at beside same =
+      let (node, stands, found, is) = found_now id place each at same in
+      ap (λ (one : NodeId × Node). Some (link_of one.1))
+      (one_now place each rest (id, node) at beside stands)
+      ∙ sym (ap (option_map link_of) found)
 
   pub none_now : (id : NodeId) → lookup (same_node id) values ≡ None → node_in now id ≡ None
   none_now id none =

@@ -4,5 +4,6 @@ pub mod Ways
 mod Below
 mod Expiry
 mod Joined
+mod Links
 mod Queue
 mod TreeLaws

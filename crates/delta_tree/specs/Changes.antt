@@ -1,5 +1,5 @@
 -- What the calls on a tree change.
-use Rattle.std.specs.Prelude.{◌≡◌, ℕ, ◌+◌, ◌^◌, ◌<◌, ◌≤◌, ◌⊎◌, ◌↔◌, nat_lt, nat_le, cond, Bool}
+use Rattle.std.specs.Prelude.{◌≡◌, ℕ, ◌+◌, ◌<◌, ◌≤◌, ◌⊎◌, ◌↔◌, nat_lt, nat_le, cond, Bool}
 use Rattle.std.specs.Prelude.{false}
 use Rattle.std.specs.Prelude.{List, Contains, Option, None, Some, All, map}
 use Rattle.std.specs.List.{IsDistinct}
@@ -15,12 +15,11 @@ abbrev pub Carries : TreeValue → NodeId → ℕ → Type 0
 Carries tree id value =
     (id ≡ root_id tree) ⊎ ((node : Node) × (node_of tree id ≡ Some node) × (value ≤ node.value))
 
--- the step may hang its target below its source with this value, and the puts can still be counted
+-- the step may hang its target below its source with this value
 pub record CanHang (tree : TreeValue) (step : Try) (value : ℕ) : Type 0 where
   pub from : Carries tree step.from value
   pub state : 0 < step.to.state
   pub joins : Joins step.from step.edge step.to
-  pub puts : tree.puts < 2 ^ 127
 
 -- the value is above that of the node, where there is one
 abbrev pub Raises : TreeValue → NodeId → ℕ → Type 0

@@ -4,5 +4,5 @@ pub mod Laws
 pub mod Losses
 pub mod Nodes
 pub mod Paths
-pub mod Ranks
 pub mod Spots
+pub mod Stamps

@@ -1,9 +1,9 @@
 -- The path from the root of a tree to a node, by the parents of the nodes.
-use Rattle.std.specs.Prelude.{◌≡◌, ◌⊎◌, Bool, ◌&&◌, ◌==◌, List, [], ◌∷◌, Some, Contains, reverse}
+use Rattle.std.specs.Prelude.{◌≡◌, Bool, ◌&&◌, ◌==◌, List, [], ◌∷◌, Some, Contains, reverse}
 use Rattle.edge_store.specs.declared.edge.EdgeId.{EdgeId}
 use Rattle.edge_store.specs.Edges.{same_edge}
 use Rattle.delta_tree.specs.declared.node.NodeId.{NodeId}
-use Rattle.delta_tree.specs.Nodes.{Node, TreeValue, node_in, node_of, root_id}
+use Rattle.delta_tree.specs.Nodes.{Node, TreeValue, node_of, root_id}
 
 -- the parent edges from a node up to the root, that of the node first
 abbrev pub LeadsUp : TreeValue → NodeId → List EdgeId → Type 0
@@ -33,8 +33,3 @@ HangsBelow tree parent edge id =
 -- a node hangs by this edge, at the end of which it stands
 abbrev pub hangs_by : EdgeId → NodeId × Node → Bool
 hangs_by edge each = (each.0.vertex == edge.to) && same_edge each.1.edge edge
-
--- a node hangs by this edge, or below one of these
-abbrev pub Hangs : List (NodeId × Node) → EdgeId → List NodeId → NodeId → Type 0
-Hangs nodes edge ids id =
-    (node : Node) × (node_in nodes id ≡ Some node) × ((node.edge ≡ edge) ⊎ Contains ids node.parent)

@@ -3,6 +3,7 @@
 use Rattle.std.specs.Prelude.{◌≡◌, ℕ, List, [], ◌∷◌, length, Some, slice_get}
 use Rattle.std.specs.List.{IsDistinct}
 use Rattle.std.specs.Map.{keys_of}
+use Rattle.delta_tree.specs.declared.node.Link.{Link}
 use Rattle.delta_tree.specs.declared.node.NodeId.{NodeId}
 use Rattle.delta_tree.specs.declared.node_map.Rest.{Rest}
 use Rattle.delta_tree.specs.declared.node_map.Spot.{Spot}
@@ -11,6 +12,10 @@ use Rattle.delta_tree.specs.Nodes.{Node, same_node, node_in}
 -- what a node has beside its value
 abbrev pub rest_of : Node → Rest
 rest_of node = record { parent = node.parent; edge = node.edge; stamp = node.stamp }
+
+-- by what a node hangs
+abbrev pub link_of : Node → Link
+link_of node = record { parent = node.parent; edge = node.edge }
 
 -- a node of a value and the rest
 abbrev pub whole : ℕ → Rest → Node

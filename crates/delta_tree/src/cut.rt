@@ -1,27 +1,14 @@
-//! The nodes that hang below an edge.
+//! Nodes that are taken out of a tree.
 
-ghost use Rattle.std.specs.Prelude.{◌≡◌, ◌≤◌, ◌⊎◌, ◌↔◌, cond, length, None, IsTrue};
+ghost use Rattle.std.specs.Prelude.{◌≡◌, ◌≤◌, ◌⊎◌, cond, length, None};
 ghost use Rattle.std.specs.List.{list_any};
 ghost use Rattle.delta_tree.specs.declared.node.NodeId.{NodeId};
 ghost use Rattle.delta_tree.specs.Nodes.{same_node, node_in};
 ghost use Rattle.delta_tree.specs.Dues.{IsNoted, IsOneEach, IsLeftAlone};
-ghost use Rattle.delta_tree.specs.Paths.{Hangs};
 
 use crate::node::NodeId;
 use crate::node_map::NodeMap;
 use due_queue::DueQueue;
-use edge_store::EdgeId;
-use indexmap::IndexSet;
-
-/// Whether the node hangs by this edge, or below one of the set.
-pub(crate) fn hangs(nodes: &NodeMap, id: NodeId, edge: EdgeId, set: &IndexSet<NodeId>) -> bool
-    ensures { IsTrue result ↔ Hangs nodes.now edge set.now.keys id }
-{
-    match nodes.get(id) {
-        Some(node) => node.edge == edge || set.contains(&node.parent),
-        None => false,
-    }
-}
 
 /// Takes these nodes out.
 pub(crate) fn take_out(nodes: &mut NodeMap, ids: &[NodeId])
@@ -56,7 +43,7 @@ fn note_anew(dues: &mut DueQueue<NodeId>, nodes: &NodeMap)
 {
     dues.forget_all();
     for place in 0..nodes.len() {
-        let (id, node) = nodes.at(place);
-        dues.note_in_room(id, node.value);
+        let (id, value) = nodes.at(place);
+        dues.note_in_room(id, value);
     }
 }

@@ -11,6 +11,8 @@
 //! it, so that the parents never form a ring and each node has one path from the root; each call
 //! answers and changes exactly what the map from vertices and states to nodes says. A put stamps a
 //! node with the number of puts before it, so that a node made anew is told from one that stood.
+//! Searches and removals need a [`PathTree`] alone, which a tree is, and which a type may be that
+//! keeps the trees of many roots.
 //!
 //! A look-up and a put go through the places of the nodes while these are few, and else cost a
 //! hash; the places lie together with the values alone, and [`Tree::raise`] judges and takes a step
@@ -28,9 +30,13 @@ mod laws;
 mod node;
 mod node_map;
 mod nodes;
-mod ranks;
+mod own_tree;
+mod path_tree;
+mod stamp;
 mod tree;
 
 pub use laws::{changes_of_trees, order_of_trees, paths_of_trees};
 pub use node::{NodeId, Pending, Shift, Try};
+pub use path_tree::PathTree;
+pub use stamp::{PutCount, Stamp};
 pub use tree::Tree;

@@ -1,5 +1,6 @@
 //! Nodes of a tree, and steps by which they come in.
 
+use crate::stamp::Stamp;
 use edge_store::EdgeId;
 
 /// Where a node stands: at a vertex, with the state to which the path from the root leads the
@@ -36,10 +37,17 @@ pub struct Pending {
 
 /// What a tree keeps of a node: its value, the node below which it hangs and the edge by which it
 /// does, and as its stamp the number of puts that were made before it got these.
-#[derive(Clone, Copy, Debug, PartialEq, Eq)]
+#[derive(Drop)]
 pub struct Node {
     pub value: u64,
     pub parent: NodeId,
     pub edge: EdgeId,
-    pub stamp: u128,
+    pub stamp: Stamp,
+}
+
+/// By what a node hangs: the node below which it does, and the edge.
+#[derive(Clone, Copy, Debug, PartialEq, Eq)]
+pub struct Link {
+    pub parent: NodeId,
+    pub edge: EdgeId,
 }

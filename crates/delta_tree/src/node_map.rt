@@ -12,9 +12,10 @@ ghost use Rattle.delta_tree.specs.declared.node.NodeId.{NodeId};
 ghost use Rattle.delta_tree.specs.declared.node_map.Spot.{Spot as SpotMade};
 ghost use Rattle.delta_tree.specs.Nodes.{Node, same_node, node_in};
 ghost use Rattle.delta_tree.specs.Paths.{hangs_by};
-ghost use Rattle.delta_tree.specs.Spots.{IsSpot, rest_of};
+ghost use Rattle.delta_tree.specs.Spots.{IsSpot, link_of, rest_of};
 
-use crate::node::{Node, NodeId};
+use crate::node::{Link, Node, NodeId};
+use crate::stamp::Stamp;
 use edge_store::EdgeId;
 use rpq_base::Memory;
 use small_map::{SmallMap, give_back, make_room};
@@ -22,11 +23,11 @@ use std::alloc::Global;
 use std::marker::Model;
 
 /// What a node has beside its value.
-#[derive(Clone, Copy, Debug, PartialEq, Eq)]
+#[derive(Drop)]
 struct Rest {
     parent: NodeId,
     edge: EdgeId,
-    stamp: u128,
+    stamp: Stamp,
 }
 
 /// What a node has beside its value.
@@ -37,6 +38,17 @@ fn rest_of(node: Node) -> Rest
         parent: node.parent,
         edge: node.edge,
         stamp: node.stamp,
+    }
+}
+
+/// By what the node with this rest hangs.
+fn link_of(rest: &Rest) -> Link
+    ensures parent { result.parent ≡ rest.now.parent }
+    ensures edge { result.edge ≡ rest.now.edge }
+{
+    Link {
+        parent: rest.parent,
+        edge: rest.edge,
     }
 }
 
@@ -106,20 +118,13 @@ impl NodeMap {
         self.values.at(place).0
     }
 
-    /// The node that stands here.
-    pub(crate) fn at(&self, place: usize) -> (NodeId, Node)
+    /// The place and the value of the node that stands here.
+    pub(crate) fn at(&self, place: usize) -> (NodeId, u64)
         requires { place < length self.now }
-        ensures { slice_get self.now place ≡ Some result }
+        ensures { (node : Node) × (slice_get self.now place ≡ Some (result.0, node))
+            × (node.value ≡ result.1) }
     {
-        let (id, value) = self.values.at(place);
-        let rest = self.rests[place];
-        let node = Node {
-            value,
-            parent: rest.parent,
-            edge: rest.edge,
-            stamp: rest.stamp,
-        };
-        (id, node)
+        self.values.at(place)
     }
 
     /// Where the node of this place stands, with its value.
@@ -144,12 +149,12 @@ impl NodeMap {
         value_at(self.find(id))
     }
 
-    /// The node of this place.
-    pub(crate) fn get(&self, id: NodeId) -> Option<Node>
-        ensures { result ≡ node_in self.now id }
+    /// By what the node of this place hangs.
+    pub(crate) fn get(&self, id: NodeId) -> Option<Link>
+        ensures { result ≡ option_map link_of (node_in self.now id) }
     {
         match self.values.place_of(&id) {
-            Some(place) => Some(self.at(place).1),
+            Some(place) => Some(link_of(&self.rests[place])),
             None => None,
         }
     }

@@ -49,9 +49,10 @@ pub(crate) fn set_node(
         // A node that is raised stays where it is noted.
         Some(spot) => nodes.set_at(spot.place, node),
         None => {
+            let value = node.value;
             dues.reserve()?;
             nodes.push(id, node)?;
-            dues.note_reserved(id, node.value);
+            dues.note_reserved(id, value);
         }
     }
     Ok(())

@@ -16,11 +16,11 @@ ghost use Rattle.delta_tree.specs.declared.node_map.Spot.{Spot as SpotMade};
 ghost use Rattle.delta_tree.specs.Losses.{losses};
 ghost use Rattle.delta_tree.specs.Spots.{IsSpot};
 
-use crate::cut::{forget_cut, hangs, take_out};
+use crate::cut::{forget_cut, take_out};
 use crate::node::{Node, NodeId, Shift, Try};
 use crate::node_map::{NodeMap, Spot, value_at};
 use crate::nodes::{add_loss, drop_or_note, is_enough, losses, set_node};
-use crate::ranks::in_order;
+use crate::stamp::PutCount;
 use due_queue::DueQueue;
 use edge_store::EdgeId;
 use indexmap::IndexSet;
@@ -33,7 +33,7 @@ use std::marker::Model;
 pub struct Tree {
     alloc: Global,
     root: u32,
-    puts: u128,
+    puts: PutCount,
     nodes: NodeMap,
     /// Each node with a value that it has or had, for the order in which they leave.
     dues: DueQueue<NodeId>,
@@ -69,7 +69,7 @@ impl Tree {
         Ok(Tree {
             alloc,
             root,
-            puts: 0,
+            puts: PutCount::new(),
             nodes: NodeMap::new(alloc),
             dues: DueQueue::new(alloc),
         })
@@ -113,8 +113,8 @@ impl Tree {
 
     /// Hangs `step.to` below `step.from` by the edge, with this value; where it stands already, it
     /// leaves the place at which it hung. The value is at most that of `step.from` and above that
-    /// of `step.to`. Its stamp is the number of puts made before, of which there are fewer than
-    /// 2^127. The only error is [`Memory`], after which nothing has changed.
+    /// of `step.to`. Its stamp is the number of puts made before. The only error is [`Memory`],
+    /// after which nothing has changed.
     pub fn put(&mut self, step: Try, value: u64) -> Result<(), Memory>
         requires hangs { CanHang self.old step value }
         requires raises { Raises self.old step.to value }
@@ -173,10 +173,10 @@ impl Tree {
             value,
             parent: step.from,
             edge: step.edge,
-            stamp: self.puts,
+            stamp: self.puts.stamp(),
         };
         set_node(&mut self.nodes, &mut self.dues, spot, step.to, node)?;
-        self.puts += 1;
+        self.puts.add_one();
         Ok(())
     }
 
@@ -229,7 +229,7 @@ impl Tree {
             state: s,
         };
         match self.nodes.get(id) {
-            Some(node) => node.edge == edge,
+            Some(link) => link.edge == edge,
             None => false,
         }
     }
@@ -239,7 +239,7 @@ impl Tree {
         ensures { IsTrue result ↔ HangsBelow self.now parent edge id }
     {
         match self.nodes.get(id) {
-            Some(node) => node.edge == edge && node.parent == parent,
+            Some(link) => link.edge == edge && link.parent == parent,
             None => false,
         }
     }
@@ -271,17 +271,17 @@ impl Tree {
     {
         let mut up = Vec::new(self.alloc);
         let mut at = id;
-        while let Some(node) = self.nodes.get(at) {
-            up.push(node.edge)?;
-            at = node.parent;
+        while let Some(link) = self.nodes.get(at) {
+            up.push(link.edge)?;
+            at = link.parent;
         }
         Ok(up)
     }
 
     /// Takes exactly the nodes out on whose path from the root the edge stands, and answers them.
     /// The only error is [`Memory`], after which nothing has changed. This costs a step for each
-    /// node of the tree, and sorts them where a node hangs by this edge; whoever knows which nodes
-    /// these are calls [`Tree::cut_nodes`].
+    /// node of the tree, and where a node hangs by this edge, one for each edge of their paths;
+    /// whoever knows which nodes these are calls [`Tree::cut_nodes`].
     pub fn cut_below(&mut self, edge: EdgeId) -> Result<Vec<NodeId>, Memory>
         ensures cut { IfOk result (λ cut. AreBelow self.old edge cut.items) }
         ensures gone { OnOk result (Cuts self.old self.new edge) }
@@ -341,18 +341,32 @@ impl Tree {
         Ok(Vec::from_slice(self.alloc, below.as_slice())?)
     }
 
-    /// The same nodes as a set, found in an order in which each comes after its parent.
+    /// The same nodes as a set.
     fn set_below(&self, edge: EdgeId) -> Result<IndexSet<NodeId>, Memory>
         ensures { IfOk result (λ ids. (id : NodeId) →
             Contains ids.keys id ↔ IsBelow self.now edge id) }
     {
-        let ranks = in_order(self.alloc, &self.nodes)?;
         let mut below = IndexSet::new(self.alloc);
-        for rank in &ranks {
-            if hangs(&self.nodes, rank.id, edge, &below) {
-                below.insert(rank.id)?;
+        for place in 0..self.nodes.len() {
+            let id = self.nodes.id_at(place);
+            if self.is_below(id, edge) {
+                below.insert(id)?;
             }
         }
         Ok(below)
+    }
+
+    /// Whether the edge stands on the path from the root to the node of this place.
+    fn is_below(&self, id: NodeId, edge: EdgeId) -> bool
+        ensures { IsTrue result ↔ IsBelow self.now edge id }
+    {
+        let mut at = id;
+        while let Some(link) = self.nodes.get(at) {
+            if link.edge == edge {
+                return true;
+            }
+            at = link.parent;
+        }
+        false
     }
 }

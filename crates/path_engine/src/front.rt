@@ -12,6 +12,7 @@ ghost use Rattle.path_engine.specs.Parts.{AreReadyParts, HaveFedParts};
 
 use crate::ends::{EdgeNumbers, edge_for};
 use crate::parts::{Part, deal, in_order};
+use crate::sharing::threads_take_parts;
 use delta_forest::Forest;
 use end_events::NumberedEvent;
 use name_table::Names;
@@ -168,6 +169,7 @@ fn feed_parts<R: Threads + Sync, G: Gate>(
     requires ends { AreAllEndsFor names.now queries.now entries.now ends.now }
     ensures { HaveFedParts queries.now names.now entries.now parts.old parts.new }
 {
+    threads_take_parts(); // called for its clause
     let threads = parts.len().max(1);
     thread::for_each_mut(
         context.rt,

@@ -9,7 +9,7 @@ ghost use Rattle.delta_tree.specs.Changes.{AreBelow};
 ghost use Rattle.tree_delete.specs.Below.{AreWithin, child_of, children, nodes_in, onwards, starts};
 ghost use Rattle.tree_delete.specs.Removal.{CountsFound, WasOptimalWith};
 
-use delta_tree::{NodeId, Tree};
+use delta_tree::{NodeId, PathTree};
 use dfa_table::Dfa;
 use edge_store::{EdgeId, EdgeStore, Steps};
 use rpq_base::Memory;
@@ -17,9 +17,9 @@ use std::alloc::Global;
 use std::sync::ledger::Ledger;
 
 /// The node that hangs below `from` by the edge, where there is one.
-fn child(tree: &Tree, dfa: &Dfa, from: NodeId, edge: EdgeId) -> Option<NodeId>
+fn child<T: PathTree>(tree: &T, dfa: &Dfa, from: NodeId, edge: EdgeId) -> Option<NodeId>
     requires { from.state < length dfa.now.rows }
-    ensures child { result ≡ child_of (step_of dfa.now) tree.now from edge }
+    ensures child { result ≡ child_of (step_of dfa.now) (T.tree tree.now) from edge }
     ensures within { IfSome result (λ (id : NodeIdMade). id.state < length dfa.now.rows) }
 {
     let id = NodeId {
@@ -34,8 +34,8 @@ fn child(tree: &Tree, dfa: &Dfa, from: NodeId, edge: EdgeId) -> Option<NodeId>
 }
 
 /// Adds the node that hangs below `from` by the edge, where there is one.
-fn add_child(
-    tree: &Tree,
+fn add_child<T: PathTree>(
+    tree: &T,
     dfa: &Dfa,
     from: NodeId,
     edge: EdgeId,
@@ -43,7 +43,7 @@ fn add_child(
 ) -> Result<(), Memory>
     requires { from.state < length dfa.now.rows }
     ensures added { OnOk result (ids.new.items ≡ ids.old.items
-        ++ nodes_in (child_of (step_of dfa.now) tree.now from edge)) }
+        ++ nodes_in (child_of (step_of dfa.now) (T.tree tree.now) from edge)) }
     ensures within { OnOk result (AreWithin dfa.now ids.old.items → AreWithin dfa.now ids.new.items) }
 {
     if let Some(id) = child(tree, dfa, from, edge) {
@@ -53,9 +53,14 @@ fn add_child(
 }
 
 /// The nodes that hang by the edge. There is one at most for each state of the automaton.
-fn hanging(alloc: Global, tree: &Tree, dfa: &Dfa, edge: EdgeId) -> Result<Vec<NodeId>, Memory>
+fn hanging<T: PathTree>(
+    alloc: Global,
+    tree: &T,
+    dfa: &Dfa,
+    edge: EdgeId,
+) -> Result<Vec<NodeId>, Memory>
     ensures found { IfOk result (λ ids. ids.items
-        ≡ children (step_of dfa.now) tree.now (starts edge (length dfa.now.rows))) }
+        ≡ children (step_of dfa.now) (T.tree tree.now) (starts edge (length dfa.now.rows))) }
     ensures within { IfOk result (λ ids. AreWithin dfa.now ids.items) }
 {
     let mut ids = Vec::new(alloc);
@@ -70,8 +75,8 @@ fn hanging(alloc: Global, tree: &Tree, dfa: &Dfa, edge: EdgeId) -> Result<Vec<No
 }
 
 /// Adds the nodes that hang below `from`, with a step for each edge that leaves its vertex.
-fn add_children<L: Ledger>(
-    tree: &Tree,
+fn add_children<T: PathTree, L: Ledger>(
+    tree: &T,
     store: &EdgeStore,
     dfa: &Dfa,
     from: NodeId,
@@ -80,7 +85,7 @@ fn add_children<L: Ledger>(
 ) -> Result<(), Memory>
     requires { from.state < length dfa.now.rows }
     ensures added { OnOk result (ids.new.items ≡ ids.old.items
-        ++ children (step_of dfa.now) tree.now (onwards store.now from)) }
+        ++ children (step_of dfa.now) (T.tree tree.now) (onwards store.now from)) }
     ensures within { OnOk result (AreWithin dfa.now ids.old.items → AreWithin dfa.now ids.new.items) }
     ensures counted { OnOk result (steps.new ≡ steps.old + length (outs_of store.now from.vertex)) }
     ensures walk { GivesOuts store.now from.vertex }
@@ -100,17 +105,17 @@ fn add_children<L: Ledger>(
 
 /// The nodes on whose path the edge stands, each once. Each is found from its parent, so this costs
 /// a step for each of them, one for each edge that leaves it, and a look-up for each state.
-pub(crate) fn nodes_below<L: Ledger>(
+pub(crate) fn nodes_below<T: PathTree, L: Ledger>(
     alloc: Global,
-    tree: &Tree,
+    tree: &T,
     store: &EdgeStore,
     dfa: &Dfa,
     edge: EdgeId,
     steps: &mut Steps<L>,
 ) -> Result<Vec<NodeId>, Memory>
-    requires tree { IsTree tree.now }
-    requires before { WasOptimalWith (value_of store.now) (step_of dfa.now) tree.now edge }
-    ensures below { IfOk result (λ ids. AreBelow tree.now edge ids.items) }
+    requires tree { IsTree (T.tree tree.now) }
+    requires before { WasOptimalWith (value_of store.now) (step_of dfa.now) (T.tree tree.now) edge }
+    ensures below { IfOk result (λ ids. AreBelow (T.tree tree.now) edge ids.items) }
     ensures counted { IfOk result (λ ids. CountsFound store.now ids.items steps.old steps.new) }
 {
     let mut ids = hanging(alloc, tree, dfa, edge)?;

@@ -1,11 +1,11 @@
 //! The best entries of the nodes that were cut.
 
 ghost use Rattle.std.specs.Prelude.{◌≡◌, ℕ, ◌+◌, ◌<◌, ◌≤◌, ◌++◌, length, All, IfOk, IfSome};
-ghost use Rattle.std.specs.Prelude.{IsTrue, OnOk, Some};
+ghost use Rattle.std.specs.Prelude.{IsSome, OnOk, Some};
 ghost use Rattle.edge_store.specs.declared.edge.EdgeId.{EdgeId};
 ghost use Rattle.edge_store.specs.Edges.{ins_of, value_of};
 ghost use Rattle.dfa_table.specs.DfaValue.{step_of};
-ghost use Rattle.delta_tree.specs.Nodes.{node_id, root_id};
+ghost use Rattle.delta_tree.specs.Nodes.{GivesNodes, node_id, root_id};
 ghost use Rattle.delta_tree.specs.Changes.{Carries, shift_ids};
 ghost use Rattle.tree_insert.specs.Best.{IsAtLeast};
 ghost use Rattle.tree_insert.specs.Trees.{IsValid};
@@ -14,7 +14,7 @@ ghost use Rattle.tree_delete.specs.Entries.{count_ins, steps_in, value_in};
 
 use crate::entry::{TreeEntry, better};
 use crate::from_nodes::best_from_nodes;
-use delta_tree::{NodeId, Shift, Tree, Try};
+use delta_tree::{NodeId, PathTree, Shift, Try};
 use dfa_table::Dfa;
 use edge_store::{EdgeId, EdgeStore, Steps};
 use rpq_base::Memory;
@@ -23,8 +23,8 @@ use std::sync::ledger::Ledger;
 use tree_insert::greatest_from;
 
 /// The entry by an edge of this value from the state, where there is one.
-pub(crate) fn entry_from(
-    tree: &Tree,
+pub(crate) fn entry_from<T: PathTree>(
+    tree: &T,
     dfa: &Dfa,
     root: NodeId,
     id: NodeId,
@@ -32,11 +32,11 @@ pub(crate) fn entry_from(
     value: u64,
     before: u32,
 ) -> Option<TreeEntry>
-    requires root { root ≡ root_id tree.now }
+    requires root { root ≡ root_id (T.tree tree.now) }
     requires state { before < length dfa.now.rows }
-    ensures entry { IfSome result (IsEntryBy (step_of dfa.now) tree.now id edge value) }
+    ensures entry { IfSome result (IsEntryBy (step_of dfa.now) (T.tree tree.now) id edge value) }
     ensures most { (number : ℕ) → number ≤ value →
-        Carries tree.now (node_id edge.from before) number →
+        Carries (T.tree tree.now) (node_id edge.from before) number →
         step_of dfa.now before edge.label ≡ Some id.state → IsAtLeast number (value_in result) }
 {
     if dfa.step(before, edge.label) != Some(id.state) {
@@ -54,18 +54,18 @@ pub(crate) fn entry_from(
 }
 
 /// The best entry by an edge of this value, from the states whose step leads to the place.
-fn entry_by(
-    tree: &Tree,
+fn entry_by<T: PathTree>(
+    tree: &T,
     dfa: &Dfa,
     root: NodeId,
     id: NodeId,
     edge: EdgeId,
     value: u64,
 ) -> Option<TreeEntry>
-    requires { root ≡ root_id tree.now }
-    ensures entry { IfSome result (IsEntryBy (step_of dfa.now) tree.now id edge value) }
+    requires { root ≡ root_id (T.tree tree.now) }
+    ensures entry { IfSome result (IsEntryBy (step_of dfa.now) (T.tree tree.now) id edge value) }
     ensures most { (before number : ℕ) → number ≤ value →
-        Carries tree.now (node_id edge.from before) number →
+        Carries (T.tree tree.now) (node_id edge.from before) number →
         step_of dfa.now before edge.label ≡ Some id.state → IsAtLeast number (value_in result) }
 {
     let mut best = None;
@@ -77,19 +77,19 @@ fn entry_by(
 }
 
 /// The best entry of a node by the edges that end at its vertex, with a step for each edge.
-fn best_by_edges<L: Ledger>(
-    tree: &Tree,
+fn best_by_edges<T: PathTree, L: Ledger>(
+    tree: &T,
     store: &EdgeStore,
     dfa: &Dfa,
     root: NodeId,
     id: NodeId,
     steps: &mut Steps<L>,
 ) -> Option<TreeEntry>
-    requires { root ≡ root_id tree.now }
+    requires { root ≡ root_id (T.tree tree.now) }
     ensures entry { IfSome result
-        (IsEntry (value_of store.now) (step_of dfa.now) tree.now id) }
+        (IsEntry (value_of store.now) (step_of dfa.now) (T.tree tree.now) id) }
     ensures most { (edge : EdgeId) (before number : ℕ) →
-        CanEnter (value_of store.now) (step_of dfa.now) tree.now id edge before number →
+        CanEnter (value_of store.now) (step_of dfa.now) (T.tree tree.now) id edge before number →
         IsAtLeast number (value_in result) }
     ensures counted { steps.new ≡ steps.old + length (ins_of store.now id.vertex) }
 {
@@ -107,37 +107,43 @@ fn best_by_edges<L: Ledger>(
     best
 }
 
-/// Whether the nodes of the tree, with a look-up for each label, are gone through sooner than this
-/// many edges.
-fn has_few_nodes(tree: &Tree, dfa: &Dfa, edges: usize) -> bool
-    ensures { IsTrue result → length tree.now.nodes < edges }
+/// The number of nodes of the tree, where a walk over them, with a look-up for each label, ends
+/// sooner than one over this many edges.
+fn few_nodes<T: PathTree>(tree: &T, dfa: &Dfa, edges: usize) -> Option<usize>
+    ensures few { IfSome result (λ count. count < edges) }
+    ensures count { IfSome result (λ count. count ≡ length (T.tree tree.now).nodes) }
+    ensures walk { IsSome result → T.can_be_walked tree.now × GivesNodes (T.tree tree.now) }
 {
-    let nodes = tree.len();
-    nodes < edges && nodes.saturating_mul(dfa.labels().len()) < edges
+    let nodes = tree.walk_len()?;
+    if nodes < edges && nodes.saturating_mul(dfa.labels().len()) < edges {
+        Some(nodes)
+    } else {
+        None
+    }
 }
 
 /// The best entry of a node, from the nodes of the tree or by the edges that end at its vertex,
 /// whichever are fewer. It takes at most a step for each of these edges.
-fn best_entry<L: Ledger>(
-    tree: &Tree,
+fn best_entry<T: PathTree, L: Ledger>(
+    tree: &T,
     store: &EdgeStore,
     dfa: &Dfa,
     root: NodeId,
     id: NodeId,
     steps: &mut Steps<L>,
 ) -> Option<TreeEntry>
-    requires { root ≡ root_id tree.now }
+    requires { root ≡ root_id (T.tree tree.now) }
     ensures entry { IfSome result
-        (IsEntry (value_of store.now) (step_of dfa.now) tree.now id) }
+        (IsEntry (value_of store.now) (step_of dfa.now) (T.tree tree.now) id) }
     ensures most { (edge : EdgeId) (before number : ℕ) →
-        CanEnter (value_of store.now) (step_of dfa.now) tree.now id edge before number →
+        CanEnter (value_of store.now) (step_of dfa.now) (T.tree tree.now) id edge before number →
         IsAtLeast number (value_in result) }
     ensures counted { steps.new ≤ steps.old + length (ins_of store.now id.vertex) }
 {
-    if has_few_nodes(tree, dfa, store.ins(id.vertex).len()) {
-        return best_from_nodes(tree, store, dfa, root, id, steps);
+    match few_nodes(tree, dfa, store.ins(id.vertex).len()) {
+        Some(nodes) => best_from_nodes(tree, nodes, store, dfa, root, id, steps),
+        None => best_by_edges(tree, store, dfa, root, id, steps),
     }
-    best_by_edges(tree, store, dfa, root, id, steps)
 }
 
 /// Adds the step of the entry, where there is one.
@@ -151,20 +157,20 @@ fn add(tries: &mut Vec<Try>, entry: Option<TreeEntry>) -> Result<(), Memory>
 }
 
 /// The best entries of the nodes that were cut, for each that has one.
-pub(crate) fn best_entries<L: Ledger>(
+pub(crate) fn best_entries<T: PathTree, L: Ledger>(
     alloc: Global,
-    tree: &Tree,
+    tree: &T,
     store: &EdgeStore,
     dfa: &Dfa,
     root: NodeId,
     cut: &[Shift],
     steps: &mut Steps<L>,
 ) -> Result<Vec<Try>, Memory>
-    requires { root ≡ root_id tree.now }
+    requires { root ≡ root_id (T.tree tree.now) }
     ensures valid { IfOk result (λ tries.
-        All (IsValid (value_of store.now) (step_of dfa.now) tree.now) tries.items) }
+        All (IsValid (value_of store.now) (step_of dfa.now) (T.tree tree.now)) tries.items) }
     ensures best { IfOk result (λ tries.
-        HasEntries (value_of store.now) (step_of dfa.now) tree.now (shift_ids cut.now)
+        HasEntries (value_of store.now) (step_of dfa.now) (T.tree tree.now) (shift_ids cut.now)
         tries.items) }
     ensures counted { steps.new ≤ steps.old + count_ins store.now (shift_ids cut.now) }
 {

@@ -4,20 +4,20 @@ ghost use Rattle.std.specs.Prelude.{◌≡◌, ℕ, ◌+◌, ◌<◌, length, If
 ghost use Rattle.edge_store.specs.declared.edge.EdgeId.{EdgeId};
 ghost use Rattle.edge_store.specs.Edges.{value_of};
 ghost use Rattle.dfa_table.specs.DfaValue.{step_of};
-ghost use Rattle.delta_tree.specs.Nodes.{root_id};
+ghost use Rattle.delta_tree.specs.Nodes.{GivesNodes, root_id};
 ghost use Rattle.tree_insert.specs.Best.{IsAtLeast};
 ghost use Rattle.tree_delete.specs.Entries.{CanEnter, IsEntry, value_in};
 
 use crate::entries::entry_from;
 use crate::entry::{TreeEntry, better};
-use delta_tree::{NodeId, Tree};
+use delta_tree::{NodeId, PathTree};
 use dfa_table::Dfa;
 use edge_store::{EdgeId, EdgeStore, Steps};
 use std::sync::ledger::Ledger;
 
 /// The entry by the edge from the state, where the edge is there and its step leads to the node.
-fn entry_along(
-    tree: &Tree,
+fn entry_along<T: PathTree>(
+    tree: &T,
     store: &EdgeStore,
     dfa: &Dfa,
     root: NodeId,
@@ -25,13 +25,13 @@ fn entry_along(
     edge: EdgeId,
     before: u32,
 ) -> Option<TreeEntry>
-    requires root { root ≡ root_id tree.now }
+    requires root { root ≡ root_id (T.tree tree.now) }
     requires state { before < length dfa.now.rows }
     requires ends { edge.to ≡ id.vertex }
     ensures entry { IfSome result
-        (IsEntry (value_of store.now) (step_of dfa.now) tree.now id) }
+        (IsEntry (value_of store.now) (step_of dfa.now) (T.tree tree.now) id) }
     ensures most { (number : ℕ) →
-        CanEnter (value_of store.now) (step_of dfa.now) tree.now id edge before number →
+        CanEnter (value_of store.now) (step_of dfa.now) (T.tree tree.now) id edge before number →
         IsAtLeast number (value_in result) }
 {
     if dfa.step(before, edge.label) != Some(id.state) {
@@ -42,20 +42,20 @@ fn entry_along(
 }
 
 /// The best entry from the place, by one look-up for each label that leads from it to the node.
-fn best_from(
-    tree: &Tree,
+fn best_from<T: PathTree>(
+    tree: &T,
     store: &EdgeStore,
     dfa: &Dfa,
     root: NodeId,
     id: NodeId,
     from: NodeId,
 ) -> Option<TreeEntry>
-    requires { root ≡ root_id tree.now }
+    requires { root ≡ root_id (T.tree tree.now) }
     ensures entry { IfSome result
-        (IsEntry (value_of store.now) (step_of dfa.now) tree.now id) }
+        (IsEntry (value_of store.now) (step_of dfa.now) (T.tree tree.now) id) }
     ensures most { (edge : EdgeId) (number : ℕ) → edge.from ≡ from.vertex →
-        CanEnter (value_of store.now) (step_of dfa.now) tree.now id edge from.state number →
-        IsAtLeast number (value_in result) }
+        CanEnter (value_of store.now) (step_of dfa.now) (T.tree tree.now) id edge from.state
+        number → IsAtLeast number (value_in result) }
 {
     if from.state >= dfa.states() {
         return None;
@@ -73,26 +73,30 @@ fn best_from(
     best
 }
 
-/// The best entry of a node from the root and the nodes of the tree, with a step for each of them.
-pub(crate) fn best_from_nodes<L: Ledger>(
-    tree: &Tree,
+/// The best entry of a node from the root and the nodes of the tree, of which there are so many,
+/// with a step for each of them.
+pub(crate) fn best_from_nodes<T: PathTree, L: Ledger>(
+    tree: &T,
+    nodes: usize,
     store: &EdgeStore,
     dfa: &Dfa,
     root: NodeId,
     id: NodeId,
     steps: &mut Steps<L>,
 ) -> Option<TreeEntry>
-    requires { root ≡ root_id tree.now }
+    requires root { root ≡ root_id (T.tree tree.now) }
+    requires count { nodes ≡ length (T.tree tree.now).nodes }
+    requires walk { T.can_be_walked tree.now × GivesNodes (T.tree tree.now) }
     ensures entry { IfSome result
-        (IsEntry (value_of store.now) (step_of dfa.now) tree.now id) }
+        (IsEntry (value_of store.now) (step_of dfa.now) (T.tree tree.now) id) }
     ensures most { (edge : EdgeId) (before number : ℕ) →
-        CanEnter (value_of store.now) (step_of dfa.now) tree.now id edge before number →
+        CanEnter (value_of store.now) (step_of dfa.now) (T.tree tree.now) id edge before number →
         IsAtLeast number (value_in result) }
-    ensures counted { steps.new ≡ steps.old + length tree.now.nodes + 1 }
+    ensures counted { steps.new ≡ steps.old + length (T.tree tree.now).nodes + 1 }
 {
     steps.tick();
     let mut best = best_from(tree, store, dfa, root, id, root);
-    for k in 0..tree.len() {
+    for k in 0..nodes {
         steps.tick();
         let entry = best_from(tree, store, dfa, root, id, tree.node_at(k));
         best = better(best, entry);

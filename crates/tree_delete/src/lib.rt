@@ -10,7 +10,8 @@
 //! is cut and for each edge that ends at it, two for each edge that leaves it, and none where the
 //! edge stood on no path ([`steps_are_within_cut`], [`no_cut_no_step`]). [`tree_remove_with`] reports
 //! the places of the nodes that were cut, with their values before and after, and no call is needed
-//! where no node hangs by the edge ([`removal_elsewhere_keeps_optimal`]).
+//! where no node hangs by the edge ([`removal_elsewhere_keeps_optimal`]). What the type of the tree,
+//! any `PathTree`, keeps beside it stays as it is.
 #![tactic(auto)]
 
 mod below;

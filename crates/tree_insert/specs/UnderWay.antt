@@ -1,5 +1,5 @@
 -- A tree and the tries that wait while a search is under way.
-use Rattle.std.specs.Prelude.{◌≡◌, ◌≢◌, ℕ, ◌≤◌, ◌<◌, ◌+◌, ◌^◌, ◌⊎◌, min, Option, Some}
+use Rattle.std.specs.Prelude.{◌≡◌, ◌≢◌, ℕ, ◌≤◌, ◌<◌, ◌+◌, ◌⊎◌, min, Option, Some}
 use Rattle.std.specs.Prelude.{List, [], length, Contains, All, AllPairs}
 use Rattle.edge_store.specs.declared.edge.EdgeId.{EdgeId}
 use Rattle.edge_store.specs.declared.edge.Out.{Out}
@@ -146,7 +146,6 @@ pub record IsReady (values : EdgeId → Option ℕ) (dfa : DfaValue) (first tree
 -- a tree on which a search can begin; no place is reported yet
 pub record CanBegin (values : EdgeId → Option ℕ) (dfa : DfaValue) (tree : TreeValue)
     (search : SearchValue) : Type 0 where
-  pub puts : tree.puts < 2 ^ 126
   pub ready : IsReady values dfa tree tree search.waiting
   pub none : search.shifts ≡ []
 

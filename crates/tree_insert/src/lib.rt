@@ -9,7 +9,8 @@
 //! isn't raised keeps its place and its stamp. A [`Search`] reports the places that changed, with
 //! their values before and after. No search is needed where the raised edge leaves no place of the
 //! tree with a step of the automaton ([`raise_elsewhere_keeps_optimal`]), and [`Search::expire`]
-//! with the number of the store's `expire` keeps a tree optimal ([`expiry_keeps_optimal`]).
+//! with the number of the store's `expire` keeps a tree optimal ([`expiry_keeps_optimal`]). But for
+//! the expiry all this is of any `PathTree`: what its type keeps beside the tree stays as it is.
 //!
 //! A search takes the try of the greatest value first, as Dijkstra's algorithm takes the nearest
 //! vertex, so that a node is raised once at most. It costs a step for each edge that leaves a node

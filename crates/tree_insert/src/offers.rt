@@ -16,7 +16,7 @@ ghost use Rattle.tree_insert.specs.UnderWay.{IsServedBy};
 
 use crate::search::Search;
 use crate::waiting::{Rise, Waiting};
-use delta_tree::{NodeId, Tree, Try};
+use delta_tree::{NodeId, PathTree, Try};
 use dfa_table::Dfa;
 use edge_store::{EdgeId, EdgeStore, Out};
 use rpq_base::Memory;
@@ -34,10 +34,10 @@ pub(crate) fn is_below(kept: Option<u64>, value: u64) -> bool
 
 /// The greatest value that a try from this place can give: any from the root, that of a node, and
 /// none where neither stands there.
-pub fn greatest_from(tree: &Tree, root: NodeId, id: NodeId) -> Option<u64>
-    requires { root ≡ root_id tree.now }
-    ensures carries { IfSome result (λ value. Carries tree.now id value) }
-    ensures most { (number : ℕ) → number < 2 ^ 64 → Carries tree.now id number →
+pub fn greatest_from<T: PathTree>(tree: &T, root: NodeId, id: NodeId) -> Option<u64>
+    requires { root ≡ root_id (T.tree tree.now) }
+    ensures carries { IfSome result (λ value. Carries (T.tree tree.now) id value) }
+    ensures most { (number : ℕ) → number < 2 ^ 64 → Carries (T.tree tree.now) id number →
         IsAtLeast number result }
 {
     if id == root {
@@ -47,11 +47,15 @@ pub fn greatest_from(tree: &Tree, root: NodeId, id: NodeId) -> Option<u64>
 }
 
 /// Lets the try wait, unless its target has as high a value already.
-pub(crate) fn offer(search: &mut Search, tree: &Tree, waiting: Waiting) -> Result<(), Memory>
+pub(crate) fn offer<T: PathTree>(
+    search: &mut Search,
+    tree: &T,
+    waiting: Waiting,
+) -> Result<(), Memory>
     requires { waiting.value ≤ search.old.level }
     ensures gains { Gains search.old search.new (λ each. each ≡ waiting) }
     ensures served { OnOk result
-        (IsServed tree.now search.new.waiting (target_of waiting) waiting.value) }
+        (IsServed (T.tree tree.now) search.new.waiting (target_of waiting) waiting.value) }
 {
     let kept = tree.value_of(waiting.edge.to, waiting.state);
     if is_below(kept, waiting.value) {
@@ -62,21 +66,22 @@ pub(crate) fn offer(search: &mut Search, tree: &Tree, waiting: Waiting) -> Resul
 
 /// Offers the try by an edge of this value from the state to the other, where the root or a node
 /// stands at its source.
-fn offer_between(
+fn offer_between<T: PathTree>(
     search: &mut Search,
-    tree: &Tree,
+    tree: &T,
     root: NodeId,
     before: u32,
     edge: EdgeId,
     value: u64,
     state: u32,
 ) -> Result<(), Memory>
-    requires root { root ≡ root_id tree.now }
+    requires root { root ≡ root_id (T.tree tree.now) }
     requires level { search.old.level ≡ 2 ^ 64 - 1 }
-    ensures gains { Gains search.old search.new (IsBetween tree.now before edge value state) }
+    ensures gains { Gains search.old search.new
+        (IsBetween (T.tree tree.now) before edge value state) }
     ensures served { OnOk result ((number : ℕ) → number ≤ value →
-        Carries tree.now (node_id edge.from before) number →
-        IsServed tree.now search.new.waiting (node_id edge.to state) number) }
+        Carries (T.tree tree.now) (node_id edge.from before) number →
+        IsServed (T.tree tree.now) search.new.waiting (node_id edge.to state) number) }
 {
     let from = NodeId {
         vertex: edge.from,
@@ -95,19 +100,20 @@ fn offer_between(
 }
 
 /// Offers a try.
-fn offer_try(
+fn offer_try<T: PathTree>(
     search: &mut Search,
-    tree: &Tree,
+    tree: &T,
     store: &EdgeStore,
     root: NodeId,
     step: Try,
 ) -> Result<(), Memory>
-    requires root { root ≡ root_id tree.now }
+    requires root { root ≡ root_id (T.tree tree.now) }
     requires level { search.old.level ≡ 2 ^ 64 - 1 }
-    ensures gains { Gains search.old search.new (IsOfTry (value_of store.now) tree.now step) }
+    ensures gains { Gains search.old search.new
+        (IsOfTry (value_of store.now) (T.tree tree.now) step) }
     ensures served { OnOk result (Joins step.from step.edge step.to → (number : ℕ) →
-        Gives (value_of store.now) tree.now step number →
-        IsServed tree.now search.new.waiting step.to number) }
+        Gives (value_of store.now) (T.tree tree.now) step number →
+        IsServed (T.tree tree.now) search.new.waiting step.to number) }
 {
     let Some(value) = store.value(step.edge) else {
         return Ok(());
@@ -118,20 +124,22 @@ fn offer_try(
 }
 
 /// Offers all tries of a list.
-pub(crate) fn offer_tries(
+pub(crate) fn offer_tries<T: PathTree>(
     search: &mut Search,
-    tree: &Tree,
+    tree: &T,
     store: &EdgeStore,
     dfa: &Dfa,
     tries: &[Try],
 ) -> Result<(), Memory>
     requires level { search.old.level ≡ 2 ^ 64 - 1 }
-    requires valid { All (IsValid (value_of store.now) (step_of dfa.now) tree.now) tries.now }
-    ensures tree { IsTree tree.now }
-    ensures gains { Gains search.old search.new (IsOpen (value_of store.now) dfa.now tree.now) }
+    requires valid { All (IsValid (value_of store.now) (step_of dfa.now) (T.tree tree.now))
+        tries.now }
+    ensures tree { IsTree (T.tree tree.now) }
+    ensures gains { Gains search.old search.new
+        (IsOpen (value_of store.now) dfa.now (T.tree tree.now)) }
     ensures served { OnOk result ((step : Try) (number : ℕ) → Contains tries.now step →
-        Gives (value_of store.now) tree.now step number →
-        IsServed tree.now search.new.waiting step.to number) }
+        Gives (value_of store.now) (T.tree tree.now) step number →
+        IsServed (T.tree tree.now) search.new.waiting step.to number) }
 {
     let root = NodeId {
         vertex: tree.root(),
@@ -148,20 +156,20 @@ pub(crate) fn offer_tries(
 
 /// Offers the try by an edge of this value from the state, where the automaton has the state and a
 /// step from it.
-fn offer_step(
+fn offer_step<T: PathTree>(
     search: &mut Search,
-    tree: &Tree,
+    tree: &T,
     dfa: &Dfa,
     root: NodeId,
     before: u32,
     edge: EdgeId,
     value: u64,
 ) -> Result<(), Memory>
-    requires root { root ≡ root_id tree.now }
+    requires root { root ≡ root_id (T.tree tree.now) }
     requires level { search.old.level ≡ 2 ^ 64 - 1 }
-    ensures gains { Gains search.old search.new (IsBy dfa.now tree.now edge value) }
+    ensures gains { Gains search.old search.new (IsBy dfa.now (T.tree tree.now) edge value) }
     ensures served { OnOk result
-        (IsServedBy dfa.now tree.now search.new.waiting edge value before) }
+        (IsServedBy dfa.now (T.tree tree.now) search.new.waiting edge value before) }
 {
     if before >= dfa.states() {
         return Ok(());
@@ -173,19 +181,19 @@ fn offer_step(
 }
 
 /// Offers the try by an edge of this value from the root, where the edge leaves it.
-fn offer_from_root(
+fn offer_from_root<T: PathTree>(
     search: &mut Search,
-    tree: &Tree,
+    tree: &T,
     dfa: &Dfa,
     root: NodeId,
     edge: EdgeId,
     value: u64,
 ) -> Result<(), Memory>
-    requires root { root ≡ root_id tree.now }
+    requires root { root ≡ root_id (T.tree tree.now) }
     requires level { search.old.level ≡ 2 ^ 64 - 1 }
-    ensures gains { Gains search.old search.new (IsBy dfa.now tree.now edge value) }
-    ensures served { OnOk result (edge.from ≡ tree.now.root →
-        IsServedBy dfa.now tree.now search.new.waiting edge value 0) }
+    ensures gains { Gains search.old search.new (IsBy dfa.now (T.tree tree.now) edge value) }
+    ensures served { OnOk result (edge.from ≡ (T.tree tree.now).root →
+        IsServedBy dfa.now (T.tree tree.now) search.new.waiting edge value 0) }
 {
     if edge.from != root.vertex {
         return Ok(());
@@ -194,20 +202,20 @@ fn offer_from_root(
 }
 
 /// Offers the tries by an edge of this value from these states.
-fn offer_from_states(
+fn offer_from_states<T: PathTree>(
     search: &mut Search,
-    tree: &Tree,
+    tree: &T,
     dfa: &Dfa,
     root: NodeId,
     states: &[u32],
     edge: EdgeId,
     value: u64,
 ) -> Result<(), Memory>
-    requires root { root ≡ root_id tree.now }
+    requires root { root ≡ root_id (T.tree tree.now) }
     requires level { search.old.level ≡ 2 ^ 64 - 1 }
-    ensures gains { Gains search.old search.new (IsBy dfa.now tree.now edge value) }
+    ensures gains { Gains search.old search.new (IsBy dfa.now (T.tree tree.now) edge value) }
     ensures served { OnOk result ((before : ℕ) → Contains states.now before →
-        IsServedBy dfa.now tree.now search.new.waiting edge value before) }
+        IsServedBy dfa.now (T.tree tree.now) search.new.waiting edge value before) }
 {
     for before in states {
         offer_step(search, tree, dfa, root, *before, edge, value)?;
@@ -217,23 +225,24 @@ fn offer_from_states(
 
 /// Offers the tries by the edge from the root and from these states, among which are those of all
 /// nodes that stand where the edge leaves.
-pub(crate) fn offer_edge(
+pub(crate) fn offer_edge<T: PathTree>(
     search: &mut Search,
-    tree: &Tree,
+    tree: &T,
     store: &EdgeStore,
     dfa: &Dfa,
     edge: EdgeId,
     states: &[u32],
 ) -> Result<(), Memory>
     requires level { search.old.level ≡ 2 ^ 64 - 1 }
-    requires covers { CoversStates tree.now edge.from states.now }
-    ensures tree { IsTree tree.now }
-    ensures gains { Gains search.old search.new (IsOpen (value_of store.now) dfa.now tree.now) }
+    requires covers { CoversStates (T.tree tree.now) edge.from states.now }
+    ensures tree { IsTree (T.tree tree.now) }
+    ensures gains { Gains search.old search.new
+        (IsOpen (value_of store.now) dfa.now (T.tree tree.now)) }
     ensures served { OnOk result ((before number state : ℕ) →
         IsAtLeast number (value_of store.now edge) →
-        Carries tree.now (node_id edge.from before) number →
+        Carries (T.tree tree.now) (node_id edge.from before) number →
         step_of dfa.now before edge.label ≡ Some state →
-        IsServed tree.now search.new.waiting (node_id edge.to state) number) }
+        IsServed (T.tree tree.now) search.new.waiting (node_id edge.to state) number) }
 {
     let root = NodeId {
         vertex: tree.root(),
@@ -248,9 +257,9 @@ pub(crate) fn offer_edge(
 
 /// Offers the try by an edge that leaves a node that rose. An edge whose value isn't above the one
 /// that the node had before could give as much then already.
-pub(crate) fn offer_out(
+pub(crate) fn offer_out<T: PathTree>(
     search: &mut Search,
-    tree: &Tree,
+    tree: &T,
     dfa: &Dfa,
     rise: Rise,
     out: Out,
@@ -260,7 +269,7 @@ pub(crate) fn offer_out(
     ensures gains { Gains search.old search.new (IsOut dfa.now rise.id rise.value out) }
     ensures served { OnOk result ((number state : ℕ) → number ≤ rise.value → number ≤ out.value →
         (IsAtLeast number rise.before → ⊥) → step_of dfa.now rise.id.state out.label ≡ Some state →
-        IsServed tree.now search.new.waiting (node_id out.to state) number) }
+        IsServed (T.tree tree.now) search.new.waiting (node_id out.to state) number) }
 {
     if !is_below(rise.before, out.value) {
         return Ok(());

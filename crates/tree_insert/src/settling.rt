@@ -16,7 +16,7 @@ ghost use Rattle.tree_insert.specs.UnderWay.{RaisesOnce};
 use crate::offers::{is_below, offer_out};
 use crate::search::Search;
 use crate::waiting::{Rise, Waiting};
-use delta_tree::Tree;
+use delta_tree::PathTree;
 use dfa_table::Dfa;
 use edge_store::{EdgeStore, Outs, Steps};
 use rpq_base::Memory;
@@ -40,9 +40,9 @@ fn next_place(outs: &Outs<'_>, place: usize, before: Option<u64>) -> usize
 /// it looks at. An edge whose value isn't above the one that the node had before could give as much
 /// then already: where this is so of all edges, none is looked at, and where it is so of a whole
 /// block of them, none of the block.
-fn offer_outs<L: Ledger>(
+fn offer_outs<T: PathTree, L: Ledger>(
     search: &mut Search,
-    tree: &Tree,
+    tree: &T,
     store: &EdgeStore,
     dfa: &Dfa,
     rise: Rise,
@@ -53,8 +53,8 @@ fn offer_outs<L: Ledger>(
     ensures gains { Gains search.old search.new
         (Leaves (value_of store.now) dfa.now rise.id rise.value) }
     ensures served { OnOk result
-        (IsServedFrom (value_of store.now) (step_of dfa.now) tree.now search.new.waiting rise.id
-        rise.value rise.before) }
+        (IsServedFrom (value_of store.now) (step_of dfa.now) (T.tree tree.now) search.new.waiting
+        rise.id rise.value rise.before) }
     ensures counted { steps.new ≤ steps.old + length (outs_of store.now rise.id.vertex) }
 {
     let outs = store.outs(rise.id.vertex);
@@ -73,33 +73,36 @@ fn offer_outs<L: Ledger>(
 
 /// Takes a try whose value is the level. Where it raises its target, the target gets its value, and
 /// the tries by the edges that leave the target are offered.
-fn follow<L: Ledger>(
+fn follow<T: PathTree, L: Ledger>(
     search: &mut Search,
-    tree: &mut Tree,
+    tree: &mut T,
     store: &EdgeStore,
     dfa: &Dfa,
     taken: Waiting,
     steps: &mut Steps<L>,
 ) -> Result<(), Memory>
-    requires taken { IsTaken (value_of store.now) dfa.now tree.old search.old taken }
-    requires puts { tree.old.puts < 2 ^ 127 }
+    requires taken { IsTaken (value_of store.now) dfa.now (T.tree tree.old) search.old taken }
     ensures level { search.new.level ≡ search.old.level }
-    ensures puts { tree.new.puts ≤ tree.old.puts + 1 }
-    ensures raises { OnOk result (RaisesOnce search.old search.new tree.old tree.new) }
+    ensures puts { (T.tree tree.new).puts ≤ (T.tree tree.old).puts + 1 }
+    ensures raises { OnOk result
+        (RaisesOnce search.old search.new (T.tree tree.old) (T.tree tree.new)) }
     ensures ready { (first : TreeValue) →
-        IsReady (value_of store.now) dfa.now first tree.old search.old.waiting →
-        IsReady (value_of store.now) dfa.now first tree.new search.new.waiting }
-    ensures counted { (first : TreeValue) (start : ℕ) → Rises first tree.old →
-        IsCounted store.now first tree.old (shift_ids search.old.shifts) search.old.level start
-        steps.old →
-        IsCounted store.now first tree.new (shift_ids search.new.shifts) search.new.level start
-        steps.new }
+        IsReady (value_of store.now) dfa.now first (T.tree tree.old) search.old.waiting →
+        IsReady (value_of store.now) dfa.now first (T.tree tree.new) search.new.waiting }
+    ensures counted { (first : TreeValue) (start : ℕ) → Rises first (T.tree tree.old) →
+        IsCounted store.now first (T.tree tree.old) (shift_ids search.old.shifts) search.old.level
+        start steps.old →
+        IsCounted store.now first (T.tree tree.new) (shift_ids search.new.shifts) search.new.level
+        start steps.new }
     ensures shifts { OnOk result ((first : TreeValue) →
-        AreFirm tree.old search.old.level (shift_ids search.old.shifts) →
-        AreShifts first tree.old search.old.shifts → AreShifts first tree.new search.new.shifts) }
+        AreFirm (T.tree tree.old) search.old.level (shift_ids search.old.shifts) →
+        AreShifts first (T.tree tree.old) search.old.shifts →
+        AreShifts first (T.tree tree.new) search.new.shifts) }
     ensures served { OnOk result (
-        AreServed (value_of store.now) (step_of dfa.now) tree.old (taken ∷ search.old.waiting) →
-        AreServed (value_of store.now) (step_of dfa.now) tree.new search.new.waiting) }
+        AreServed (value_of store.now) (step_of dfa.now) (T.tree tree.old)
+        (taken ∷ search.old.waiting) →
+        AreServed (value_of store.now) (step_of dfa.now) (T.tree tree.new) search.new.waiting) }
+    ensures beside { T.beside tree.new ≡ T.beside tree.old }
 {
     let Some(shift) = tree.raise(taken.step(), taken.value)? else {
         return Ok(());
@@ -117,22 +120,25 @@ fn follow<L: Ledger>(
 ///
 /// A place is raised once at most: a try that is taken later has no greater value. It ends, since
 /// each raise is reported, and there is no memory for endless reports.
-pub(crate) fn settle<L: Ledger>(
+pub(crate) fn settle<T: PathTree, L: Ledger>(
     search: &mut Search,
-    tree: &mut Tree,
+    tree: &mut T,
     store: &EdgeStore,
     dfa: &Dfa,
     steps: &mut Steps<L>,
 ) -> Result<(), Memory>
-    requires begins { CanBegin (value_of store.now) dfa.now tree.old search.old }
-    ensures tree { IsUnderWay (value_of store.now) (step_of dfa.now) tree.old tree.new }
-    ensures puts { tree.new.puts < tree.old.puts + 2 ^ 64 }
-    ensures counted { CountsOuts store.now tree.old tree.new steps.old steps.new }
-    ensures risen { All (IsRisen tree.old tree.new) (shift_ids search.new.shifts) }
-    ensures shifts { OnOk result (AreShifts tree.old tree.new search.new.shifts) }
+    requires begins { CanBegin (value_of store.now) dfa.now (T.tree tree.old) search.old }
+    ensures tree { IsUnderWay (value_of store.now) (step_of dfa.now) (T.tree tree.old)
+        (T.tree tree.new) }
+    ensures puts { (T.tree tree.new).puts < (T.tree tree.old).puts + 2 ^ 64 }
+    ensures counted { CountsOuts store.now (T.tree tree.old) (T.tree tree.new) steps.old steps.new }
+    ensures risen { All (IsRisen (T.tree tree.old) (T.tree tree.new))
+        (shift_ids search.new.shifts) }
+    ensures shifts { OnOk result (AreShifts (T.tree tree.old) (T.tree tree.new) search.new.shifts) }
     ensures served { OnOk result (
-        AreServed (value_of store.now) (step_of dfa.now) tree.old search.old.waiting →
-        AreServed (value_of store.now) (step_of dfa.now) tree.new []) }
+        AreServed (value_of store.now) (step_of dfa.now) (T.tree tree.old) search.old.waiting →
+        AreServed (value_of store.now) (step_of dfa.now) (T.tree tree.new) []) }
+    ensures beside { T.beside tree.new ≡ T.beside tree.old }
 {
     while let Some(taken) = search.take() {
         follow(search, tree, store, dfa, taken, steps)?;

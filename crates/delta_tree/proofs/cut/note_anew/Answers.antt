@@ -1,5 +1,6 @@
-use Rattle.std.proofs.Common.{length, ap, arith}
+use Rattle.std.proofs.Common.{ℕ, length, sym, ap, subst, arith}
 use Rattle.std.proofs.lemmas.List.Sorted.{length_permutation}
+use Rattle.due_queue.specs.Queue.{due, Notes}
 use Rattle.delta_tree.proofs.Queue.{first_noted_none, first_noted_more, all_noted}
 use Rattle.delta_tree.proofs.cut.note_anew.Goals as goal
 
@@ -12,9 +13,12 @@ loop-place-init c = record {
 
 pub loop-place-preserved : goal.loop-place-preserved
 loop-place-preserved c = record {
-  noted = first_noted_more c.args.nodes.now c.loop-place.dues.items c.note_in_room.new.self.items
-      c.loop-place.place c.at.result c.loop-place.invariant.noted c.at.ensures
-      c.note_in_room.ensures.noted;
+  noted =
+      let (node, stands, is) = c.at-value.ensures in
+      first_noted_more c.args.nodes.now c.loop-place.dues.items c.note_in_room.new.self.items
+      c.loop-place.place (c.at-value.result.0, node) c.loop-place.invariant.noted stands
+      (subst (λ (value : ℕ). Notes c.loop-place.dues.items c.note_in_room.new.self.items
+      (due c.at-value.result.0 value)) (sym is) c.note_in_room.ensures.noted);
   count = omega (
     arith,
     length_permutation _ c.note_in_room.new.self.items c.note_in_room.ensures.noted,

@@ -20,5 +20,4 @@ put-requires-2-clause-hangs c =
       );
       state = search rules;
       joins = search rules;
-      puts = search rules;
     }

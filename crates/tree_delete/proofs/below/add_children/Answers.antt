@@ -19,7 +19,7 @@ loop-k-init g c = record {
 pub loop-k-preserved : goal.loop-k-preserved
 loop-k-preserved g c =
     let step = step_of c.args.dfa.now in
-    let tree = c.args.tree.now in
+    let tree = (g.T.PathTree.tree c.args.tree.now) in
     let from = c.args.from in
     let row = outs_of c.args.store.now from.vertex in
     let each = c.at-each.result in
@@ -52,7 +52,8 @@ returns-clause-added g c =
     ) in
     c.loop-k.invariant.added
     ∙ ap (λ (walk : List (HalfEdge × ℕ)). c.args.ids.now.items
-    ++ children (step_of c.args.dfa.now) c.args.tree.now (map (onward c.args.from) walk))
+    ++ children (step_of c.args.dfa.now) (g.T.PathTree.tree c.args.tree.now)
+    (map (onward c.args.from) walk))
     (take_all c.loop-k.k row past)
 
 pub returns-clause-counted : goal.returns-clause-counted

@@ -7,7 +7,7 @@ use Rattle.tree_delete.proofs.below.add_children.Given as goal
 -- those by the first of the edges that leave the vertex
 abbrev pub invariant-loop-k : goal.invariant-loop-k
 invariant-loop-k g l = record {
-  added : l.ids.items ≡ l.initial.ids.items ++ children (step_of l.dfa) l.tree
+  added : l.ids.items ≡ l.initial.ids.items ++ children (step_of l.dfa) (g.T.PathTree.tree l.tree)
       (map (onward l.from) (take l.k (outs_of l.store l.from.vertex)));
   within : AreWithin l.dfa l.initial.ids.items → AreWithin l.dfa l.ids.items;
   counted : l.steps ≡ l.initial.steps + l.k;

@@ -8,16 +8,16 @@ use Rattle.tree_delete.proofs.Finding.{children_more, starts_more}
 use Rattle.tree_delete.proofs.below.hanging.Goals as goal
 
 pub loop-state-init : goal.loop-state-init
-loop-state-init c = record {
+loop-state-init g c = record {
   found = c.new-ids.ensures.items;
   within = subst (AreWithin c.args.dfa.now) (sym c.new-ids.ensures.items)
       (All-nil (λ (id : NodeId). id.state < length c.args.dfa.now.rows));
 }
 
 pub loop-state-preserved : goal.loop-state-preserved
-loop-state-preserved c =
+loop-state-preserved g c =
     let step = step_of c.args.dfa.now in
-    let tree = c.args.tree.now in
+    let tree = (g.T.PathTree.tree c.args.tree.now) in
     let edge = c.args.edge in
     let state = c.loop-state.state in
     record {
@@ -31,9 +31,9 @@ loop-state-preserved c =
     }
 
 pub returns-clause-found : goal.returns-clause-found
-returns-clause-found c =
+returns-clause-found g c =
     let all : c.loop-state.state ≡ length c.args.dfa.now.rows =
     omega (arith, c.loop-state-test.false, c.states-state-end.ensures.number) in
     c.loop-state.invariant.found
-    ∙ ap (λ (count : ℕ). children (step_of c.args.dfa.now) c.args.tree.now
+    ∙ ap (λ (count : ℕ). children (step_of c.args.dfa.now) (g.T.PathTree.tree c.args.tree.now)
     (starts c.args.edge count)) all

@@ -5,7 +5,7 @@ use Rattle.tree_delete.proofs.below.hanging.Given as goal
 
 -- those from the first of the states
 abbrev pub invariant-loop-state : goal.invariant-loop-state
-invariant-loop-state l = record {
-  found : l.ids.items ≡ children (step_of l.dfa) l.tree (starts l.edge l.state);
+invariant-loop-state g l = record {
+  found : l.ids.items ≡ children (step_of l.dfa) (g.T.PathTree.tree l.tree) (starts l.edge l.state);
   within : AreWithin l.dfa l.ids.items;
 }

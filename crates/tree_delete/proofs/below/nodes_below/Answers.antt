@@ -11,7 +11,8 @@ use Rattle.tree_delete.proofs.below.nodes_below.Goals as goal
 
 pub loop-place-init : goal.loop-place-init
 loop-place-init g c = record {
-  finding = finding_none c.args.store.now c.args.dfa.now c.args.tree.now c.args.edge
+  finding = finding_none c.args.store.now c.args.dfa.now (g.T.PathTree.tree c.args.tree.now)
+      c.args.edge
       c.requires.tree c.in_ok-ids.ids.items c.in_ok-ids.ensures.found;
   within = c.in_ok-ids.ensures.within;
   counted = omega arith;
@@ -31,7 +32,8 @@ loop-place-smaller g c =
     omega (
       arith,
       c.loop-place-test.true,
-      finding_few c.args.store.now c.args.dfa.now c.args.tree.now c.args.edge c.requires.tree
+      finding_few c.args.store.now c.args.dfa.now (g.T.PathTree.tree c.args.tree.now) c.args.edge
+          c.requires.tree
           c.loop-place.ids.items c.loop-place.place c.loop-place.invariant.finding,
     )
 
@@ -41,11 +43,13 @@ loop-place-preserved g c =
     let place = c.loop-place.place in
     let from = c.index-from.result.now in
     let more = c.add_children.new.ids.items in
-    let new = children (step_of c.args.dfa.now) c.args.tree.now (onwards c.args.store.now from) in
+    let new = children (step_of c.args.dfa.now) (g.T.PathTree.tree c.args.tree.now)
+    (onwards c.args.store.now from) in
     let there : slice_get ids place ≡ Some from =
     slice_get_read ids _ place from refl (omega arith) c.index-from.ensures in
     record {
-      finding = finding_more c.args.store.now c.args.dfa.now c.args.tree.now c.args.edge
+      finding = finding_more c.args.store.now c.args.dfa.now (g.T.PathTree.tree c.args.tree.now)
+          c.args.edge
           c.requires.tree ids more place from c.requires.before.2.gone
           c.loop-place.invariant.finding there c.add_children.ensures.walk
           c.in_ok-add_children.ensures.added;
@@ -63,9 +67,11 @@ loop-place-preserved g c =
 pub returns-clause-below : goal.returns-clause-below
 returns-clause-below g c =
     let before = c.requires.before.0 in
-    finding_all c.args.store.now c.args.dfa.now c.args.tree.now c.args.edge c.requires.tree before
+    finding_all c.args.store.now c.args.dfa.now (g.T.PathTree.tree c.args.tree.now) c.args.edge
+    c.requires.tree before
     c.requires.before.2
-    (supported_of_ways before (step_of c.args.dfa.now) c.args.tree.now c.requires.tree
+    (supported_of_ways before (step_of c.args.dfa.now) (g.T.PathTree.tree c.args.tree.now)
+    c.requires.tree
     c.requires.before.1.paths)
     c.loop-place.ids.items c.loop-place.place c.loop-place.invariant.finding
     (omega (arith, c.loop-place-test.false))
@@ -79,5 +85,8 @@ returns-clause-counted g c =
       c.loop-place.invariant.counted,
       c.loop-place.invariant.finding.fits,
       c.loop-place-test.false,
-      ap (count_outs c.args.store.now) (take_all place ids (omega (arith, c.loop-place-test.false))),
+      ap (count_outs c.args.store.now) (take_all place ids (omega (
+        arith,
+        c.loop-place-test.false,
+      ))),
     )

@@ -13,45 +13,49 @@ use Rattle.tree_delete.proofs.calls.tree_remove_with.Goals as goal
 pub returns-in_err-tries-clause-paths : goal.returns-in_err-tries-clause-paths
 returns-in_err-tries-clause-paths g c =
     cut_ways c.requires.before.0 (value_of c.args.store.now) c.args.edge c.requires.before.2
-    (step_of c.args.dfa.now) c.args.tree.now c.cut.new.tree
-    c.root.ensures.tree c.requires.before.1 c.in_ok-shifts.ensures.cut c.cut.ensures.beside
+    (step_of c.args.dfa.now) (g.T.PathTree.tree c.args.tree.now) (g.T.PathTree.tree c.cut.new.tree)
+    c.root.ensures.tree c.requires.before.1 c.in_ok-shifts.ensures.cut c.cut.ensures.beside.0
 
 pub relax-requires-clause-paths : goal.relax-requires-clause-paths
 relax-requires-clause-paths g c =
     cut_ways c.requires.before.0 (value_of c.args.store.now) c.args.edge c.requires.before.2
-    (step_of c.args.dfa.now) c.args.tree.now c.cut.new.tree
-    c.root.ensures.tree c.requires.before.1 c.in_ok-shifts.ensures.cut c.cut.ensures.beside
+    (step_of c.args.dfa.now) (g.T.PathTree.tree c.args.tree.now) (g.T.PathTree.tree c.cut.new.tree)
+    c.root.ensures.tree c.requires.before.1 c.in_ok-shifts.ensures.cut c.cut.ensures.beside.0
 
 pub relax-requires-clause-best : goal.relax-requires-clause-best
 relax-requires-clause-best g c =
     let values = value_of c.args.store.now in
     let step = step_of c.args.dfa.now in
-    subst (λ (tries : List Try). HasBest values step c.cut.new.tree tries)
+    subst (λ (tries : List Try). HasBest values step (g.T.PathTree.tree c.cut.new.tree) tries)
     (sym c.deref-2.ensures.value)
-    (cut_best c.requires.before.0 values c.args.edge c.requires.before.2 step c.args.tree.now
-    c.cut.new.tree c.root.ensures.tree c.requires.before.1
-    c.in_ok-shifts.ensures.cut c.cut.ensures.beside (shift_ids c.in_ok-shifts.shifts.items)
+    (cut_best c.requires.before.0 values c.args.edge c.requires.before.2 step
+    (g.T.PathTree.tree c.args.tree.now)
+    (g.T.PathTree.tree c.cut.new.tree) c.root.ensures.tree c.requires.before.1
+    c.in_ok-shifts.ensures.cut c.cut.ensures.beside.0 (shift_ids c.in_ok-shifts.shifts.items)
     c.in_ok-shifts.ensures.below
     c.in_ok-tries.tries.items
-    (subst (λ (cut : List Shift). HasEntries values step c.cut.new.tree (shift_ids cut)
+    (subst (λ (cut : List Shift). HasEntries values step (g.T.PathTree.tree c.cut.new.tree)
+    (shift_ids cut)
     c.in_ok-tries.tries.items) c.deref.ensures.value c.in_ok-tries.ensures.best))
 
 pub returns-clause-repairs : goal.returns-clause-repairs
 returns-clause-repairs g c = record {
   keeps =
       cut_keeps c.requires.before.0 (value_of c.args.store.now) c.args.edge c.requires.before.2
-      (step_of c.args.dfa.now) c.args.tree.now
-      c.cut.new.tree c.root.ensures.tree c.requires.before.1
-      c.in_ok-shifts.ensures.cut c.cut.ensures.beside (shift_ids c.in_ok-shifts.shifts.items)
+      (step_of c.args.dfa.now) (g.T.PathTree.tree c.args.tree.now)
+      (g.T.PathTree.tree c.cut.new.tree) c.root.ensures.tree c.requires.before.1
+      c.in_ok-shifts.ensures.cut c.cut.ensures.beside.0 (shift_ids c.in_ok-shifts.shifts.items)
       c.in_ok-shifts.ensures.below
-      c.relax.new.tree c.relax.ensures.relaxes.later c.relax.ensures.relaxes.keeps c.in_ok-relax.ensures.optimal;
+      (g.T.PathTree.tree c.relax.new.tree) c.relax.ensures.relaxes.later
+      c.relax.ensures.relaxes.keeps c.in_ok-relax.ensures.optimal;
   steps =
       cut_counts c.requires.before.0 (value_of c.args.store.now) c.args.edge c.requires.before.2
-      (step_of c.args.dfa.now) c.args.tree.now
-      c.cut.new.tree c.root.ensures.tree c.requires.before.1
-      c.in_ok-shifts.ensures.cut c.cut.ensures.beside (shift_ids c.in_ok-shifts.shifts.items)
+      (step_of c.args.dfa.now) (g.T.PathTree.tree c.args.tree.now)
+      (g.T.PathTree.tree c.cut.new.tree) c.root.ensures.tree c.requires.before.1
+      c.in_ok-shifts.ensures.cut c.cut.ensures.beside.0 (shift_ids c.in_ok-shifts.shifts.items)
       c.in_ok-shifts.ensures.below
-      c.relax.new.tree c.relax.ensures.relaxes.later c.relax.ensures.relaxes.keeps c.in_ok-relax.ensures.optimal
+      (g.T.PathTree.tree c.relax.new.tree) c.relax.ensures.relaxes.later
+      c.relax.ensures.relaxes.keeps c.in_ok-relax.ensures.optimal
       c.args.store.now c.args.steps.now c.cut.new.steps c.best_entries.new.steps c.relax.new.steps
       c.in_ok-shifts.ensures.counted
       (subst (λ (cut : List Shift). c.best_entries.new.steps ≤ c.cut.new.steps + count_ins
@@ -64,18 +68,24 @@ returns-clause-cut g c =
     let old = c.in_ok-shifts.shifts.items in
     record {
       below =
-          subst (λ (shifts : List Shift). AreBelow c.args.tree.now c.args.edge (shift_ids shifts))
+          subst (λ (shifts : List Shift). AreBelow (g.T.PathTree.tree c.args.tree.now) c.args.edge
+          (shift_ids shifts))
           (sym c.tell_values.ensures)
-          (subst (AreBelow c.args.tree.now c.args.edge) (sym (ids_told c.relax.new.tree old))
+          (subst (AreBelow (g.T.PathTree.tree c.args.tree.now) c.args.edge)
+          (sym (ids_told (g.T.PathTree.tree c.relax.new.tree) old))
           c.in_ok-shifts.ensures.below);
       are_shifts =
-          subst (AreShifts c.args.tree.now c.relax.new.tree) (sym c.tell_values.ensures)
-          (told_shifts c.args.tree.now c.cut.new.tree c.relax.new.tree old
+          subst (AreShifts (g.T.PathTree.tree c.args.tree.now) (g.T.PathTree.tree c.relax.new.tree))
+          (sym c.tell_values.ensures)
+          (told_shifts (g.T.PathTree.tree c.args.tree.now) (g.T.PathTree.tree c.cut.new.tree)
+          (g.T.PathTree.tree c.relax.new.tree) old
           c.in_ok-shifts.ensures.shifts
-          (cut_changes c.requires.before.0 (value_of c.args.store.now) c.args.edge c.requires.before.2
-          (step_of c.args.dfa.now) c.args.tree.now
-          c.cut.new.tree c.root.ensures.tree c.requires.before.1
-          c.in_ok-shifts.ensures.cut c.cut.ensures.beside (shift_ids c.in_ok-shifts.shifts.items)
+          (cut_changes c.requires.before.0 (value_of c.args.store.now) c.args.edge
+          c.requires.before.2
+          (step_of c.args.dfa.now) (g.T.PathTree.tree c.args.tree.now)
+          (g.T.PathTree.tree c.cut.new.tree) c.root.ensures.tree c.requires.before.1
+          c.in_ok-shifts.ensures.cut c.cut.ensures.beside.0 (shift_ids c.in_ok-shifts.shifts.items)
           c.in_ok-shifts.ensures.below
-          c.relax.new.tree c.relax.ensures.relaxes.later c.relax.ensures.relaxes.keeps c.in_ok-relax.ensures.optimal));
+          (g.T.PathTree.tree c.relax.new.tree) c.relax.ensures.relaxes.later
+          c.relax.ensures.relaxes.keeps c.in_ok-relax.ensures.optimal));
     }

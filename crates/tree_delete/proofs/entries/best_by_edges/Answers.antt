@@ -17,14 +17,17 @@ loop-k-preserved g c =
     let edge : EdgeId = record { from = each.from; label = each.label; to = c.args.id.vertex } in
     record {
       entry = if_either c.loop-k.best c.entry_by.result c.better-best.result
-          (IsEntry values step c.args.tree.now c.args.id) c.better-best.ensures.either
+          (IsEntry values step (g.T.PathTree.tree c.args.tree.now) c.args.id)
+          c.better-best.ensures.either
           c.loop-k.invariant.entry
-          (if_weaker c.entry_by.result (IsEntryBy step c.args.tree.now c.args.id edge each.value)
-          (IsEntry values step c.args.tree.now c.args.id)
-          (λ entry by. entry_of_walk step c.args.tree.now c.args.id c.args.store.now
+          (if_weaker c.entry_by.result (IsEntryBy step (g.T.PathTree.tree c.args.tree.now) c.args.id
+          edge each.value)
+          (IsEntry values step (g.T.PathTree.tree c.args.tree.now) c.args.id)
+          (λ entry by. entry_of_walk step (g.T.PathTree.tree c.args.tree.now) c.args.id
+          c.args.store.now
           c.ins-ins.ensures.walk c.loop-k.k each entry there by)
           c.entry_by.ensures.entry);
-      most = first_one_more step c.args.tree.now c.args.id
+      most = first_one_more step (g.T.PathTree.tree c.args.tree.now) c.args.id
           (ins_of c.args.store.now c.args.id.vertex) c.loop-k.best c.better-best.result c.loop-k.k
           each
           c.loop-k.invariant.most c.better-best.ensures.first there
@@ -35,7 +38,8 @@ loop-k-preserved g c =
 
 pub returns-clause-most : goal.returns-clause-most
 returns-clause-most g c edge before number can =
-    first_all (step_of c.args.dfa.now) c.args.tree.now c.args.id c.args.store.now
+    first_all (step_of c.args.dfa.now) (g.T.PathTree.tree c.args.tree.now) c.args.id
+    c.args.store.now
     c.ins-ins.ensures.walk c.loop-k.best
     (λ place half value at low below there lower carries leads.
     c.loop-k.invariant.most place half value at low

@@ -8,7 +8,9 @@ use Rattle.tree_delete.proofs.entries.best_by_edges.Given as goal
 
 abbrev pub invariant-loop-k : goal.invariant-loop-k
 invariant-loop-k g l = record {
-  entry : IfSome l.best (IsEntry (value_of l.store) (step_of l.dfa) l.tree l.id);
-  most : IsMostFirst (step_of l.dfa) l.tree l.id (ins_of l.store l.id.vertex) l.best l.k;
+  entry : IfSome l.best (IsEntry (value_of l.store) (step_of l.dfa) (g.T.PathTree.tree l.tree)
+      l.id);
+  most : IsMostFirst (step_of l.dfa) (g.T.PathTree.tree l.tree) l.id (ins_of l.store l.id.vertex)
+      l.best l.k;
   count : l.steps ≡ l.initial.steps + l.k;
 }

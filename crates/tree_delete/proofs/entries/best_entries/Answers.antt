@@ -38,10 +38,12 @@ loop-shift-preserved g c =
     ∙ ap (λ (each : NodeId). Some each) (id_at cut at within) in
     let more = counted_more c.args.store.now (shift_ids cut) at inside in
     record {
-      valid = valid_more values step c.args.tree.now c.loop-shift.tries.items c.add.new.tries.items
+      valid = valid_more values step (g.T.PathTree.tree c.args.tree.now) c.loop-shift.tries.items
+          c.add.new.tries.items
           id c.best_entry.result c.in_ok-add.ensures c.best_entry.ensures.entry
           c.loop-shift.invariant.valid;
-      best = entries_more values step c.args.tree.now (shift_ids cut) c.loop-shift.tries.items
+      best = entries_more values step (g.T.PathTree.tree c.args.tree.now) (shift_ids cut)
+          c.loop-shift.tries.items
           c.add.new.tries.items at id c.best_entry.result
           c.loop-shift.invariant.best there c.in_ok-add.ensures c.best_entry.ensures.entry
           c.best_entry.ensures.most;
@@ -56,7 +58,8 @@ loop-shift-preserved g c =
 
 pub returns-clause-best : goal.returns-clause-best
 returns-clause-best g c id edge before number there can =
-    entries_all (value_of c.args.store.now) (step_of c.args.dfa.now) c.args.tree.now
+    entries_all (value_of c.args.store.now) (step_of c.args.dfa.now) (g.T.PathTree.tree
+    c.args.tree.now)
     (shift_ids c.args.cut.now) c.loop-shift.tries.items c.loop-shift.shift-index
     (omega (arith, as_many c.args.cut.now))
     c.loop-shift.invariant.best id edge before number there can

@@ -10,8 +10,9 @@ use Rattle.tree_delete.proofs.entries.best_entries.Given as goal
 
 abbrev pub invariant-loop-shift : goal.invariant-loop-shift
 invariant-loop-shift g l = record {
-  valid : All (IsValid (value_of l.store) (step_of l.dfa) l.tree) l.tries.items;
-  best : HasEntriesFirst (value_of l.store) (step_of l.dfa) l.tree (shift_ids l.cut) l.tries.items
+  valid : All (IsValid (value_of l.store) (step_of l.dfa) (g.T.PathTree.tree l.tree)) l.tries.items;
+  best : HasEntriesFirst (value_of l.store) (step_of l.dfa) (g.T.PathTree.tree l.tree)
+      (shift_ids l.cut) l.tries.items
       l.shift-index;
   count : l.steps ≤ l.initial.steps + count_ins l.store
       (take l.shift-index (shift_ids l.cut));

@@ -6,7 +6,9 @@ use Rattle.tree_delete.proofs.FromNodes.{IsMostByLabels}
 use Rattle.tree_delete.proofs.from_nodes.best_from.Given as goal
 
 abbrev pub invariant-loop-label : goal.invariant-loop-label
-invariant-loop-label l = record {
-  entry : IfSome l.best (IsEntry (value_of l.store) (step_of l.dfa) l.tree l.id);
-  most : IsMostByLabels (value_of l.store) (step_of l.dfa) l.tree l.id l.from l.best l.label;
+invariant-loop-label g l = record {
+  entry : IfSome l.best (IsEntry (value_of l.store) (step_of l.dfa) (g.T.PathTree.tree l.tree)
+      l.id);
+  most : IsMostByLabels (value_of l.store) (step_of l.dfa) (g.T.PathTree.tree l.tree) l.id l.from
+      l.best l.label;
 }

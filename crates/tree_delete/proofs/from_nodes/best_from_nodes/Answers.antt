@@ -10,12 +10,14 @@ use Rattle.tree_delete.proofs.from_nodes.best_from_nodes.Goals as goal
 pub loop-k-init : goal.loop-k-init
 loop-k-init g c = record {
   entry = c.best_from-best.ensures.entry;
-  most = from_root (value_of c.args.store.now) (step_of c.args.dfa.now) c.args.tree.now c.args.id
+  most = from_root (value_of c.args.store.now) (step_of c.args.dfa.now)
+      (g.T.PathTree.tree c.args.tree.now) c.args.id
       c.best_from-best.result
       (λ edge number leaves can. c.best_from-best.ensures.most edge number
-      (leaves ∙ ap (λ (each : NodeId). each.vertex) (sym c.requires))
+      (leaves ∙ ap (λ (each : NodeId). each.vertex) (sym c.requires.root))
       (subst (λ (each : NodeId). CanEnter (value_of c.args.store.now) (step_of c.args.dfa.now)
-      c.args.tree.now c.args.id edge each.state number) (sym c.requires) can));
+      (g.T.PathTree.tree c.args.tree.now) c.args.id edge each.state number) (sym c.requires.root)
+      can));
   count = omega (arith, c.tick.ensures);
 }
 
@@ -26,9 +28,10 @@ loop-k-preserved g c =
     let was = c.loop-k.invariant in
     record {
       entry = if_either c.loop-k.best c.best_from-entry.result c.better-best.result
-          (IsEntry values step c.args.tree.now c.args.id) c.better-best.ensures.either was.entry
+          (IsEntry values step (g.T.PathTree.tree c.args.tree.now) c.args.id)
+          c.better-best.ensures.either was.entry
           c.best_from-entry.ensures.entry;
-      most = node_one_more values step c.args.tree.now c.args.id c.loop-k.best
+      most = node_one_more values step (g.T.PathTree.tree c.args.tree.now) c.args.id c.loop-k.best
           c.better-best.result c.loop-k.k c.node_at.result was.most c.better-best.ensures.first
           c.node_at.ensures
           (λ edge number leaves can. c.better-best.ensures.second number
@@ -38,13 +41,15 @@ loop-k-preserved g c =
 
 pub returns-clause-most : goal.returns-clause-most
 returns-clause-most g c =
-    from_all (value_of c.args.store.now) (step_of c.args.dfa.now) c.args.tree.now c.args.id
-    c.loop-k.best c.loop-k.k (omega arith) c.len-k-end.ensures.walk c.loop-k.invariant.most
+    from_all (value_of c.args.store.now) (step_of c.args.dfa.now) (g.T.PathTree.tree
+    c.args.tree.now) c.args.id
+    c.loop-k.best c.loop-k.k (omega (arith, c.loop-k-test.false, c.requires.count))
+    c.requires.walk.1 c.loop-k.invariant.most
 
 pub returns-clause-counted : goal.returns-clause-counted
 returns-clause-counted g c = omega (
   arith,
   c.loop-k.invariant.count,
   c.loop-k-test.false,
-  c.len-k-end.ensures.count,
+  c.requires.count,
 )

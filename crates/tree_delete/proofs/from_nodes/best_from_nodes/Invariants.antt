@@ -8,7 +8,8 @@ use Rattle.tree_delete.proofs.from_nodes.best_from_nodes.Given as goal
 
 abbrev pub invariant-loop-k : goal.invariant-loop-k
 invariant-loop-k g l = record {
-  entry : IfSome l.best (IsEntry (value_of l.store) (step_of l.dfa) l.tree l.id);
-  most : IsMostFrom (value_of l.store) (step_of l.dfa) l.tree l.id l.best l.k;
+  entry : IfSome l.best (IsEntry (value_of l.store) (step_of l.dfa) (g.T.PathTree.tree l.tree)
+      l.id);
+  most : IsMostFrom (value_of l.store) (step_of l.dfa) (g.T.PathTree.tree l.tree) l.id l.best l.k;
   count : l.steps ≡ l.fn.steps + l.k + 1;
 }

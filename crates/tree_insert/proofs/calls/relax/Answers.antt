@@ -9,5 +9,6 @@ pub relax-requires-clause-best : goal.relax-requires-clause-best
 relax-requires-clause-best g c =
     let values = value_of c.args.store.now in
     let step = step_of c.args.dfa.now in
-    subst (HasBest values step c.args.tree.now) (sym c.deref.ensures.value)
-    (best_of_all values step c.args.tree.now c.args.pending.tries.items c.requires.all)
+    subst (HasBest values step (g.T.PathTree.tree c.args.tree.now)) (sym c.deref.ensures.value)
+    (best_of_all values step (g.T.PathTree.tree c.args.tree.now) c.args.pending.tries.items
+    c.requires.all)

@@ -10,7 +10,7 @@ use Rattle.tree_insert.proofs.UnderWay.{gains_kind, served_lower}
 use Rattle.tree_insert.proofs.offers.offer_out.Goals as goal
 
 pub returns-clause-gains : goal.returns-clause-gains
-returns-clause-gains c =
+returns-clause-gains g c =
     let edge : EdgeId =
     record { from = c.args.rise.id.vertex; label = c.args.out.label; to = c.args.out.to } in
     let new : Waiting =
@@ -37,21 +37,23 @@ returns-clause-gains c =
     }))
 
 pub returns-clause-served : goal.returns-clause-served
-returns-clause-served c =
+returns-clause-served g c =
     on_ok_weaker c.offer.result
-    (λ (served : IsServed c.args.tree.now c.offer.new.search.waiting
+    (λ (served : IsServed (g.T.PathTree.tree c.args.tree.now) c.offer.new.search.waiting
     (node_id c.args.out.to c.in-Some.state) c.min.result).
     λ number state low lower new leads.
     let same : c.in-Some.state ≡ state =
     same_Some c.in-Some.state state (c.in-Some.ensures.step ∙ leads) in
-    subst (λ (s : ℕ). IsServed c.args.tree.now c.offer.new.search.waiting (node_id c.args.out.to s)
+    subst (λ (s : ℕ). IsServed (g.T.PathTree.tree c.args.tree.now) c.offer.new.search.waiting
+    (node_id c.args.out.to s)
     number) same
-    (served_lower c.args.tree.now c.offer.new.search.waiting (node_id c.args.out.to c.in-Some.state)
+    (served_lower (g.T.PathTree.tree c.args.tree.now) c.offer.new.search.waiting
+    (node_id c.args.out.to c.in-Some.state)
     c.min.result number
     (omega (arith, c.min.ensures, low, lower)) served))
     c.offer.ensures.served
 
 pub returns-then-not-is_below-clause-served : goal.returns-then-not-is_below-clause-served
-returns-then-not-is_below-clause-served c number state low lower new leads =
+returns-then-not-is_below-clause-served g c number state low lower new leads =
     absurd (new
     (weaker c.args.rise.before c.args.out.value number c.if-not-is_below.ensures.no lower))

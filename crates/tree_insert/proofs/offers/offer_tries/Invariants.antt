@@ -5,7 +5,9 @@ use Rattle.tree_insert.proofs.OpenTries.{AreServedFirst}
 use Rattle.tree_insert.proofs.offers.offer_tries.Given as goal
 
 abbrev pub invariant-loop-step : goal.invariant-loop-step
-invariant-loop-step l = record {
-  gains : Gains l.initial.search l.search (IsOpen (value_of l.store) l.dfa l.tree);
-  served : AreServedFirst (value_of l.store) l.tree l.search.waiting l.tries l.step-index;
+invariant-loop-step g l = record {
+  gains : Gains l.initial.search l.search (IsOpen (value_of l.store) l.dfa
+      (g.T.PathTree.tree l.tree));
+  served : AreServedFirst (value_of l.store) (g.T.PathTree.tree l.tree) l.search.waiting l.tries
+      l.step-index;
 }

@@ -22,39 +22,44 @@ use Rattle.tree_insert.proofs.settling.follow.Goals.{After-offer_outs, In-Some, 
 
 -- ---- the raise
 
-lifted : (g : Over) (c : In-Some g) → Lifts c.args.tree.now c.raise.new.self (try_of c.args.taken)
+lifted : (g : Over) (c : In-Some g) → Lifts (g.T.PathTree.tree c.args.tree.now)
+    (g.T.PathTree.tree c.raise.new.self) (try_of c.args.taken)
     c.args.taken.value c.in-Some.shift
 lifted g c =
-    subst (λ (step : Try). Lifts c.args.tree.now c.raise.new.self step c.args.taken.value
+    subst (λ (step : Try). Lifts (g.T.PathTree.tree c.args.tree.now) (g.T.PathTree.tree
+    c.raise.new.self) step c.args.taken.value
     c.in-Some.shift) c.step.ensures
     (c.raise.ensures.lifts c.in-Some.shift
     (c.in_ok-shift.was ∙ ap (λ (told : Option Shift). Ok told) c.in-Some.is))
 
 -- the node that the try makes
 abbrev new_node : (g : Over) (c : In-Some g) → Node
-new_node g c = put_node c.args.tree.now (try_of c.args.taken) c.args.taken.value
+new_node g c = put_node (g.T.PathTree.tree c.args.tree.now) (try_of c.args.taken) c.args.taken.value
 
 -- its place, with the value before
 abbrev told : (g : Over) (c : In-Some g) → Shift
 told g c = record {
   id = target_of c.args.taken;
-  before = nodes.value_of c.args.tree.now (target_of c.args.taken);
+  before = nodes.value_of (g.T.PathTree.tree c.args.tree.now) (target_of c.args.taken);
   after = Some c.args.taken.value;
 }
 
 -- the tree goes on to be one that comes by raises
 under_more : (g : Over) (c : In-Some g) (first : TreeValue) →
-    IsUnderWay (value_of c.args.store.now) (step_of c.args.dfa.now) first c.args.tree.now →
-    IsUnderWay (value_of c.args.store.now) (step_of c.args.dfa.now) first c.raise.new.self
+    IsUnderWay (value_of c.args.store.now) (step_of c.args.dfa.now) first
+    (g.T.PathTree.tree c.args.tree.now) →
+    IsUnderWay (value_of c.args.store.now) (step_of c.args.dfa.now) first
+    (g.T.PathTree.tree c.raise.new.self)
 under_more g c first under =
-    let old = c.args.tree.now in
-    let new = c.raise.new.self in
+    let old = (g.T.PathTree.tree c.args.tree.now) in
+    let new = (g.T.PathTree.tree c.raise.new.self) in
     let to = target_of c.args.taken in
     let lifts = lifted g c in
     record {
       tree_is = put_keeps old new (try_of c.args.taken) c.args.taken.value under.tree_is
           lifts.raises lifts.node c.raise.ensures.root lifts.counted
-          c.requires.taken.can.source c.requires.taken.can.is_step.some (record { leaves = refl; ends = refl })
+          c.requires.taken.can.source c.requires.taken.can.is_step.some
+          (record { leaves = refl; ends = refl })
           (omega arith);
       supported = supported_more (value_of c.args.store.now) (step_of c.args.dfa.now) old new to
           (new_node g c) under.supported lifts.node
@@ -65,10 +70,14 @@ under_more g c first under =
 
 -- and what could be taken still can be
 opens_more : (g : Over) (c : In-Some g) →
-    AreOpen (value_of c.args.store.now) c.args.dfa.now c.args.tree.now c.args.search.now.waiting →
-    AreOpen (value_of c.args.store.now) c.args.dfa.now c.raise.new.self c.args.search.now.waiting
-opens_more g c opens = open_more (value_of c.args.store.now) c.args.dfa.now c.args.tree.now
-    c.raise.new.self (target_of c.args.taken) (new_node g c) c.args.search.now.waiting opens
+    AreOpen (value_of c.args.store.now) c.args.dfa.now (g.T.PathTree.tree c.args.tree.now)
+    c.args.search.now.waiting →
+    AreOpen (value_of c.args.store.now) c.args.dfa.now (g.T.PathTree.tree c.raise.new.self)
+    c.args.search.now.waiting
+opens_more g c opens = open_more (value_of c.args.store.now) c.args.dfa.now
+    (g.T.PathTree.tree c.args.tree.now)
+    (g.T.PathTree.tree c.raise.new.self) (target_of c.args.taken) (new_node g c)
+    c.args.search.now.waiting opens
     (lifted g c).node (lifted g c).raises c.raise.ensures.root
 
 -- ---- the tries by the edges that leave its place
@@ -87,9 +96,11 @@ gained g c at is =
 -- ---- where nothing is raised
 
 same : (g : Over) (c : In_default g) →
-    HasAsMuch c.args.tree.now c.raise.new.self (target_of c.args.taken) c.args.taken.value
+    HasAsMuch (g.T.PathTree.tree c.args.tree.now) (g.T.PathTree.tree c.raise.new.self)
+    (target_of c.args.taken) c.args.taken.value
 same g c =
-    subst (λ (step : Try). HasAsMuch c.args.tree.now c.raise.new.self step.to c.args.taken.value)
+    subst (λ (step : Try). HasAsMuch (g.T.PathTree.tree c.args.tree.now)
+    (g.T.PathTree.tree c.raise.new.self) step.to c.args.taken.value)
     c.step.ensures
     (c.raise.ensures.stays (c.in_ok-shift.was ∙ ap (λ (told : Option Shift). Ok told)
     c.in_default.is))
@@ -104,9 +115,11 @@ returns-in_default-clause-served g c served =
     let has = (same g c).enough in
     subst (λ tree. AreServed (value_of c.args.store.now) (step_of c.args.dfa.now) tree
     c.args.search.now.waiting) (sym (same g c).same)
-    (served_without (value_of c.args.store.now) (step_of c.args.dfa.now) c.args.tree.now
+    (served_without (value_of c.args.store.now) (step_of c.args.dfa.now)
+    (g.T.PathTree.tree c.args.tree.now)
     c.args.taken c.args.search.now.waiting served
-    (value_reached c.args.tree.now (target_of c.args.taken) has.0 c.args.taken.value has.1 has.2))
+    (value_reached (g.T.PathTree.tree c.args.tree.now) (target_of c.args.taken) has.0
+    c.args.taken.value has.1 has.2))
 
 pub returns-in_default-clause-raises : goal.returns-in_default-clause-raises
 returns-in_default-clause-raises g c =
@@ -122,10 +135,12 @@ returns-in_err-shift-clause-ready g c first ready =
 pub returns-in_err-add_shift-clause-counted : goal.returns-in_err-add_shift-clause-counted
 returns-in_err-add_shift-clause-counted g c first start rises counted =
     let at = (goal.at.returns-in_err-add_shift-clause-counted g c).In-Some in
-    subst (λ (search : SearchValue). IsCounted c.args.store.now first c.raise.new.self
+    subst (λ (search : SearchValue). IsCounted c.args.store.now first (g.T.PathTree.tree
+    c.raise.new.self)
     (shift_ids search.shifts) search.level start c.args.steps.now)
     (sym c.in_err-add_shift.ensures.unchanged)
-    (counted_put c.args.store.now first c.args.tree.now c.raise.new.self
+    (counted_put c.args.store.now first (g.T.PathTree.tree c.args.tree.now)
+    (g.T.PathTree.tree c.raise.new.self)
     (shift_ids c.args.search.now.shifts) (target_of c.args.taken) (new_node g at)
     (lifted g at).node start (lifted g at).raises c.args.search.now.level c.args.steps.now counted)
 
@@ -134,7 +149,8 @@ returns-in_err-add_shift-clause-ready g c first ready =
     let at = (goal.at.returns-in_err-add_shift-clause-ready g c).In-Some in record {
       under = under_more g at first ready.under;
       can = subst (λ (search : SearchValue). AreOpen (value_of c.args.store.now) c.args.dfa.now
-          c.raise.new.self search.waiting) (sym c.in_err-add_shift.ensures.unchanged)
+          (g.T.PathTree.tree c.raise.new.self) search.waiting)
+          (sym c.in_err-add_shift.ensures.unchanged)
           (opens_more g at ready.can);
     }
 
@@ -147,17 +163,22 @@ returns-clause-counted g c first start rises counted =
     let old = c.args.search.now.shifts in
     let gains = gained g c at (lifted g at).shift in
     let level = c.requires.taken.level in
-    subst (λ (shifts : List Shift). IsCounted c.args.store.now first c.raise.new.self
+    subst (λ (shifts : List Shift). IsCounted c.args.store.now first (g.T.PathTree.tree
+    c.raise.new.self)
     (shift_ids shifts) c.offer_outs.new.search.level start c.offer_outs.new.steps)
     (sym gains.shifts)
-    (subst (λ (ids : List NodeId). IsCounted c.args.store.now first c.raise.new.self ids
+    (subst (λ (ids : List NodeId). IsCounted c.args.store.now first (g.T.PathTree.tree
+    c.raise.new.self) ids
     c.offer_outs.new.search.level start c.offer_outs.new.steps) (sym (ids_push old (told g at)))
-    (subst (λ level. IsCounted c.args.store.now first c.raise.new.self (shift_ids old ++ to ∷ [])
+    (subst (λ level. IsCounted c.args.store.now first (g.T.PathTree.tree c.raise.new.self)
+    (shift_ids old ++ to ∷ [])
     level start c.offer_outs.new.steps) (level ∙ sym gains.level)
-    (counted_more c.args.store.now first c.args.tree.now c.raise.new.self (shift_ids old) to
+    (counted_more c.args.store.now first (g.T.PathTree.tree c.args.tree.now)
+    (g.T.PathTree.tree c.raise.new.self) (shift_ids old) to
     (new_node g at) (lifted g at).node start (lifted g at).raises c.args.steps.now
     c.offer_outs.new.steps
-    (subst (λ level. IsCounted c.args.store.now first c.args.tree.now (shift_ids old) level
+    (subst (λ level. IsCounted c.args.store.now first (g.T.PathTree.tree c.args.tree.now)
+    (shift_ids old) level
     start c.args.steps.now) (sym level) counted)
     rises
     (subst (λ (shift : Shift). c.offer_outs.new.steps ≤ c.args.steps.now + length
@@ -181,10 +202,13 @@ returns-clause-shifts g c =
     let old = c.args.search.now.shifts in
     on_ok_weaker c.offer_outs.result
     (λ _. λ first firm shifts.
-    subst (AreShifts first c.raise.new.self) (sym (gained g c at (lifted g at).shift).shifts)
-    (shifts_more first c.args.tree.now c.raise.new.self old (target_of c.args.taken)
+    subst (AreShifts first (g.T.PathTree.tree c.raise.new.self)) (sym (gained g c at
+    (lifted g at).shift).shifts)
+    (shifts_more first (g.T.PathTree.tree c.args.tree.now) (g.T.PathTree.tree c.raise.new.self) old
+    (target_of c.args.taken)
     (new_node g at) (lifted g at).node (lifted g at).raises
-    (subst (λ level. AreFirm c.args.tree.now level (shift_ids old)) (sym c.requires.taken.level) firm)
+    (subst (λ level. AreFirm (g.T.PathTree.tree c.args.tree.now) level (shift_ids old))
+    (sym c.requires.taken.level) firm)
     shifts))
     c.offer_outs.ensures.served
 
@@ -196,13 +220,17 @@ returns-clause-ready g c first ready =
     let old = with_shift c.args.search.now (told g at) in
     record {
       under = under_more g at first ready.under;
-      can = open_gained values c.args.dfa.now c.raise.new.self old c.offer_outs.new.search
+      can = open_gained values c.args.dfa.now (g.T.PathTree.tree c.raise.new.self) old
+          c.offer_outs.new.search
           (opens_more g at ready.can)
           (gains_kind old c.offer_outs.new.search
           (Leaves values c.args.dfa.now to c.args.taken.value)
-          (IsOpen values c.args.dfa.now c.raise.new.self) (gained g c at (lifted g at).shift)
-          (λ each leaves. leaves_open values c.args.dfa.now c.raise.new.self to (new_node g at)
-          each (put_here c.args.tree.now c.raise.new.self to (new_node g at) (lifted g at).node)
+          (IsOpen values c.args.dfa.now (g.T.PathTree.tree c.raise.new.self))
+          (gained g c at (lifted g at).shift)
+          (λ each leaves. leaves_open values c.args.dfa.now (g.T.PathTree.tree c.raise.new.self) to
+          (new_node g at)
+          each (put_here (g.T.PathTree.tree c.args.tree.now) (g.T.PathTree.tree c.raise.new.self) to
+          (new_node g at) (lifted g at).node)
           leaves));
     }
 
@@ -212,13 +240,15 @@ returns-clause-served g c =
     let values = value_of c.args.store.now in
     let step = step_of c.args.dfa.now in
     on_ok_weaker c.offer_outs.result
-    (λ (outs : IsServedFrom values step c.raise.new.self c.offer_outs.new.search.waiting
+    (λ (outs : IsServedFrom values step (g.T.PathTree.tree c.raise.new.self)
+    c.offer_outs.new.search.waiting
     c.in-Some.shift.id c.args.taken.value c.in-Some.shift.before).
     λ served.
-    served_put values step c.args.tree.now c.raise.new.self c.args.taken (new_node g at)
+    served_put values step (g.T.PathTree.tree c.args.tree.now) (g.T.PathTree.tree c.raise.new.self)
+    c.args.taken (new_node g at)
     c.args.search.now.waiting c.offer_outs.new.search.waiting served (lifted g at).node refl
     (lifted g at).raises c.raise.ensures.root (gained g c at (lifted g at).shift).kept
-    (subst (λ (shift : Shift). IsServedFrom values step c.raise.new.self
+    (subst (λ (shift : Shift). IsServedFrom values step (g.T.PathTree.tree c.raise.new.self)
     c.offer_outs.new.search.waiting shift.id c.args.taken.value shift.before)
     (lifted g at).shift outs))
     c.offer_outs.ensures.served

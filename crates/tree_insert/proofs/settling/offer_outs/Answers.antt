@@ -12,7 +12,8 @@ use Rattle.tree_insert.proofs.settling.offer_outs.Goals.{After-offer_out}
 pub returns-then-not-is_below-clause-served : goal.returns-then-not-is_below-clause-served
 returns-then-not-is_below-clause-served g c =
     served_before c.args.store.now c.args.dfa.now c.args.rise.id c.args.rise.value
-    c.outs-outs.ensures.walk c.args.tree.now c.args.search.now.waiting c.args.rise.before
+    c.outs-outs.ensures.walk (g.T.PathTree.tree c.args.tree.now) c.args.search.now.waiting
+    c.args.rise.before
     c.most.result
     (subst (AreAtMost c.most.result) c.outs-outs.ensures.edges c.most.ensures)
     c.if-not-is_below.ensures.no
@@ -56,10 +57,12 @@ pub loop-k-init : goal.loop-k-init
 loop-k-init g c =
     record {
       gains = search rules;
-      served = served_beyond c.args.dfa.now c.args.tree.now c.args.rise.id c.args.rise.value
+      served = served_beyond c.args.dfa.now (g.T.PathTree.tree c.args.tree.now) c.args.rise.id
+          c.args.rise.value
           c.args.rise.before (outs_of c.args.store.now c.args.rise.id.vertex)
           c.args.search.now.waiting 0 c.next_place-k.result
-          (none_served c.args.dfa.now c.args.tree.now c.args.rise.id c.args.rise.value
+          (none_served c.args.dfa.now (g.T.PathTree.tree c.args.tree.now) c.args.rise.id
+          c.args.rise.value
           c.args.rise.before (outs_of c.args.store.now c.args.rise.id.vertex)
           c.args.search.now.waiting)
           (λ each entry from below there.
@@ -78,10 +81,12 @@ loop-k-preserved g c =
     let after = (goal.at.loop-k-preserved g c).After-offer_out in
     record {
       gains = gains_more g after;
-      served = served_beyond c.args.dfa.now c.args.tree.now c.args.rise.id c.args.rise.value
+      served = served_beyond c.args.dfa.now (g.T.PathTree.tree c.args.tree.now) c.args.rise.id
+          c.args.rise.value
           c.args.rise.before (outs_of c.args.store.now c.args.rise.id.vertex)
           c.offer_out.new.search.waiting (c.loop-k.k + 1) c.next_place-k-in-loop-k.result
-          (served_one_more c.args.dfa.now c.args.tree.now c.args.rise.id c.args.rise.value
+          (served_one_more c.args.dfa.now (g.T.PathTree.tree c.args.tree.now) c.args.rise.id
+          c.args.rise.value
           c.args.rise.before (outs_of c.args.store.now c.args.rise.id.vertex)
           c.loop-k.search.waiting c.offer_out.new.search.waiting c.loop-k.k c.at-out.result
           c.loop-k.invariant.served c.offer_out.ensures.gains.kept (there g after)
@@ -117,7 +122,8 @@ loop-k-smaller g c =
 pub returns-clause-served : goal.returns-clause-served
 returns-clause-served g c =
     served_all c.args.store.now c.args.dfa.now c.args.rise.id c.args.rise.value
-    c.outs-outs.ensures.walk c.args.tree.now c.loop-k.search.waiting c.args.rise.before
+    c.outs-outs.ensures.walk (g.T.PathTree.tree c.args.tree.now) c.loop-k.search.waiting
+    c.args.rise.before
     (λ place half here number state below there low lower new leads.
     c.loop-k.invariant.served place half here number state
     (omega (

@@ -8,7 +8,8 @@ use Rattle.tree_insert.proofs.settling.offer_outs.Given as goal
 abbrev pub invariant-loop-k : goal.invariant-loop-k
 invariant-loop-k g l = record {
   gains : Gains l.initial.search l.search (Leaves (value_of l.store) l.dfa l.rise.id l.rise.value);
-  served : AreServedUpTo l.dfa l.tree l.search.waiting l.rise.id l.rise.value l.rise.before
+  served : AreServedUpTo l.dfa (g.T.PathTree.tree l.tree) l.search.waiting l.rise.id l.rise.value
+      l.rise.before
       (outs_of l.store l.rise.id.vertex) l.k;
   within : l.k ≤ length (outs_of l.store l.rise.id.vertex);
   count : l.steps ≤ l.initial.steps + l.k;
