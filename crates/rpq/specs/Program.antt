@@ -1,11 +1,14 @@
 -- What the program does: one run over its words.
-use Rattle.std.specs.Prelude.{◌≡◌, ℕ, ◌⊎◌, Bool, true, false, List, [], ◌∷◌, Option, Some, None}
-use Rattle.std.specs.Prelude.{Result, Ok, Err, IsNone, IfSome, IsSomeAnd, String, codes}
+use Rattle.std.specs.Prelude.{◌≡◌, ◌≢◌, ℕ, ◌⊎◌, Bool, true, false, List, [], ◌∷◌, Option, Some}
+use Rattle.std.specs.Prelude.{None, Result, Ok, Err, IsNone, IfSome, IsSomeAnd, String, codes, ⊤}
 use Rattle.std.specs.Global.{Global}
 use Rattle.std.specs.Iterator.Runs.{WholeRun}
 use Rattle.std.specs.List.{range_with_len}
 use Rattle.std.specs.Vec.Iter.{into_iter_steps}
 use Rattle.std.specs.declared.vec.IntoIter.{IntoIter}
+use Rattle.std.specs.IoError.{error_kind}
+use Rattle.std.specs.declared.io.Error.{Error}
+use Rattle.std.specs.declared.io.ErrorKind.TheVariants.{OutOfMemory}
 use Rattle.standing.specs.New.{IsNewObject}
 use Rattle.standing.specs.Objects.{ObjectValue}
 use Rattle.rpq_words.specs.declared.settings.RunMode.{RunMode}
@@ -20,13 +23,21 @@ use Rattle.rpq_run.specs.Done.{CanBeDone, NothingFails, NothingRose}
 use Rattle.rpq_run.specs.Outcome.{Meanings, Objects, Outcome, Sinks, openings}
 use Rattle.rpq_run.specs.Run.{Refuses, Runs}
 
+-- what the system answers when it is asked for the words
+abbrev pub Arguments : Type 0
+Arguments = Result (IntoIter (String Global) Global) Error
+
 -- the words that these arguments are: all that they give, one after another up to their end; and
 -- none if the system gives one that isn't text
-abbrev pub AreWords : {E : Type 0} → Result (IntoIter (String Global) Global) E
-    → List (String Global) → Type 0
-AreWords {E} (Ok arguments) words =
+abbrev pub AreWords : Arguments → List (String Global) → Type 0
+AreWords (Ok arguments) words =
     WholeRun into_iter_steps arguments (λ run. words ≡ run.items)
-AreWords {E} (Err error) words = words ≡ []
+AreWords (Err error) words = (words ≡ []) × (error_kind error ≢ OutOfMemory)
+
+-- there may be no memory for a run: either the system had none for the words, or it gave them
+abbrev pub MayLackMemory : Arguments → Type 0
+MayLackMemory (Ok arguments) = ⊤
+MayLackMemory (Err error) = error_kind error ≡ OutOfMemory
 
 -- whether tuples are generated in this mode
 abbrev pub is_generated : RunMode → Bool
@@ -80,10 +91,9 @@ pub record HasRun {F S K : Type 0} (holds : F → List ℕ → Option (List ℕ)
   pub status_is : outcome.status ≡ status
 
 -- the program has one run, over all words of these arguments, and this is its status
-pub record RunsOnce {F S K E : Type 0} (holds : F → List ℕ → Option (List ℕ))
+pub record RunsOnce {F S K : Type 0} (holds : F → List ℕ → Option (List ℕ))
     (opened made : F → List (List ℕ)) (unread unmade : F → List ℕ → ℕ) (means : Meanings S K)
-    (arguments : Result (IntoIter (String Global) Global) E) (old new : F) (sinks : Sinks K)
-    (status : ℕ) : Type 0 where
+    (arguments : Arguments) (old new : F) (sinks : Sinks K) (status : ℕ) : Type 0 where
   pub words : List (String Global)
   pub are_words : AreWords arguments words
   pub run : HasRun holds opened made unread unmade means (texts words) old new sinks

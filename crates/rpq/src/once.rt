@@ -3,7 +3,8 @@
 ghost use Rattle.std.specs.Prelude.{◌≡◌, [], IfNone, IfOk, IfSome, OnErr};
 ghost use Rattle.rpq_words.specs.Settings.{settings, texts};
 ghost use Rattle.rpq_run.specs.Outcome.{meanings, sinks};
-ghost use Rattle.rpq.specs.Program.{AreWords, HasRun, IsOneTally, RunsOnce, makes_tuples};
+ghost use Rattle.rpq.specs.Program.{AreWords, HasRun, IsOneTally, MayLackMemory, RunsOnce};
+ghost use Rattle.rpq.specs.Program.{makes_tuples};
 
 use crate::outlet::Outlet;
 use rpq_base::Memory;
@@ -53,7 +54,8 @@ where
 
 /// The words of the command line, the program's name first, if there is memory for them.
 fn words_of(alloc: Global, arguments: io::Result<Args>) -> Option<Vec<String>>
-    ensures { IfSome result (λ words. AreWords arguments words.items) }
+    ensures words { IfSome result (λ words. AreWords arguments words.items) }
+    ensures short { IfNone result (MayLackMemory arguments) }
 {
     match arguments {
         Ok(arguments) => arguments.collect(alloc).ok(),

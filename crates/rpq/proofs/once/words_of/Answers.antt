@@ -3,8 +3,8 @@ use Rattle.rpq.specs.Program.{AreWords}
 use Rattle.rpq.proofs.Handed.{some_from_ok}
 use Rattle.rpq.proofs.once.words_of.Goals as goal
 
-pub returns-in-Ok : goal.returns-in-Ok
-returns-in-Ok c =
+pub returns-in-Ok-clause-words : goal.returns-in-Ok-clause-words
+returns-in-Ok-clause-words c =
     some_from_ok c.collect.result c.ok.result c.ok.ensures.value
     (λ words whole.
     let run = whole tt in
