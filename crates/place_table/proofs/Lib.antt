@@ -1,0 +1,14 @@
+mod Beside
+mod Chosen
+mod Entered
+mod Expired
+mod Expiry
+mod Found
+mod Leaving
+mod Linked
+mod Listed
+mod Puts
+mod Reached
+mod Seen
+mod Steps
+mod Taken

@@ -1,0 +1,10 @@
+mod Batches
+mod Begun
+mod Counts
+pub mod Ended
+mod Following
+mod Lifted
+mod Raised
+pub mod Searching
+mod Spans
+mod Tables

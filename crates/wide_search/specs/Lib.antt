@@ -1,0 +1,7 @@
+pub mod Batches
+pub mod Counts
+pub mod Lifts
+pub mod Ready
+pub mod Searching
+pub mod Spans
+pub mod Widths
