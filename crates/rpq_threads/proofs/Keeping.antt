@@ -1,9 +1,10 @@
 -- What stands in the place of the entries that were given: more of them, and what is left of them.
 use Rattle.std.proofs.Common.{◌≡◌, ℕ, ◌+◌, ◌-◌, ◌<◌, ◌≤◌, List, [], ◌++◌, length, take, drop}
-use Rattle.std.proofs.Common.{append_assoc, length-drop, refl, sym, ap, subst, ◌∙◌, arith}
+use Rattle.std.proofs.Common.{append_assoc, length-drop, refl, sym, ap, subst, ◌∙◌, ⊎_elim, arith}
 use Rattle.std.specs.Prelude.{All}
 use Rattle.std.proofs.lemmas.List.{append-nil, take-take, take-append-drop, drop_at, drop-take}
 use Rattle.std.proofs.lemmas.List.Elements.{All-append, All-take, All-drop, All-nil, All-same}
+use Rattle.alike_histories.specs.Alike.{AllSeeAlike}
 use Rattle.alike_histories.proofs.Alike.{turned}
 use Rattle.entry_steps.specs.Evaluator.{EvaluatorValue, StandsInFor, queries_of}
 use Rattle.entry_steps.specs.Laws.{EntriesStandIn}
@@ -14,6 +15,7 @@ use Rattle.engine_loop.specs.declared.source.AfterShrink.TheVariants.{GoOn, Rebu
 use Rattle.history_model.specs.Lines.{entries}
 use Rattle.history_model.specs.World.{Terms}
 use Rattle.rpq_base.specs.Plain.{IsPlain}
+use Rattle.rpq_base.specs.TupleValue.{TupleValue}
 use Rattle.rpq_base.specs.declared.data.Entry.{Entry}
 use Rattle.rpq_model.specs.Query.{Query}
 use Rattle.saved_window.specs.Alike.{SavedKeepsTheStore, SavedOfMore}
@@ -23,6 +25,7 @@ use Rattle.stream_history.specs.History.{HistoryValue, HasSeen}
 use Rattle.stream_threads.proofs.Numbering.{Each}
 use Rattle.rpq_threads.specs.Entries.{FeedsFrom, FeedsOn}
 use Rattle.rpq_threads.specs.Past.{PastIsNew, PastTakes, PastShrinks, IsPastOf, kept_in}
+use Rattle.rpq_threads.specs.Past.{DropsFirst, ShrinksTo}
 use Rattle.rpq_threads.specs.Window.{ServesAs}
 use Rattle.rpq_threads.specs.declared.past.Past.{Past}
 use Rattle.rpq_threads.specs.declared.past.Past.TheVariants.{InHistory, Kept}
@@ -157,6 +160,16 @@ past_taken terms (Kept old) (Kept new) from to buffer before given takes order n
 
 -- ---- what is kept is shrunk
 
+-- with no entries behind
+with_none : (own first : List Entry) → first ≡ [] → own ++ first ≡ own
+with_none own first none = ap (λ (each : List Entry). own ++ each) none ∙ append-nil own
+
+-- without its first entries a plain list is plain
+drops_plain : (queries : List Query) (own left : List Entry) → DropsFirst queries own left →
+    All IsPlain own → All IsPlain left
+drops_plain queries own left drops plain =
+    All-same IsPlain left (drop drops.0 own) drops.1 (All-drop IsPlain drops.0 own plain)
+
 -- with what stays of them the entries still stand in
 module _ (stand : EntriesStandIn) (store : SavedKeepsTheStore) (more : SavedOfMore)
     (evaluator : EvaluatorValue) (runs : IsRunnable evaluator) (terms : Terms)
@@ -178,6 +191,33 @@ module _ (stand : EntriesStandIn) (store : SavedKeepsTheStore) (more : SavedOfMo
       (stand.plain evaluator all own (saved_entries_plain own qs plain) plain
       (λ query member. turned query.window own all (store qs slide own query member))) stands)
 
+  -- and so with the others, where first ones are dropped of which nothing is saved
+  dropped_in : (queries : List Query) (own left : List Entry) → queries ≡ terms.queries →
+      All IsPlain own → DropsFirst queries own left → (history : List Entry) →
+      StandsInFor evaluator own history → StandsInFor evaluator left history
+  dropped_in queries own left is plain drops history stands =
+      let qs = queries_of evaluator in
+      let all = first_stream (saved queries own) in
+      let all_is : first_stream (saved qs left) ≡ all =
+      ap (λ (each : List Query). first_stream (saved each left)) (same ∙ sym is)
+      ∙ ap first_stream drops.2 in
+      stand.joined evaluator left all history
+      (stand.plain evaluator left all (drops_plain queries own left drops plain)
+      (saved_entries_plain own queries plain)
+      (subst (λ (other : List Entry). AllSeeAlike qs left other) all_is (store qs slide left)))
+      (left_in queries own all is plain refl history stands)
+
+  shrunk_in : (then : AfterShrink) (queries : List Query) (own left : List Entry) →
+      queries ≡ terms.queries → All IsPlain own → ShrinksTo queries own then left →
+      (history : List Entry) → StandsInFor evaluator own history →
+      StandsInFor evaluator left history
+  shrunk_in GoOn queries own left is plain drops history stands =
+      dropped_in queries own left is plain drops history stands
+  shrunk_in Rebuild queries own left is plain shrinks history stands = ⊎_elim
+      (λ drops. dropped_in queries own left is plain drops history stands)
+      (λ left_is. left_in queries own left is plain left_is history stands)
+      shrinks
+
   left_serves : (queries : List Query) (history own left : List Entry) → queries ≡ terms.queries →
       left ≡ first_stream (saved queries own) → ServesAs terms.queries history own →
       ServesAs terms.queries history left
@@ -185,6 +225,32 @@ module _ (stand : EntriesStandIn) (store : SavedKeepsTheStore) (more : SavedOfMo
       subst (λ (each : List Entry). ServesAs terms.queries history each)
       (sym (left_is ∙ ap (λ (each : List Query). first_stream (saved each own)) is))
       (serves_left more terms.queries (subst (All Slides) same slide) history own serves)
+
+  dropped_serves : (queries : List Query) (history own left : List Entry) →
+      queries ≡ terms.queries → DropsFirst queries own left →
+      ServesAs terms.queries history own → ServesAs terms.queries history left
+  dropped_serves queries history own left is drops serves =
+      let slides = subst (All Slides) same slide in
+      let saved_is : saved terms.queries left ≡ saved terms.queries own =
+      subst (λ (each : List Query). saved each left ≡ saved each own) is drops.2 in
+      record {
+        saves = λ later.
+            sym (more terms.queries slides left later)
+            ∙ (ap (λ (tuples : List TupleValue).
+            saved terms.queries (first_stream tuples ++ later)) saved_is
+            ∙ (more terms.queries slides own later ∙ serves.saves later));
+        plain = drops_plain queries own left drops serves.plain;
+      }
+
+  shrunk_serves : (then : AfterShrink) (queries : List Query) (history own left : List Entry) →
+      queries ≡ terms.queries → ShrinksTo queries own then left →
+      ServesAs terms.queries history own → ServesAs terms.queries history left
+  shrunk_serves GoOn queries history own left is drops serves =
+      dropped_serves queries history own left is drops serves
+  shrunk_serves Rebuild queries history own left is shrinks serves = ⊎_elim
+      (λ drops. dropped_serves queries history own left is drops serves)
+      (λ left_is. left_serves queries history own left is left_is serves)
+      shrinks
 
   pub shrunk_stands : (past new : Past) (then : AfterShrink) (first given : List Entry) →
       first ≡ [] → PastShrinks past then new → IsPastOf terms past first given →
@@ -195,18 +261,12 @@ module _ (stand : EntriesStandIn) (store : SavedKeepsTheStore) (more : SavedOfMo
       absurd shrinks
   shrunk_stands (Kept old) InHistory then first given none shrinks was history stands =
       absurd shrinks
-  shrunk_stands (Kept old) (Kept new) GoOn first given none shrinks was history stands =
-      subst (λ (own : List Entry). StandsInFor evaluator (own ++ first) history)
-      (sym shrinks.1) stands
-  shrunk_stands (Kept old) (Kept new) Rebuild first given none shrinks was history stands =
+  shrunk_stands (Kept old) (Kept new) then first given none shrinks was history stands =
       let own = old.entries.items in
-      let own_is : own ++ first ≡ own =
-      ap (λ (each : List Entry). own ++ each) none ∙ append-nil own in
-      let new_is : new.entries.items ++ first ≡ new.entries.items =
-      ap (λ (each : List Entry). new.entries.items ++ each) none
-      ∙ append-nil new.entries.items in
-      subst (λ (each : List Entry). StandsInFor evaluator each history) (sym new_is)
-      (left_in old.queries.now own new.entries.items was.1
+      let own_is : own ++ first ≡ own = with_none own first none in
+      subst (λ (each : List Entry). StandsInFor evaluator each history)
+      (sym (with_none new.entries.items first none))
+      (shrunk_in then old.queries.now own new.entries.items was.1
       (subst (All IsPlain) own_is was.2.plain) shrinks.1 history
       (subst (λ (each : List Entry). StandsInFor evaluator each history) own_is stands))
 
@@ -216,24 +276,15 @@ module _ (stand : EntriesStandIn) (store : SavedKeepsTheStore) (more : SavedOfMo
   shrunk_past InHistory InHistory then first given none shrinks was = was
   shrunk_past InHistory (Kept new) then first given none shrinks was = absurd shrinks
   shrunk_past (Kept old) InHistory then first given none shrinks was = absurd shrinks
-  shrunk_past (Kept old) (Kept new) GoOn first given none shrinks was = (
-    was.0,
-    shrinks.0 ∙ was.1,
-    subst (λ (own : List Entry). ServesAs terms.queries given (own ++ first)) (sym shrinks.1)
-        was.2,
-  )
-  shrunk_past (Kept old) (Kept new) Rebuild first given none shrinks was =
-      let own = old.entries.items in
-      let own_is : own ++ first ≡ own =
-      ap (λ (each : List Entry). own ++ each) none ∙ append-nil own in
-      let new_is : new.entries.items ++ first ≡ new.entries.items =
-      ap (λ (each : List Entry). new.entries.items ++ each) none
-      ∙ append-nil new.entries.items in (
+  shrunk_past (Kept old) (Kept new) then first given none shrinks was =
+      let own = old.entries.items in (
         was.0,
         shrinks.0 ∙ was.1,
-        subst (λ (each : List Entry). ServesAs terms.queries given each) (sym new_is)
-            (left_serves old.queries.now given own new.entries.items was.1 shrinks.1
-            (subst (λ (each : List Entry). ServesAs terms.queries given each) own_is was.2)),
+        subst (λ (each : List Entry). ServesAs terms.queries given each)
+            (sym (with_none new.entries.items first none))
+            (shrunk_serves then old.queries.now given own new.entries.items was.1 shrinks.1
+            (subst (λ (each : List Entry). ServesAs terms.queries given each)
+            (with_none own first none) was.2)),
       )
 
 -- ---- the source

@@ -1,6 +1,6 @@
 -- What stands in the place of the entries that the engine was given. Only private contracts cite
 -- this file.
-use Rattle.std.specs.Prelude.{◌≡◌, List, [], ◌++◌, Option, Some, None}
+use Rattle.std.specs.Prelude.{◌≡◌, ℕ, ◌+◌, ◌≤◌, ◌⊎◌, List, [], ◌++◌, drop, Option, Some, None}
 use Rattle.std.specs.Global.{Vec}
 use Rattle.rpq_base.specs.declared.data.Entry.{Entry}
 use Rattle.rpq_model.specs.Query.{Query}
@@ -13,10 +13,24 @@ use Rattle.rpq_threads.specs.Window.{ServesAs}
 use Rattle.rpq_threads.specs.declared.past.Past.{Past}
 use Rattle.rpq_threads.specs.declared.past.Past.TheVariants.{InHistory, Kept}
 
--- what is saved of these entries takes their place, where the engine is rebuilt; else they stay
+-- of these entries the first ones are given up, so many, and the same is saved of the others
+abbrev pub DropsFirst : List Query → List Entry → List Entry → Type 0
+DropsFirst queries old new = (count : ℕ) × (new ≡ drop count old)
+    × (saved queries new ≡ saved queries old)
+
+-- entries are given up of which nothing is saved: first ones, and where the engine is rebuilt, maybe
+-- all of them
 abbrev pub ShrinksTo : List Query → List Entry → AfterShrink → List Entry → Type 0
-ShrinksTo queries old Rebuild new = new ≡ first_stream (saved queries old)
-ShrinksTo queries old GoOn new = new ≡ old
+ShrinksTo queries old Rebuild new =
+    DropsFirst queries old new ⊎ (new ≡ first_stream (saved queries old))
+ShrinksTo queries old GoOn new = DropsFirst queries old new
+
+-- the engine is rebuilt only once there are so many entries, with those that were dropped since it
+-- was rebuilt last, as the limit says; and then 65,536 more have to come
+abbrev pub ComesInTurn : AfterShrink → ℕ → ℕ → ℕ → ℕ → ℕ → Type 0
+ComesInTurn Rebuild all limit left dropped next =
+    (limit ≤ all) × (dropped ≡ 0) × (left + 65536 ≤ next)
+ComesInTurn GoOn all limit left dropped next = Unit {0}
 
 -- a past of a history that was made with these terms, before any entry
 abbrev pub PastIsNew : Terms → List Query → Past → Type 0

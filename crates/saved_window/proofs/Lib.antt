@@ -1,3 +1,4 @@
+mod Behind
 mod Clocks
 mod Continues
 mod Example

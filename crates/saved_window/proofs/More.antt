@@ -193,7 +193,7 @@ clock_goes_on history later =
 -- ---- what is saved
 
 -- of a history with entries
-saved_some : (history : List Entry) (queries : List Query) → 0 < length history →
+pub saved_some : (history : List Entry) (queries : List Query) → 0 < length history →
     saved queries history ≡ with_clock (clock history) (kept_tuples queries (clock history) history)
 saved_some [] queries some = absurd (omega (arith, some))
 saved_some (entry ∷ later) queries some = refl

@@ -13,9 +13,11 @@
 //! [`Then`] is a source as any other.
 //!
 //! Saving goes through the history once, whatever the number of queries, and copies what it gives.
+//! [`passed`] copies nothing: it says how many first entries all windows have passed.
 #![tactic(auto)]
 
 mod laws;
+mod passing;
 mod reach;
 mod saving;
 mod text;
@@ -24,6 +26,7 @@ mod then;
 pub use laws::{
     saved_continues, saved_example, saved_keeps_the_store, saved_of_more, saved_text_is_read,
 };
+pub use passing::{passed, seen_count};
 pub use saving::saved;
 pub use text::{push_saved, saved_text};
 pub use then::{NoPrefix, OnePrefix, Prefix, Then};

@@ -7,7 +7,7 @@ ghost use Rattle.saved_window.specs.Reach.{reaches, ReachesForAll};
 use rpq_model::{QueryDef, Window};
 
 /// The first time that is in the window at a clock.
-fn first_time(window: Window, now: u64) -> u64
+pub(crate) fn first_time(window: Window, now: u64) -> u64
     ensures { (time : ℕ) → is_in_window window now time ≡ nat_le result time }
 {
     (now / window.slide * window.slide).saturating_sub(window.size - 1)
