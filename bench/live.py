@@ -2,7 +2,7 @@
 """Times rpq with several streams and with readers, outside the gate.
 
     live.py PROGRAM [--before OTHER] [--kinds uniform,so] [--tuples 100000] [--runs 3]
-    live.py PROGRAM --beside [--kinds uniform,so] [--tuples 100000] [--runs 3]
+    live.py PROGRAM --beside [--workers N] [--kinds uniform,so] [--tuples 100000] [--runs 3]
     live.py PROGRAM --idle
     live.py PROGRAM --delay
 
@@ -13,9 +13,10 @@ and for what one vertex leads to; and with 64 readers of 100 asks each. The time
 are also told as a part of those of the one stream. With --before the one stream is run by another
 program of the same command line, too, in turn.
 
---beside prints the seconds of processor time, the least of so many runs, of one stream; the same
-with a reader beside it that asks nothing; and with one that asks ten times a second for a count and
-for what one vertex leads to.
+--beside prints the seconds up to the last output of one stream, and those of processor time, the
+least of so many runs each; the same, as times these, with a reader beside it that asks nothing; and
+with one that asks ten times a second for a count and for what one vertex leads to. The runs take as
+many workers as --workers says.
 
 --idle tells what processor time a run takes in 10 s in which its pipe says nothing, with two
 readers that wait. --delay tells how long it takes from a line that is written into a pipe until its
@@ -26,6 +27,7 @@ import argparse
 import os
 import subprocess
 import tempfile
+import threading
 import time
 
 from programs import files, run
@@ -119,15 +121,51 @@ def busy_time(number):
     return (int(fields[11]) + int(fields[12])) / os.sysconf("SC_CLK_TCK")
 
 
+class Output(threading.Thread):
+    """Reads what a process writes, and notes when it wrote last."""
+
+    def __init__(self, pipe):
+        super().__init__()
+        self.pipe = pipe
+        self.begun = self.last = time.monotonic()
+        self.start()
+
+    def run(self):
+        while self.pipe.read1(1 << 20):
+            self.last = time.monotonic()
+
+    def seconds(self):
+        """The seconds up to the last output. The process has ended."""
+        self.join()
+        return self.last - self.begun
+
+
+def without_reader(words):
+    """The seconds of a run up to its last output, and those of processor time."""
+    process = subprocess.Popen(words, stdout=subprocess.PIPE)
+    output = Output(process.stdout)
+    return ended(process, words, output)
+
+
+def ended(process, words, output):
+    """The seconds of a run up to its last output, and those of processor time, once it has ended."""
+    _, status, used = os.wait4(process.pid, 0)
+    process.returncode = status
+    if status != 0:
+        raise SystemExit(f"{' '.join(words)}: status {status >> 8}")
+    return output.seconds(), used.ru_utime + used.ru_stime
+
+
 def with_reader(words, lines):
-    """The processor time of a run with a reader beside it. Each tenth of a second it is asked the
-    next of these lines, if there are any. It is ended once the run takes no more time."""
+    """The same of a run with a reader beside it. Each tenth of a second it is asked the next of these
+    lines, if there are any. It is ended once the run takes no more time."""
     place = tempfile.mkdtemp(prefix="rpq-live")
     pipes = [os.path.join(place, name) for name in ("asks", "replies")]
     for pipe in pipes:
         os.mkfifo(pipe)
     held, taken = (os.open(pipe, os.O_RDWR | os.O_NONBLOCK) for pipe in pipes)
-    process = subprocess.Popen([*words, "--reader", *pipes], stdout=subprocess.DEVNULL)
+    process = subprocess.Popen([*words, "--reader", *pipes], stdout=subprocess.PIPE)
+    output = Output(process.stdout)
     asked, before, quiet = 0, -1.0, 0
     while quiet < 5:
         time.sleep(0.1)
@@ -142,18 +180,21 @@ def with_reader(words, lines):
         except BlockingIOError:
             pass
     os.write(held, b"end\n")
-    _, status, used = os.wait4(process.pid, 0)
-    process.returncode = status
-    if status != 0:
-        raise SystemExit(f"{' '.join(words)}: status {status >> 8}")
+    took = ended(process, words, output)
     os.close(held)
     os.close(taken)
-    return used.ru_utime + used.ru_stime
+    return took
 
 
-def beside(program, kinds, tuples, times):
+def least_of(runs):
+    """The least of the seconds, and of those of processor time."""
+    seconds, busy = zip(*runs)
+    return min(seconds), min(busy)
+
+
+def beside(program, workers, kinds, tuples, times):
     """Prints what a reader beside a run costs."""
-    print("| stream, queries | no reader, s | one that asks nothing | one that asks |")
+    print("| stream, queries | no reader, s: wall, processor | one that asks nothing | one that asks |")
     print("|---|---|---|---|")
     for kind in kinds:
         for query in ("q1", "all"):
@@ -162,12 +203,13 @@ def beside(program, kinds, tuples, times):
                 names = [line.split()[1] for line in lines if line.startswith("query")]
             asked = [f"count {name}\nfrom {name} {vertex}\n"
                      for name, vertex in zip(names * 50, vertices(stream, 50))]
-            words = [program, queries, stream]
-            alone = min(run(words).busy for _ in range(times))
-            still = min(with_reader(words, []) for _ in range(times))
-            asking = min(with_reader(words, asked) for _ in range(times))
-            print(f"| `{kind}`, {query} | {alone:.2f} | {still / alone:.2f} |"
-                  f" {asking / alone:.2f} |", flush=True)
+            words = [program, *workers, queries, stream]
+            alone = least_of(without_reader(words) for _ in range(times))
+            still = least_of(with_reader(words, []) for _ in range(times))
+            asking = least_of(with_reader(words, asked) for _ in range(times))
+            print(f"| `{kind}`, {query} | {alone[0]:.2f}, {alone[1]:.2f} |"
+                  f" {still[0] / alone[0]:.2f}, {still[1] / alone[1]:.2f} |"
+                  f" {asking[0] / alone[0]:.2f}, {asking[1] / alone[1]:.2f} |", flush=True)
 
 
 def live(program, words, place):
@@ -235,6 +277,7 @@ def main():
     parser.add_argument("--tuples", type=int, default=100_000)
     parser.add_argument("--runs", type=int, default=3)
     parser.add_argument("--beside", action="store_true")
+    parser.add_argument("--workers")
     parser.add_argument("--idle", action="store_true")
     parser.add_argument("--delay", action="store_true")
     given = parser.parse_args()
@@ -244,7 +287,8 @@ def main():
     elif given.delay:
         delay(program)
     elif given.beside:
-        beside(program, given.kinds.split(","), given.tuples, given.runs)
+        workers = ["--workers", given.workers] if given.workers else []
+        beside(program, workers, given.kinds.split(","), given.tuples, given.runs)
     else:
         before = os.path.abspath(given.before) if given.before else None
         table(program, before, given.kinds.split(","), given.tuples, given.runs)
