@@ -1,7 +1,7 @@
 //! That threads may be handed the parts of a front. The functions do nothing: each says so of one
 //! type, which is found more easily than for all that a call of many threads takes at once.
 
-ghost use denote.Builtin.{u32 as u32_row};
+ghost use denote.Builtin.{bool as bool_row, u32 as u32_row};
 ghost use Rattle.std.specs.Thread.{IsSend};
 ghost use Rattle.std.specs.contracts.alloc.Global.{the_row as heap_row};
 ghost use Rattle.std.specs.contracts.impls.GlobalAllocator.TheImpl.{ghosts};
@@ -18,10 +18,6 @@ ghost use Rattle.answer_rows.specs.contracts.rows.Rows.{the_row as rows_row};
 ghost use Rattle.end_events.specs.contracts.numbered_event.NumberedEvent.{the_row as event_row};
 ghost use Rattle.rpq_base.specs.contracts.memory.Memory.{the_row as memory_row};
 ghost use Rattle.std.specs.contracts.result.Result.{the_row as result_row};
-ghost use Rattle.std.specs.contracts.collections.BTreeSet.{the_row as set_row};
-ghost use Rattle.std.specs.contracts.prelude.U32Ord.TheImpl.{ghosts as u32_order};
-ghost use Rattle.std.specs.contracts.prelude.U32PartialEq.TheImpl.{ghosts as u32_equality};
-ghost use Rattle.std.specs.contracts.prelude.U32PartialOrd.TheImpl.{ghosts as u32_partial_order};
 ghost use Rattle.path_engine.specs.contracts.front.Share.{the_row as share_row};
 ghost use Rattle.path_engine.specs.contracts.parts.Part.{the_row as part_row};
 
@@ -37,7 +33,6 @@ use source_index::{Dues, Holders};
 use source_table::SourceTable;
 use source_tree::EndChange;
 use std::alloc::Global;
-use std::collections::BTreeSet;
 use window_clock::WindowClock;
 
 /// Threads may be handed values of this type.
@@ -97,11 +92,13 @@ fn threads_take_forests()
     threads_take::<Forest>(&[])
 }
 
-/// Threads may be handed sets of roots.
-fn threads_take_sets()
-    ensures { IsSend (set_row u32_row heap_row u32_order u32_equality u32_partial_order ghosts) }
+/// Threads may be handed what a list of roots is made of.
+fn threads_take_roots()
+    ensures numbers { IsSend (vec_row u32_row heap_row ghosts) }
+    ensures flags { IsSend (vec_row bool_row heap_row ghosts) }
 {
-    threads_take::<BTreeSet<u32>>(&[])
+    threads_take::<Vec<u32>>(&[]);
+    threads_take::<Vec<bool>>(&[]);
 }
 
 /// Threads may be handed the events of several entries.
@@ -118,7 +115,7 @@ fn threads_take_shares()
 {
     threads_take_forests();
     threads_take_rows();
-    threads_take_sets();
+    threads_take_roots();
     threads_take_events();
     threads_take::<Share>(&[])
 }

@@ -9,6 +9,7 @@ mod Answered
 mod Choosing
 mod Rows
 mod Shown
+mod Flagged
 mod Starting
 pub mod Still
 mod BestPaths

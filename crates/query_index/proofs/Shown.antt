@@ -1,8 +1,9 @@
 -- The answers that a forest shows: rows of roots that are made anew, and the rows of a query.
-use Rattle.std.proofs.Common.{◌≡◌, ℕ, ◌<◌, ◌≤◌, List, [], ◌∷◌, length}
+use Rattle.std.proofs.Common.{◌≡◌, ℕ, ◌+◌, ◌<◌, ◌≤◌, List, [], length, drop, get_or}
 use Rattle.std.proofs.Common.{Option, Some, None, sym, ap, subst, ◌∙◌, ◌⊎◌, inl, inr, ⊎_elim, arith}
 use Rattle.std.specs.Prelude.{Contains}
 use Rattle.std.proofs.lemmas.Bool.{cases_eq}
+use Rattle.std.proofs.lemmas.List.{drop_more}
 use Rattle.std.proofs.lemmas.Option.{none-some, same_Some}
 use Rattle.rpq_base.specs.declared.data.Entry.{Entry}
 use Rattle.rpq_base.proofs.Members.{cons_members, none_in}
@@ -109,29 +110,37 @@ module _ (mode : Mode) (names : List (List ℕ)) (forest : ForestValue) where
       ))
       (is_or_not (number_of names pair.from) root)
 
-  -- the row of the first of some roots is made anew, and those of the rest are left
-  pub renewed_first : (first : ℕ) (all rest : List ℕ) (old new : List Answer) →
-      all ≡ first ∷ rest → ShowAllBut (Contains all) mode names forest old →
-      Renews mode names forest first old new → ShowAllBut (Contains rest) mode names forest new
-  renewed_first first all rest old new is shown renews =
-      renewed_more (Contains all) (Contains rest) first old new
-      (λ each member. ⊎_elim (λ here. inl (sym {A = ℕ} here)) (λ later. inr later)
-      ((cons_members first rest each).0
-      (subst (λ (roots : List ℕ). Contains roots each) is member)))
-      shown renews
+  -- one of the roots from here on is this one or a later one
+  this_or_later : (roots : List ℕ) (index d each : ℕ) → index < length roots →
+      Contains (drop index roots) each →
+      (each ≡ get_or roots index d) ⊎ Contains (drop (index + 1) roots) each
+  this_or_later roots index d each inside member = ⊎_elim
+      (λ here. inl (sym {A = ℕ} here))
+      (λ later. inr later)
+      ((cons_members (get_or roots index d) (drop (index + 1) roots) each).0
+      (subst (λ (left : List ℕ). Contains left each) (drop_more roots index d inside) member))
 
-  -- the first root has no name
-  pub skipped_first : (first : ℕ) (all rest : List ℕ) (rows : List Answer) →
-      all ≡ first ∷ rest → length names ≤ first →
-      ShowAllBut (Contains all) mode names forest rows →
-      ShowAllBut (Contains rest) mode names forest rows
-  skipped_first first all rest rows is past shown =
-      show_all_but (Contains all) (Contains rest) rows
+  -- the row of this root is made anew, and those of later ones are left
+  pub renewed_at : (roots : List ℕ) (index d : ℕ) (old new : List Answer) →
+      index < length roots → ShowAllBut (Contains (drop index roots)) mode names forest old →
+      Renews mode names forest (get_or roots index d) old new →
+      ShowAllBut (Contains (drop (index + 1) roots)) mode names forest new
+  renewed_at roots index d old new inside shown renews =
+      renewed_more (Contains (drop index roots)) (Contains (drop (index + 1) roots))
+      (get_or roots index d) old new
+      (λ each member. this_or_later roots index d each inside member) shown renews
+
+  -- this root has no name
+  pub skipped_at : (roots : List ℕ) (index d named : ℕ) (rows : List Answer) →
+      index < length roots → named ≡ length names → named ≤ get_or roots index d →
+      ShowAllBut (Contains (drop index roots)) mode names forest rows →
+      ShowAllBut (Contains (drop (index + 1) roots)) mode names forest rows
+  skipped_at roots index d named rows inside count past shown =
+      show_all_but (Contains (drop index roots)) (Contains (drop (index + 1) roots)) rows
       (λ each within member. ⊎_elim
-      (λ here. absurd (omega (arith, past, within, ap {A = ℕ} (λ (number : ℕ). number) here)))
+      (λ (here : each ≡ get_or roots index d). absurd (omega (arith, past, count, within, here)))
       (λ later. later)
-      ((cons_members first rest each).0
-      (subst (λ (roots : List ℕ). Contains roots each) is member)))
+      (this_or_later roots index d each inside member))
       shown
 
   -- no root is left

@@ -1,3 +1,4 @@
+pub mod RootList
 pub mod IndexValue
 pub mod Shown
 pub mod Index

@@ -35,7 +35,7 @@ IsShown mode names forest pair until = (root : ℕ) × Shows mode names forest r
 -- the row of the root may differ from what is shown
 abbrev pub IsStale : StaleRoots → ℕ → Type 0
 IsStale Every root = ⊤
-IsStale (Roots roots) root = Contains roots.keys root
+IsStale (Roots roots) root = Contains roots root
 
 -- the number of the name is of the kind
 abbrev pub IsNameOf : (ℕ → Type 0) → List (List ℕ) → List ℕ → Type 0

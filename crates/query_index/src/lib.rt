@@ -25,6 +25,7 @@ mod automaton;
 mod index;
 mod laws;
 mod paths;
+mod root_list;
 mod showing;
 mod stale;
 mod targets;

@@ -23,7 +23,6 @@ use query_file::Compiled;
 use rpq_base::Memory;
 use rpq_model::Mode;
 use std::alloc::Global;
-use std::collections::BTreeSet;
 use std::mem::replace;
 
 impl QueryIndex {
@@ -81,7 +80,7 @@ impl QueryIndex {
         let mut rows = replace(&mut self.shown, Rows::new(alloc));
         renew_stale(alloc, &mut rows, mode, &self.forest, names, named, &stale)?;
         self.shown = rows.copy()?;
-        self.stale = StaleRoots::Roots(BTreeSet::new(alloc));
+        self.stale = stale.emptied(alloc);
         Ok(rows)
     }
 }
@@ -104,7 +103,9 @@ fn renew_stale(
 {
     match stale {
         StaleRoots::Every => renew_every(alloc, rows, mode, forest, names, named),
-        StaleRoots::Roots(roots) => renew_each(alloc, rows, mode, forest, names, named, roots),
+        StaleRoots::Roots(roots) => {
+            renew_each(alloc, rows, mode, forest, names, named, roots.as_slice())
+        }
     }
 }
 
@@ -137,12 +138,12 @@ fn renew_each(
     forest: &Forest,
     names: &Names,
     named: u32,
-    roots: &BTreeSet<u32>,
+    roots: &[u32],
 ) -> Result<(), Memory>
     requires named { named ≡ length names.now }
     requires unbroken { forest.now.broken ≡ false }
     requires names { HaveNames names.now forest.now }
-    requires rows { ShowAllBut (Contains roots.now.keys) mode names.now forest.now rows.old }
+    requires rows { ShowAllBut (Contains roots.now) mode names.now forest.now rows.old }
     ensures { OnOk result (HaveShown mode names.now forest.now rows.new) }
 {
     for root in roots {

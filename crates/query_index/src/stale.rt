@@ -1,10 +1,12 @@
 //! Roots whose rows have to be read again.
 
 ghost use Rattle.std.specs.Prelude.{◌⊎◌, ℕ, Contains, OnOk};
+ghost use Rattle.query_index.specs.Shown.{IsStale};
 ghost use Rattle.query_index.specs.Showing.{Marks};
 
+use crate::root_list::RootList;
 use rpq_base::Memory;
-use std::collections::BTreeSet;
+use std::alloc::Global;
 
 /// The roots whose rows may differ from what the forest shows.
 #[derive(Drop)]
@@ -12,7 +14,7 @@ pub enum StaleRoots {
     /// All roots.
     Every,
     /// These roots alone.
-    Roots(BTreeSet<u32>),
+    Roots(RootList),
 }
 
 impl StaleRoots {
@@ -26,15 +28,28 @@ impl StaleRoots {
             }
         }
     }
+
+    /// No root is stale any more. The memory of a list of roots is kept for those to come.
+    pub(crate) fn emptied(self, alloc: Global) -> StaleRoots
+        ensures { (root : ℕ) → IsStale result root → ⊥ }
+    {
+        match self {
+            StaleRoots::Every => StaleRoots::Roots(RootList::new(alloc)),
+            StaleRoots::Roots(mut stale) => {
+                stale.clear();
+                StaleRoots::Roots(stale)
+            }
+        }
+    }
 }
 
 /// Adds the roots.
-fn add_all(stale: &mut BTreeSet<u32>, roots: &[u32]) -> Result<(), Memory>
-    ensures { OnOk result ((root : ℕ) → Contains stale.old.keys root ⊎ Contains roots.now root →
-        Contains stale.new.keys root) }
+fn add_all(stale: &mut RootList, roots: &[u32]) -> Result<(), Memory>
+    ensures { OnOk result ((root : ℕ) → Contains stale.old root ⊎ Contains roots.now root →
+        Contains stale.new root) }
 {
     for root in roots {
-        stale.insert(*root)?;
+        stale.add(*root)?;
     }
     Ok(())
 }

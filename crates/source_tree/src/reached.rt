@@ -1,30 +1,21 @@
 //! The list of the vertices that have an end.
 
-ghost use Rattle.std.specs.Prelude.{◌≡◌, ◌↔◌, ◌^◌, ◌<◌, ℕ, List, nat_eq, Contains, IsTrue, IfOk, OnOk};
-ghost use Rattle.indexmap.specs.IndexSet.{IsFromIterResult};
+ghost use Rattle.std.specs.Prelude.{◌≡◌, ◌↔◌, ◌^◌, ◌<◌, ℕ, List, Contains, IsTrue, IfOk, OnOk};
 ghost use Rattle.delta_tree.specs.Nodes.{TreeValue};
 ghost use Rattle.source_tree.specs.Ends.{AreReached};
 ghost use Rattle.source_tree.specs.Listing.{AddsValue, HaveValues, order_of};
 
 use crate::change::Reached;
 use delta_tree::{NodeId, Tree};
-use indexmap::IndexSet;
 use rpq_base::Memory;
-use std::alloc::{AllocError, Global};
+use std::alloc::Global;
 
-/// The set of the final states.
-fn set_of(alloc: Global, finals: &[u32]) -> Result<IndexSet<u32>, AllocError>
-    ensures { IfOk result (IsFromIterResult nat_eq finals.now) }
+/// Whether the state is one of the final ones. An automaton has few of them, so they are gone
+/// through: a set of them would cost more for a small tree than all its nodes.
+fn is_among(finals: &[u32], state: u32) -> bool
+    ensures { IsTrue result ↔ Contains finals.now state }
 {
-    finals.iter().copied().collect(alloc)
-}
-
-/// Whether the state is one of the final ones.
-fn is_among(set: &IndexSet<u32>, state: u32) -> bool
-    ensures { (finals : List ℕ) → IsFromIterResult nat_eq finals set.now →
-        IsTrue result ↔ Contains finals state }
-{
-    set.contains(&state)
+    finals.contains(&state)
 }
 
 /// A vertex with a value.
@@ -53,11 +44,10 @@ pub(crate) fn list_values(
 ) -> Result<Vec<Reached>, Memory>
     ensures { IfOk result (λ reached. HaveValues finals.now tree.now reached.items) }
 {
-    let set = set_of(alloc, finals)?;
     let mut reached = Vec::new(alloc);
     for k in 0..tree.len() {
         let id = tree.node_at(k);
-        if is_among(&set, id.state) {
+        if is_among(finals, id.state) {
             add_value(tree, id, &mut reached)?;
         }
     }

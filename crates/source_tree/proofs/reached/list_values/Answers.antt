@@ -16,7 +16,7 @@ loop-k-preserved c =
     let id = c.node_at-id.result in
     let walked = take k (ids_of tree) in
     let old = c.loop-k.reached.items in
-    let among = c.is_among.ensures finals c.in_ok-set.ensures in
+    let among = c.is_among.ensures in
     subst (λ (all : List NodeId). IsListing finals tree all c.if-is_among.reached.items)
     (sym (walked_more (ids_of tree) k id c.node_at-id.ensures))
     (elim c.if-is_among.branch [
