@@ -93,7 +93,7 @@ kept_there rows places hinted root id number place at same =
 
 -- ---- another place in the place of one
 
-set_cases : {X : Type 0} (xs : List X) (number : ℕ) (y : X) (other : ℕ) (x : X) →
+pub set_cases : {X : Type 0} (xs : List X) (number : ℕ) (y : X) (other : ℕ) (x : X) →
     slice_get (slice_set xs number y) other ≡ Some x →
     (slice_get xs other ≡ Some x) ⊎ ((other ≡ number) × (x ≡ y))
 set_cases [] number y other x at = inl at
@@ -105,7 +105,7 @@ set_cases (z ∷ zs) (suc number) y (suc other) x at = elim (set_cases zs number
   | inr (same, is) ↦ inr (ap (λ n. suc n) same, is)
 ]
 
-push_cases : {X : Type 0} (xs : List X) (y : X) (other : ℕ) (x : X) →
+pub push_cases : {X : Type 0} (xs : List X) (y : X) (other : ℕ) (x : X) →
     slice_get (xs ++ y ∷ []) other ≡ Some x →
     (slice_get xs other ≡ Some x) ⊎ ((other ≡ length xs) × (x ≡ y))
 push_cases [] y zero x at = inr (refl, some_is_one x y (sym at))

@@ -7,7 +7,10 @@ mod Found
 mod Leaving
 mod Linked
 mod Listed
+mod Marked
+mod Ordered
 mod Puts
+mod Raised
 mod Reached
 mod Seen
 mod Steps

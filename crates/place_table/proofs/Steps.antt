@@ -141,6 +141,18 @@ lifts_none table step width = record {
   raised = λ gain (k, within, at) is. absurd (omega (arith, within));
 }
 
+-- nor after a change that no tree shows
+pub lifts_same : (first old : TableValue) (step : Try) (width : ℕ) →
+    ((each : ℕ) → tree_in old each ≡ tree_in first each) → old.puts ≡ first.puts →
+    LiftsAll first old step width []
+lifts_same first old step width trees puts = record {
+  counted = omega (arith, puts);
+  elsewhere = λ root id apart. ap (λ (tree : TreeValue). node_of tree id) (trees root);
+  others = λ root free. ap (λ (tree : TreeValue). node_of tree step.to) (trees root);
+  enough = λ gain (k, within, at) is. absurd (omega (arith, within));
+  raised = λ gain (k, within, at) is. absurd (omega (arith, within));
+}
+
 root_in : (gains : List Gain) (gain : Gain) → Contains gains gain →
     Contains (gain_roots gains) gain.root
 root_in gains gain (k, within, is) = (
@@ -265,6 +277,10 @@ between_more gains low at gain from within is =
 pub between_none : (gains : List Gain) (low : ℕ) → between low low gains ≡ []
 between_none gains low =
     let none : low - low ≡ 0 = omega arith in ap (λ n. take n (drop low gains)) none
+
+pub between_end : (gains : List Gain) (low high : ℕ) → low ≡ high → between low high gains ≡ []
+between_end gains low high same =
+    subst (λ n. between low n gains ≡ []) same (between_none gains low)
 
 read_front : {X : Type 0} (xs ys : List X) (i : ℕ) (d : X) → i < length xs →
     get_or (xs ++ ys) i d ≡ get_or xs i d

@@ -2,7 +2,10 @@ pub mod Kept
 pub mod Lifts
 pub mod Links
 pub mod Losses
+pub mod Marking
 pub mod Queue
+pub mod Raises
 pub mod Reading
+pub mod Rows
 pub mod Sound
 pub mod Table

@@ -7,10 +7,9 @@ ghost use Rattle.delta_tree.specs.declared.node.NodeId.{NodeId as NodeIdMade};
 ghost use Rattle.delta_tree.specs.Nodes.{same_node};
 ghost use Rattle.place_table.specs.Kept.{hint_of, row_at};
 
-use crate::entries::{look_up, put_in};
+use crate::hint_row::HintRow;
 use delta_tree::NodeId;
 use rpq_base::Memory;
-use small_map::SmallMap;
 use std::alloc::Global;
 use std::marker::Model;
 
@@ -19,7 +18,7 @@ use std::marker::Model;
 #[derive(Drop)]
 pub(crate) struct Hints {
     alloc: Global,
-    rows: Vec<SmallMap<u32, u32>>,
+    rows: Vec<HintRow>,
 }
 
 impl Model for Hints {
@@ -49,7 +48,7 @@ impl Hints {
         if vertex >= self.rows.len() {
             return None;
         }
-        look_up(&self.rows[vertex], id.state)
+        self.rows[vertex].get(id.state)
     }
 
     /// The number of states that are noted for the vertex.
@@ -79,18 +78,17 @@ impl Hints {
             hint_of self.new each ≡ hint_of self.old each) }
     {
         reach(self.alloc, &mut self.rows, id.vertex)?;
-        put_in(&mut self.rows[id.vertex as usize], id.state, number)?;
-        Ok(())
+        self.rows[id.vertex as usize].set(id.state, number)
     }
 }
 
 /// A row for the vertex.
-fn reach(alloc: Global, rows: &mut Vec<SmallMap<u32, u32>>, vertex: u32) -> Result<(), Memory>
+fn reach(alloc: Global, rows: &mut Vec<HintRow>, vertex: u32) -> Result<(), Memory>
     ensures same { (each : ℕ) → row_at rows.new.items each ≡ row_at rows.old.items each }
     ensures reached { OnOk result (vertex < length rows.new.items) }
 {
     while rows.len() <= vertex as usize {
-        rows.push(SmallMap::new(alloc))?;
+        rows.push(HintRow::new(alloc))?;
     }
     Ok(())
 }

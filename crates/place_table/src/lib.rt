@@ -13,8 +13,9 @@
 //! A table shows the tree of one root at a time, and is a `PathTree` by that: what searches and
 //! removals do in a single tree they do in the one that is shown, and the others stay.
 //!
-//! A look-up goes through the states of a vertex and then through the roots of a place, each while
-//! they are few, and else costs a hash. [`PlaceTable::lift_all`] costs one look-up for each root.
+//! A look-up halves the states of a vertex, and then goes through the roots of a place while they
+//! are few, and else costs a hash. [`PlaceTable::lift_all`] costs one look-up of the place, and one
+//! of each root in it. A mark is one write, and a search forgets those before it at no cost.
 //! An expiry costs one comparison where no node goes, and else a step in a heap for each node that
 //! goes and for each one that was raised since it was last looked at. Places that no root reaches
 //! any more are used again for others.
@@ -23,9 +24,11 @@
 mod entries;
 mod expiring;
 mod gain;
+mod hint_row;
 mod hints;
 mod lifting;
 mod link;
+mod marks;
 mod noted;
 mod paths;
 mod place;

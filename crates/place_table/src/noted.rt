@@ -1,52 +1,55 @@
 //! The nodes of all trees, and the order in which they leave.
 
-ghost use Rattle.std.specs.Prelude.{◌≡◌, ◌≤◌, ◌<◌, ◌++◌, ◌∷◌, [], cond, option_map, Option, Some};
-ghost use Rattle.std.specs.Prelude.{None, Contains, OnOk, OnErr};
+ghost use Rattle.std.specs.Prelude.{◌≡◌, ◌<◌, ◌++◌, ◌∷◌, [], Some, None, Contains, Ok, OnErr};
 ghost use Rattle.std.specs.Option.{MatchOption};
 ghost use Rattle.due_queue.specs.Queue.{due};
+ghost use Rattle.delta_tree.specs.declared.node.Shift.{Shift as ShiftMade};
 ghost use Rattle.place_table.specs.declared.place.Kept.{Kept as KeptMade};
-ghost use Rattle.place_table.specs.Kept.{KeepSame, PutsAt, kept_at, same_spot};
+ghost use Rattle.place_table.specs.Kept.{IsThere, KeepSame, PutsAt, kept_at};
 ghost use Rattle.place_table.specs.Queue.{AreNoted, IsDueWith, IsNotDue, KeepsNoted, alive};
 ghost use Rattle.place_table.specs.Queue.{pending};
+ghost use Rattle.place_table.specs.Raises.{HasEnough, RaisesAt};
 
 use crate::place::Kept;
 use crate::places::Places;
 use crate::spot::Spot;
+use delta_tree::Shift;
 use due_queue::DueQueue;
 use ghost_list::GhostList;
 use rpq_base::Memory;
 
-/// Keeps this of the node of a root at a place, which had this value before, or none. The value is
-/// at least the one that it had. The only error is [`Memory`], after which the same nodes are kept
-/// as before.
-pub(crate) fn set_node(
+/// Keeps this of a root's node at the place of this number where that has a lesser value, or where
+/// the root has none there, and answers the values before and after; none where it has as much
+/// already. The only error is [`Memory`], after which the same nodes are kept as before.
+pub(crate) fn raise_node(
     places: &mut Places,
     puts: &mut GhostList<Spot>,
     dues: &mut DueQueue<Spot>,
+    number: usize,
     spot: Spot,
     kept: Kept,
-    before: Option<u64>,
-) -> Result<(), Memory>
+) -> Result<Option<Shift>, Memory>
     requires noted { AreNoted places.old dues.old.items }
-    requires before { before
-        ≡ option_map (λ (kept : KeptMade). kept.value) (kept_at places.old spot.root spot.id) }
-    requires raises { (old : KeptMade) →
-        kept_at places.old spot.root spot.id ≡ Some old → old.value ≤ kept.value }
-    ensures nodes { OnOk result (PutsAt places.old places.new spot.root spot.id (Some kept)) }
-    ensures puts { OnOk result (puts.new ≡ puts.old ++ spot ∷ []) }
+    requires there { IsThere places.old spot.id number }
+    ensures raises { (shift : ShiftMade) → result ≡ Ok (Some shift) →
+        RaisesAt places.old places.new spot kept shift × (puts.new ≡ puts.old ++ spot ∷ []) }
+    ensures stays { result ≡ Ok None → KeepSame places.old places.new × (puts.new ≡ puts.old)
+        × HasEnough (kept_at places.old spot.root spot.id) kept.value }
     ensures noted { AreNoted places.new dues.new.items }
-    ensures same { OnErr result (KeepSame places.old places.new) }
-    ensures puts_same { OnErr result (puts.new ≡ puts.old) }
+    ensures there { IsThere places.new spot.id number }
+    ensures same { OnErr result (KeepSame places.old places.new × (puts.new ≡ puts.old)) }
 {
     dues.reserve()?;
-    places.put(spot.root, spot.id, kept)?;
+    let Some(shift) = places.raise_at(number, spot, kept)? else {
+        return Ok(None);
+    };
     puts.push(&spot);
-    match before {
+    match shift.before {
         None => dues.note_reserved(spot, kept.value),
         // A node that is raised stays where it is noted.
         Some(_) => {}
     }
-    Ok(())
+    Ok(Some(shift))
 }
 
 /// Takes the node of a root at a place out where its value is at most `now`, and else notes it with

@@ -1,12 +1,14 @@
 //! One place, and the roots that reach it.
 
 ghost use Rattle.std.specs.Prelude.{◌≡◌, ◌<◌, ℕ, [], nat_eq, cond, length, slice_get, None, Some};
-ghost use Rattle.std.specs.Prelude.{OnOk, OnErr};
+ghost use Rattle.std.specs.Prelude.{Ok, OnErr};
 ghost use Rattle.std.specs.List.{IsDistinct};
 ghost use Rattle.std.specs.Map.{keys_of, lookup};
+ghost use Rattle.delta_tree.specs.declared.node.Shift.{Shift as ShiftMade};
+ghost use Rattle.place_table.specs.Raises.{HasEnough, RaisesHere};
 
-use crate::entries::{look_up, put_in, take_out};
-use delta_tree::NodeId;
+use crate::entries::{look_up, take_out};
+use delta_tree::{NodeId, Shift};
 use rpq_base::Memory;
 use small_map::SmallMap;
 use std::alloc::Global;
@@ -87,15 +89,27 @@ impl Place {
         look_up(&self.nodes, root)
     }
 
-    /// Keeps this of the node of this root. The only error is [`Memory`], after which nothing has
-    /// changed.
-    pub(crate) fn put(&mut self, root: u32, kept: Kept) -> Result<(), Memory>
-        ensures put { OnOk result ((each : ℕ) → lookup (nat_eq each) self.new.nodes
-            ≡ cond (nat_eq root each) (Some kept) (lookup (nat_eq each) self.old.nodes)) }
+    /// Keeps this of the node of this root where that has a lesser value, or where it has none, and
+    /// answers the values before and after; none where it has as much already. This is one look-up.
+    /// The only error is [`Memory`], after which nothing has changed.
+    pub(crate) fn raise(&mut self, root: u32, kept: Kept) -> Result<Option<Shift>, Memory>
+        ensures raises { (shift : ShiftMade) → result ≡ Ok (Some shift) →
+            RaisesHere self.old self.new root kept shift }
+        ensures stays { result ≡ Ok None → (self.new ≡ self.old)
+            × HasEnough (lookup (nat_eq root) self.old.nodes) kept.value }
         ensures id { self.new.id ≡ self.old.id }
         ensures unchanged { OnErr result (self.new ≡ self.old) }
     {
-        put_in(&mut self.nodes, root, kept)
+        let Some(place) = self.nodes.place_of(&root) else {
+            self.nodes.push(root, kept)?;
+            return Ok(Some(shift_to(self.id, None, kept.value)));
+        };
+        let before = self.nodes.at(place).1.value;
+        if kept.value <= before {
+            return Ok(None);
+        }
+        self.nodes.set_at(place, kept);
+        Ok(Some(shift_to(self.id, Some(before), kept.value)))
     }
 
     /// Takes the node of this root out, where it has one.
@@ -105,5 +119,16 @@ impl Place {
         ensures id { self.new.id ≡ self.old.id }
     {
         take_out(&mut self.nodes, root);
+    }
+}
+
+/// That a place has this value now, and had that one before, or none.
+fn shift_to(id: NodeId, before: Option<u64>, value: u64) -> Shift
+    ensures { result ≡ record { id = id; before = before; after = Some value } }
+{
+    Shift {
+        id,
+        before,
+        after: Some(value),
     }
 }

@@ -7,13 +7,16 @@ ghost use Rattle.std.specs.Option.{MatchOption};
 ghost use Rattle.std.specs.Map.{keys_of, lookup};
 ghost use Rattle.delta_tree.specs.Nodes.{node_id, same_node};
 ghost use Rattle.place_table.specs.Reading.{HasRoots};
+ghost use Rattle.delta_tree.specs.declared.node.Shift.{Shift as ShiftMade};
 ghost use Rattle.place_table.specs.Kept.{AreHinted, IsAbsent, IsThere, KeepSame, PutsAt, kept_at};
 ghost use Rattle.place_table.specs.Kept.{kept_nodes, hint_of, with_kept};
 ghost use Rattle.place_table.specs.Links.{placed_ids};
+ghost use Rattle.place_table.specs.Raises.{HasEnough, RaisesAt};
 
 use crate::hints::Hints;
 use crate::place::{Kept, Place};
-use delta_tree::NodeId;
+use crate::spot::Spot;
+use delta_tree::{NodeId, Shift};
 use rpq_base::Memory;
 use std::alloc::Global;
 use std::marker::Model;
@@ -197,6 +200,11 @@ impl Places {
         }
     }
 
+    /// The number at which to look for the place. It may be that of another place, or of none.
+    pub(crate) fn hint(&self, id: NodeId) -> Option<usize> {
+        Some(self.hints.get(id)? as usize)
+    }
+
     /// The place of this vertex with this state, where it is one.
     pub(crate) fn find(&self, id: NodeId) -> Option<usize>
         ensures { MatchOption result (IsAbsent self.now id) (IsThere self.now id) }
@@ -258,7 +266,7 @@ impl Places {
     }
 
     /// The number of the place, which is made where it isn't one yet.
-    fn make(&mut self, id: NodeId) -> Result<usize, Memory>
+    pub(crate) fn make(&mut self, id: NodeId) -> Result<usize, Memory>
         ensures same { KeepSame self.old self.new }
         ensures there { IfOk result (IsThere self.new id) }
     {
@@ -273,23 +281,24 @@ impl Places {
         add(self.alloc, &mut self.hints, &mut self.places, id)
     }
 
-    /// Keeps this of the node of a root at a place. The only error is [`Memory`], after which the
-    /// same nodes are kept as before.
-    pub(crate) fn put(&mut self, root: u32, id: NodeId, kept: Kept) -> Result<(), Memory>
-        ensures put { OnOk result (PutsAt self.old self.new root id (Some kept)) }
+    /// Keeps this of a root's node at the place of this number where that has a lesser value, or
+    /// where the root has none there, and answers the values before and after; none where it has as
+    /// much already. The only error is [`Memory`], after which nothing has changed.
+    pub(crate) fn raise_at(
+        &mut self,
+        number: usize,
+        spot: Spot,
+        kept: Kept,
+    ) -> Result<Option<Shift>, Memory>
+        requires { IsThere self.old spot.id number }
+        ensures raises { (shift : ShiftMade) → result ≡ Ok (Some shift) →
+            RaisesAt self.old self.new spot kept shift }
+        ensures stays { result ≡ Ok None →
+            KeepSame self.old self.new × HasEnough (kept_at self.old spot.root spot.id) kept.value }
+        ensures there { IsThere self.new spot.id number }
         ensures same { OnErr result (KeepSame self.old self.new) }
     {
-        let number = self.make(id)?;
-        self.put_at(number, root, id, kept)
-    }
-
-    /// [`Places::put`], where this is the number of the place.
-    fn put_at(&mut self, number: usize, root: u32, id: NodeId, kept: Kept) -> Result<(), Memory>
-        requires { IsThere self.old id number }
-        ensures put { OnOk result (PutsAt self.old self.new root id (Some kept)) }
-        ensures same { OnErr result (self.new ≡ self.old) }
-    {
-        self.places[number].put(root, kept)
+        self.places[number].raise(spot.root, kept)
     }
 
     /// Takes the node of a root at a place out, where there is one.

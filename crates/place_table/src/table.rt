@@ -1,16 +1,17 @@
 //! One table of the nodes of many trees.
 
-ghost use Rattle.std.specs.Prelude.{◌≡◌, ◌≢◌, ◌≤◌, ◌<◌, ◌+◌, ◌++◌, ◌⊎◌, ℕ, [], length, IfOk, OnOk};
-ghost use Rattle.std.specs.Prelude.{OnErr, IsTrue, ◌↔◌, Ok, None, Some, Contains, List};
+ghost use Rattle.std.specs.Prelude.{◌≡◌, ◌≤◌, ◌⊎◌, ℕ, [], IfOk, OnErr, IsTrue, ◌↔◌, Ok, None};
+ghost use Rattle.std.specs.Prelude.{Some, Contains};
 ghost use Rattle.delta_tree.specs.declared.node.NodeId.{NodeId};
 ghost use Rattle.delta_tree.specs.declared.node.Shift.{Shift as ShiftMade};
-ghost use Rattle.delta_tree.specs.Changes.{CanHang, HasAsMuch, Lifts, Raises, Puts, is_enough};
-ghost use Rattle.delta_tree.specs.Changes.{put_node};
+ghost use Rattle.delta_tree.specs.Changes.{CanHang, HasAsMuch, Lifts};
 ghost use Rattle.delta_tree.specs.Nodes.{IsTree};
 ghost use Rattle.delta_tree.specs.Paths.{HangsBy};
+ghost use Rattle.place_table.specs.Raises.{ChangesOneTree, HasNumber};
 ghost use Rattle.place_table.specs.Table.{node_at, tree_in, value_at};
 
-use crate::noted::set_node;
+use crate::marks::Marks;
+use crate::noted::raise_node;
 use crate::place::Kept;
 use crate::places::Places;
 use crate::spot::Spot;
@@ -18,7 +19,6 @@ use delta_tree::{NodeId, Shift, Try};
 use due_queue::DueQueue;
 use edge_store::EdgeId;
 use ghost_list::GhostList;
-use indexmap::IndexSet;
 use rpq_base::Memory;
 use std::alloc::Global;
 use std::marker::Model;
@@ -35,7 +35,7 @@ pub struct PlaceTable {
     puts: GhostList<Spot>,
     /// Each node with a value that it has or had, for the order in which they leave.
     pub(crate) dues: DueQueue<Spot>,
-    marked: IndexSet<NodeId>,
+    marks: Marks,
 }
 
 impl Model for PlaceTable {
@@ -50,7 +50,7 @@ impl Model for PlaceTable {
       root = table.root;
       places = seen table.puts table.places;
       puts = length table.puts;
-      marked = table.marked.keys;
+      marked = table.marks;
     } };
 
     ghost invariant = { λ table. IsSound table.puts table.places table.dues.items };
@@ -67,7 +67,7 @@ impl PlaceTable {
             places: Places::new(alloc),
             puts: GhostList::new(),
             dues: DueQueue::new(alloc),
-            marked: IndexSet::new(alloc),
+            marks: Marks::new(alloc),
         }
     }
 
@@ -80,7 +80,7 @@ impl PlaceTable {
     {
         self.places = Places::new(self.alloc);
         self.dues = DueQueue::new(self.alloc);
-        self.marked = IndexSet::new(self.alloc);
+        self.marks = Marks::new(self.alloc);
     }
 
     /// Each tree is a tree.
@@ -107,26 +107,28 @@ impl PlaceTable {
         ensures puts { self.new.puts ≡ self.old.puts }
         ensures marked { self.new.marked ≡ [] }
     {
-        self.marked.clear();
+        self.marks.begin();
     }
 
     /// Whether the place is marked.
     pub fn is_marked(&self, id: NodeId) -> bool
         ensures { IsTrue result → Contains self.now.marked id }
     {
-        self.marked.contains(&id)
+        match self.places.hint(id) {
+            Some(number) => self.marks.is_marked(number, id),
+            None => false,
+        }
     }
 
-    /// Marks the place.
-    pub(crate) fn mark(&mut self, id: NodeId) -> Result<(), Memory>
+    /// Marks the place of this number.
+    pub(crate) fn mark(&mut self, number: usize, id: NodeId) -> Result<(), Memory>
         ensures marked { (each : NodeId) → Contains self.new.marked each →
             Contains self.old.marked each ⊎ (each ≡ id) }
         ensures root { self.new.root ≡ self.old.root }
         ensures places { self.new.places ≡ self.old.places }
         ensures puts { self.new.puts ≡ self.old.puts }
     {
-        self.marked.insert(id)?;
-        Ok(())
+        self.marks.mark(number, id)
     }
 
     /// The value of the root's node at the place, or none where it has none there.
@@ -166,32 +168,39 @@ impl PlaceTable {
         ensures counted { self.old.puts ≤ self.new.puts }
         ensures marked { self.new.marked ≡ self.old.marked }
     {
-        let before = self.value_at(root, step.to);
-        if is_enough(before, value) {
-            return Ok(None);
-        }
-        self.put(root, step, value, before)?;
-        Ok(Some(Shift {
-            id: step.to,
-            before,
-            after: Some(value),
-        }))
+        let number = self.make_place(step.to)?;
+        self.lift_at(number, root, step, value)
     }
 
-    /// Takes the step in the tree of the root, whose target has this value before, or none.
-    fn put(&mut self, root: u32, step: Try, value: u64, before: Option<u64>) -> Result<(), Memory>
+    /// The number of the place, which is made where it isn't one yet. This changes no tree.
+    pub(crate) fn make_place(&mut self, id: NodeId) -> Result<usize, Memory>
+        ensures number { IfOk result (HasNumber self.new id) }
+        ensures trees { (each : ℕ) → tree_in self.new each ≡ tree_in self.old each }
+        ensures shown { self.new.root ≡ self.old.root }
+        ensures puts { self.new.puts ≡ self.old.puts }
+        ensures marked { self.new.marked ≡ self.old.marked }
+    {
+        self.places.make(id)
+    }
+
+    /// [`PlaceTable::lift`], where this is the number of the place of the step's target.
+    pub(crate) fn lift_at(
+        &mut self,
+        number: usize,
+        root: u32,
+        step: Try,
+        value: u64,
+    ) -> Result<Option<Shift>, Memory>
         requires hangs { CanHang (tree_in self.old root) step value }
-        requires raises { Raises (tree_in self.old root) step.to value }
-        requires before { before ≡ value_at self.old root step.to }
-        ensures node { OnOk result (Puts (tree_in self.old root) (tree_in self.new root) step.to
-            (put_node (tree_in self.old root) step value)) }
-        ensures others { OnOk result ((other : ℕ) → (root ≡ other → ⊥) → (id : NodeId) →
-            node_at self.new other id ≡ node_at self.old other id) }
-        ensures counted { OnOk result (self.new.puts ≡ self.old.puts + 1) }
+        requires number { HasNumber self.old step.to number }
+        ensures lifts { (shift : ShiftMade) → result ≡ Ok (Some shift) →
+            Lifts (tree_in self.old root) (tree_in self.new root) step value shift }
+        ensures stays { result ≡ Ok None →
+            HasAsMuch (tree_in self.old root) (tree_in self.new root) step.to value }
         ensures unchanged { OnErr result
             ((each : ℕ) → tree_in self.new each ≡ tree_in self.old each) }
-        ensures shown { self.new.root ≡ self.old.root }
-        ensures marked { self.new.marked ≡ self.old.marked }
+        ensures beside { ChangesOneTree self.old self.new root }
+        ensures number { HasNumber self.new step.to number }
     {
         let spot = Spot { root, id: step.to };
         let kept = Kept {
@@ -200,24 +209,14 @@ impl PlaceTable {
             label: step.edge.label,
             before: step.from.state,
         };
-        set_node(
+        raise_node(
             &mut self.places,
             &mut self.puts,
             &mut self.dues,
+            number,
             spot,
             kept,
-            before,
         )
-    }
-}
-
-/// Whether there is a value, and it is at least this number.
-fn is_enough(kept: Option<u64>, number: u64) -> bool
-    ensures { result ≡ is_enough kept number }
-{
-    match kept {
-        Some(kept) => number <= kept,
-        None => false,
     }
 }
 

@@ -1,5 +1,5 @@
 -- The steps that a search counts.
-use Rattle.std.proofs.Common.{◌≡◌, ◌≢◌, ℕ, ◌≤◌, ◌<◌, ◌+◌, ◌⊎◌, inl, inr, ⊎_elim, min, List, [], ◌∷◌, ◌++◌, length, length-append, Option, Some, refl, sym, ap, subst, ◌∙◌, arith, Contains, All, sum_by}
+use Rattle.std.proofs.Common.{◌≡◌, ◌≢◌, ℕ, ◌≤◌, ◌<◌, ◌+◌, ⊎_elim, min, List, [], ◌∷◌, ◌++◌, length, length-append, Option, Some, sym, subst, ◌∙◌, arith, Contains, All}
 use Rattle.std.specs.Prelude.{AllPairs}
 use Rattle.std.proofs.lemmas.Bool.{cases_lt}
 use Rattle.std.proofs.lemmas.List.Elements.{All-nil, All-push, All-weaker, All-get_or}
@@ -10,7 +10,7 @@ use Rattle.delta_tree.specs.declared.node.NodeId.{NodeId}
 use Rattle.delta_tree.specs.declared.node.Node.{Node}
 use Rattle.delta_tree.specs.Nodes.{TreeValue, node_of, value_of}
 use Rattle.tree_insert.specs.Best.{IsAtLeast}
-use Rattle.tree_insert.specs.Trees.{IsRisen, count_outs}
+use Rattle.tree_insert.specs.Trees.{count_outs}
 use Rattle.tree_insert.specs.UnderWay.{Rises}
 use Rattle.tree_insert.proofs.Bests.{at_least}
 use Rattle.tree_insert.proofs.Nodes.{node_reached, value_reached}

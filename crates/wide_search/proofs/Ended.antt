@@ -1,5 +1,5 @@
 -- A search in all trees at once: a place that was settled before, and the end.
-use Rattle.std.proofs.Common.{◌≡◌, ℕ, ◌≤◌, ◌⊎◌, inl, inr, ⊎_elim, min, List, Option, Some, refl, sym, ap, subst, ◌∙◌, arith, Contains}
+use Rattle.std.proofs.Common.{◌≡◌, ℕ, ◌≤◌, ◌⊎◌, inl, inr, ⊎_elim, min, List, Option, Some, sym, ap, subst, ◌∙◌, arith, Contains}
 use Rattle.std.proofs.lemmas.Option.{same_Some}
 use Rattle.edge_store.specs.declared.edge.EdgeId.{EdgeId}
 use Rattle.dfa_table.specs.DfaValue.{step_of}
@@ -13,6 +13,7 @@ use Rattle.tree_insert.proofs.Bests as bests
 use Rattle.place_table.specs.declared.gain.Gain.{Gain}
 use Rattle.wide_search.specs.declared.batch.Batch.{Batch}
 use Rattle.wide_search.specs.Batches.{target_of}
+use Rattle.wide_search.specs.Shares.{Owns}
 use Rattle.wide_search.specs.Widths.{IsClosed}
 use Rattle.wide_search.specs.Searching.{Task, IsTask, IsOnTheWay, IsSearching, IsLifted, LiftsTrees, AddsLifted}
 use Rattle.wide_search.proofs.Searching.{AreSame, place_cases, rises_reached}
@@ -84,14 +85,14 @@ module _ (task : Task) (is : IsTask task) (settled : NodeId → Option ℕ) (tre
       carries
 
   -- what was closed before the search is so still
-  closed_still : (root : ℕ) (edge : EdgeId) (state number next : ℕ) →
+  closed_still : (root : ℕ) → Owns task.share root → (edge : EdgeId) (state number next : ℕ) →
       Carries (task.trees root) (node_id edge.from state) number →
       IsAtLeast number (task.widths state edge) →
       step_of task.dfa state edge.label ≡ Some next →
       IsAtLeast number (value_of (trees root) (node_id edge.to next))
-  closed_still root edge state number next carries wide leads =
+  closed_still root owned edge state number next carries wide leads =
       rises_reached (task.trees root) (trees root) (node_id edge.to next) number
-      (searching.rises root) (is.closed root edge state number next carries wide leads)
+      (searching.rises root) (is.closed root owned edge state number next carries wide leads)
 
   -- each first gain is at a settled place
   first_there : (root : ℕ) (id : NodeId) (number : ℕ) (first : Gain) →
@@ -113,16 +114,16 @@ module _ (task : Task) (is : IsTask task) (settled : NodeId → Option ℕ) (tre
       way
 
   -- an edge with the width that it had before the search can raise nothing
-  pub closed_before : (root : ℕ) (edge : EdgeId) (state number next : ℕ) →
+  pub closed_before : (root : ℕ) → Owns task.share root → (edge : EdgeId) (state number next : ℕ) →
       Carries (trees root) (node_id edge.from state) number →
       IsAtLeast number (task.widths state edge) →
       step_of task.dfa state edge.label ≡ Some next →
       IsAtLeast number (value_of (trees root) (node_id edge.to next))
-  closed_before root edge state number next carries wide leads =
+  closed_before root owned edge state number next carries wide leads =
       let q = node_id edge.to next in
       ⊎_elim
       (λ (was : Carries (task.trees root) (node_id edge.from state) number).
-      closed_still root edge state number next was wide leads)
+      closed_still root owned edge state number next was wide leads)
       (λ (first : (first : Gain) × Contains task.first first × (first.root ≡ root) × (width : ℕ) ×
       (settled (node_id edge.from state) ≡ Some width) × (number ≤ min first.cap width)).
       let low : number ≤ first.3 = omega (arith, first.5) in
@@ -147,17 +148,17 @@ module _ (task : Task) (is : IsTask task) (settled : NodeId → Option ℕ) (tre
   module _ (edge : EdgeId) (state : ℕ)
       (goal : (next : ℕ) → step_of task.dfa state edge.label ≡ Some next →
       task.goal ≡ node_id edge.to next)
-      (firsts : (root number : ℕ) → Carries (task.trees root) (node_id edge.from state) number →
-      number ≤ task.most →
+      (firsts : (root number : ℕ) → Owns task.share root →
+      Carries (task.trees root) (node_id edge.from state) number → number ≤ task.most →
       IsAtLeast number (task.widths state edge)
       ⊎ ((first : Gain) × Contains task.first first × (first.root ≡ root)
       × (number ≤ first.cap))) where
     -- nor can the edge that was raised, at the state that was searched
-    pub closed_there : (root number next : ℕ) →
+    pub closed_there : (root number next : ℕ) → Owns task.share root →
         Carries (trees root) (node_id edge.from state) number → number ≤ task.most →
         step_of task.dfa state edge.label ≡ Some next →
         IsAtLeast number (value_of (trees root) (node_id edge.to next))
-    closed_there root number next carries below leads =
+    closed_there root number next owned carries below leads =
         let there : IsAtLeast number (settled (node_id edge.to next)) =
         weaker (settled (node_id edge.to next)) task.most number
         (settled_of_way (node_id edge.to next) task.most
@@ -166,11 +167,11 @@ module _ (task : Task) (is : IsTask task) (settled : NodeId → Option ℕ) (tre
         ⊎_elim
         (λ (was : Carries (task.trees root) (node_id edge.from state) number). ⊎_elim
         (λ (wide : IsAtLeast number (task.widths state edge)).
-        closed_still root edge state number next was wide leads)
+        closed_still root owned edge state number next was wide leads)
         (λ (first : (first : Gain) × Contains task.first first × (first.root ≡ root) ×
         (number ≤ first.cap)).
         first_there root (node_id edge.to next) number first.0 first.1 first.2 first.3 there)
-        (firsts root number was below))
+        (firsts root number owned was below))
         (λ (first : (first : Gain) × Contains task.first first × (first.root ≡ root) ×
         (width : ℕ) × (settled (node_id edge.from state) ≡ Some width) ×
         (number ≤ min first.cap width)).
@@ -182,14 +183,14 @@ module _ (task : Task) (is : IsTask task) (settled : NodeId → Option ℕ) (tre
         ((at number : ℕ) (each : EdgeId) → IsAtLeast number (widths at each) →
         IsAtLeast number (task.widths at each)
         ⊎ ((each ≡ edge) × (at ≡ state) × (number ≤ task.most))) →
-        (root : ℕ) → IsClosed widths (step_of task.dfa) (trees root)
-    closed_after widths grows root each at number next carries wide leads = ⊎_elim
+        (root : ℕ) → Owns task.share root → IsClosed widths (step_of task.dfa) (trees root)
+    closed_after widths grows root owned each at number next carries wide leads = ⊎_elim
         (λ (old : IsAtLeast number (task.widths at each)).
-        closed_before root each at number next carries old leads)
+        closed_before root owned each at number next carries old leads)
         (λ (raised : (each ≡ edge) × (at ≡ state) × (number ≤ task.most)).
         subst (λ (e : EdgeId). IsAtLeast number (value_of (trees root) (node_id e.to next)))
         (sym raised.0)
-        (closed_there root number next
+        (closed_there root number next owned
         (subst (λ (s : ℕ). Carries (trees root) (node_id edge.from s) number) raised.1
         (subst (λ (e : EdgeId). Carries (trees root) (node_id e.from at) number) raised.0
         carries)) raised.2

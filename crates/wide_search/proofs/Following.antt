@@ -9,24 +9,24 @@ use Rattle.edge_store.specs.declared.edge.EdgeId.{EdgeId}
 use Rattle.edge_store.specs.Edges.{outs_of}
 use Rattle.dfa_table.specs.DfaValue.{LeadsToStates, step_of}
 use Rattle.delta_tree.specs.declared.node.NodeId.{NodeId}
-use Rattle.delta_tree.specs.Nodes.{TreeValue, node_id}
+use Rattle.delta_tree.specs.Nodes.{node_id}
 use Rattle.tree_insert.specs.Best.{IsAtLeast}
-use Rattle.tree_insert.proofs.Bests.{at_least, weaker}
+use Rattle.tree_insert.proofs.Bests.{at_least}
 use Rattle.tree_insert.proofs.Members.{contains_head, contains_tail, contains_cases, contains_none}
 use Rattle.place_table.specs.declared.gain.Gain.{Gain}
 use Rattle.place_table.specs.Table.{TableValue, gain_roots, tree_in}
-use Rattle.place_table.specs.Lifts.{CanLift, LiftsAll, between, lifted_gains}
+use Rattle.place_table.specs.Lifts.{CanLift, between, lifted_gains}
 use Rattle.wide_search.specs.declared.batch.Batch.{Batch}
 use Rattle.wide_search.specs.declared.graph.Graph.{Graph}
 use Rattle.wide_search.specs.declared.offers.Span.{Span}
-use Rattle.wide_search.specs.Batches.{BatchesValue, Gains, Takes, source_of, target_of, try_of}
-use Rattle.wide_search.specs.Searching.{Task, IsTask, IsSearching, IsOut, AreOffered, AreFirm, AreSettled, Follows}
+use Rattle.wide_search.specs.Batches.{BatchesValue, Gains, Takes, target_of, try_of}
+use Rattle.wide_search.specs.Searching.{IsOut, AreOffered, Follows}
 use Rattle.wide_search.specs.Spans.{IsOffered, IsOfSpan}
 use Rattle.wide_search.specs.declared.lifts.Lift.{Lift}
 use Rattle.wide_search.specs.Counts.{CountsPlaces}
 use Rattle.wide_search.specs.Lifts.{ReportsLifts, lift_at}
-use Rattle.wide_search.specs.Ready.{Start, task_of, held, StandsIn, IsReady, IsUnderWay, IsLiftedBy}
-use Rattle.wide_search.proofs.Searching.{AreSame, same_itself, settle_at, settled_here, settled_cases, settled_still, searching_alike, searching_more, searching_same}
+use Rattle.wide_search.specs.Ready.{Start, task_of, held, StandsIn, IsUnderWay, IsLiftedBy}
+use Rattle.wide_search.proofs.Searching.{same_itself, settle_at, settled_here, settled_cases, settled_still, searching_alike, searching_more, searching_same}
 use Rattle.wide_search.proofs.Ended.{again_none, again_same}
 use Rattle.wide_search.proofs.Counts.{counts_more, counts_still}
 use Rattle.wide_search.proofs.Lifted.{reports_more}
@@ -442,7 +442,7 @@ lifts_after old new before after batch span lifted first lifts later all all_is 
     ∙ (ap (λ (gains : List Gain). lifts ++ map (lift_at span.id) gains) behind
     ∙ ap (λ (id : NodeId). lifts ++ map (lift_at id) added) lifted.id) in
     subst (ReportsLifts first new) (sym items)
-    (reports_more first old new batch (held before batch) lifts are lifted.lifts once)
+    (reports_more first old new batch (held before batch) lifts are lifted.lifts once lifted.shown)
 
 module _ (graph : Graph) (start : Start) (old new : TableValue) (before after : List Gain)
     (batch : Batch) (span : Span) (lifted : IsLiftedBy old new before after batch span)

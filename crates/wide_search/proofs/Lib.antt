@@ -4,7 +4,7 @@ mod Counts
 pub mod Ended
 mod Following
 mod Lifted
-mod Raised
+mod Pending
 pub mod Searching
 mod Spans
 mod Tables

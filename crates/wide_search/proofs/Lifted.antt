@@ -1,5 +1,5 @@
 -- The lifts that a search reports.
-use Rattle.std.proofs.Common.{◌≡◌, ◌≢◌, ℕ, suc, ◌≤◌, ◌<◌, ◌+◌, ◌⊎◌, inl, inr, ⊎_elim, Bool, true, false, ◌&&◌, ◌==◌, cond, min, List, [], ◌∷◌, ◌++◌, length, map, find, take, slice_index_or, MatchOption, Option, Some, None, refl, sym, ap, subst, ◌∙◌, arith, Contains, All, AllPairs, nat_eq, append-nil, append_assoc}
+use Rattle.std.proofs.Common.{◌≡◌, ◌≢◌, ℕ, ◌≤◌, ◌<◌, ⊎_elim, Bool, true, false, ◌==◌, cond, min, List, [], ◌∷◌, ◌++◌, map, MatchOption, Option, Some, None, refl, sym, ap, subst, ◌∙◌, arith, Contains, All, AllPairs, nat_eq, append-nil, append_assoc}
 use Rattle.std.specs.List.{IsDistinct, AllByRecursion}
 use Rattle.std.proofs.lemmas.Map.Keys.{IsDistinct-head, IsDistinct-tail}
 use Rattle.std.proofs.lemmas.List.Elements.{All-cons, All-nil, Contains-push_cases}
@@ -322,24 +322,29 @@ reports_none table = record {
   first = lifts_none table;
   risen = risen_all table table [] (lifts_none table);
   later = λ i j d less within. absurd (omega (arith, within));
+  puts = omega arith;
+  shown = refl;
 }
 
 pub reports_same : (old middle new : TableValue) (lifts : List Lift) →
-    new.places ≡ middle.places → ReportsLifts old middle lifts → ReportsLifts old new lifts
-reports_same old middle new lifts places reports =
+    new.places ≡ middle.places → new.puts ≡ middle.puts → new.root ≡ middle.root →
+    ReportsLifts old middle lifts → ReportsLifts old new lifts
+reports_same old middle new lifts places puts shown reports =
     let first = lifts_same old middle new lifts places reports.first in
     record {
       first = first;
       risen = risen_all old new lifts first;
       later = reports.later;
+      puts = omega (arith, reports.puts, puts);
+      shown = shown ∙ reports.shown;
     }
 
 pub reports_more : (old middle new : TableValue) (batch : Batch) (gains : List Gain)
     (lifts : List Lift) → ReportsLifts old middle lifts →
     LiftsAll middle new (try_of batch) batch.width gains → IsDistinct nat_eq (gain_roots gains) →
-    ReportsLifts old new (lifts ++ map (lift_at (target_of batch))
+    new.root ≡ middle.root → ReportsLifts old new (lifts ++ map (lift_at (target_of batch))
     (lifted_gains middle (target_of batch) batch.width gains))
-reports_more old middle new batch gains lifts reports all once =
+reports_more old middle new batch gains lifts reports all once shown =
     let first = lifts_more old middle new batch gains lifts reports.first all in
     let more = lifted_gains middle (target_of batch) batch.width gains in
     record {
@@ -358,4 +363,6 @@ reports_more old middle new batch gains lifts reports all once =
           none-some risen.0.value
           (sym none ∙ (ap (λ (one : Gain). one.before) (sym from.2) ∙ value)))
           (lifted_once middle (target_of batch) batch.width gains once);
+      puts = omega (arith, reports.puts, all.counted);
+      shown = shown ∙ reports.shown;
     }

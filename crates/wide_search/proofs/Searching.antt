@@ -8,17 +8,17 @@ use Rattle.dfa_table.specs.DfaValue.{step_of}
 use Rattle.delta_tree.specs.declared.node.NodeId.{NodeId}
 use Rattle.delta_tree.specs.declared.node.Node.{Node}
 use Rattle.delta_tree.specs.Nodes.{TreeValue, node_of, value_of, node_id, root_id, same_node}
-use Rattle.delta_tree.specs.Changes.{Carries, Raises}
+use Rattle.delta_tree.specs.Changes.{Carries}
 use Rattle.delta_tree.proofs.Ids.{same_node_is, same_node_laws}
 use Rattle.tree_insert.specs.Best.{IsAtLeast}
 use Rattle.tree_insert.specs.UnderWay.{IsSupported, AreSupported, Rises}
 use Rattle.tree_insert.proofs.Bests.{weaker, at_least, below_some}
 use Rattle.tree_insert.proofs.Bests as bests
-use Rattle.tree_insert.proofs.Nodes.{value_is, value_reached, node_reached}
+use Rattle.tree_insert.proofs.Nodes.{value_reached, node_reached}
 use Rattle.place_table.specs.declared.gain.Gain.{Gain}
 use Rattle.wide_search.specs.declared.batch.Batch.{Batch}
 use Rattle.wide_search.specs.Batches.{source_of, target_of}
-use Rattle.wide_search.specs.Searching.{Task, IsTask, IsOpen, IsCovered, IsOnTheWay, IsKeptOrLifted, IsSearching, AreFirm, IsLifted, lifted_node, AreLater, LiftsTrees, IsLiftOf, AddsLifted, IsOut, AreOffered, Follows}
+use Rattle.wide_search.specs.Searching.{Task, IsTask, IsOpen, IsOnTheWay, IsKeptOrLifted, IsSearching, IsLifted, lifted_node, AreLater, LiftsTrees, IsLiftOf, AddsLifted, IsOut, Follows}
 
 -- ---- places
 
@@ -216,14 +216,15 @@ module _ (task : Task) (is : IsTask task) (settled : NodeId → Option ℕ) (old
   to = target_of batch
 
   -- what an edge could give before the search was there
-  closed_from : (root : ℕ) (edge : EdgeId) (state number next : ℕ) →
-      IsAtLeast number (value_of (task.trees root) (node_id edge.from state)) →
+  closed_from : (first : Gain) → Contains task.first first →
+      (edge : EdgeId) (state number next : ℕ) →
+      IsAtLeast number (value_of (task.trees first.root) (node_id edge.from state)) →
       IsAtLeast number (task.widths state edge) →
       step_of task.dfa state edge.label ≡ Some next →
-      IsAtLeast number (value_of (task.trees root) (node_id edge.to next))
-  closed_from root edge state number next reached wide leads =
-      is.closed root edge state number next
-      (carries_reached (task.trees root) (node_id edge.from state) number reached) wide leads
+      IsAtLeast number (value_of (task.trees first.root) (node_id edge.to next))
+  closed_from first has edge state number next reached wide leads =
+      is.closed first.root (is.owned first has) edge state number next
+      (carries_reached (task.trees first.root) (node_id edge.from state) number reached) wide leads
 
   -- what waits after it
   opens_on : ((first : Gain) → Contains task.first first →
@@ -268,7 +269,7 @@ module _ (task : Task) (is : IsTask task) (settled : NodeId → Option ℕ) (old
             let low : min first.cap each.width ≤ min first.cap batch.width =
             omega (arith, out.0.lower) in
             let wide : min first.cap each.width ≤ each.width = omega arith in
-            inl (closed_from first.root each.edge each.before (min first.cap each.width) each.state
+            inl (closed_from first has each.edge each.before (min first.cap each.width) each.state
             (subst (λ (id : NodeId). IsAtLeast (min first.cap each.width)
             (value_of (task.trees first.root) id)) (sym out.0.source)
             (weaker (value_of (task.trees first.root) (target_of batch))
@@ -374,7 +375,7 @@ module _ (task : Task) (is : IsTask task) (settled : NodeId → Option ℕ) (old
         (value_of (task.trees first.root) (target_of batch))).
         let least : min first.cap number ≤ min first.cap batch.width = omega (arith, low) in
         let lower : min first.cap number ≤ number = omega arith in
-        closed_from first.root edge state (min first.cap number) next
+        closed_from first there edge state (min first.cap number) next
         (subst (λ (id : NodeId). IsAtLeast (min first.cap number)
         (value_of (task.trees first.root) id)) same
         (weaker (value_of (task.trees first.root) (target_of batch)) (min first.cap batch.width)
@@ -386,7 +387,7 @@ module _ (task : Task) (is : IsTask task) (settled : NodeId → Option ℕ) (old
         let lower : min first.cap number ≤ number = omega arith in
         weaker (value_of (task.trees first.root) (node_id edge.to next)) number
         (min first.cap number)
-        (closed_from first.root edge state number next
+        (closed_from first there edge state number next
         (subst (λ (id : NodeId). IsAtLeast number (value_of (task.trees first.root) id)) same
         (subst (IsAtLeast number) more.4 (all more.0 more.1))) wide leads) lower)
         (had_or_lifted first there)))

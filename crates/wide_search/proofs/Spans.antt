@@ -1,5 +1,5 @@
 -- The batches by the edges that leave a place.
-use Rattle.std.proofs.Common.{◌≡◌, ℕ, ◌≤◌, ◌<◌, ◌+◌, ◌⊎◌, inl, inr, ⊎_elim, Bool, true, false, ◌&&◌, cond, List, length, Option, Some, refl, sym, ap, subst, ◌∙◌, arith, Contains, slice_get}
+use Rattle.std.proofs.Common.{◌≡◌, ℕ, ◌≤◌, ◌<◌, ◌+◌, inl, inr, ⊎_elim, Bool, true, false, ◌&&◌, cond, List, length, Option, Some, refl, sym, ap, subst, ◌∙◌, arith, Contains, slice_get}
 use Rattle.std.proofs.lemmas.Bool.{cases_eq, cases_lt}
 use Rattle.std.proofs.lemmas.List.Elements.{All-contains}
 use Rattle.std.proofs.lemmas.Option.{same_Some, slice_get_read, slice_get_within, get_or_from_slice_get}
@@ -7,9 +7,8 @@ use Rattle.edge_store.specs.declared.edge.EdgeId.{EdgeId}
 use Rattle.edge_store.specs.declared.edge.HalfEdge.{HalfEdge}
 use Rattle.edge_store.specs.declared.edge.Out.{Out}
 use Rattle.edge_store.specs.Edges.{AreAtMost, outs_of, out_entry, out_half, leaving, value_of, GivesOuts, same_edge}
-use Rattle.dfa_table.specs.DfaValue.{step_of}
 use Rattle.delta_tree.specs.Nodes.{node_id}
-use Rattle.delta_tree.proofs.Ids.{same_edge_is, same_edge_itself}
+use Rattle.delta_tree.proofs.Ids.{same_edge_is}
 use Rattle.tree_insert.specs.Best.{IsAtLeast}
 use Rattle.tree_insert.proofs.Bests.{at_least, weaker}
 use Rattle.tree_insert.proofs.Bests as bests

@@ -1,21 +1,19 @@
 -- What a table does for a batch, as its trees see it.
-use Rattle.std.proofs.Common.{◌≡◌, ◌≢◌, ℕ, zero, suc, ◌≤◌, ◌<◌, ◌+◌, ◌-◌, ◌⊎◌, inl, inr, ⊎_elim, Bool, true, false, not, cond, min, List, [], ◌∷◌, ◌++◌, length, map, filter, take, drop, nat_eq, Option, Some, None, refl, sym, ap, subst, ◌∙◌, arith, Contains, length-append}
-use Rattle.std.specs.Prelude.{nat_le}
+use Rattle.std.proofs.Common.{◌≡◌, ℕ, ◌⊎◌, inl, inr, ⊎_elim, Bool, true, false, not, cond, min, List, [], ◌∷◌, map, filter, nat_eq, Option, Some, None, refl, ap, subst, ◌∙◌, arith, Contains}
 use Rattle.std.specs.List.{IsDistinct, AllByRecursion}
 use Rattle.std.proofs.lemmas.Bool.{cases_eq}
 use Rattle.delta_tree.specs.declared.node.NodeId.{NodeId}
 use Rattle.delta_tree.specs.Nodes.{node_of, value_of}
 use Rattle.delta_tree.specs.Changes.{is_enough}
 use Rattle.tree_insert.specs.Best.{IsAtLeast}
-use Rattle.tree_insert.proofs.Bests.{weaker}
 use Rattle.tree_insert.proofs.Nodes.{value_reached}
 use Rattle.tree_insert.proofs.Members.{contains_head, contains_tail, contains_cases, contains_none}
 use Rattle.place_table.specs.declared.gain.Gain.{Gain}
 use Rattle.place_table.specs.Table.{TableValue, tree_in, node_at, value_at, gain_roots}
-use Rattle.place_table.specs.Lifts.{LiftsAll, IsPutSince, between, brings, has_enough, lifted_gain, lifted_gains}
+use Rattle.place_table.specs.Lifts.{LiftsAll, IsPutSince, brings, has_enough, lifted_gain, lifted_gains}
 use Rattle.wide_search.specs.declared.batch.Batch.{Batch}
 use Rattle.wide_search.specs.Batches.{target_of, try_of}
-use Rattle.wide_search.specs.Searching.{IsLifted, LiftsTrees, IsLiftOf, AddsLifted, lifted_node}
+use Rattle.wide_search.specs.Searching.{LiftsTrees, IsLiftOf, AddsLifted, lifted_node}
 
 -- ---- enough or not
 
@@ -54,7 +52,11 @@ root_or_none (x ∷ xs) root = ⊎_elim
     (root_or_none xs root))
     (cases_eq x.root root)
 
--- one gain alone
+-- no gain, and one alone
+pub none_apart : IsDistinct nat_eq (gain_roots [])
+unfolding IsDistinct
+none_apart = tt
+
 pub one_apart : (gain : Gain) → IsDistinct nat_eq (gain_roots (gain ∷ []))
 unfolding IsDistinct
 one_apart gain = (tt, tt)

@@ -1,10 +1,11 @@
 -- The nodes that changed in a table, with the values that were there before.
 use Rattle.std.specs.Prelude.{All, AllPairs, None, ◌≢◌}
-use Rattle.std.specs.Prelude.{◌≡◌, ℕ, Bool, ◌&&◌, ◌==◌, List, Option, map, find}
+use Rattle.std.specs.Prelude.{◌≡◌, ℕ, ◌≤◌, Bool, ◌&&◌, ◌==◌, List, Option, find}
 use Rattle.std.specs.Option.{MatchOption}
 use Rattle.delta_tree.specs.declared.node.NodeId.{NodeId}
 use Rattle.delta_tree.specs.Nodes.{same_node}
-use Rattle.tree_insert.specs.Trees.{IsRisen}
+use Rattle.tree_insert.specs.Best.{IsAtLeast}
+use Rattle.tree_insert.specs.Trees.{IsRisen, Keeps}
 use Rattle.place_table.specs.declared.gain.Gain.{Gain}
 use Rattle.place_table.specs.Table.{TableValue, node_at, tree_in, value_at}
 use Rattle.wide_search.specs.declared.lifts.Lift.{Lift}
@@ -39,12 +40,22 @@ abbrev pub IsLater : Lift → Lift → Type 0
 IsLater first second = first.root ≡ second.root → first.id ≡ second.id → second.before ≢ None
 
 -- the list tells what changed: the first lift of a root at a place says what was there before, each
--- lift is of a root that rose, and one without a value before is the first one there
+-- lift is of a root that rose, and one without a value before is the first one there; there were no
+-- fewer puts, and the same tree is shown
 pub record ReportsLifts (old new : TableValue) (lifts : List Lift) : Type 0 where
   pub first : AreLifts old new lifts
   pub risen : All (λ (lift : Lift). IsRisen (tree_in old lift.root) (tree_in new lift.root) lift.id)
       lifts
   pub later : AllPairs IsLater lifts
+  pub puts : old.puts ≤ new.puts
+  pub shown : new.root ≡ old.root
+
+-- the trees come from those before by raises: a node that doesn't rise stays as it was, and no
+-- value falls
+pub record RaisesTrees (old new : TableValue) : Type 0 where
+  pub keeps : (root : ℕ) → Keeps (tree_in old root) (tree_in new root)
+  pub rises : (root : ℕ) (id : NodeId) (number : ℕ) →
+      IsAtLeast number (value_at old root id) → IsAtLeast number (value_at new root id)
 
 -- a search: what its last raise changed
 pub record WideValue : Type 0 where

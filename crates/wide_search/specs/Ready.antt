@@ -18,6 +18,7 @@ use Rattle.wide_search.specs.declared.graph.Graph.{Graph}
 use Rattle.wide_search.specs.declared.offers.Span.{Span}
 use Rattle.wide_search.specs.Batches.{BatchesValue, target_of, try_of}
 use Rattle.wide_search.specs.Searching.{Task, IsTask, IsSearching, AreFirm, AreSettled}
+use Rattle.wide_search.specs.Shares.{HasNoOthers, Owns}
 use Rattle.wide_search.specs.Spans.{widths_in}
 use Rattle.wide_search.specs.Widths.{IsClosed, widths}
 
@@ -35,6 +36,7 @@ task_of graph start = record {
   values = value_of graph.store.now;
   widths = widths_in graph;
   dfa = graph.dfa.now;
+  share = graph.share;
   trees = start.trees;
   first = start.first;
   goal = start.goal;
@@ -64,11 +66,13 @@ IsUnderWay graph start table gains waits level =
     IsTask (task_of graph start) × ((settled : NodeId → Option ℕ)
     × IsReady (task_of graph start) settled table gains waits level)
 
--- the batch was taken on: its gains were, and the roots that were lifted stand behind the others
+-- the batch was taken on: its gains were, and the roots that were lifted stand behind the others;
+-- the same tree is shown
 pub record IsLiftedBy (old new : TableValue) (before after : List Gain) (batch : Batch)
     (span : Span) : Type 0 where
   pub lifts : LiftsAll old new (try_of batch) batch.width (held before batch)
   pub marks : MarksAtMost old new (target_of batch)
+  pub shown : new.root ≡ old.root
   pub added : after ≡ before ++ lifted_gains old (target_of batch) batch.width (held before batch)
   pub id : span.id ≡ target_of batch
   pub width : span.width ≡ batch.width
@@ -84,22 +88,25 @@ abbrev pub GainsOrStays : List Gain → List Gain → BatchesValue → BatchesVa
 GainsOrStays before after old new =
     ((after ≡ before) × (new ≡ old)) ⊎ (length before + 1 ≤ length after)
 
--- the first gains at a place: each root that carries a number there, up to the value, gains as
--- much, but for numbers that the edge had before
+-- the first gains at a place: they are of roots of the share, and each of these that carries a
+-- number there, up to the value, gains as much, but for numbers that the edge had before
 pub record AreFirst (graph : Graph) (table : TableValue) (state value : ℕ) (gains : List Gain)
     : Type 0 where
   pub carries : (gain : Gain) → Contains gains gain →
       Carries (tree_in table gain.root) (node_id graph.edge.from state) gain.cap
-  pub firsts : (root number : ℕ) →
+  pub owned : (gain : Gain) → Contains gains gain → Owns graph.share gain.root
+  pub firsts : (root number : ℕ) → Owns graph.share root →
       Carries (tree_in table root) (node_id graph.edge.from state) number → number ≤ value →
       IsAtLeast number graph.before
       ⊎ ((gain : Gain) × Contains gains gain × (gain.root ≡ root) × (number ≤ gain.cap))
   pub once : IsDistinct nat_eq (gain_roots gains)
 
--- no edge of a graph can raise anything in the trees of a table, and the edges to the parents
--- support all nodes
+-- no edge of a graph can raise anything in the trees of the share, other roots have no nodes, and
+-- the edges to the parents support all nodes
 pub record IsSound (graph : Graph) (table : TableValue) : Type 0 where
-  pub closed : (root : ℕ) → IsClosed (widths_in graph) (step_of graph.dfa.now) (tree_in table root)
+  pub closed : (root : ℕ) → Owns graph.share root →
+      IsClosed (widths_in graph) (step_of graph.dfa.now) (tree_in table root)
+  pub others : HasNoOthers graph.share table
   pub supported : (root : ℕ) →
       AreSupported (value_of graph.store.now) (step_of graph.dfa.now) (tree_in table root)
 
@@ -117,10 +124,13 @@ Stays root old new vertex state =
     (id : NodeId) → node_of (tree_in new root) id ≡ node_of (tree_in old root) id
 
 -- after the search from one state the trees come from those before it by raises; no edge can raise
--- anything in them by widths that have grown there; and only roots that stand there have changed
+-- anything in those of the share by widths that have grown there; other roots have no nodes; and
+-- only roots that stand there have changed
 pub record IsSearched (graph : Graph) (state value : ℕ) (old new : TableValue) : Type 0 where
   pub closed : (widths : ℕ → EdgeId → Option ℕ) → GrowAt graph state value widths →
-      (root : ℕ) → IsClosed widths (step_of graph.dfa.now) (tree_in new root)
+      (root : ℕ) → Owns graph.share root →
+      IsClosed widths (step_of graph.dfa.now) (tree_in new root)
+  pub others : HasNoOthers graph.share new
   pub supported : (root : ℕ) →
       AreSupported (value_of graph.store.now) (step_of graph.dfa.now) (tree_in new root)
   pub rises : (root : ℕ) → Rises (tree_in old root) (tree_in new root)
@@ -132,12 +142,15 @@ StaysBeside root old new vertex =
     ((state number : ℕ) → Carries (tree_in old root) (node_id vertex state) number → ⊥) →
     (id : NodeId) → node_of (tree_in new root) id ≡ node_of (tree_in old root) id
 
--- after searches: no edge can raise anything by its width where these states are still to be
--- searched; the edges to the parents support all nodes; the trees come from those before by raises;
--- and only roots that stand at the vertex have changed
+-- after searches: no edge can raise anything in the trees of the share by its width where these
+-- states are still to be searched; other roots have no nodes; the edges to the parents support all
+-- nodes; the trees come from those before by raises; and only roots that stand at the vertex have
+-- changed
 pub record AreSearched (graph : Graph) (pending : List ℕ) (old new : TableValue) : Type 0 where
-  pub closed : (root : ℕ) → IsClosed (widths (value_of graph.store.now) graph.edge graph.before
-      pending) (step_of graph.dfa.now) (tree_in new root)
+  pub closed : (root : ℕ) → Owns graph.share root →
+      IsClosed (widths (value_of graph.store.now) graph.edge graph.before pending)
+      (step_of graph.dfa.now) (tree_in new root)
+  pub others : HasNoOthers graph.share new
   pub supported : (root : ℕ) →
       AreSupported (value_of graph.store.now) (step_of graph.dfa.now) (tree_in new root)
   pub rises : (root : ℕ) → Rises (tree_in old root) (tree_in new root)

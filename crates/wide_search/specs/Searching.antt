@@ -1,5 +1,6 @@
--- A search in all trees at once: for roots that gain at one place, along an edge from there and on.
-use Rattle.std.specs.Prelude.{◌≡◌, ◌≢◌, ℕ, ◌≤◌, ◌<◌, ◌⊎◌, min, nat_eq, Option, Some, List, Contains}
+-- A search in the trees of a share at once: for roots that gain at one place, along an edge from
+-- there and on.
+use Rattle.std.specs.Prelude.{◌≡◌, ◌≢◌, ℕ, ◌≤◌, ◌⊎◌, min, nat_eq, Option, Some, List, Contains}
 use Rattle.std.specs.List.{IsDistinct}
 use Rattle.edge_store.specs.declared.edge.EdgeId.{EdgeId}
 use Rattle.dfa_table.specs.DfaValue.{DfaValue, step_of}
@@ -12,29 +13,35 @@ use Rattle.tree_insert.specs.UnderWay.{AreSupported, Rises}
 use Rattle.place_table.specs.declared.gain.Gain.{Gain}
 use Rattle.place_table.specs.Table.{gain_roots}
 use Rattle.wide_search.specs.declared.batch.Batch.{Batch}
+use Rattle.wide_search.specs.declared.share.Share.{Share}
 use Rattle.wide_search.specs.Batches.{source_of, target_of}
+use Rattle.wide_search.specs.Shares.{Owns}
 
 -- what a search is about: the values of the edges, the widths that they have at the states before
--- it, the automaton, the trees of all roots before it, the roots that gain at first, each with the
--- number up to which it does, and the place at which they gain, with the width of the edge to it
+-- it, the automaton, the share of the roots, the trees of all roots before it, the roots that gain
+-- at first, each with the number up to which it does, and the place at which they gain, with the
+-- width of the edge to it
 pub record Task : Type 0 where
   pub values : EdgeId → Option ℕ
   pub widths : ℕ → EdgeId → Option ℕ
   pub dfa : DfaValue
+  pub share : Share
   pub trees : ℕ → TreeValue
   pub first : List Gain
   pub goal : NodeId
   pub most : ℕ
 
--- no width is above the value of its edge, and before the search no edge can raise anything
+-- no width is above the value of its edge; before the search no edge can raise anything in the
+-- trees of the share; and the roots that gain are of the share
 pub record IsTask (task : Task) : Type 0 where
   pub within : (state number : ℕ) (edge : EdgeId) → IsAtLeast number (task.widths state edge) →
       IsAtLeast number (task.values edge)
-  pub closed : (root : ℕ) (edge : EdgeId) (state number next : ℕ) →
+  pub closed : (root : ℕ) → Owns task.share root → (edge : EdgeId) (state number next : ℕ) →
       Carries (task.trees root) (node_id edge.from state) number →
       IsAtLeast number (task.widths state edge) →
       step_of task.dfa state edge.label ≡ Some next →
       IsAtLeast number (value_of (task.trees root) (node_id edge.to next))
+  pub owned : (gain : Gain) → Contains task.first gain → Owns task.share gain.root
 
 -- ---- batches
 

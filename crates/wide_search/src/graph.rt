@@ -4,11 +4,12 @@ ghost use Rattle.std.specs.Prelude.{◌≡◌, Some};
 ghost use Rattle.edge_store.specs.Edges.{value_of};
 ghost use Rattle.wide_search.specs.Widths.{is_pending, widths};
 
+use crate::share::Share;
 use dfa_table::Dfa;
 use edge_store::{EdgeId, EdgeStore};
 
-/// The edges of a store with the steps of an automaton. The edge that was raised counts with its
-/// value before, or not at all, at the states that are still to be searched.
+/// The edges of a store with the steps of an automaton, for the roots of a share. The edge that was
+/// raised counts with its value before, or not at all, at the states that are still to be searched.
 #[derive(Clone, Copy)]
 pub(crate) struct Graph<'a> {
     pub(crate) store: &'a EdgeStore,
@@ -16,6 +17,7 @@ pub(crate) struct Graph<'a> {
     pub(crate) edge: EdgeId,
     pub(crate) before: Option<u64>,
     pub(crate) pending: &'a [u32],
+    pub(crate) share: Share,
 }
 
 /// Whether the state is one of those that are still to be searched.

@@ -1,21 +1,22 @@
 //! The search after the raise of an edge.
 
-ghost use Rattle.std.specs.Prelude.{◌≡◌, ◌≢◌, ℕ, None, OnOk, IsSome};
+ghost use Rattle.std.specs.Prelude.{◌≡◌, ◌≢◌, ℕ, ◌<◌, None, OnOk, IsSome};
 ghost use Rattle.edge_store.specs.Edges.{value_of};
 ghost use Rattle.dfa_table.specs.DfaValue.{step_of};
 ghost use Rattle.delta_tree.specs.declared.node.NodeId.{NodeId as NodeIdMade};
 ghost use Rattle.delta_tree.specs.Nodes.{node_id};
-ghost use Rattle.tree_insert.specs.Best.{IsAtLeast};
-ghost use Rattle.tree_insert.specs.Trees.{IsOptimal, IsRaised, Keeps};
-ghost use Rattle.place_table.specs.Table.{node_at, tree_in, value_at};
+ghost use Rattle.tree_insert.specs.Trees.{IsRaised};
+ghost use Rattle.place_table.specs.Table.{node_at};
 ghost use Rattle.wide_search.specs.Counts.{CountsSearches};
-ghost use Rattle.wide_search.specs.Lifts.{ReportsLifts};
+ghost use Rattle.wide_search.specs.Lifts.{RaisesTrees, ReportsLifts};
+ghost use Rattle.wide_search.specs.Shares.{HasShare};
 ghost use Rattle.wide_search.specs.Widths.{lowered};
 
 use crate::graph::Graph;
 use crate::lifts::Lift;
 use crate::room::Room;
 use crate::search::search_states;
+use crate::share::Share;
 use dfa_table::Dfa;
 use edge_store::{EdgeId, EdgeStore, Steps};
 use place_table::PlaceTable;
@@ -23,6 +24,13 @@ use rpq_base::Memory;
 use std::alloc::Global;
 use std::marker::Model;
 use std::sync::ledger::Ledger;
+
+/// An edge that was raised, with the value that it had before, or that came in, with none.
+#[derive(Clone, Copy, Debug, PartialEq, Eq)]
+pub struct Raised {
+    pub edge: EdgeId,
+    pub before: Option<u64>,
+}
 
 /// The room of searches in a table. It can be used for one raise after another, so that a search
 /// that touches few places takes no memory.
@@ -57,47 +65,45 @@ impl WideSearch {
         &self.room.lifts
     }
 
-    /// Makes all trees of a table optimal that were so before the edge was raised from `before`, or
-    /// came in. The only error is [`Memory`].
+    /// Makes the trees of a share of the roots optimal that were so before the edge was raised, or
+    /// came in. The table has no others. The only error is [`Memory`].
     pub fn raise<L: Ledger>(
         &mut self,
         table: &mut PlaceTable,
         store: &EdgeStore,
         dfa: &Dfa,
-        edge: EdgeId,
-        before: Option<u64>,
+        raised: Raised,
+        share: Share,
         steps: &mut Steps<L>,
     ) -> Result<(), Memory>
-        requires raised { IsRaised (lowered (value_of store.now) edge before) (value_of store.now)
-            edge × IsSome (value_of store.now edge) }
-        requires optimal { (root : ℕ) → IsOptimal (lowered (value_of store.now) edge before)
-            (step_of dfa.now) (tree_in table.old root) }
-        ensures optimal { OnOk result ((root : ℕ) →
-            IsOptimal (value_of store.now) (step_of dfa.now) (tree_in table.new root)) }
-        ensures keeps { OnOk result ((root : ℕ) →
-            Keeps (tree_in table.old root) (tree_in table.new root)) }
-        ensures rises { OnOk result ((root : ℕ) (id : NodeIdMade) (number : ℕ) →
-            IsAtLeast number (value_at table.old root id) →
-            IsAtLeast number (value_at table.new root id)) }
-        ensures only { OnOk result ((root : ℕ) → root ≢ edge.from →
-            ((state : ℕ) → node_at table.old root (node_id edge.from state) ≡ None) →
+        requires count { 0 < share.count }
+        requires raised { IsRaised (lowered (value_of store.now) raised.edge raised.before)
+            (value_of store.now) raised.edge × IsSome (value_of store.now raised.edge) }
+        requires trees { HasShare share (lowered (value_of store.now) raised.edge raised.before)
+            (step_of dfa.now) table.old }
+        ensures trees { OnOk result
+            (HasShare share (value_of store.now) (step_of dfa.now) table.new) }
+        ensures rises { OnOk result (RaisesTrees table.old table.new) }
+        ensures only { OnOk result ((root : ℕ) → root ≢ raised.edge.from →
+            ((state : ℕ) → node_at table.old root (node_id raised.edge.from state) ≡ None) →
             (id : NodeIdMade) → node_at table.new root id ≡ node_at table.old root id) }
         ensures lifts { OnOk result (ReportsLifts table.old table.new self.new.lifts) }
-        ensures counted { OnOk result (CountsSearches store.now table.old table.new edge.from
-            steps.old steps.new) }
+        ensures counted { OnOk result (CountsSearches store.now table.old table.new
+            raised.edge.from steps.old steps.new) }
     {
-        let Some(value) = store.value(edge) else {
+        let Some(value) = store.value(raised.edge) else {
             return Ok(());
         };
         table.has_trees(); // called for its clauses
-        table.states_at(edge.from, &mut self.states)?;
+        table.states_at(raised.edge.from, &mut self.states)?;
         self.states.push(0)?; // the root of the vertex stands there with the state 0
         let graph = Graph {
             store,
             dfa,
-            edge,
-            before,
+            edge: raised.edge,
+            before: raised.before,
             pending: &self.states,
+            share,
         };
         self.room.lifts.clear();
         search_states(&mut self.room, table, &graph, value, steps)?;

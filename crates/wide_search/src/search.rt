@@ -7,6 +7,7 @@ ghost use Rattle.wide_search.specs.Spans.{HasRaised};
 ghost use Rattle.place_table.specs.Table.{TableValue, tree_in};
 ghost use Rattle.wide_search.specs.Counts.{CountsPlaces, CountsWide};
 ghost use Rattle.wide_search.specs.Lifts.{ReportsLifts};
+ghost use Rattle.wide_search.specs.Shares.{HasNoOthers};
 ghost use Rattle.wide_search.specs.Widths.{is_pending};
 
 use crate::batch::Batch;
@@ -19,8 +20,9 @@ use place_table::{Gain, PlaceTable};
 use rpq_base::Memory;
 use std::sync::ledger::Ledger;
 
-/// Makes the list that of the first gains from a state: each root that stands there gains up to its
-/// value there and that of the edge, if this is more than the edge had before.
+/// Makes the list that of the first gains from a state: each root of the share that stands there
+/// gains up to its value there and that of the edge, if this is more than the edge had before. With
+/// the state 0 the root of the vertex alone stands there.
 fn find_first(
     gains: &mut Vec<Gain>,
     table: &PlaceTable,
@@ -28,23 +30,28 @@ fn find_first(
     state: u32,
     value: u64,
 ) -> Result<(), Memory>
+    requires count { 0 < graph.now.share.count }
+    requires others { HasNoOthers graph.now.share table.now }
     ensures { OnOk result (AreFirst graph.now table.now state value gains.new.items) }
 {
     table.has_trees(); // called for its clauses
     gains.clear();
-    if state == 0 {
-        gains.push(Gain {
-            root: graph.edge.from,
-            cap: value,
-            before: graph.before,
-        })?;
+    if state > 0 {
+        let from = NodeId {
+            vertex: graph.edge.from,
+            state,
+        };
+        return table.gains_at(from, graph.before, value, gains);
+    }
+    if !graph.share.owns(graph.edge.from) {
         return Ok(());
     }
-    let from = NodeId {
-        vertex: graph.edge.from,
-        state,
-    };
-    table.gains_at(from, graph.before, value, gains)
+    gains.push(Gain {
+        root: graph.edge.from,
+        cap: value,
+        before: graph.before,
+    })?;
+    Ok(())
 }
 
 /// Takes the edge that was raised on at one more state.
@@ -56,6 +63,7 @@ pub(crate) fn search_from<L: Ledger>(
     value: u64,
     steps: &mut Steps<L>,
 ) -> Result<(), Memory>
+    requires count { 0 < graph.now.share.count }
     requires raised { HasRaised graph.now }
     requires value { value_of graph.now.store.now graph.now.edge ≡ Some value }
     requires pending { is_pending graph.now.pending.now state ≡ true }
@@ -99,6 +107,7 @@ pub(crate) fn search_states<L: Ledger>(
     value: u64,
     steps: &mut Steps<L>,
 ) -> Result<(), Memory>
+    requires count { 0 < graph.now.share.count }
     requires raised { HasRaised graph.now }
     requires value { value_of graph.now.store.now graph.now.edge ≡ Some value }
     requires sound { IsSound graph.now table.old }
@@ -116,6 +125,7 @@ pub(crate) fn search_states<L: Ledger>(
             edge: graph.edge,
             before: graph.before,
             pending: &graph.pending[place..],
+            share: graph.share,
         };
         search_from(room, table, &rest, graph.pending[place], value, steps)?;
     }

@@ -1,5 +1,4 @@
 use Rattle.std.proofs.Common.{◌≡◌, refl, sym, subst, arith}
-use Rattle.tree_insert.specs.Best.{IsAtLeast}
 use Rattle.tree_insert.proofs.Bests.{at_least}
 use Rattle.edge_store.specs.declared.edge.EdgeId.{EdgeId}
 use Rattle.wide_search.specs.declared.batch.Batch.{Batch}

@@ -1,6 +1,6 @@
 use Rattle.std.proofs.Common.{◌≡◌, ◌+◌, ◌∙◌, Some, length, slice_get, sym, ap, subst, arith, rules}
 use Rattle.std.proofs.lemmas.Option.{slice_get_within, get_or_from_slice_get}
-use Rattle.edge_store.specs.Edges.{AreAtMost, leaving, out_entry, outs_of, value_of}
+use Rattle.edge_store.specs.Edges.{AreAtMost, out_entry, outs_of}
 use Rattle.wide_search.specs.Batches.{Gains}
 use Rattle.wide_search.specs.Spans.{IsOfSpan}
 use Rattle.wide_search.proofs.Spans.{gains_twice, none_offered, one_offered, offered_all, offered_before, offered_beyond}

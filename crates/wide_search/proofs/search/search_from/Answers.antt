@@ -1,8 +1,6 @@
-use Rattle.std.proofs.Common.{◌≡◌, ◌∙◌, ℕ, List, [], ◌∷◌, ◌++◌, length, Contains, ⊎_elim, refl, sym, ap, subst, arith}
+use Rattle.std.proofs.Common.{◌≡◌, ℕ, List, [], Contains, ⊎_elim, refl, sym, subst, arith}
 use Rattle.std.proofs.lemmas.Result.{on_ok_weaker}
-use Rattle.dfa_table.specs.DfaValue.{step_of}
 use Rattle.tree_insert.proofs.Members.{contains_none}
-use Rattle.place_table.specs.declared.gain.Gain.{Gain}
 use Rattle.wide_search.specs.declared.batch.Batch.{Batch}
 use Rattle.wide_search.specs.Ready.{AreFirst, IsSound, IsUnderWay, Start}
 use Rattle.place_table.specs.Table.{TableValue, tree_in}
@@ -125,7 +123,7 @@ returns-clause-lifts g c =
     ReportsLifts first c.settle.new.table c.settle.new.room.lifts.items). λ first are.
     more first
     (reports_same first c.args.table.now c.begin_search.new.self c.args.room.now.lifts.items
-    c.begin_search.ensures.places are))
+    c.begin_search.ensures.places c.begin_search.ensures.puts c.begin_search.ensures.root are))
     c.settle.ensures.lifts
 
 pub returns-clause-counted : goal.returns-clause-counted

@@ -2,7 +2,7 @@ use Rattle.std.proofs.Common.{◌≡◌, ℕ, length, refl, subst, arith}
 use Rattle.place_table.specs.Table.{tree_in}
 use Rattle.wide_search.specs.Counts.{CountsWide}
 use Rattle.wide_search.proofs.Counts.{wide_more, wide_none}
-use Rattle.wide_search.proofs.Raised.{rest_sound, searched_more, searched_none}
+use Rattle.wide_search.proofs.Pending.{rest_sound, searched_more, searched_none}
 use Rattle.wide_search.proofs.search.search_states.Goals as goal
 
 pub search_from-requires-clause-sound : goal.search_from-requires-clause-sound

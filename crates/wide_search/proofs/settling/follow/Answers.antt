@@ -1,4 +1,4 @@
-use Rattle.std.proofs.Common.{◌≡◌, ◌∷◌, Contains, ap, subst}
+use Rattle.std.proofs.Common.{◌≡◌, ◌∷◌, Contains, subst}
 use Rattle.std.proofs.lemmas.Result.{on_ok_weaker}
 use Rattle.rpq_base.proofs.Outcomes.{on_ok}
 use Rattle.delta_tree.specs.declared.node.Try.{Try}

@@ -1,8 +1,7 @@
-use Rattle.std.proofs.Common.{◌≡◌, ◌++◌, ◌∙◌, List, Contains, length, refl, sym, ap, subst, arith}
+use Rattle.std.proofs.Common.{◌≡◌, ◌++◌, ◌∙◌, length, refl, ap, subst, arith}
 use Rattle.delta_tree.specs.declared.node.Try.{Try}
-use Rattle.place_table.specs.declared.gain.Gain.{Gain}
 use Rattle.place_table.specs.Lifts.{LiftsAll, MarksAtMost, lifted_gains}
-use Rattle.wide_search.specs.Batches.{target_of, try_of}
+use Rattle.wide_search.specs.Batches.{target_of}
 use Rattle.wide_search.specs.Ready.{held}
 use Rattle.wide_search.proofs.Following.{behind_there}
 use Rattle.wide_search.proofs.settling.lift.Goals as goal
@@ -25,6 +24,7 @@ returns c =
       lifts = subst (λ (each : Try). LiftsAll old new each batch.width gains) step
           c.in_ok-lift_all.ensures.lifts;
       marks = subst (λ (each : Try). MarksAtMost old new each.to) step c.lift_all.ensures.marks;
+      shown = c.lift_all.ensures.root;
       added = added;
       id = ap (λ (each : Try). each.to) step;
       width = refl;

@@ -11,7 +11,7 @@ invariant-loop-next l = record {
       l.self-inside.dues.items;
   root : l.self-inside.root ≡ l.initial.self-inside.root;
   puts : l.self-inside.puts ≡ l.initial.self-inside.puts;
-  marked : l.self-inside.marked ≡ l.initial.self-inside.marked;
+  marked : l.self-inside.marks ≡ l.initial.self-inside.marks;
   told : OnOk l.outcome (AreTold l.now l.initial.self-inside.places
       l.self-inside.places l.lost.items);
 }

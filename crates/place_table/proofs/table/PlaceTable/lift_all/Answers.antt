@@ -1,11 +1,41 @@
-use Rattle.std.proofs.Common.{◌≡◌, ◌∷◌, ◌++◌, [], inl, inr, Contains, sym, ap, subst, ◌∙◌, arith}
+use Rattle.std.proofs.Common.{◌≡◌, ◌∷◌, ◌++◌, [], List, inl, inr, Contains, sym, ap, subst, ◌∙◌, arith}
+use Rattle.std.proofs.lemmas.List.{append-nil}
+use Rattle.place_table.specs.declared.gain.Gain.{Gain}
 use Rattle.place_table.specs.Lifts.{LiftsAll, between, lifted_gains, brings}
-use Rattle.place_table.proofs.Steps.{lifts_more, gains_more, carries_still, in_range, fresh_root, range_more, gains_behind, lifts_marked}
+use Rattle.place_table.proofs.Steps.{lifts_none, lifts_same, lifts_more, gains_more, carries_still, in_range, fresh_root, range_more, gains_behind, lifts_marked, between_none, between_end}
 use Rattle.place_table.proofs.Found.{ok_so}
 use Rattle.place_table.proofs.table.PlaceTable.lift_all.Goals as goal
 
-pub lift_one-requires : goal.lift_one-requires
-lift_one-requires c =
+pub returns-then-low-high-clause-lifts : goal.returns-then-low-high-clause-lifts
+returns-then-low-high-clause-lifts c =
+    subst (λ (gains : List Gain). LiftsAll c.args.self.now c.args.self.now c.args.step c.args.width gains)
+    (sym (between_end c.args.gains.now.items c.args.low c.args.high c.if-low-high.true))
+    (lifts_none c.args.self.now c.args.step c.args.width)
+
+pub returns-then-low-high-clause-gains : goal.returns-then-low-high-clause-gains
+returns-then-low-high-clause-gains c =
+    sym (append-nil c.args.gains.now.items)
+    ∙ ap (λ (gains : List Gain). c.args.gains.now.items
+    ++ lifted_gains c.args.self.now c.args.step.to c.args.width gains)
+    (sym (between_end c.args.gains.now.items c.args.low c.args.high c.if-low-high.true))
+
+pub loop-at-init : goal.loop-at-init
+loop-at-init c = record {
+  lifts = subst (λ (gains : List Gain). LiftsAll c.args.self.now c.make_place.new.self
+      c.args.step c.args.width gains) (sym (between_none c.args.gains.now.items c.args.low))
+      (lifts_same c.args.self.now c.make_place.new.self c.args.step c.args.width
+      c.make_place.ensures.trees c.make_place.ensures.puts);
+  gains = sym (append-nil c.args.gains.now.items)
+      ∙ ap (λ (gains : List Gain). c.args.gains.now.items
+      ++ lifted_gains c.args.self.now c.args.step.to c.args.width gains)
+      (sym (between_none c.args.gains.now.items c.args.low));
+  number = c.in_ok-number.ensures.number;
+  root = c.make_place.ensures.shown;
+  marked = c.make_place.ensures.marked;
+}
+
+pub lift_one-requires-clause-hangs : goal.lift_one-requires-clause-hangs
+lift_one-requires-clause-hangs c =
     let gains = c.args.gains.now.items in
     let gain = c.index-gain.result.now in
     let so_far = between c.args.low c.loop-at.at gains in
@@ -17,13 +47,11 @@ lift_one-requires c =
     c.loop-at.auto.at c.loop-at-test.true c.requires.range.1 c.loop-at.invariant.gains
     c.index-gain.ensures c.requires.lifts.once in
     record {
-      hangs = record {
-        from = carries_still c.args.self.now c.loop-at.self c.args.step c.args.width so_far
-            gain.root (brings c.args.width gain) c.loop-at.invariant.lifts fresh
-            (c.requires.lifts.from gain here);
-        state = c.requires.lifts.state;
-        joins = c.requires.lifts.joins;
-      };
+      from = carries_still c.args.self.now c.loop-at.self c.args.step c.args.width so_far gain.root
+          (brings c.args.width gain) c.loop-at.invariant.lifts fresh
+          (c.requires.lifts.from gain here);
+      state = c.requires.lifts.state;
+      joins = c.requires.lifts.joins;
     }
 
 pub loop-at-preserved : goal.loop-at-preserved
@@ -50,8 +78,9 @@ loop-at-preserved c =
           (sym (gains_more c.args.self.now c.loop-at.self c.lift_one.new.self c.args.step
           c.args.width so_far gain c.loop-at.invariant.lifts c.in_ok-lift_one.ensures.lifts fresh)
           ∙ ap (lifted_gains c.args.self.now c.args.step.to c.args.width) (sym longer));
-      root = c.in_ok-lift_one.ensures.root ∙ c.loop-at.invariant.root;
-      marked = c.in_ok-lift_one.ensures.marked ∙ c.loop-at.invariant.marked;
+      number = c.lift_one.ensures.number;
+      root = c.lift_one.ensures.beside.shown ∙ c.loop-at.invariant.root;
+      marked = c.lift_one.ensures.beside.marked ∙ c.loop-at.invariant.marked;
     }
 
 pub returns-clause-lifts : goal.returns-clause-lifts

@@ -27,6 +27,6 @@ returns-clause-gone c =
 pub returns-clause-beside : goal.returns-clause-beside
 returns-clause-beside c =
     subst (λ (t : TableValue). IsSameBesideShown t (table_kept c.self.inside.root
-    c.self.inside.puts c.take_out.new.places c.self.inside.marked.keys)) c.self.view_is
+    c.self.inside.puts c.take_out.new.places c.self.inside.marks)) c.self.view_is
     (beside_kept c.self.inside.root c.self.inside.puts c.self.inside.places c.take_out.new.places
-    c.self.inside.marked.keys c.take_out.ensures.others)
+    c.self.inside.marks c.take_out.ensures.others)

@@ -17,6 +17,6 @@ returns-clause-empty c id =
 pub returns-clause-beside : goal.returns-clause-beside
 returns-clause-beside c =
     subst (λ (t : TableValue). IsSameBesideShown t (table_kept c.self.inside.root
-    c.self.inside.puts c.take_all.new.places c.self.inside.marked.keys)) c.self.view_is
+    c.self.inside.puts c.take_all.new.places c.self.inside.marks)) c.self.view_is
     (beside_kept c.self.inside.root c.self.inside.puts c.self.inside.places c.take_all.new.places
-    c.self.inside.marked.keys c.take_all.ensures.others)
+    c.self.inside.marks c.take_all.ensures.others)

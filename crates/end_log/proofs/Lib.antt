@@ -1,0 +1,12 @@
+mod AllFinals
+mod Filtered
+mod Finals
+mod Counting
+mod Deciding
+mod Telling
+mod Left
+mod Ordered
+mod Arrivals
+mod OneState
+mod Logged
+mod SameEnds
