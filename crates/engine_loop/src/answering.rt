@@ -2,8 +2,10 @@
 
 ghost use Rattle.std.specs.Prelude.{◌≡◌, ◌≤◌, ◌+◌, ◌^◌, ◌++◌, List, length, All, OnOk, OnErr};
 ghost use Rattle.std.specs.Result.{result_err};
-ghost use Rattle.entry_steps.specs.Evaluator.{EvaluatorValue, KeepsSetup, Tells, queries_of};
+ghost use Rattle.entry_steps.specs.Evaluator.{EvaluatorValue, KeepsSetup, StandsAfter, Tells};
+ghost use Rattle.entry_steps.specs.Evaluator.{queries_of};
 ghost use Rattle.engine_loop.specs.Loop.{IsAlong, IsBehind, TakesMore, answered};
+ghost use Rattle.engine_loop.specs.Sources.{GetsOn, HasTheSame, ShowsOnly};
 ghost use Rattle.rpq_base.specs.Plain.{IsPlain};
 ghost use Rattle.rpq_base.specs.declared.data.Entry.{Entry as EntryTaken};
 
@@ -13,7 +15,7 @@ use crate::sink::StepSink;
 use crate::source::EntrySource;
 use entry_steps::{Evaluator, UnnamedSteps, entries_stand_in, every_entry_has_a_step};
 use history_model::Why;
-use rpq_base::Entry;
+use rpq_base::{Entry, Memory};
 use run_context::{Context, Gate};
 use std::alloc::Global;
 use std::thread::Threads;
@@ -45,10 +47,47 @@ pub fn answer_front<R: Threads + Sync, G: Gate, S: EntrySource, K: StepSink>(
         return Err(Why::Memory);
     };
     hand_over(context.alloc, evaluator, source.front(), told, sink)?;
-    let Ok(()) = source.publish(evaluator, sink) else {
+    let Ok(()) = show(context, source, evaluator, sink) else {
         return Err(Why::Memory);
     };
     Ok(())
+}
+
+/// Has the source show the answers over all that it gave, which the workers bring up to date first,
+/// if somebody is to see them. The only error is [`Memory`].
+fn show<R: Threads + Sync, G: Gate, S: EntrySource, K: StepSink>(
+    context: &Context<'_, R, G>,
+    source: &mut S,
+    evaluator: &mut Evaluator,
+    sink: &K,
+) -> Result<(), Memory>
+    requires feeds { (before : EvaluatorValue) × S.feeds source.old before
+        × GetsOn before evaluator.old }
+    requires stands { StandsAfter evaluator.old (S.given source.old) }
+    requires taken { K.taken sink.now ≡ length (S.given source.old) }
+    ensures has { HasTheSame S.home S.given S.kept S.front source.old source.new }
+    ensures shows { ShowsOnly (S.given source.old) evaluator.old evaluator.new }
+    ensures ok { OnOk result (S.feeds source.new evaluator.new) }
+    ensures err { OnErr result ((before : EvaluatorValue)
+        → S.feeds source.old before → S.feeds source.new before) }
+{
+    make_ready(context, source, evaluator);
+    source.publish(evaluator, sink)
+}
+
+/// Has the workers bring up to date what the source shows, if it is about to show it.
+fn make_ready<R: Threads + Sync, G: Gate, S: EntrySource>(
+    context: &Context<'_, R, G>,
+    source: &S,
+    evaluator: &mut Evaluator,
+)
+    requires { (history : List EntryTaken) × StandsAfter evaluator.old history }
+    ensures { (history : List EntryTaken) → StandsAfter evaluator.old history
+        → ShowsOnly history evaluator.old evaluator.new }
+{
+    if source.wants_view() {
+        evaluator.refresh(context);
+    }
 }
 
 /// Hands the steps of these entries, which are told, to the sink. The error is why not all of them

@@ -82,6 +82,10 @@ pub trait EntrySource {
         ensures stays { StaysAs home given kept front feeds self.old self.new }
         ensures repeats { IfOk result (λ entries. Repeats (kept self.old) from entries.items) };
 
+    /// Whether it is about to show answers to somebody, as far as it knows. It decides time alone:
+    /// the workers bring up to date then what is shown.
+    fn wants_view(&self) -> bool;
+
     /// Shows those who read along, if there are any, the answers over all that was given, which the
     /// evaluator has just answered and the sink has taken. The only error is [`Memory`].
     fn publish<K: StepSink>(&mut self, evaluator: &mut Evaluator, sink: &K) -> Result<(), Memory>

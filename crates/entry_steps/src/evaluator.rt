@@ -242,6 +242,7 @@ impl Evaluator {
 
     /// The answers of each query with their ends, over all entries. The only error is [`Memory`],
     /// and the evaluator goes on after it. It costs what [`Engine::view`] does.
+    /// [`Evaluator::refresh`] before it has the workers do most of this.
     pub fn view(&mut self) -> Result<Arc<View>, Memory>
         requires { (history : List EntryTaken) × StandsAfter self.old history }
         ensures view { (history : List EntryTaken) → StandsAfter self.old history →
@@ -252,6 +253,18 @@ impl Evaluator {
         ensures position { self.new.position ≡ self.old.position }
     {
         self.engine.view(self.position)
+    }
+
+    /// Has the workers bring up to date what views share, where that is worth it, so that the next
+    /// view is cheap. It costs what [`Engine::refresh`] does.
+    pub fn refresh<R: Threads + Sync, G: Gate>(&mut self, context: &Context<'_, R, G>)
+        requires { (history : List EntryTaken) × StandsAfter self.old history }
+        ensures stands { (history : List EntryTaken) → StandsAfter self.old history →
+            StandsAfter self.new history }
+        ensures keeps { KeepsSetup self.old self.new }
+        ensures position { self.new.position ≡ self.old.position }
+    {
+        self.engine.refresh(context, self.workers);
     }
 }
 

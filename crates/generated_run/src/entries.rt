@@ -143,6 +143,10 @@ impl EntrySource for GeneratedEntries {
         copy_all(self.alloc, &self.entries[from as usize..end as usize])
     }
 
+    fn wants_view(&self) -> bool {
+        false
+    }
+
     /// Nobody reads along.
     fn publish<K: StepSink>(
         &mut self,

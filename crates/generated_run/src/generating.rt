@@ -1,9 +1,12 @@
 //! The run over generated tuples.
 
-ghost use Rattle.std.specs.Prelude.{◌≡◌, ◌<◌, ◌≤◌, ⊤, [], min, map, length, All, IfOk, OnOk, OnErr};
+ghost use Rattle.std.specs.Prelude.{◌≡◌, ◌<◌, ◌≤◌, ⊤, List, [], min, map, length, All};
+ghost use Rattle.std.specs.Prelude.{IfOk, OnOk, OnErr};
 ghost use Rattle.containment_laws.specs.Accepted.{IsAccepted};
 ghost use Rattle.engine_loop.specs.Loop.{IsRunnable};
-ghost use Rattle.entry_steps.specs.Evaluator.{StandsAfter, queries_of as definitions_in};
+ghost use Rattle.entry_steps.specs.Evaluator.{IsViewAfter, KeepsSetup, StandsAfter};
+ghost use Rattle.entry_steps.specs.Evaluator.{queries_of as definitions_in};
+ghost use Rattle.rpq_base.specs.declared.data.Entry.{Entry as EntryTaken};
 ghost use Rattle.generated_run.specs.Counts.{AreNew};
 ghost use Rattle.generated_run.specs.Generates.{AreTold, Generates, IsGeneration};
 ghost use Rattle.generated_run.specs.Generates.{queries_of, said_by};
@@ -15,6 +18,7 @@ use crate::counts::EventCounts;
 use crate::entries::GeneratedEntries;
 use crate::generation::{Generation, GenerationResult};
 use crate::summary::summary_text;
+use answer_view::View;
 use engine_loop::{answer_all, windows_move};
 use entry_steps::{Evaluator, Options};
 use history_model::Why;
@@ -91,7 +95,7 @@ fn run<R: Threads + RandomSource + Sync, G: Gate, O: Standing>(
     let Ok(()) = answer_all(context, entries, &mut evaluator, counts) else {
         return Err(Why::Memory);
     };
-    let Ok(view) = evaluator.view() else {
+    let Ok(view) = view(context, &mut evaluator) else {
         return Err(Why::Memory);
     };
     let queries = evaluator.queries();
@@ -100,6 +104,21 @@ fn run<R: Threads + RandomSource + Sync, G: Gate, O: Standing>(
         return Err(Why::Memory);
     };
     Ok(text)
+}
+
+/// The answers of each query over all entries, which the workers bring up to date first. The only
+/// error is [`Memory`].
+fn view<R: Threads + Sync, G: Gate>(
+    context: &Context<'_, R, G>,
+    evaluator: &mut Evaluator,
+) -> Result<Arc<View>, Memory>
+    requires { (history : List EntryTaken) × StandsAfter evaluator.old history }
+    ensures view { (history : List EntryTaken) → StandsAfter evaluator.old history →
+        IfOk result (λ view. IsViewAfter evaluator.old history view.value) }
+    ensures keeps { KeepsSetup evaluator.old evaluator.new }
+{
+    evaluator.refresh(context);
+    evaluator.view()
 }
 
 /// An evaluator of the queries, which may take edges backwards or not, after which no entry came.

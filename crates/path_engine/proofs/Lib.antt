@@ -2,6 +2,7 @@ mod Each
 mod Choosing
 mod LabelRows
 mod Still
+mod Refreshed
 mod Feeding
 mod Fronts
 mod Dealing

@@ -19,10 +19,11 @@ ghost use Rattle.path_engine.specs.declared.fault.FeedFault.{FeedFault as WhyNot
 
 use crate::ends::ends_for_all;
 use crate::fault::FeedFault;
-use crate::front::{answer_by_query, told_in};
+use crate::front::{answer_by_query, cost_of_all, told_in};
 use crate::indexes::indexes_of;
 use crate::labels::{LabelTable, table_of};
 use crate::rebuilding::feed_all;
+use crate::refreshing::refresh_all;
 use crate::showing::rows_of_each;
 use answer_rows::Rows;
 use answer_view::View;
@@ -63,6 +64,9 @@ pub struct Engine {
     /// What each query took of the last front: by it the queries of the next one are dealt to the
     /// workers. No clause speaks of it, since it decides time alone.
     costs: Vec<u64>,
+    /// What the queries took since the last view: by it workers share out the next one. No clause
+    /// speaks of it either.
+    unseen: u64,
 }
 
 impl Drop for Engine {
@@ -77,6 +81,7 @@ impl Drop for Engine {
             named: _named,
             indexes: _indexes,
             costs: _costs,
+            unseen: _unseen,
         } = self;
     }
 }
@@ -134,6 +139,7 @@ impl Engine {
             named: 0,
             indexes,
             costs: Vec::new(alloc),
+            unseen: 0,
         })
     }
 
@@ -222,7 +228,7 @@ impl Engine {
         ensures unchanged { result ≡ Err WhyNot.Spent → self.new ≡ self.old }
     {
         let lists = self.answer_entries(context, entries, workers)?;
-        self.note_told(told_in(&lists));
+        self.note_front(told_in(&lists));
         Ok(lists)
     }
 
@@ -325,6 +331,7 @@ impl Engine {
         self.indexes = Vec::new(self.alloc);
         self.names.clear();
         self.named = 0;
+        self.unseen = 0;
         self.indexes = indexes_of(self.alloc, &self.queries)?;
         self.position = 0;
         self.spent = false;
@@ -342,11 +349,20 @@ impl Engine {
         self.spent = true;
     }
 
-    /// Counts the events that were told, for the ranks of the names.
-    fn note_told(&mut self, events: usize)
+    /// Counts the events that were told, for the ranks of the names, and what a front cost, for the
+    /// workers of the next view.
+    fn note_front(&mut self, events: usize)
         ensures { self.new ≡ self.old }
     {
         self.names.note_told(events);
+        self.unseen = self.unseen.saturating_add(cost_of_all(&self.costs));
+    }
+
+    /// Notes that all changes so far are shown.
+    fn note_shown(&mut self)
+        ensures { self.new ≡ self.old }
+    {
+        self.unseen = 0;
     }
 
     /// The queries, in the order of their numbers.
@@ -379,7 +395,7 @@ impl Engine {
     /// since the last one it goes through that tree, and puts the targets there in the order of
     /// their names. The first view goes through all trees, and one after an error may do so. An
     /// engine that shows views before its first name alone keeps no rows, and pays nothing for
-    /// them.
+    /// them. [`Engine::refresh`] before it has several workers do most of this.
     pub fn view(&mut self, position: u64) -> Result<Arc<View>, Memory>
         requires unspent { self.old.spent ≡ false }
         ensures view { (history : List EntryTaken) → StandsFor self.old history →
@@ -395,7 +411,38 @@ impl Engine {
         let alloc = self.alloc;
         let clock = self.clock();
         let rows = self.rows()?;
+        self.note_shown();
         View::new(alloc, position, clock, rows)
+    }
+
+    /// Brings the rows up to date that views share, by at most this many workers, which pass the
+    /// gate, and so makes the next view cheap. It does nothing where one worker is enough: there is
+    /// a further one for each [`trees_per_worker`](Gate::trees_per_worker) of what the entries cost
+    /// since the last view. Each worker has some of the queries. Where memory runs out, the next
+    /// view makes the rows.
+    pub fn refresh<R: Threads + Sync, G: Gate>(
+        &mut self,
+        context: &Context<'_, R, G>,
+        workers: Workers,
+    )
+        requires unspent { self.old.spent ≡ false }
+        ensures stands { (history : List EntryTaken) → StandsFor self.old history →
+            StandsFor self.new history }
+        ensures queries { self.new.queries ≡ self.old.queries }
+        ensures position { self.new.position ≡ self.old.position }
+        ensures spent { self.new.spent ≡ self.old.spent }
+        ensures names { self.new.names ≡ self.old.names }
+        ensures forests { forests self.new ≡ forests self.old }
+    {
+        let crew = Crew { context, workers };
+        refresh_all(
+            &crew,
+            self.unseen,
+            &self.queries,
+            &mut self.indexes,
+            &self.names,
+            self.named,
+        );
     }
 
     /// The clock of the history, which is the same in the index of each query.

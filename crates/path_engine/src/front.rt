@@ -275,6 +275,13 @@ fn note_costs(costs: &mut Vec<u64>, shares: &[Share]) -> Result<(), Memory> {
     Ok(())
 }
 
+/// What all queries took of the front.
+pub(crate) fn cost_of_all(costs: &[u64]) -> u64 {
+    costs
+        .iter()
+        .fold(0, |all: u64, cost| all.saturating_add(*cost))
+}
+
 /// Puts the indexes of the shares into their list, and gives the events of each entry, those of the
 /// first share first.
 fn gather(

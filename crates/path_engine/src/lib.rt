@@ -38,6 +38,7 @@ mod labels;
 mod laws;
 mod parts;
 mod rebuilding;
+mod refreshing;
 mod sharing;
 mod showing;
 

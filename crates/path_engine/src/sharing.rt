@@ -1,5 +1,6 @@
-//! That threads may be handed the parts of a front. The functions do nothing: each says so of one
-//! type, which is found more easily than for all that a call of many threads takes at once.
+//! That threads may be handed the parts of a front, and the indexes of queries. The functions do
+//! nothing: each says so of one type, which is found more easily than for all that a call of many
+//! threads takes at once.
 
 ghost use denote.Builtin.{bool as bool_row, u32 as u32_row};
 ghost use Rattle.std.specs.Thread.{IsSend};
@@ -13,6 +14,7 @@ ghost use Rattle.source_index.specs.contracts.holders.Holders.{the_row as holder
 ghost use Rattle.source_tree.specs.contracts.change.EndChange.{the_row as change_row};
 ghost use Rattle.source_table.specs.contracts.table.SourceTable.{the_row as table_row};
 ghost use Rattle.delta_forest.specs.contracts.forest.Forest.{the_row as forest_row};
+ghost use Rattle.query_index.specs.contracts.index.QueryIndex.{the_row as index_row};
 ghost use Rattle.window_clock.specs.contracts.clock.WindowClock.{the_row as clock_row};
 ghost use Rattle.answer_rows.specs.contracts.rows.Rows.{the_row as rows_row};
 ghost use Rattle.end_events.specs.contracts.numbered_event.NumberedEvent.{the_row as event_row};
@@ -28,6 +30,7 @@ use delta_forest::Forest;
 use dfa_table::Dfa;
 use edge_store::EdgeStore;
 use end_events::NumberedEvent;
+use query_index::QueryIndex;
 use rpq_base::Memory;
 use source_index::{Dues, Holders};
 use source_table::SourceTable;
@@ -101,6 +104,16 @@ fn threads_take_roots()
     threads_take::<Vec<bool>>(&[]);
 }
 
+/// Threads may be handed the indexes of queries.
+pub(crate) fn threads_take_indexes()
+    ensures { IsSend index_row }
+{
+    threads_take_forests();
+    threads_take_rows();
+    threads_take_roots();
+    threads_take::<QueryIndex>(&[])
+}
+
 /// Threads may be handed the events of several entries.
 fn threads_take_events()
     ensures { IsSend (result_row (vec_row (vec_row event_row heap_row ghosts) heap_row ghosts)
@@ -113,9 +126,7 @@ fn threads_take_events()
 fn threads_take_shares()
     ensures { IsSend share_row }
 {
-    threads_take_forests();
-    threads_take_rows();
-    threads_take_roots();
+    threads_take_indexes();
     threads_take_events();
     threads_take::<Share>(&[])
 }

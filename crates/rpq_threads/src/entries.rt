@@ -264,6 +264,10 @@ impl<R: Wait> EntrySource for HistoryEntries<'_, R> {
         Ok(self.past.shrink())
     }
 
+    fn wants_view(&self) -> bool {
+        self.history.readers() > 0 && !self.may_put_off()
+    }
+
     /// Publishes the answers over all entries that were answered, if the history has readers, or
     /// puts that off.
     fn publish<K: StepSink>(&mut self, evaluator: &mut Evaluator, _sink: &K) -> Result<(), Memory> {

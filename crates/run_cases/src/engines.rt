@@ -7,7 +7,7 @@ use case_lines::{Fields, Output, decoded, entries_of, put_events, put_pair};
 use path_engine::Engine;
 use query_file::read_queries;
 use rpq_base::{Entry, Event, Workers};
-use rpq_io::{Context, OpenGate};
+use rpq_io::{Context, Gate, Who};
 use std::alloc::Global;
 use std::random::RandomSource;
 use std::sync::Arc;
@@ -15,6 +15,21 @@ use std::thread::Threads;
 
 /// The most queries of a file.
 const MAX_QUERIES: u32 = 64;
+
+/// A gate at which each change and each view gets as many workers as it may have, however small it
+/// is.
+#[derive(Clone, Copy)]
+struct EagerGate;
+
+impl Gate for EagerGate {
+    fn pass(&self, _who: Who) {}
+
+    fn trees_per_worker(&self) -> usize {
+        1
+    }
+
+    fn replied(&self, _session: u32, _position: u64) {}
+}
 
 /// The number of workers of the next field.
 fn workers_of(fields: &mut Fields) -> anyhow::Result<Workers> {
@@ -59,14 +74,14 @@ pub fn answer_engine<R: RandomSource + Threads + Sync>(
     let mut fields = fields;
     let workers = workers_of(&mut fields)?;
     let mut engine = engine_of(rt, alloc, &mut fields)?;
-    let gate = &OpenGate;
+    let gate = &EagerGate;
     let context = Context { rt, alloc, gate };
     take(&context, out, &mut engine, fields.rest(), workers, way)
 }
 
 /// Has an engine take tuples in this way, and puts what they change, and its end.
 fn take<R: Threads + Sync>(
-    context: &Context<'_, R, OpenGate>,
+    context: &Context<'_, R, EagerGate>,
     out: &mut Output,
     engine: &mut Engine,
     tuples: &[u8],
@@ -79,12 +94,12 @@ fn take<R: Threads + Sync>(
         Way::Front => feed_front(context, out, engine, &entries, workers)?,
         Way::Rebuilt => feed_again(context, out, engine, &entries, workers)?,
     }
-    put_end(context.alloc, out, engine, entries.len() as u64)
+    put_end(context, out, engine, entries.len() as u64, workers)
 }
 
 /// Feeds entries to an engine one after another, and puts what each changes.
 fn feed_each<R: Threads + Sync>(
-    context: &Context<'_, R, OpenGate>,
+    context: &Context<'_, R, EagerGate>,
     out: &mut Output,
     engine: &mut Engine,
     entries: &[Entry],
@@ -98,7 +113,7 @@ fn feed_each<R: Threads + Sync>(
 
 /// Feeds an entry to an engine. The events of the entry.
 fn events_of<R: Threads + Sync>(
-    context: &Context<'_, R, OpenGate>,
+    context: &Context<'_, R, EagerGate>,
     engine: &mut Engine,
     entry: &Entry,
     workers: Workers,
@@ -112,7 +127,7 @@ fn events_of<R: Threads + Sync>(
 
 /// Feeds entries to an engine as one front, and puts what each changes.
 fn feed_front<R: Threads + Sync>(
-    context: &Context<'_, R, OpenGate>,
+    context: &Context<'_, R, EagerGate>,
     out: &mut Output,
     engine: &mut Engine,
     entries: &[Entry],
@@ -126,7 +141,7 @@ fn feed_front<R: Threads + Sync>(
 
 /// Feeds entries to an engine as one front. The events of each entry.
 fn events_of_all<R: Threads + Sync>(
-    context: &Context<'_, R, OpenGate>,
+    context: &Context<'_, R, EagerGate>,
     engine: &mut Engine,
     entries: &[Entry],
     workers: Workers,
@@ -142,7 +157,7 @@ fn events_of_all<R: Threads + Sync>(
 /// Feeds entries to an engine one after another, rebuilds it over all but the last, feeds the last
 /// to it once more, and puts what that changes.
 fn feed_again<R: Threads + Sync>(
-    context: &Context<'_, R, OpenGate>,
+    context: &Context<'_, R, EagerGate>,
     out: &mut Output,
     engine: &mut Engine,
     entries: &[Entry],
@@ -162,34 +177,43 @@ fn feed_again<R: Threads + Sync>(
 
 /// Shows the answers of an engine, and rebuilds it over these entries.
 fn rebuild<R: Threads + Sync>(
-    context: &Context<'_, R, OpenGate>,
+    context: &Context<'_, R, EagerGate>,
     engine: &mut Engine,
     entries: &[Entry],
     workers: Workers,
 ) -> anyhow::Result<()> {
     ensure!(entries.len() < 1 << 30, "too many tuples");
     let position = engine.position();
-    let _shown = shown(engine, position)?;
+    let _shown = shown(context, engine, position, workers)?;
     engine.rebuild(context, entries, workers)?;
     Ok(())
 }
 
-/// What an engine shows at this position of the history.
-fn shown(engine: &mut Engine, position: u64) -> anyhow::Result<Arc<View>> {
+/// What an engine shows at this position of the history, with rows that its workers brought up to
+/// date.
+fn shown<R: Threads + Sync>(
+    context: &Context<'_, R, EagerGate>,
+    engine: &mut Engine,
+    position: u64,
+    workers: Workers,
+) -> anyhow::Result<Arc<View>> {
     ensure!(!engine.is_spent(), "spent");
+    engine.refresh(context, workers);
     Ok(engine.view(position)?)
 }
 
 /// Puts how many entries an engine was fed, and the answers at this position with their ends.
-fn put_end(
-    alloc: Global,
+fn put_end<R: Threads + Sync>(
+    context: &Context<'_, R, EagerGate>,
     out: &mut Output,
     engine: &mut Engine,
     position: u64,
+    workers: Workers,
 ) -> anyhow::Result<()> {
     out.put(" ")?;
     out.put_shown(&engine.position())?;
-    put_view(alloc, out, &*shown(engine, position)?)
+    let view = shown(context, engine, position, workers)?;
+    put_view(context.alloc, out, &view)
 }
 
 /// Puts the answers of each query, `|` before each.

@@ -62,7 +62,7 @@ returns-clause-along g c =
     let old = c.args.evaluator.now in
     let source = c.args.source.now in
     let sink = c.args.sink.now in
-    let final = c.publish.new.evaluator in
+    let final = c.show.new.evaluator in
     let before = answered old (given source) in
     let same = c.front.ensures ∙ c.find_told.ensures.stays.has.same_front in
     let tells = subst (λ (all : List Entry).
@@ -72,12 +72,12 @@ returns-clause-along g c =
     c.find_told.ensures.keeps c.front.result.now same None c.hand_over.new.sink
     (c.in_ok-hand_over.ensures before tells) in
     let stayed = c.find_told.ensures.stays.has in
-    let then = c.publish.ensures.has in
+    let then = c.show.ensures.has in
     along_then given kept front g.S.EntrySource.feeds g.K.StepSink.taken g.K.StepSink.takes
     c.goes_on.ensures source old sink c.requires c.hand_over.new.sink did
-    c.entries_stand_in.ensures c.publish.new.self final
+    c.entries_stand_in.ensures c.show.new.source final
     (setup_then old c.find_told.new.evaluator final c.find_told.ensures.keeps
-    c.publish.ensures.shows.setup)
-    (subst (StandsAfter final) stayed.same_given c.publish.ensures.shows.stands)
+    c.show.ensures.shows.setup)
+    (subst (StandsAfter final) stayed.same_given c.show.ensures.shows.stands)
     (then.same_given ∙ stayed.same_given) (then.same_kept ∙ stayed.same_kept)
-    (then.same_front ∙ stayed.same_front) c.in-Ok-publish.ensures.ok
+    (then.same_front ∙ stayed.same_front) c.in-Ok-show.ensures.ok
